@@ -5,3 +5,4 @@ pub mod Runs
 pub mod Said
 pub mod Several
 pub mod Studied
+pub mod Whole

@@ -1,21 +1,25 @@
 -- The reports of texts, of certificates, journals and scripts.
-use Rattle.std.proofs.Common.{inl, inr, ◌≡◌, ℕ, List, [], ◌∷◌, ◌++◌, refl, ap, length}
+use Rattle.std.proofs.Common.{inl, inr, ◌≡◌, ℕ, List, [], ◌∷◌, ◌++◌, IfOk, Result, Ok, Err, refl, ap, length}
+use Rattle.std.specs.declared.alloc.AllocError.{AllocError}
 use Rattle.flt_syntax.specs.declared.fault.SyntaxFault.{SyntaxFault}
 use Rattle.flt_tree.specs.Names.{Text}
 use Rattle.flt_tree.specs.declared.filter.Filter.{Filter}
 use Rattle.flt_tree.specs.declared.tree.Tree.{Tree}
+use Rattle.flt_model.specs.Program.{filters_of}
 use Rattle.flt_reasons.specs.Notice as notices
 use Rattle.flt_reasons.specs.declared.notice.Kind.{Kind}
 use Rattle.flt_reasons.specs.declared.notice.Notice.{Notice}
 use Rattle.flt_details.specs.Closing.{findings_closing, syntax_line}
 use Rattle.flt_details.specs.Reports.{findings_status}
+use Rattle.flt_details.specs.declared.sources.Source.{Source}
 use Rattle.flt_details.specs.declared.judged.Judged.TheVariants.{Unread, Known as Found}
 use Rattle.flt_reports.specs.Covering.{AreFirsts}
 use Rattle.flt_notes.specs.Noted.{one_more, numbers_in}
 use Rattle.flt_notes.specs.Parsed.{IsOther, IsUnread}
-use Rattle.flt_notes.specs.Printing.{ClosesNotice, HasNotes, HasReport, IsKnownIn, IsKnownPart, IsNotedOf, IsSaid}
+use Rattle.flt_notes.specs.Printing.{ClosesNotice, HasNotes, HasReport, IsKnownIn, IsKnownPart, IsNotedOf, IsNoticePart, IsSaid, PrintsNotice}
 use Rattle.flt_notes.specs.Quiet.{quieted}
 use Rattle.flt_notes.specs.Reported.{faults_in, stack_of}
+use Rattle.flt_notes.specs.Whole.{IsKnownPrint, Look}
 use Rattle.flt_notes.specs.declared.noted.Noted.{Noted}
 use Rattle.flt_notes.specs.declared.output.Output.{Output}
 use Rattle.flt_notes.specs.declared.printing.Known.{Known}
@@ -56,12 +60,34 @@ report_notice filters text kind n p other is closes = record {
   });
 }
 
+pub notice_part : (look : Look) (trees : List Tree) (s : Source) (kind : Kind) (n : Notice) (p : Part) → IsOther s.text.now kind →
+    notices.IsNotice (stack_of (filters_of trees)) kind s.text.now n → ClosesNotice n p → PrintsNotice look trees s n p →
+    IsNoticePart look trees s p
+notice_part look trees s kind n p other is closes prints = record {
+  kind = kind;
+  other = other;
+  notice = n;
+  is = is;
+  lines = prints.lines;
+  are = prints.are;
+  whole = prints.whole;
+  worth = closes.status;
+  many = closes.count;
+}
+
+pub notice_parts : (look : Look) (trees : List Tree) (s : Source) (kind : Kind) (n : Notice) (result : Result Part AllocError) →
+    IsOther s.text.now kind → notices.IsNotice (stack_of (filters_of trees)) kind s.text.now n → IfOk result (ClosesNotice n) →
+    IfOk result (PrintsNotice look trees s n) → IfOk result (IsNoticePart look trees s)
+notice_parts look trees s kind n (Ok p) other is closes prints = notice_part look trees s kind n p other is closes prints
+notice_parts look trees s kind n (Err e) other is closes prints = tt
+
 -- of a text that parses
-pub known_is : (trees : List Tree) (states : ℕ) (k : Known) (before : Output) (p : Part) → IsKnownIn trees k → IsSaid trees states before →
+pub known_is : (look : Look) (trees : List Tree) (k : Known) (before : Output) (p : Part) → IsKnownIn trees k → IsSaid trees look.states before →
     HasNotes trees k before.noted → AreFirsts k.found.now (numbers_in before.noted) →
     p.output.bytes.items ≡ before.bytes.items ++ quieted (findings_closing k.found.now) → p.output.noted ≡ before.noted →
-    p.tally.status ≡ findings_status k.found.now → p.tally.findings ≡ length k.found.now → IsKnownPart trees states k p
-known_is trees states k before p known said notes firsts added same status count = record {
+    p.tally.status ≡ findings_status k.found.now → p.tally.findings ≡ length k.found.now →
+    IsKnownPrint look trees k.place k.source p.output.noted p.output.bytes.items p.tally.status p.tally.findings → IsKnownPart look trees k p
+known_is look trees k before p known said notes firsts added same status count print = record {
   report = record {
     is = inl (record {
       judged = Found k.tree.now k.graph.now k.found.now;
@@ -80,7 +106,8 @@ known_is trees states k before p known said notes firsts added same status count
     each = rw same notes;
     firsts = rw same firsts;
   };
-  said = said_more trees states before p.output (findings_closing k.found.now) said added same;
+  said = said_more trees look.states before p.output (findings_closing k.found.now) said added same;
+  print = print;
 }
 
 -- one note more

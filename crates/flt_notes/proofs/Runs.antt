@@ -1,5 +1,5 @@
 -- What comes of findings in runs, with one more callback and without it.
-use Rattle.std.proofs.Common.{◌≡◌, ◌<◌, ℕ, zero, suc, List, [], ◌∷◌, ◌++◌, Option, Some, None, IfSome, sym, ap, arith, subst, ◌∙◌, ◌+◌, All, append_assoc, drop, get_or, length, length-drop, map, reverse, slice_get, take}
+use Rattle.std.proofs.Common.{◌≡◌, ◌<◌, ℕ, zero, suc, List, [], ◌∷◌, ◌++◌, Option, Some, None, IfSome, sym, ap, arith, subst, ◌∙◌, ◌+◌, All, append_assoc, drop, get_or, length, length-drop, map, reverse, slice_get, string_bytes, take}
 use Rattle.std.specs.Prelude.{◌≢◌}
 use Rattle.std.proofs.lemmas.List.{drop_more, map_more, reverse-append, take_more}
 use Rattle.std.proofs.lemmas.Slice.Zip.{AllZip-long}
@@ -29,7 +29,7 @@ use Rattle.flt_schedules.specs.declared.schedules.Schedule.TheVariants.{Breaks}
 use Rattle.flt_schedules.specs.declared.schedules.Scheduled.{Scheduled}
 use Rattle.flt_schedules.specs.declared.schedules.Scheduled.TheVariants.{Together, Alone}
 use Rattle.flt_schedules.specs.declared.schedules.Suspect.{Suspect}
-use Rattle.flt_notes.specs.Again.{GoesOn, IsAgainBy, IsAlone, IsOfJudged, IsSetter, IsOutcomeAgain, IsOutcomeOf as IsOutcomeIn, IsSetting, IsSuspectAgain}
+use Rattle.flt_notes.specs.Again.{GoesOn, IsAgainBy, IsAlone, IsOfJudged, IsSetter, IsOutcomeAgain, IsOutcomeOf as IsOutcomeIn, IsSetting, IsSuspectAgain, ended, line_ends}
 use Rattle.flt_model.specs.declared.verdict.Violation.{Violation}
 use Rattle.flt_notes.specs.Noted.{IsAgain, IsAlso, IsBrokenBy, IsNear, schedule_of}
 use Rattle.flt_notes.specs.declared.noted.Noted.{Noted}
@@ -162,12 +162,20 @@ goes_more text whole new more on added = record {
   is = added ∙ ap (λ z. z ++ more) on.is ∙ append_assoc text on.more more;
 }
 
-pub setter_is : (text whole : Text) (judged : Judged) (s : Option Setter) → GoesOn text whole → IsJudged whole judged →
-    IfSome s (IsOfJudged judged) → IfSome s (IsSetter text)
-setter_is text whole judged None on is of = tt
-setter_is text whole (Unread fault) (Some s) on is of = absurd of
-setter_is text whole (Found tree graph found) (Some s) on is of =
-    record { whole = whole; on = on; tree = tree; alone = of; spelled = is.spelled }
+pub setter_is : (text whole : Text) (added : List ℕ) (line : ℕ) (judged : Judged) (s : Option Setter) → GoesOn text whole →
+    whole ≡ ended text ++ added → line ≡ line_ends (ended text) + 1 → IsJudged whole judged → IfSome s (IsOfJudged judged) →
+    IfSome s (λ s. (string_bytes s.added ≡ added) × (s.line ≡ line)) → IfSome s (IsSetter text)
+setter_is text whole added line judged None on ends counted is of same = tt
+setter_is text whole added line (Unread fault) (Some s) on ends counted is of same = absurd of
+setter_is text whole added line (Found tree graph found) (Some s) on ends counted is of same = record {
+  whole = whole;
+  on = on;
+  added = rw same.0 ends;
+  line = same.1 ∙ counted;
+  tree = tree;
+  alone = of;
+  spelled = is.spelled;
+}
 
 -- something came of each report's finding
 pub some_left : (trees : List Tree) (k : Known) (reports : List Report) (i : ℕ) (all : List Outcome) → i < length reports →

@@ -1,16 +1,19 @@
 -- The reports of several texts, one behind the other, and what of them is put out.
-use Rattle.std.proofs.Common.{inl, inr, ◌≡◌, ◌<◌, ◌≤◌, ◌+◌, ◌-◌, ℕ, zero, suc, Bool, true, false, List, [], ◌∷◌, ◌++◌, Option, Some, None, refl, ap, sym, subst, arith, ◌∙◌, append_assoc, drop, take, get_or, length, length-append}
+use Rattle.std.proofs.Common.{inl, inr, ◌≡◌, ◌<◌, ◌≤◌, ◌+◌, ◌-◌, ℕ, zero, suc, Bool, true, false, List, [], ◌∷◌, ◌++◌, IfOk, Result, Ok, Err, Option, Some, None, refl, ap, sym, subst, arith, ◌∙◌, append_assoc, drop, take, get_or, length, length-append}
 use Rattle.std.specs.Io.KnownBytes.{Appends}
 use Rattle.std.proofs.lemmas.List.{append-nil, take-append-drop, take_all}
 use Rattle.flt_tree.specs.Names.{Text}
 use Rattle.flt_tree.specs.declared.tree.Tree.{Tree}
+use Rattle.flt_details.specs.declared.sources.Source.{Source}
 use Rattle.flt_model.specs.Program.{filters_of}
 use Rattle.flt_notes.specs.Noted.{AreNotesIn, AreNotesOf, no_text as notes_none, fails as notes_fails, parses as notes_parses}
 use Rattle.flt_notes.specs.Parsed.{AreParsed}
-use Rattle.flt_notes.specs.Printing.{AreNotesFor, ArePrinted, HoldsBack, IsMore, IsPart, IsPutOut, part_of}
-use Rattle.flt_notes.specs.Readings.{AreStudied, IsPlaced, IsReading, IsStudied, known, known_in, texts_read}
+use Rattle.flt_notes.specs.Printing.{AreNotesFor, ArePrinted, HoldsBack, IsMore, IsPart, IsPrintOf, IsPutOut, part_of}
+use Rattle.flt_notes.specs.Readings.{AreStudied, IsPlaced, IsReading, IsStudied, known, known_in, sources_read, texts_read}
 use Rattle.flt_notes.specs.Reported.{AreFirst, IsAllButLast, IsCut, none as parts_none, one_more as parts_more}
 use Rattle.flt_notes.specs.Told.{nothing, others}
+use Rattle.flt_notes.specs.Whole.{AreSeveralPrinted, IsKnownPrint, IsOnePrinted, IsPrintOfAll, Look, no_print}
+use Rattle.flt_notes.specs.declared.fault.ExplainFault.{ExplainFault}
 use Rattle.flt_notes.specs.declared.noted.Noted.{Noted}
 use Rattle.flt_notes.specs.declared.readings.Reading.{Reading}
 use Rattle.flt_notes.specs.declared.readings.Reading.TheVariants.{Unread, Other, Known}
@@ -23,7 +26,8 @@ use Rattle.flt_notes.specs.Totals.{summary}
 use Rattle.flt_notes.proofs.Closing.{quiet_summary}
 use Rattle.flt_notes.proofs.QuietLines.{quieted_same}
 use Rattle.flt_notes.proofs.Said.{said_both, said_none}
-use Rattle.flt_notes.proofs.Studied.{here, known_push, last_placed, last_studied, texts_both, texts_push, with_last}
+use Rattle.flt_notes.proofs.Studied.{here, known_push, last_placed, last_studied, sources_push, texts_both, texts_push, with_last}
+use Rattle.flt_notes.proofs.Whole.{prints_more}
 
 -- ---- what is printed
 
@@ -39,25 +43,35 @@ notes_more trees place ts notes text (Known at) own are is placed its =
     notes_parses are (subst (λ n. AreNotesOf trees text n own) placed its)
 
 -- nothing at first
-pub printed_none : (trees : List Tree) (states : ℕ) (p : Printed) → p.output.bytes.items ≡ [] → p.output.noted ≡ [] → p.total.status ≡ 0 →
-    p.total.findings ≡ 0 → p.total.files ≡ 0 → ArePrinted trees states [] p
-printed_none trees states p bytes noted status findings files = record {
+pub printed_none : (look : Look) (trees : List Tree) (p : Printed) → p.output.bytes.items ≡ [] → p.output.noted ≡ [] → p.total.status ≡ 0 →
+    p.total.findings ≡ 0 → p.total.files ≡ 0 → ArePrinted look trees [] p
+printed_none look trees p bytes noted status findings files = record {
   parts = rw (bytes, status, findings, files) parts_none;
   notes = rw noted notes_none;
-  said = said_none trees states p.output bytes noted;
+  said = said_none trees look.states p.output bytes noted;
+  prints = rw (bytes, noted, status, findings, files) no_print;
 }
 
+unnoted : (trees : List Tree) (text : Text) (r : Reading) (notes : List Noted) → AreNotesFor trees text r notes → known r ≡ 0 → notes ≡ []
+unnoted trees text (Unread f) notes are none = are
+unnoted trees text (Other kind) notes are none = are
+unnoted trees text (Known place) notes are none = absurd (omega (arith, none))
+
 -- with the report of a text more
-pub printed_more : (trees : List Tree) (states : ℕ) (each : List Studied) (s : Studied) (old new : Printed) → ArePrinted trees states each old →
-    IsStudied trees s → IsPlaced (known_in each) s.reading → IsMore trees states s old new → ArePrinted trees states (each ++ s ∷ []) new
-printed_more trees states each s old new are is placed more = record {
+pub printed_more : (look : Look) (trees : List Tree) (each : List Studied) (s : Studied) (old new : Printed) → ArePrinted look trees each old →
+    IsStudied trees s → IsPlaced (known_in each) s.reading → IsMore look trees s old new → ArePrinted look trees (each ++ s ∷ []) new
+printed_more look trees each s old new are is placed more = record {
   parts = rw (texts_push each s, more.bytes, more.status, more.findings, more.files) (parts_more are.parts more.is.report);
   notes = rw (texts_push each s, known_push each s, more.noted)
       (notes_more trees (known_in each) (texts_read each) old.output.noted s.source.text.now s.reading more.part.output.noted are.notes is placed
       more.is.notes);
   said = rw (more.noted, more.bytes)
       (others (old.output.noted ++ more.part.output.noted) (old.output.bytes.items ++ more.part.output.bytes.items) (10 ∷ [])
-      (said_both trees states old.output.noted old.output.bytes.items are.said more.is.said) refl);
+      (said_both trees look.states old.output.noted old.output.bytes.items are.said more.is.said) refl);
+  prints = rw (sources_push each s, known_push each s, more.noted, more.bytes, more.status, more.findings, more.files)
+      (prints_more look trees (known_in each) (sources_read each) old.output.noted old.output.bytes.items old.total.status old.total.findings
+      old.total.files s.source s.reading more.part are.prints placed
+      (unnoted trees s.source.text.now s.reading more.part.output.noted more.is.notes) more.is.print);
 }
 
 -- ---- what is put out
@@ -89,10 +103,10 @@ take_within (suc n) [] rest within = absurd (omega (arith, within))
 take_within (suc n) (x ∷ xs) rest within = ap (λ z. x ∷ z) (take_within n xs rest (omega (arith, within)))
 
 -- what isn't put out yet is what is more
-pub rest_out : (trees : List Tree) (states : ℕ) (s : Studied) (old new : Printed) (a b c : Option (List ℕ)) → IsMore trees states s old new →
+pub rest_out : (look : Look) (trees : List Tree) (s : Studied) (old new : Printed) (a b c : Option (List ℕ)) → IsMore look trees s old new →
     old.sent ≡ length old.output.bytes.items → Appends a b old.output.bytes.items → Appends b c (drop old.sent new.output.bytes.items) →
     Appends a c new.output.bytes.items
-rest_out trees states s old new a b c more all first second =
+rest_out look trees s old new a b c more all first second =
     let report = more.part.output.bytes.items in
     let is : new.output.bytes.items ≡ old.output.bytes.items ++ (report ++ 10 ∷ []) =
     more.bytes ∙ append_assoc old.output.bytes.items report (10 ∷ []) in
@@ -101,9 +115,9 @@ rest_out trees states s old new a b c more all first second =
     appends_rest a b c old.output.bytes.items new.output.bytes.items (report ++ 10 ∷ []) first (subst (λ z. Appends b c z) rest second) is
 
 -- whole reports of the first of some texts
-pub first_of : (trees : List Tree) (states : ℕ) (each : List Studied) (further : List Text) (p : Printed) → ArePrinted trees states each p →
-    AreParsed (texts_read each ++ further) (filters_of trees) → AreFirst (texts_read each) further states p.output.bytes.items
-first_of trees states each further p are parsed = record {
+pub first_of : (look : Look) (trees : List Tree) (each : List Studied) (further : List Text) (p : Printed) → ArePrinted look trees each p →
+    AreParsed (texts_read each ++ further) (filters_of trees) → AreFirst (texts_read each) further look.states p.output.bytes.items
+first_of look trees each further p are parsed = record {
   trees = trees;
   parsed = parsed;
   status = p.total.status;
@@ -120,11 +134,11 @@ first_of trees states each further p are parsed = record {
 pub cut_none : (texts : List Text) (states : ℕ) (old : Option (List ℕ)) → IsCut texts states old old
 cut_none texts states old = record { printed = []; added = appends_none old; are = inl refl }
 
-pub cut_at : (trees : List Tree) (states : ℕ) (all each rest : List Studied) (p : Printed) (held : Bool) (old new : Option (List ℕ)) →
-    AreParsed (texts_read all) (filters_of trees) → all ≡ each ++ rest → ArePrinted trees states each p → (held ≡ true → new ≡ old) →
-    (held ≡ false → Appends old new p.output.bytes.items) → IsCut (texts_read all) states old new
-cut_at trees states all each rest p true old new parsed is are none some = rw (none refl) (cut_none (texts_read all) states old)
-cut_at trees states all each rest p false old new parsed is are none some =
+pub cut_at : (look : Look) (trees : List Tree) (all each rest : List Studied) (p : Printed) (held : Bool) (old new : Option (List ℕ)) →
+    AreParsed (texts_read all) (filters_of trees) → all ≡ each ++ rest → ArePrinted look trees each p → (held ≡ true → new ≡ old) →
+    (held ≡ false → Appends old new p.output.bytes.items) → IsCut (texts_read all) look.states old new
+cut_at look trees all each rest p true old new parsed is are none some = rw (none refl) (cut_none (texts_read all) look.states old)
+cut_at look trees all each rest p false old new parsed is are none some =
     let whole : texts_read all ≡ texts_read each ++ texts_read rest = ap texts_read is ∙ texts_both each rest in
     record {
       printed = p.output.bytes.items;
@@ -133,7 +147,7 @@ cut_at trees states all each rest p false old new parsed is are none some =
         before = texts_read each;
         others = texts_read rest;
         whole = whole;
-        are = first_of trees states each (texts_read rest) p are (subst (λ ts. AreParsed ts (filters_of trees)) whole parsed);
+        are = first_of look trees each (texts_read rest) p are (subst (λ ts. AreParsed ts (filters_of trees)) whole parsed);
       });
     }
 
@@ -145,10 +159,11 @@ all_but_last [] (t ∷ before) last states printed is are = absurd (cc is)
 all_but_last (t ∷ texts) before last states printed is are = record { before = before; last = last; whole = is; are = are }
 
 -- the reports of all texts but the last are put out, and the last one's stands behind them
-pub put_out : (trees : List Tree) (states : ℕ) (all each : List Studied) (s : Studied) (old new : Printed) (held : Bool) (a b : Option (List ℕ)) →
-    AreParsed (texts_read all) (filters_of trees) → all ≡ each ++ s ∷ [] → ArePrinted trees states each old → IsMore trees states s old new →
-    new.sent ≡ old.sent → HoldsBack held old → (held ≡ true → b ≡ a) → (held ≡ false → Appends a b old.output.bytes.items) → IsPutOut (texts_read all) states held a b new
-put_out trees states all each s old new true a b parsed is are more kept holds none some =
+pub put_out : (look : Look) (trees : List Tree) (all each : List Studied) (s : Studied) (old new : Printed) (held : Bool) (a b : Option (List ℕ)) →
+    AreParsed (texts_read all) (filters_of trees) → all ≡ each ++ s ∷ [] → ArePrinted look trees each old → IsMore look trees s old new →
+    new.sent ≡ old.sent → HoldsBack held old → (held ≡ true → b ≡ a) → (held ≡ false → Appends a b old.output.bytes.items) →
+    IsPutOut (texts_read all) look.states held a b new
+put_out look trees all each s old new true a b parsed is are more kept holds none some =
     let sent : new.sent ≡ 0 = kept ∙ holds.none refl in
     record {
       within = rw sent (omega arith);
@@ -156,7 +171,7 @@ put_out trees states all each s old new true a b parsed is are more kept holds n
       early = λ h. absurd (cc h);
       late = λ h. sent;
     }
-put_out trees states all each s old new false a b parsed is are more kept holds none some =
+put_out look trees all each s old new false a b parsed is are more kept holds none some =
     let bytes = old.output.bytes.items in
     let rest = more.part.output.bytes.items ++ 10 ∷ [] in
     let sent : new.sent ≡ length bytes = kept ∙ holds.all refl in
@@ -166,8 +181,8 @@ put_out trees states all each s old new false a b parsed is are more kept holds 
     record {
       within = rw (sent, whole) (omega (arith, length-append bytes rest));
       added = rw first (some refl);
-      early = λ h. rw first (all_but_last (texts_read all) (texts_read each) s.source.text.now states bytes texts
-          (first_of trees states each (s.source.text.now ∷ []) old are (subst (λ ts. AreParsed ts (filters_of trees)) texts parsed)));
+      early = λ h. rw first (all_but_last (texts_read all) (texts_read each) s.source.text.now look.states bytes texts
+          (first_of look trees each (s.source.text.now ∷ []) old are (subst (λ ts. AreParsed ts (filters_of trees)) texts parsed)));
       late = λ h. absurd (cc h);
     }
 
@@ -238,9 +253,9 @@ summed reports line new findings files count many added is same =
     ∙ sym (append_assoc reports (summary findings files count) (10 ∷ [])) ∙ ap (λ n. reports ++ summary findings files n ++ 10 ∷ []) same
 
 -- the same where only that differs which is put out
-pub more_same : (trees : List Tree) (states : ℕ) (s : Studied) (old mid new : Printed) → IsMore trees states s old mid → new.output ≡ mid.output →
-    new.total ≡ mid.total → IsMore trees states s old new
-more_same trees states s old mid new more output total = record {
+pub more_same : (look : Look) (trees : List Tree) (s : Studied) (old mid new : Printed) → IsMore look trees s old mid → new.output ≡ mid.output →
+    new.total ≡ mid.total → IsMore look trees s old new
+more_same look trees s old mid new more output total = record {
   part = more.part;
   is = more.is;
   bytes = ap (λ (o : Output). o.bytes.items) output ∙ more.bytes;
@@ -256,11 +271,11 @@ pub empty_notes : (trees : List Tree) (each : List Studied) (notes : List Noted)
 empty_notes trees [] notes few none = rw none notes_none
 empty_notes trees (s ∷ each) notes few none = absurd (omega (arith, few))
 
-pub only_noted : (trees : List Tree) (states : ℕ) (each : List Studied) (d : Studied) (p : Printed) → 1 ≤ length each → length each < 2 →
-    AreStudied trees 0 each → IsPart trees states (get_or each 0 d) (part_of p) → AreNotesIn trees (known_in each) (texts_read each) p.output.noted
-only_noted trees states [] d p some few are part = absurd (omega (arith, some))
-only_noted trees states (s ∷ []) d p some few are part = only_notes trees s p.output.noted are.0 are.1 part.notes
-only_noted trees states (s ∷ (t ∷ each)) d p some few are part = absurd (omega (arith, few))
+pub only_noted : (look : Look) (trees : List Tree) (each : List Studied) (d : Studied) (p : Printed) → 1 ≤ length each → length each < 2 →
+    AreStudied trees 0 each → IsPart look trees (get_or each 0 d) (part_of p) → AreNotesIn trees (known_in each) (texts_read each) p.output.noted
+only_noted look trees [] d p some few are part = absurd (omega (arith, some))
+only_noted look trees (s ∷ []) d p some few are part = only_notes trees s p.output.noted are.0 are.1 part.notes
+only_noted look trees (s ∷ (t ∷ each)) d p some few are part = absurd (omega (arith, few))
 
 pub only_sent : (trees : List Tree) (states : ℕ) (held : Bool) (a : Option (List ℕ)) (each : List Studied) (p : Printed) → 1 ≤ length each →
     length each < 2 → AreParsed (texts_read each) (filters_of trees) → p.sent ≡ 0 → IsPutOut (texts_read each) states held a a p
@@ -268,44 +283,98 @@ only_sent trees states held a [] p some few parsed sent = absurd (omega (arith, 
 only_sent trees states held a (s ∷ []) p some few parsed sent = put_out_only trees s.source.text.now states held a p parsed sent
 only_sent trees states held a (s ∷ (t ∷ each)) p some few parsed sent = absurd (omega (arith, few))
 
-pub printed_empty : (trees : List Tree) (states : ℕ) (each : List Studied) (p : Printed) → length each < 1 → p.output.bytes.items ≡ [] →
-    p.output.noted ≡ [] → p.total.status ≡ 0 → p.total.findings ≡ 0 → p.total.files ≡ 0 → ArePrinted trees states each p
-printed_empty trees states [] p few bytes noted status findings files = printed_none trees states p bytes noted status findings files
-printed_empty trees states (s ∷ each) p few bytes noted status findings files = absurd (omega (arith, few))
+pub printed_empty : (look : Look) (trees : List Tree) (each : List Studied) (p : Printed) → length each < 1 → p.output.bytes.items ≡ [] →
+    p.output.noted ≡ [] → p.total.status ≡ 0 → p.total.findings ≡ 0 → p.total.files ≡ 0 → ArePrinted look trees each p
+printed_empty look trees [] p few bytes noted status findings files = printed_none look trees p bytes noted status findings files
+printed_empty look trees (s ∷ each) p few bytes noted status findings files = absurd (omega (arith, few))
 
 -- with the last one, all of them
-module _ (trees : List Tree) (states : ℕ) (each : List Studied) (i : ℕ) (d : Studied) (old new : Printed) where
+module _ (look : Look) (trees : List Tree) (each : List Studied) (i : ℕ) (d : Studied) (old new : Printed) where
   pub whole_printed : 1 ≤ length each → AreStudied trees 0 each → length (take (length each - 1) each) ≤ i →
-      ArePrinted trees states (take i (take (length each - 1) each)) old → IsMore trees states (get_or each (length each - 1) d) old new →
-      ArePrinted trees states each new
+      ArePrinted look trees (take i (take (length each - 1) each)) old → IsMore look trees (get_or each (length each - 1) d) old new →
+      ArePrinted look trees each new
   whole_printed some are past printed more =
       let within : length each - 1 < length each = omega (arith, some) in
       let last = here each (length each - 1) d within in
       let front : take i (take (length each - 1) each) ≡ take (length each - 1) each = take_all i (take (length each - 1) each) past in
-      subst (λ e. ArePrinted trees states e new) (sym (with_last each (get_or each (length each - 1) d) some last))
-      (printed_more trees states (take (length each - 1) each) (get_or each (length each - 1) d) old new
-      (subst (λ e. ArePrinted trees states e old) front printed)
+      subst (λ e. ArePrinted look trees e new) (sym (with_last each (get_or each (length each - 1) d) some last))
+      (printed_more look trees (take (length each - 1) each) (get_or each (length each - 1) d) old new
+      (subst (λ e. ArePrinted look trees e old) front printed)
       (last_studied trees each (get_or each (length each - 1) d) are some last)
       (last_placed trees each (get_or each (length each - 1) d) are some last) more)
 
   pub whole_sent : (held : Bool) (a b : Option (List ℕ)) → 1 ≤ length each → AreParsed (texts_read each) (filters_of trees) →
-      length (take (length each - 1) each) ≤ i → ArePrinted trees states (take i (take (length each - 1) each)) old →
-      IsMore trees states (get_or each (length each - 1) d) old new → new.sent ≡ old.sent → HoldsBack held old → (held ≡ true → b ≡ a) →
-      (held ≡ false → Appends a b old.output.bytes.items) → IsPutOut (texts_read each) states held a b new
+      length (take (length each - 1) each) ≤ i → ArePrinted look trees (take i (take (length each - 1) each)) old →
+      IsMore look trees (get_or each (length each - 1) d) old new → new.sent ≡ old.sent → HoldsBack held old → (held ≡ true → b ≡ a) →
+      (held ≡ false → Appends a b old.output.bytes.items) → IsPutOut (texts_read each) look.states held a b new
   whole_sent held a b some parsed past printed more kept holds none out =
       let within : length each - 1 < length each = omega (arith, some) in
       let front : take i (take (length each - 1) each) ≡ take (length each - 1) each = take_all i (take (length each - 1) each) past in
-      put_out trees states each (take (length each - 1) each) (get_or each (length each - 1) d) old new held a b parsed
+      put_out look trees each (take (length each - 1) each) (get_or each (length each - 1) d) old new held a b parsed
       (with_last each (get_or each (length each - 1) d) some (here each (length each - 1) d within))
-      (subst (λ e. ArePrinted trees states e old) front printed) more kept holds none out
+      (subst (λ e. ArePrinted look trees e old) front printed) more kept holds none out
 
 -- where it ends before, the reports of the first are put out
-pub cut_here : (trees : List Tree) (states : ℕ) (each : List Studied) (n i : ℕ) (p : Printed) (held : Bool) (old new : Option (List ℕ)) →
-    AreParsed (texts_read each) (filters_of trees) → ArePrinted trees states (take i (take n each)) p → (held ≡ true → new ≡ old) →
-    (held ≡ false → Appends old new p.output.bytes.items) → IsCut (texts_read each) states old new
-cut_here trees states each n i p held old new parsed are none some =
+pub cut_here : (look : Look) (trees : List Tree) (each : List Studied) (n i : ℕ) (p : Printed) (held : Bool) (old new : Option (List ℕ)) →
+    AreParsed (texts_read each) (filters_of trees) → ArePrinted look trees (take i (take n each)) p → (held ≡ true → new ≡ old) →
+    (held ≡ false → Appends old new p.output.bytes.items) → IsCut (texts_read each) look.states old new
+cut_here look trees each n i p held old new parsed are none some =
     let before = take n each in
     let whole : each ≡ take i before ++ (drop i before ++ drop n each) =
     sym (take-append-drop n each) ∙ ap (λ e. e ++ drop n each) (sym (take-append-drop i before))
     ∙ append_assoc (take i before) (drop i before) (drop n each) in
-    cut_at trees states each (take i before) (drop i before ++ drop n each) p held old new parsed whole are none some
+    cut_at look trees each (take i before) (drop i before ++ drop n each) p held old new parsed whole are none some
+
+-- ---- all of it
+
+-- of the only text
+print_of_only : (look : Look) (trees : List Tree) (s : Source) (r : Reading) (p : Printed) → IsPlaced 0 r →
+    (known r ≡ 0 → p.output.noted ≡ []) → IsPrintOf look trees s r (part_of p) →
+    IsOnePrinted look trees s p.output.noted p.output.bytes.items p.total.status
+print_of_only look trees s (Unread f) p placed none is = record { count = p.total.findings; is = inr (none refl, inl is) }
+print_of_only look trees s (Other kind) p placed none is = record { count = p.total.findings; is = inr (none refl, inr is) }
+print_of_only look trees s (Known place) p placed none is = record {
+  count = p.total.findings;
+  is = inl (subst (λ n. IsKnownPrint look trees n s p.output.noted p.output.bytes.items p.total.status p.total.findings) placed is);
+}
+
+pub only_print : (look : Look) (trees : List Tree) (each : List Studied) (d : Studied) (p : Printed) → 1 ≤ length each → length each < 2 →
+    AreStudied trees 0 each → IsPart look trees (get_or each 0 d) (part_of p) →
+    IsPrintOfAll look trees (sources_read each) p.output.noted p.output.bytes.items p.total.status
+only_print look trees [] d p some few are part = absurd (omega (arith, some))
+only_print look trees (s ∷ []) d p some few are part =
+    print_of_only look trees s.source s.reading p are.1 (unnoted trees s.source.text.now s.reading p.output.noted part.notes) part.print
+only_print look trees (s ∷ (t ∷ each)) d p some few are part = absurd (omega (arith, few))
+
+pub empty_print : (look : Look) (trees : List Tree) (each : List Studied) (p : Printed) → length each < 1 → p.output.noted ≡ [] →
+    p.output.bytes.items ≡ [] → p.total.status ≡ 0 → IsPrintOfAll look trees (sources_read each) p.output.noted p.output.bytes.items p.total.status
+empty_print look trees [] p few noted bytes status = (noted, bytes, status)
+empty_print look trees (s ∷ each) p few noted bytes status = absurd (omega (arith, few))
+
+-- of several, with the line that says how much is found
+pub several_print : (look : Look) (trees : List Tree) (each : List Studied) (old : Printed) (notes : List Noted) (line printed : List ℕ) (count : ℕ) →
+    ArePrinted look trees each old → notes ≡ old.output.noted → printed ≡ old.output.bytes.items ++ quieted line →
+    line ≡ summary old.total.findings old.total.files count ++ 10 ∷ [] → count ≡ length (sources_read each) →
+    AreSeveralPrinted look trees (sources_read each) notes printed old.total.status
+several_print look trees each old notes line printed count are same added is many = record {
+  place = known_in each;
+  prints = old.output.bytes.items;
+  findings = old.total.findings;
+  files = old.total.files;
+  are = rw same are.prints;
+  whole = summed old.output.bytes.items line printed old.total.findings old.total.files count (length (sources_read each)) added is many;
+}
+
+some_print : (look : Look) (trees : List Tree) (each : List Studied) (notes : List Noted) (printed : List ℕ) (status : ℕ) →
+    2 ≤ length each → AreSeveralPrinted look trees (sources_read each) notes printed status →
+    IsPrintOfAll look trees (sources_read each) notes printed status
+some_print look trees [] notes printed status some are = absurd (omega (arith, some))
+some_print look trees (s ∷ []) notes printed status some are = absurd (omega (arith, some))
+some_print look trees (s ∷ (t ∷ each)) notes printed status some are = are
+
+pub some_printed : (look : Look) (trees : List Tree) (each : List Studied) (result : Result Printed ExplainFault) → 2 ≤ length each →
+    IfOk result (λ p. AreSeveralPrinted look trees (sources_read each) p.output.noted p.output.bytes.items p.total.status) →
+    IfOk result (λ p. IsPrintOfAll look trees (sources_read each) p.output.noted p.output.bytes.items p.total.status)
+some_printed look trees each (Ok p) some are =
+    some_print look trees each p.output.noted p.output.bytes.items p.total.status some are
+some_printed look trees each (Err e) some are = tt

@@ -9,7 +9,7 @@ use Rattle.flt_tree.specs.Names.{Text}
 use Rattle.flt_tree.specs.declared.filter.Filter.{Filter}
 use Rattle.flt_tree.specs.declared.tree.Tree.{Tree}
 use Rattle.flt_notes.specs.Parsed.{AreParsed, none, parses, fails}
-use Rattle.flt_notes.specs.Readings.{AreReadings, AreStudied, IsPlaced, IsReading, IsStudied, known, known_in, texts_read}
+use Rattle.flt_notes.specs.Readings.{AreReadings, AreStudied, IsPlaced, IsReading, IsStudied, known, known_in, sources_read, texts_read}
 use Rattle.flt_notes.specs.declared.readings.Reading.{Reading}
 use Rattle.flt_notes.specs.declared.readings.Reading.TheVariants.{Unread, Other, Known}
 use Rattle.flt_notes.specs.declared.readings.Readings.{Readings}
@@ -55,6 +55,10 @@ studied_push trees place [] s are is placed =
 studied_push trees place (t ∷ each) s are is placed =
     let same : place + (known t.reading + known_in each) ≡ place + known t.reading + known_in each = omega arith in
     (are.0, are.1, studied_push trees (place + known t.reading) each s are.2 is (subst (λ n. IsPlaced n s.reading) same placed))
+
+pub sources_push : (each : List Studied) (s : Studied) → sources_read (each ++ s ∷ []) ≡ sources_read each ++ s.source ∷ []
+sources_push [] s = refl
+sources_push (t ∷ each) s = ap (λ ss. t.source ∷ ss) (sources_push each s)
 
 pub texts_push : (each : List Studied) (s : Studied) → texts_read (each ++ s ∷ []) ≡ texts_read each ++ s.source.text.now ∷ []
 texts_push [] s = refl

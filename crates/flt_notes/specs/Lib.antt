@@ -1,10 +1,13 @@
 pub mod Again
 pub mod Lines
 pub mod Noted
+pub mod Notices
 pub mod Parsed
 pub mod Printing
 pub mod Quiet
 pub mod Readings
 pub mod Reported
+pub mod Rows
 pub mod Told
 pub mod Totals
+pub mod Whole

@@ -7,26 +7,38 @@ use Rattle.flt_tree.specs.declared.tree.Tree.{Tree}
 use Rattle.flt_explain.specs.declared.finding.Finding.{Finding}
 use Rattle.flt_model.specs.Program.{filters_of}
 use Rattle.flt_details.specs.Reports.{EndsWith, IsKnown}
+use Rattle.flt_details.specs.declared.sources.Source.{Source}
 use Rattle.flt_reasons.specs.Notice as notices
 use Rattle.flt_reasons.specs.declared.notice.Notice.{Notice}
 use Rattle.flt_reports.specs.declared.reports.Report.{Report}
 use Rattle.flt_schedules.specs.Schedules.{IsScheduled}
 use Rattle.flt_schedules.specs.declared.schedules.Outcome.{Outcome}
 use Rattle.flt_schedules.specs.declared.schedules.Suspect.{Suspect}
+use Rattle.flt_notes.specs.Lines.{again_line, note_line}
 use Rattle.flt_notes.specs.Noted.{AreNoted, AreNotesIn, AreNotesOf, IsAgain, IsNoted}
-use Rattle.flt_notes.specs.Readings.{known_in, texts_read}
+use Rattle.flt_notes.specs.Notices.{AreNoticeLines}
+use Rattle.flt_notes.specs.Quiet.{quieted}
+use Rattle.flt_notes.specs.Readings.{known_in, sources_read, texts_read}
 use Rattle.flt_notes.specs.Reported.{AreParts, IsAllButLast, IsReport, faults_in}
+use Rattle.flt_notes.specs.Rows.{AreNoteRows, AreSettingRows}
 use Rattle.flt_notes.specs.Told.{Say}
 use Rattle.flt_notes.specs.Totals.{some}
+use Rattle.flt_notes.specs.Whole.{AreBlocks, ArePrints, IsBlock, IsBody, IsKnownPrint, IsNoticePrint, IsUnreadPrint, Look, is_alone}
+use Rattle.flt_notes.specs.declared.again.Setting.{Setting}
 use Rattle.flt_notes.specs.declared.noted.Again.{Again}
 use Rattle.flt_notes.specs.declared.noted.Noted.{Noted}
 use Rattle.flt_notes.specs.declared.output.Output.{Output}
 use Rattle.flt_notes.specs.declared.printing.Known.{Known}
 use Rattle.flt_notes.specs.declared.printing.Part.{Part}
+use Rattle.flt_notes.specs.declared.printing.Stage.{Stage}
 use Rattle.flt_notes.specs.declared.readings.Reading.{Reading}
 use Rattle.flt_notes.specs.declared.readings.Reading.TheVariants as reading
 use Rattle.flt_notes.specs.declared.readings.Studied.{Studied}
 use Rattle.flt_notes.specs.declared.together.Printed.{Printed}
+
+-- how a stage prints
+abbrev pub look_of : Stage → Look
+look_of stage = record { coloured = stage.coloured; states = stage.states }
 
 -- ---- one text
 
@@ -72,6 +84,49 @@ IsNotedOf trees k earlier n = IsNoted trees k.source.text.now k.place k.graph.no
 abbrev pub HasReport : List Filter → Text → Part → Type 0
 HasReport filters text p = IsReport filters text p.output.bytes.items p.tally.status p.tally.findings
 
+-- what is said of a certificate, a journal or a script, where these are the trees of the texts that parse
+pub record PrintsNotice (look : Look) (trees : List Tree) (s : Source) (n : Notice) (p : Part) : Type 0 where
+  pub lines : List ℕ
+  pub are : AreNoticeLines look.coloured (is_alone trees s.text.now) s.name.now n lines
+  pub whole : p.output.bytes.items ≡ quieted lines ++ notices.closing n
+
+-- ---- reports with their notes
+
+-- a note is added, with rows below its lines
+pub record AddsNote (trees : List Tree) (states : ℕ) (setting : Option Setting) (n : Noted) (old new : Output) : Type 0 where
+  pub rows : List ℕ
+  pub are : AreNoteRows trees n rows
+  pub again : List ℕ
+  pub more : AreSettingRows setting n.again again
+  pub bytes : new.bytes.items ≡ old.bytes.items ++ note_line trees states n ++ quieted rows ++ again_line n.again ++ quieted again
+  pub noted : new.noted ≡ old.noted ++ n ∷ []
+
+-- a report is added, with its note
+pub record AddsBlock (trees : List Tree) (states : ℕ) (text : Text) (r : Report) (old new : Output) : Type 0 where
+  pub note : Noted
+  pub printed : List ℕ
+  pub is : IsBlock trees states text r note printed
+  pub bytes : new.bytes.items ≡ old.bytes.items ++ printed
+  pub noted : new.noted ≡ old.noted ++ note ∷ []
+
+-- reports are added, each with its note
+pub record AddBlocks (trees : List Tree) (states : ℕ) (text : Text) (reports : List Report) (old new : Output) : Type 0 where
+  pub notes : List Noted
+  pub printed : List ℕ
+  pub are : AreBlocks trees states text reports notes printed
+  pub bytes : new.bytes.items ≡ old.bytes.items ++ printed
+  pub noted : new.noted ≡ old.noted ++ notes
+
+-- all reports of a text are added, each with its note, or what is said where nothing is found
+pub record AddsBody (look : Look) (trees : List Tree) (k : Known) (old new : Output) : Type 0 where
+  pub notes : List Noted
+  pub printed : List ℕ
+  pub is : IsBody look trees k.source k.tree.now k.graph.now k.found.now notes printed
+  pub bytes : new.bytes.items ≡ old.bytes.items ++ printed
+  pub noted : new.noted ≡ old.noted ++ notes
+
+-- ---- the whole of one text
+
 -- what is said of a certificate, a journal or a script ends so
 pub record ClosesNotice (n : Notice) (p : Part) : Type 0 where
   pub status : p.tally.status ≡ notices.status_of n
@@ -79,37 +134,55 @@ pub record ClosesNotice (n : Notice) (p : Part) : Type 0 where
   pub ends : EndsWith p.output.bytes.items (notices.closing n)
 
 -- the report of a text that parses, with its notes
-pub record IsParsedPart (trees : List Tree) (states : ℕ) (text : Text) (place : ℕ) (p : Part) : Type 0 where
-  pub report : HasReport (filters_of trees) text p
-  pub notes : AreNotesOf trees text place p.output.noted
-  pub said : IsSaid trees states p.output
+pub record IsParsedPart (look : Look) (trees : List Tree) (s : Source) (place : ℕ) (p : Part) : Type 0 where
+  pub report : HasReport (filters_of trees) s.text.now p
+  pub notes : AreNotesOf trees s.text.now place p.output.noted
+  pub said : IsSaid trees look.states p.output
+  pub print : IsKnownPrint look trees place s p.output.noted p.output.bytes.items p.tally.status p.tally.findings
 
-abbrev pub IsKnownPart : List Tree → ℕ → Known → Part → Type 0
-IsKnownPart trees states k p = IsParsedPart trees states k.source.text.now k.place p
+abbrev pub IsKnownPart : Look → List Tree → Known → Part → Type 0
+IsKnownPart look trees k p = IsParsedPart look trees k.source k.place p
 
 -- the notes are those of a text; none where it doesn't parse
 abbrev pub AreNotesFor : List Tree → Text → Reading → List Noted → Type 0
 AreNotesFor trees text (reading.Known place) notes = AreNotesOf trees text place notes
 AreNotesFor trees text _ notes = notes ≡ []
 
+-- what is printed of a text that doesn't parse, taken for something else or not
+abbrev pub IsUnreadPart : Look → Source → Part → Type 0
+IsUnreadPart look s p = IsUnreadPrint look s p.output.bytes.items p.tally.status p.tally.findings
+
+abbrev pub IsNoticePart : Look → List Tree → Source → Part → Type 0
+IsNoticePart look trees s p = IsNoticePrint look trees s p.output.bytes.items p.tally.status p.tally.findings
+
+-- what is printed of a text, by what it is found to be
+abbrev pub IsPrintOf : Look → List Tree → Source → Reading → Part → Type 0
+IsPrintOf look trees s (reading.Unread f) p = IsUnreadPart look s p
+IsPrintOf look trees s (reading.Other kind) p = IsNoticePart look trees s p
+IsPrintOf look trees s (reading.Known place) p =
+    IsKnownPrint look trees place s p.output.noted p.output.bytes.items p.tally.status p.tally.findings
+
 -- the report of a text, with its notes
-pub record IsPart (trees : List Tree) (states : ℕ) (s : Studied) (p : Part) : Type 0 where
+pub record IsPart (look : Look) (trees : List Tree) (s : Studied) (p : Part) : Type 0 where
   pub report : HasReport (filters_of trees) s.source.text.now p
   pub notes : AreNotesFor trees s.source.text.now s.reading p.output.noted
-  pub said : IsSaid trees states p.output
+  pub said : IsSaid trees look.states p.output
+  pub print : IsPrintOf look trees s.source s.reading p
 
 -- ---- several texts
 
 -- the reports of texts, each with an empty line behind it, and their notes
-pub record ArePrinted (trees : List Tree) (states : ℕ) (each : List Studied) (p : Printed) : Type 0 where
+pub record ArePrinted (look : Look) (trees : List Tree) (each : List Studied) (p : Printed) : Type 0 where
   pub parts : AreParts (filters_of trees) (texts_read each) p.output.bytes.items p.total.status p.total.findings p.total.files
   pub notes : AreNotesIn trees (known_in each) (texts_read each) p.output.noted
-  pub said : IsSaid trees states p.output
+  pub said : IsSaid trees look.states p.output
+  pub prints : ArePrints look trees (known_in each) (sources_read each) p.output.noted p.output.bytes.items p.total.status p.total.findings
+      p.total.files
 
 -- the reports with that of one more text, and an empty line behind it
-pub record IsMore (trees : List Tree) (states : ℕ) (s : Studied) (old new : Printed) : Type 0 where
+pub record IsMore (look : Look) (trees : List Tree) (s : Studied) (old new : Printed) : Type 0 where
   pub part : Part
-  pub is : IsPart trees states s part
+  pub is : IsPart look trees s part
   pub bytes : new.output.bytes.items ≡ old.output.bytes.items ++ part.output.bytes.items ++ 10 ∷ []
   pub noted : new.output.noted ≡ old.output.noted ++ part.output.noted
   pub status : new.total.status ≡ max old.total.status part.tally.status

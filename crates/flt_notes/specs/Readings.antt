@@ -3,6 +3,8 @@ use Rattle.std.specs.Prelude.{◌≡◌, ℕ, ◌+◌, List, [], ◌∷◌, Some
 use Rattle.flt_syntax.specs.Spelling.{Spells}
 use Rattle.flt_tree.specs.Names.{Text}
 use Rattle.flt_tree.specs.declared.tree.Tree.{Tree}
+use Rattle.flt_details.specs.Reports.{texts_of}
+use Rattle.flt_details.specs.declared.sources.Source.{Source}
 use Rattle.flt_model.specs.Program.{filters_of}
 use Rattle.flt_notes.specs.Parsed.{AreParsed, IsOther, IsUnread}
 use Rattle.flt_notes.specs.declared.readings.Reading.{Reading}
@@ -30,8 +32,12 @@ abbrev pub IsPlaced : ℕ → Reading → Type 0
 IsPlaced place (Known own) = own ≡ place
 IsPlaced place _ = Unit {0}
 
+-- the files, and their texts
+abbrev pub sources_read : List Studied → List Source
+sources_read each = map (λ (s : Studied). s.source) each
+
 abbrev pub texts_read : List Studied → List Text
-texts_read each = map (λ (s : Studied). s.source.text.now) each
+texts_read each = texts_of (sources_read each)
 
 -- 1 where a text parses, else 0
 abbrev pub known : Reading → ℕ

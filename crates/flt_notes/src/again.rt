@@ -1,18 +1,18 @@
 //! What comes of a finding where one more callback sets the contexts that nothing in its text sets: a run of another text, which is shown as
 //! that.
 
-ghost use Rattle.std.specs.Prelude.{◌≡◌, Some, All, IfOk, IfSome, slice_get};
+ghost use Rattle.std.specs.Prelude.{◌≡◌, Some, All, IfOk, IfSome, slice_get, string_bytes};
 ghost use Rattle.flt_notes.specs.Again as spec;
 ghost use Rattle.flt_notes.specs.Noted.{IsAgain};
+ghost use Rattle.flt_notes.specs.Rows as rows;
 
 use crate::lines::run_rows;
 use crate::noted::{Again, schedule_of};
 use crate::setters::{Setter, is_same};
 use flt_explain::Finding;
 use flt_schedules::{Outcome, Outlook, Schedule, Suspect, Suspects, outcomes_among};
-use flt_search::SearchWatch;
+use flt_search::{Broken, SearchWatch};
 use std::alloc::{AllocError, Global};
-use std::fmt::Write;
 
 /// A text that sets what another doesn't, and what comes there of the other's findings for which that would be needed.
 #[derive(Drop)]
@@ -21,14 +21,40 @@ pub(crate) struct Setting {
     pub(crate) outcomes: Vec<Outcome>,
 }
 
-/// The lines of the added callback, by their numbers.
-fn put_added(out: &mut String, setter: &Setter) -> Result<(), AllocError> {
-    let mut line = setter.line;
-    for row in setter.added.as_str().lines() {
-        write!(out, "    {line:>4} | {row}\n")?;
-        line = line.saturating_add(1);
+/// What stands in front of a line of a number.
+fn line_head(alloc: Global, line: usize) -> Result<String, AllocError>
+    ensures { IfOk result (λ head. string_bytes head ≡ rows.line_head line) }
+{
+    format!(in alloc; "    {line:>4} | ")
+}
+
+/// Lines with their numbers in front, from this number on.
+fn numbered(alloc: Global, first: usize, lines: &[u8]) -> Result<Vec<u8>, AllocError>
+    ensures { IfOk result (λ out. out.items ≡ rows.numbered first lines.now) }
+{
+    let mut out = Vec::new(alloc);
+    let mut line = first;
+    let mut begins = true;
+    for byte in lines {
+        if begins {
+            let head = line_head(alloc, line)?;
+            out.extend_from_slice(head.as_bytes())?;
+            line = line.saturating_add(1);
+        }
+        out.push(*byte)?;
+        begins = *byte == b'\n';
     }
-    Ok(())
+    Ok(out)
+}
+
+/// The lines of the added callback, by their numbers, and a run of the text with it as rows.
+fn setter_rows(alloc: Global, setter: &Setter, broken: &Broken) -> Result<Vec<u8>, AllocError>
+    ensures { IfOk result (λ out. rows.AreSetterRows setter.now broken.now out.items) }
+{
+    let mut out = numbered(alloc, setter.line, setter.added.as_bytes())?;
+    let broken_rows = run_rows(alloc, setter.trees.as_slice(), broken)?;
+    out.extend_from_slice(broken_rows.as_bytes())?;
+    Ok(out)
 }
 
 /// The finding of a number, where it is found in the text with the callback too: with the rule that it is of without it.
@@ -160,13 +186,12 @@ impl Setting {
     /// # Errors
     ///
     /// Where a growth was refused.
-    pub(crate) fn rows(&self, alloc: Global, again: &Again) -> Result<String, AllocError> {
-        let mut out = String::new(alloc);
-        if let Again::Runs(broken) = again {
-            put_added(&mut out, &self.setter)?;
-            let rows = run_rows(alloc, self.setter.trees.as_slice(), broken)?;
-            out.push_str(rows.as_str())?;
+    pub(crate) fn rows(&self, alloc: Global, again: &Again) -> Result<Vec<u8>, AllocError>
+        ensures { IfOk result (λ out. rows.AreRowsBy self.now.setter again.now out.items) }
+    {
+        match again {
+            Again::Runs(broken) => setter_rows(alloc, &self.setter, broken),
+            Again::RunsNowhere => Ok(Vec::new(alloc)),
         }
-        Ok(out)
     }
 }

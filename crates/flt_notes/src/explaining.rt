@@ -6,6 +6,7 @@ ghost use Rattle.flt_details.specs.Reports.{texts_of};
 ghost use Rattle.flt_notes.specs.Noted.{AreNotes};
 ghost use Rattle.flt_notes.specs.Reported as spec;
 ghost use Rattle.flt_notes.specs.Told.{Tells};
+ghost use Rattle.flt_notes.specs.Whole.{IsPrint, look_for};
 
 use crate::fault::ExplainFault;
 use crate::noted::Noted;
@@ -82,6 +83,7 @@ pub fn explain<O: Sink, W: SearchWatch>(
     ensures reports { IfOk result (λ t. spec.AreReports (texts_of sources.now) t.explained.output.items t.explained.status) }
     ensures noted { IfOk result (λ t. AreNotes (texts_of sources.now) t.noted) }
     ensures said { IfOk result (λ t. Tells (texts_of sources.now) asking.states t.noted t.explained.output.items) }
+    ensures print { IfOk result (λ t. IsPrint (look_for asking) sources.now t.noted t.explained.output.items t.explained.status) }
     ensures within { IfOk result (λ t. t.sent ≤ length t.explained.output.items) }
     ensures sent { IfOk result (λ t. Appends (O.taken out.old) (O.taken out.new) (take t.sent t.explained.output.items)) }
     ensures early { IfOk result (λ t. asking.is_held ≡ false →

@@ -3,6 +3,7 @@
 ghost use Rattle.std.specs.Prelude.{◌≡◌, ◌++◌, Some, IfOk, OnOk, codes, map, string_bytes};
 ghost use Rattle.flt_notes.specs.Lines as spec;
 ghost use Rattle.flt_notes.specs.Noted.{own_of, schedule_of as schedule_in};
+ghost use Rattle.flt_notes.specs.Rows.{AreNoteRows, AreRunRows};
 
 use crate::noted::{Again, Noted, schedule_of};
 use flt_graph::Place;
@@ -404,7 +405,9 @@ pub(crate) fn again_line(alloc: Global, again: &Option<Again>) -> Result<String,
 // ---- rows
 
 /// A run of these filters as rows, and how these are read.
-pub(crate) fn run_rows(alloc: Global, own: &[Tree], broken: &Broken) -> Result<String, AllocError> {
+pub(crate) fn run_rows(alloc: Global, own: &[Tree], broken: &Broken) -> Result<String, AllocError>
+    ensures { IfOk result (λ rows. AreRunRows own.now broken.now (string_bytes rows)) }
+{
     let verdict = Verdict::Breaks(broken.violation, broken.entry);
     let timeline = Timeline::of(alloc, own, &broken.journal, verdict)?;
     let rows = timeline.text(alloc, INDENT)?;
@@ -414,17 +417,17 @@ pub(crate) fn run_rows(alloc: Global, own: &[Tree], broken: &Broken) -> Result<S
 }
 
 /// What stands behind the line of a note.
-pub(crate) fn note_rows(
-    alloc: Global,
-    trees: &[Tree],
-    noted: &Noted,
-) -> Result<String, AllocError> {
+pub(crate) fn note_rows(alloc: Global, trees: &[Tree], noted: &Noted) -> Result<String, AllocError>
+    ensures { IfOk result (λ rows. AreNoteRows trees.now noted.now (string_bytes rows)) }
+{
     match schedule_of(&noted.scheduled) {
         Schedule::Breaks(broken) => {
             let own = own_trees(trees, noted.filter, &noted.scheduled);
             run_rows(alloc, own, broken)
         }
         Schedule::NeverHanded => String::from_str(alloc, IS_STRICTER),
-        _ => Ok(String::new(alloc)),
+        Schedule::NotWithin | Schedule::Cut | Schedule::NeverStarted | Schedule::NeverGot(_) => Ok(
+            String::new(alloc),
+        ),
     }
 }

@@ -73,6 +73,8 @@ impl Output {
         requires said { IsSaid trees.now states self.old }
         ensures said { OnOk result (IsSaid trees.now states self.new) }
         ensures noted { OnOk result (self.new.noted ≡ self.old.noted ++ noted ∷ []) }
+        ensures bytes { OnOk result (self.new.bytes.items ≡ self.old.bytes.items ++ spec.note_line trees.now states noted
+            ++ quieted rows.now ++ spec.again_line noted.again ++ quieted again_rows.now) }
     {
         self.note_lines(alloc, trees, states, &noted, rows)?;
         self.noted.push(noted)?;

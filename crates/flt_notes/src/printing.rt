@@ -1,6 +1,6 @@
 //! The report of a text, with its notes.
 
-ghost use Rattle.std.specs.Prelude.{◌≡◌, ◌≢◌, ◌<◌, ◌++◌, ◌∷◌, [], All, IfOk, IfSome, Some, length, map, option_map, reverse, slice_get, OnOk};
+ghost use Rattle.std.specs.Prelude.{◌≡◌, ◌≢◌, ◌<◌, ◌++◌, ◌∷◌, [], All, IfOk, IfSome, None, Some, length, map, option_map, reverse, slice_get, OnOk};
 ghost use Rattle.std.specs.List.{AllZip};
 ghost use Rattle.flt_details.specs.Reports.{findings_status};
 ghost use Rattle.flt_model.specs.Program.{filters_of};
@@ -11,6 +11,8 @@ ghost use Rattle.flt_notes.specs.Parsed.{IsOther, IsUnread};
 ghost use Rattle.flt_notes.specs.Printing as spec;
 ghost use Rattle.flt_notes.specs.Readings.{IsStudied, IsTreeOf};
 ghost use Rattle.flt_notes.specs.Reported.{faults_in as faults, stack_of};
+ghost use Rattle.flt_notes.specs.Rows.{AreSettingRows};
+ghost use Rattle.flt_notes.specs.Whole.{AreReported, is_alone};
 
 use crate::again::Setting;
 use crate::also::also_broken;
@@ -112,7 +114,9 @@ fn last_of(outcomes: &mut Vec<Outcome>) -> Outcome
 impl Stage<'_> {
     /// The reports of the findings of a text that parses.
     fn reports(&self, known: Known<'_>) -> Result<Items<Report>, AllocError>
-        ensures { IfOk result (λ all. AreFirsts known.entry.found.now (map (λ r. r.finding) all)) }
+        ensures reports { IfOk result (AreReported (spec.look_of self.now) known.entry.source known.entry.tree.now
+            known.entry.graph.now known.entry.found.now) }
+        ensures firsts { IfOk result (λ all. AreFirsts known.entry.found.now (map (λ r. r.finding) all)) }
     {
         report_findings(
             self.alloc,
@@ -213,7 +217,8 @@ impl Stage<'_> {
         number: usize,
     ) -> Result<Option<Again>, AllocError>
         requires setting { IfSome setting.now (IsSetting known.source.text.now known.found.now) }
-        ensures { IfOk result (λ a. IfSome a (spec.IsAgainOf known.entry number)) }
+        ensures again { IfOk result (λ a. IfSome a (spec.IsAgainOf known.entry number)) }
+        ensures none { IfOk result (λ a. setting.now ≡ None → a ≡ None) }
     {
         match (schedule_of(scheduled), setting) {
             (Schedule::NeverGot(_), Some(setting)) => {
@@ -236,6 +241,8 @@ impl Stage<'_> {
         requires setting { IfSome setting.now (IsSetting known.source.text.now known.found.now) }
         ensures noted { IfOk result (spec.IsNotedOf self.now.trees.now known.entry earlier.now) }
         ensures number { IfOk result (λ n. n.finding ≡ report.now.finding) }
+        ensures behind { IfOk result (λ n. n.is_behind ≡ report.now.is_behind) }
+        ensures none { IfOk result (λ n. setting.now ≡ None → n.again ≡ None) }
     {
         let number = report.finding;
         let finding = finding_at(known.found, number);
@@ -253,10 +260,15 @@ impl Stage<'_> {
     }
 
     /// What stands behind the line of a note on one more callback.
-    fn again_rows(&self, setting: &Option<Setting>, noted: &Noted) -> Result<String, AllocError> {
-        match (setting, &noted.again) {
-            (Some(setting), Some(again)) => setting.rows(self.alloc, again),
-            _ => Ok(String::new(self.alloc)),
+    fn again_rows(&self, setting: &Option<Setting>, noted: &Noted) -> Result<Vec<u8>, AllocError>
+        ensures { IfOk result (λ rows. AreSettingRows setting.now noted.now.again rows.items) }
+    {
+        match setting {
+            Some(setting) => match &noted.again {
+                Some(again) => setting.rows(self.alloc, again),
+                None => Ok(Vec::new(self.alloc)),
+            },
+            None => Ok(Vec::new(self.alloc)),
         }
     }
 
@@ -269,7 +281,7 @@ impl Stage<'_> {
     ) -> Result<(), AllocError>
         requires said { spec.IsSaid self.now.trees.now self.now.states output.old }
         ensures said { OnOk result (spec.IsSaid self.now.trees.now self.now.states output.new) }
-        ensures noted { OnOk result (output.new.noted ≡ output.old.noted ++ noted ∷ []) }
+        ensures note { OnOk result (spec.AddsNote self.now.trees.now self.now.states setting.now noted output.old output.new) }
     {
         let rows = note_rows(self.alloc, self.trees, &noted)?;
         let again = self.again_rows(setting, &noted)?;
@@ -279,8 +291,9 @@ impl Stage<'_> {
             self.states,
             noted,
             rows.as_bytes(),
-            again.as_bytes(),
-        )
+            again.as_slice(),
+        )?;
+        Ok(())
     }
 
     /// Writes the report of a finding, and what comes of it.
@@ -299,6 +312,8 @@ impl Stage<'_> {
         ensures said { OnOk result (spec.IsSaid self.now.trees.now self.now.states output.new) }
         ensures noted { OnOk result (spec.HasNotes self.now.trees.now known.entry output.new.noted) }
         ensures numbers { OnOk result (numbers_in output.new.noted ≡ numbers_in output.old.noted ++ report.now.finding ∷ []) }
+        ensures block { OnOk result (spec.AddsBlock self.now.trees.now self.now.states known.entry.source.text.now report.now
+            output.old output.new) }
     {
         output.lines(report.lines.as_slice())?;
         let noted = self.noted(output.noted.as_slice(), known, setting, report, outcome)?;
@@ -321,6 +336,8 @@ impl Stage<'_> {
         ensures said { OnOk result (spec.IsSaid self.now.trees.now self.now.states output.new) }
         ensures noted { OnOk result (spec.HasNotes self.now.trees.now known.entry output.new.noted) }
         ensures numbers { OnOk result (numbers_in output.new.noted ≡ map (λ r. r.finding) reports.now) }
+        ensures added { OnOk result (spec.AddBlocks self.now.trees.now self.now.states known.entry.source.text.now reports.now
+            output.old output.new) }
     {
         for report in reports {
             let outcome = last_of(outcomes);
@@ -336,10 +353,12 @@ impl Stage<'_> {
         known: Known<'_>,
         watch: &mut W,
     ) -> Result<(), AllocError>
+        requires some { known.found.now ≢ [] }
         requires silent { spec.IsSilent self.now.trees.now self.now.states output.old }
         ensures said { OnOk result (spec.IsSaid self.now.trees.now self.now.states output.new) }
         ensures noted { OnOk result (spec.HasNotes self.now.trees.now known.entry output.new.noted) }
         ensures firsts { OnOk result (AreFirsts known.entry.found.now (numbers_in output.new.noted)) }
+        ensures body { OnOk result (spec.AddsBody (spec.look_of self.now) self.now.trees.now known.entry output.old output.new) }
     {
         let reports = self.reports(known)?;
         let reports = reports.as_slice();
@@ -362,6 +381,7 @@ impl Stage<'_> {
         ensures said { OnOk result (spec.IsSaid self.now.trees.now self.now.states output.new) }
         ensures noted { OnOk result (spec.HasNotes self.now.trees.now known.entry output.new.noted) }
         ensures firsts { OnOk result (AreFirsts known.entry.found.now (numbers_in output.new.noted)) }
+        ensures body { OnOk result (spec.AddsBody (spec.look_of self.now) self.now.trees.now known.entry output.old output.new) }
     {
         if !known.found.is_empty() {
             return self.put_found(output, known, watch);
@@ -377,7 +397,7 @@ impl Stage<'_> {
         watch: &mut W,
     ) -> Result<Part, AllocError>
         requires known { spec.IsKnownIn self.now.trees.now known }
-        ensures { IfOk result (spec.IsKnownPart self.now.trees.now self.now.states known.entry) }
+        ensures { IfOk result (spec.IsKnownPart (spec.look_of self.now) self.now.trees.now known.entry) }
     {
         let mut output = Output::new(self.alloc);
         self.put_findings(&mut output, known, watch)?;
@@ -397,7 +417,7 @@ impl Stage<'_> {
         watch: &mut W,
     ) -> Result<Part, AllocError>
         requires tree { IsTreeOf self.now.trees.now source.text.now place }
-        ensures { IfOk result (spec.IsParsedPart self.now.trees.now self.now.states source.entry.text.now place) }
+        ensures { IfOk result (spec.IsParsedPart (spec.look_of self.now) self.now.trees.now source.entry place) }
     {
         let tree = &self.trees[place];
         let graph = lower(self.alloc, tree)?;
@@ -416,6 +436,7 @@ impl Stage<'_> {
     fn unread_part(&self, source: Source<'_>, fault: SyntaxFault) -> Result<Part, AllocError>
         requires unread { IsUnread source.text.now fault }
         ensures report { IfOk result (spec.HasReport (filters_of self.now.trees.now) source.entry.text.now) }
+        ensures print { IfOk result (spec.IsUnreadPart (spec.look_of self.now) source.entry) }
         ensures silent { IfOk result (λ p. spec.IsSilent self.now.trees.now self.now.states p.output) }
     {
         let mut output = Output::new(self.alloc);
@@ -438,12 +459,23 @@ impl Stage<'_> {
         }
     }
 
+    /// Whether a script detaches filters, and no text parses that they could be of.
+    fn is_alone(&self, script: &[u8]) -> bool
+        ensures { result ≡ is_alone self.now.trees.now script.now }
+    {
+        match self.trees {
+            [] => detaches(script),
+            [_, ..] => false,
+        }
+    }
+
     /// What is said of a certificate, a journal or a script.
     fn notice_part(&self, source: Source<'_>, notice: &Notice<'_>) -> Result<Part, AllocError>
         ensures report { IfOk result (spec.ClosesNotice notice.now) }
+        ensures print { IfOk result (spec.PrintsNotice (spec.look_of self.now) self.now.trees.now source.entry notice.now) }
         ensures silent { IfOk result (λ p. spec.IsSilent self.now.trees.now self.now.states p.output) }
     {
-        let is_alone = self.trees.is_empty() && detaches(source.text);
+        let is_alone = self.is_alone(source.text);
         let said = notice_lines(self.alloc, self.coloured, is_alone, source.name, notice)?;
         let mut output = Output::new(self.alloc);
         output.lines(said.as_slice())?;
@@ -459,6 +491,7 @@ impl Stage<'_> {
     fn other_part(&self, source: Source<'_>, kind: Kind) -> Result<Part, AllocError>
         requires other { IsOther source.text.now kind }
         ensures report { IfOk result (spec.HasReport (filters_of self.now.trees.now) source.entry.text.now) }
+        ensures print { IfOk result (spec.IsNoticePart (spec.look_of self.now) self.now.trees.now source.entry) }
         ensures silent { IfOk result (λ p. spec.IsSilent self.now.trees.now self.now.states p.output) }
     {
         let notice = describe(self.alloc, kind, self.stack(), 0, source.text)?;
@@ -472,7 +505,7 @@ impl Stage<'_> {
         watch: &mut W,
     ) -> Result<Part, AllocError>
         requires text { IsStudied self.now.trees.now studied.now }
-        ensures { IfOk result (spec.IsPart self.now.trees.now self.now.states studied.now) }
+        ensures { IfOk result (spec.IsPart (spec.look_of self.now) self.now.trees.now studied.now) }
     {
         match studied.reading {
             Reading::Unread(fault) => self.unread_part(studied.source, fault),

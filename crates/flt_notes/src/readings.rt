@@ -2,7 +2,6 @@
 //! for all these trees.
 
 ghost use Rattle.std.specs.Prelude.{◌≡◌, ◌++◌, ◌∷◌, [], IfOk, OnOk};
-ghost use Rattle.flt_details.specs.Reports.{texts_of};
 ghost use Rattle.flt_syntax.specs.Spelling.{Spells};
 ghost use Rattle.flt_syntax.specs.TextFails.{Fails};
 ghost use Rattle.flt_notes.specs.Parsed.{IsOther, IsUnread};
@@ -44,8 +43,8 @@ impl<'a> Readings<'a> {
         requires other { IsOther source.text.now kind }
         requires old { spec.AreReadings self.old }
         ensures new { OnOk result (spec.AreReadings self.new) }
-        ensures text { OnOk result (spec.texts_read self.new.each.items
-            ≡ spec.texts_read self.old.each.items ++ source.entry.text.now ∷ []) }
+        ensures source { OnOk result (spec.sources_read self.new.each.items
+            ≡ spec.sources_read self.old.each.items ++ source.entry ∷ []) }
     {
         let reading = Reading::Other(kind);
         self.each.push(Studied { source, reading })?;
@@ -57,8 +56,8 @@ impl<'a> Readings<'a> {
         requires fault { IsUnread source.text.now fault }
         requires old { spec.AreReadings self.old }
         ensures new { OnOk result (spec.AreReadings self.new) }
-        ensures text { OnOk result (spec.texts_read self.new.each.items
-            ≡ spec.texts_read self.old.each.items ++ source.entry.text.now ∷ []) }
+        ensures source { OnOk result (spec.sources_read self.new.each.items
+            ≡ spec.sources_read self.old.each.items ++ source.entry ∷ []) }
     {
         let reading = Reading::Unread(fault);
         self.each.push(Studied { source, reading })?;
@@ -70,8 +69,8 @@ impl<'a> Readings<'a> {
         requires spelled { Spells source.text.now tree.filter }
         requires old { spec.AreReadings self.old }
         ensures new { OnOk result (spec.AreReadings self.new) }
-        ensures text { OnOk result (spec.texts_read self.new.each.items
-            ≡ spec.texts_read self.old.each.items ++ source.entry.text.now ∷ []) }
+        ensures source { OnOk result (spec.sources_read self.new.each.items
+            ≡ spec.sources_read self.old.each.items ++ source.entry ∷ []) }
     {
         let reading = Reading::Known(self.trees.len());
         self.trees.push(tree)?;
@@ -84,8 +83,8 @@ impl<'a> Readings<'a> {
         requires fault { Fails source.text.now fault }
         requires old { spec.AreReadings self.old }
         ensures new { OnOk result (spec.AreReadings self.new) }
-        ensures text { OnOk result (spec.texts_read self.new.each.items
-            ≡ spec.texts_read self.old.each.items ++ source.entry.text.now ∷ []) }
+        ensures source { OnOk result (spec.sources_read self.new.each.items
+            ≡ spec.sources_read self.old.each.items ++ source.entry ∷ []) }
     {
         match kind_of(source.text) {
             Some(kind) => self.add_other(source, kind),
@@ -97,8 +96,8 @@ impl<'a> Readings<'a> {
     fn add(&mut self, alloc: Global, source: Source<'a>) -> Result<(), AllocError>
         requires old { spec.AreReadings self.old }
         ensures new { OnOk result (spec.AreReadings self.new) }
-        ensures text { OnOk result (spec.texts_read self.new.each.items
-            ≡ spec.texts_read self.old.each.items ++ source.entry.text.now ∷ []) }
+        ensures source { OnOk result (spec.sources_read self.new.each.items
+            ≡ spec.sources_read self.old.each.items ++ source.entry ∷ []) }
     {
         match parse(alloc, source.text) {
             Ok(tree) => self.add_known(source, tree),
@@ -114,7 +113,7 @@ pub(crate) fn read_all<'a>(
     sources: &[Source<'a>],
 ) -> Result<Readings<'a>, AllocError>
     ensures readings { IfOk result spec.AreReadings }
-    ensures texts { IfOk result (λ r. spec.texts_read r.each.items ≡ texts_of sources.now) }
+    ensures sources { IfOk result (λ r. spec.sources_read r.each.items ≡ sources.now) }
 {
     let mut readings = Readings {
         trees: Items::new(alloc),

@@ -1,7 +1,7 @@
 //! A text with one more callback, which sets contexts that nothing in the text sets: as the driver kit's InstanceSetupCallback does, which the
 //! language leaves out.
 
-ghost use Rattle.std.specs.Prelude.{◌≡◌, IfOk, IfSome};
+ghost use Rattle.std.specs.Prelude.{◌≡◌, ◌≤◌, ◌-◌, IfOk, IfSome, length, slice_get, string_bytes};
 ghost use Rattle.flt_notes.specs.Again as spec;
 
 use flt_details::{Judged, Source, judge};
@@ -81,11 +81,14 @@ fn added_lines(alloc: Global, filter: &Filter, unset: Unset) -> Result<Option<St
 }
 
 /// How many lines end in a text.
-fn line_ends(text: &[u8]) -> usize {
-    let mut count: usize = 0;
+fn line_ends(text: &[u8]) -> usize
+    ensures ends { result ≡ spec.line_ends text.now }
+    ensures within { result ≤ length text.now }
+{
+    let mut count = 0;
     for byte in text {
         if *byte == b'\n' {
-            count = count.saturating_add(1);
+            count += 1;
         }
     }
     count
@@ -107,12 +110,23 @@ fn begin_alike(found: &[Finding], other: &[Finding]) -> bool {
     }
 }
 
-/// A text with a line end behind its last line.
+/// Whether the last byte ends a line.
+fn is_ended(text: &[u8]) -> bool
+    ensures { result ≡ spec.is_end (slice_get text.now (length text.now - 1)) }
+{
+    match text.last() {
+        Some(byte) => *byte == b'\n',
+        None => false,
+    }
+}
+
+/// A text with an end of its last line.
 fn whole_lines(alloc: Global, text: &[u8]) -> Result<Vec<u8>, AllocError>
-    ensures { IfOk result (λ whole. spec.GoesOn text.now whole.items) }
+    ensures on { IfOk result (λ whole. spec.GoesOn text.now whole.items) }
+    ensures ended { IfOk result (λ whole. whole.items ≡ spec.ended text.now) }
 {
     let mut whole = Vec::from_slice(alloc, text)?;
-    if whole.last() != Some(&b'\n') {
+    if !is_ended(text) {
         whole.push(b'\n')?;
     }
     Ok(whole)
@@ -126,7 +140,8 @@ fn setter_of(
     added: String,
     line: usize,
 ) -> Result<Option<Setter>, AllocError>
-    ensures { IfOk result (λ s. IfSome s (spec.IsOfJudged judged)) }
+    ensures tree { IfOk result (λ s. IfSome s (spec.IsOfJudged judged)) }
+    ensures lines { IfOk result (λ s. IfSome s (λ s. (string_bytes s.added ≡ string_bytes added) × (s.line ≡ line))) }
 {
     match judged {
         Judged::Known(tree, graph, own) if begin_alike(found, own.as_slice()) => {
@@ -154,7 +169,7 @@ fn setter_with(
     ensures { IfOk result (λ s. IfSome s (spec.IsSetter text.now)) }
 {
     let mut whole = whole_lines(alloc, text)?;
-    let line = line_ends(&whole).saturating_add(1);
+    let line = line_ends(whole.as_slice()) + 1;
     whole.extend_from_slice(added.as_bytes())?;
     let judged = judge(alloc, &whole)?;
     let setter = setter_of(alloc, found, judged, added, line)?;

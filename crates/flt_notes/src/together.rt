@@ -3,12 +3,13 @@
 ghost use Rattle.std.specs.Prelude.{◌≡◌, ◌≢◌, ◌≤◌, ◌+◌, true, false, ◌++◌, [], IfOk, IfErr, OnOk, drop, length, max};
 ghost use Rattle.std.specs.Io.KnownBytes.{Appends};
 ghost use Rattle.flt_model.specs.Program.{filters_of};
-ghost use Rattle.flt_notes.specs.Printing.{ArePrinted, HoldsBack, IsMore, IsPart, IsPutOut, IsSaid, part_of};
+ghost use Rattle.flt_notes.specs.Printing.{ArePrinted, HoldsBack, IsMore, IsPart, IsPutOut, IsSaid, look_of, part_of};
 ghost use Rattle.flt_notes.specs.Noted.{AreNotesIn};
 ghost use Rattle.flt_notes.specs.Parsed.{AreParsed};
-ghost use Rattle.flt_notes.specs.Readings.{AreStudied, IsStudied, known_in, texts_read};
+ghost use Rattle.flt_notes.specs.Readings.{AreStudied, IsStudied, known_in, sources_read, texts_read};
 ghost use Rattle.flt_notes.specs.Reported as spec;
 ghost use Rattle.flt_notes.specs.Totals.{some};
+ghost use Rattle.flt_notes.specs.Whole.{AreSeveralPrinted, IsPrintOfAll};
 
 use crate::fault::ExplainFault;
 use crate::output::Output;
@@ -87,7 +88,7 @@ impl Stage<'_> {
         watch: &mut W,
     ) -> Result<(), AllocError>
         requires text { IsStudied self.now.trees.now studied.now }
-        ensures added { OnOk result (IsMore self.now.trees.now self.now.states studied.now printed.old printed.new) }
+        ensures added { OnOk result (IsMore (look_of self.now) self.now.trees.now studied.now printed.old printed.new) }
         ensures sent { OnOk result (printed.new.sent ≡ printed.old.sent) }
     {
         let part = self.part(studied, watch)?;
@@ -107,7 +108,7 @@ impl Stage<'_> {
     ) -> Result<(), ExplainFault>
         requires text { IsStudied self.now.trees.now studied.now }
         requires sent { HoldsBack is_held printed.old }
-        ensures added { OnOk result (IsMore self.now.trees.now self.now.states studied.now printed.old printed.new) }
+        ensures added { OnOk result (IsMore (look_of self.now) self.now.trees.now studied.now printed.old printed.new) }
         ensures sent { OnOk result (HoldsBack is_held printed.new) }
         ensures out { OnOk result (is_held ≡ false →
             Appends (O.taken out.old) (O.taken out.new) (drop printed.old.sent printed.new.output.bytes.items)) }
@@ -135,7 +136,7 @@ impl Stage<'_> {
     ) -> Result<Printed, ExplainFault>
         requires texts { AreStudied self.now.trees.now 0 each.now }
         requires parsed { AreParsed (texts_read each.now) (filters_of self.now.trees.now) }
-        ensures printed { IfOk result (ArePrinted self.now.trees.now self.now.states each.now) }
+        ensures printed { IfOk result (ArePrinted (look_of self.now) self.now.trees.now each.now) }
         ensures sent { IfOk result
             (IsPutOut (texts_read each.now) self.now.states is_held (O.taken out.old) (O.taken out.new)) }
         ensures held { is_held ≡ true → out.new ≡ out.old }
@@ -168,6 +169,8 @@ impl Stage<'_> {
         ensures reports { IfOk result (λ p. spec.AreSummed (filters_of self.now.trees.now) (texts_read each.now) p.output.bytes.items p.total.status) }
         ensures notes { IfOk result (λ p. AreNotesIn self.now.trees.now (known_in each.now) (texts_read each.now) p.output.noted) }
         ensures said { IfOk result (λ p. IsSaid self.now.trees.now self.now.states p.output) }
+        ensures print { IfOk result (λ p. AreSeveralPrinted (look_of self.now) self.now.trees.now (sources_read each.now) p.output.noted
+            p.output.bytes.items p.total.status) }
         ensures sent { IfOk result
             (IsPutOut (texts_read each.now) self.now.states is_held (O.taken out.old) (O.taken out.new)) }
         ensures held { is_held ≡ true → out.new ≡ out.old }
@@ -194,7 +197,7 @@ impl Stage<'_> {
         watch: &mut W,
     ) -> Result<Printed, AllocError>
         requires text { IsStudied self.now.trees.now studied.now }
-        ensures part { IfOk result (λ p. IsPart self.now.trees.now self.now.states studied.now (part_of p)) }
+        ensures part { IfOk result (λ p. IsPart (look_of self.now) self.now.trees.now studied.now (part_of p)) }
         ensures sent { IfOk result (λ p. p.sent ≡ 0) }
     {
         let part = self.part(studied, watch)?;
@@ -224,6 +227,8 @@ impl Stage<'_> {
         ensures reports { IfOk result (λ p. spec.AreAllReports (filters_of self.now.trees.now) (texts_read each.now) p.output.bytes.items p.total.status) }
         ensures notes { IfOk result (λ p. AreNotesIn self.now.trees.now (known_in each.now) (texts_read each.now) p.output.noted) }
         ensures said { IfOk result (λ p. IsSaid self.now.trees.now self.now.states p.output) }
+        ensures print { IfOk result (λ p. IsPrintOfAll (look_of self.now) self.now.trees.now (sources_read each.now) p.output.noted
+            p.output.bytes.items p.total.status) }
         ensures sent { IfOk result
             (IsPutOut (texts_read each.now) self.now.states is_held (O.taken out.old) (O.taken out.new)) }
         ensures held { is_held ≡ true → out.new ≡ out.old }

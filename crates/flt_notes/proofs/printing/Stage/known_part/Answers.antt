@@ -1,7 +1,10 @@
-use Rattle.std.proofs.Common.{◌++◌, ◌∙◌, ap, refl}
+use Rattle.std.proofs.Common.{◌++◌, ◌∙◌, ap, length, refl}
+use Rattle.flt_notes.specs.Printing.{look_of}
 use Rattle.flt_notes.specs.Quiet.{quieted}
+use Rattle.flt_notes.specs.declared.printing.Part.{Part}
 use Rattle.flt_notes.proofs.Parts.{known_is}
 use Rattle.flt_notes.proofs.Said.{silent_none}
+use Rattle.flt_notes.proofs.Whole.{known_print}
 use Rattle.flt_notes.proofs.printing.Stage.known_part.Goals as goal
 
 pub put_findings-requires : goal.put_findings-requires
@@ -10,8 +13,15 @@ put_findings-requires g c =
 
 pub returns : goal.returns
 returns g c =
-    known_is _ _ c.args.known c.put_findings.new.output _ c.requires.known c.in_ok-put_findings.ensures.said
-    c.in_ok-put_findings.ensures.noted c.in_ok-put_findings.ensures.firsts
-    (c.in_ok-lines.ensures.bytes
-    ∙ ap (λ z. c.put_findings.new.output.bytes.items ++ quieted z) (c.as_bytes.ensures.value ∙ c.in_ok-findings_line.ensures))
-    c.in_ok-lines.ensures.noted c.status_of.ensures refl
+    let look = look_of c.args.self.now in
+    let p : Part = record {
+      output = c.lines.new.self;
+      tally = record { status = c.status_of.result; findings = length c.args.known.found.now };
+    } in
+    let added = c.in_ok-lines.ensures.bytes
+    ∙ ap (λ z. c.put_findings.new.output.bytes.items ++ quieted z) (c.as_bytes.ensures.value ∙ c.in_ok-findings_line.ensures) in
+    known_is look _ c.args.known c.put_findings.new.output p c.requires.known c.in_ok-put_findings.ensures.said
+    c.in_ok-put_findings.ensures.noted c.in_ok-put_findings.ensures.firsts added c.in_ok-lines.ensures.noted c.status_of.ensures refl
+    (known_print look _ c.args.known c.new-output.result c.put_findings.new.output p c.requires.known c.new-output.ensures.bytes
+    c.new-output.ensures.noted c.in_ok-put_findings.ensures.body c.in_ok-put_findings.ensures.noted added c.in_ok-lines.ensures.noted
+    c.status_of.ensures refl)

@@ -1,5 +1,5 @@
 use Rattle.std.proofs.Common.{Err, rules, ◌≡◌, ◌-◌, arith, length, take, refl, sym, subst, ap, ◌∙◌}
-use Rattle.flt_notes.specs.Printing.{ArePrinted}
+use Rattle.flt_notes.specs.Printing.{ArePrinted, look_of}
 use Rattle.flt_notes.specs.Readings.{texts_read}
 use Rattle.flt_notes.specs.Reported.{IsCut}
 use Rattle.flt_notes.specs.declared.fault.ExplainFault.TheVariants.{OutOfMemory}
@@ -25,13 +25,13 @@ returns-in_default-clause-printed g c =
 
 pub returns-clause-printed : goal.returns-clause-printed
 returns-clause-printed g c =
-    whole_printed c.args.self.now.trees.now c.args.self.now.states c.args.each.now c.loop-studied.studied-index _ c.loop-studied.printed
+    whole_printed (look_of c.args.self.now) c.args.self.now.trees.now c.args.each.now c.loop-studied.studied-index _ c.loop-studied.printed
     c.add_part.new.printed c.in-len1-up.len_at_least c.requires.texts c.loop-studied-test.false c.loop-studied.invariant.printed
     c.in_ok-add_part.ensures.added
 
 pub returns-clause-sent : goal.returns-clause-sent
 returns-clause-sent g c =
-    whole_sent c.args.self.now.trees.now c.args.self.now.states c.args.each.now c.loop-studied.studied-index _ c.loop-studied.printed
+    whole_sent (look_of c.args.self.now) c.args.self.now.trees.now c.args.each.now c.loop-studied.studied-index _ c.loop-studied.printed
     c.add_part.new.printed c.args.is_held _ _ c.in-len1-up.len_at_least c.requires.parsed c.loop-studied-test.false
     c.loop-studied.invariant.printed c.in_ok-add_part.ensures.added c.in_ok-add_part.ensures.sent c.loop-studied.invariant.holds
     (λ h. ap g.O.Sink.taken (c.loop-studied.invariant.held h)) c.loop-studied.invariant.out
@@ -49,7 +49,7 @@ loop-studied-init g c = record {
 pub loop-studied-preserved : goal.loop-studied-preserved
 loop-studied-preserved g c =
     let trees = c.args.self.now.trees.now in
-    let states = c.args.self.now.states in
+    let look = look_of c.args.self.now in
     let n = length c.args.each.now - 1 in
     let before = take n c.args.each.now in
     let i = c.loop-studied.studied-index in
@@ -57,13 +57,13 @@ loop-studied-preserved g c =
     let old = c.loop-studied.printed in
     let new = c.put_part.new.printed in
     record {
-      printed = subst (λ e. ArePrinted trees states e new) (sym (one_taken before i _ h (here before i _ h)))
-          (printed_more trees states (take i before) _ old new c.loop-studied.invariant.printed
+      printed = subst (λ e. ArePrinted look trees e new) (sym (one_taken before i _ h (here before i _ h)))
+          (printed_more look trees (take i before) _ old new c.loop-studied.invariant.printed
           (studied_here trees c.args.each.now n i _ c.requires.texts h (here before i _ h))
           (placed_here trees c.args.each.now n i _ c.requires.texts h (here before i _ h)) c.in_ok-put_part.ensures.added);
       holds = c.in_ok-put_part.ensures.sent;
       held = λ e. c.put_part.ensures.held e ∙ c.loop-studied.invariant.held e;
-      out = λ e. rest_out trees states _ old new _ _ _ c.in_ok-put_part.ensures.added (c.loop-studied.invariant.holds.all e)
+      out = λ e. rest_out look trees _ old new _ _ _ c.in_ok-put_part.ensures.added (c.loop-studied.invariant.holds.all e)
           (c.loop-studied.invariant.out e) (c.in_ok-put_part.ensures.out e);
       fine = c.in_ok-put_part.ensures.fine ∙ c.loop-studied.invariant.fine;
     }
@@ -74,14 +74,14 @@ returns-in_err-put_part-clause-memory g c =
     let states = c.args.self.now.states in
     let texts = texts_read c.args.each.now in
     rw fails (λ e. subst (λ o. IsCut texts states (g.O.Sink.taken c.args.out.now) (g.O.Sink.taken o)) (sym (c.in_err-put_part.ensures.memory e))
-    (cut_here c.args.self.now.trees.now states c.args.each.now (length c.args.each.now - 1) c.loop-studied.studied-index c.loop-studied.printed
+    (cut_here (look_of c.args.self.now) c.args.self.now.trees.now c.args.each.now (length c.args.each.now - 1) c.loop-studied.studied-index c.loop-studied.printed
     c.args.is_held (g.O.Sink.taken c.args.out.now) (g.O.Sink.taken c.loop-studied.out) c.requires.parsed c.loop-studied.invariant.printed
     (λ h. ap g.O.Sink.taken (c.loop-studied.invariant.held h)) c.loop-studied.invariant.out))
 
 pub returns-in_err-add_part-clause-memory : goal.returns-in_err-add_part-clause-memory
 returns-in_err-add_part-clause-memory g c =
     let fails : c.from_residual-in_err-add_part.result ≡ Err OutOfMemory = search rules in
-    rw fails (λ e. cut_here c.args.self.now.trees.now c.args.self.now.states c.args.each.now (length c.args.each.now - 1)
+    rw fails (λ e. cut_here (look_of c.args.self.now) c.args.self.now.trees.now c.args.each.now (length c.args.each.now - 1)
     c.loop-studied.studied-index c.loop-studied.printed c.args.is_held (g.O.Sink.taken c.args.out.now) (g.O.Sink.taken c.loop-studied.out)
     c.requires.parsed c.loop-studied.invariant.printed (λ h. ap g.O.Sink.taken (c.loop-studied.invariant.held h))
     c.loop-studied.invariant.out)

@@ -1,5 +1,8 @@
+use Rattle.std.proofs.Common.{◌∙◌, arith}
 use Rattle.flt_notes.specs.Noted.{no_note}
+use Rattle.flt_notes.specs.Printing.{look_of}
 use Rattle.flt_notes.proofs.Said.{said_more}
+use Rattle.flt_notes.proofs.Whole.{body_of_none, empty_of}
 use Rattle.flt_notes.proofs.printing.Stage.put_findings.Goals as goal
 
 pub returns-clause-said : goal.returns-clause-said
@@ -9,3 +12,11 @@ returns-clause-said g c =
 
 pub returns-clause-noted : goal.returns-clause-noted
 returns-clause-noted g c = rw (c.in_ok-lines.ensures.noted, c.requires.silent.none) no_note
+
+pub returns-clause-body : goal.returns-clause-body
+returns-clause-body g c =
+    body_of_none (look_of c.args.self.now) _ c.args.known c.as_slice.result.now c.args.output.now c.lines.new.self
+    (empty_of c.args.known.found.now c.is_empty.result c.is_empty.ensures
+    (λ h. first_of (cc, grind arith)))
+    (c.as_slice.ensures.value ∙ c.in_ok-report_nothing.ensures) c.in_ok-lines.ensures.bytes
+    c.in_ok-lines.ensures.noted

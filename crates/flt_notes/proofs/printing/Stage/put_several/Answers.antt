@@ -1,8 +1,11 @@
-use Rattle.std.proofs.Common.{◌∙◌, sym}
+use Rattle.std.proofs.Common.{◌∙◌, length, sym}
 use Rattle.std.proofs.lemmas.List.{length-map}
+use Rattle.flt_details.specs.declared.sources.Source.{Source}
+use Rattle.flt_notes.specs.Printing.{look_of}
+use Rattle.flt_notes.specs.Readings.{sources_read}
 use Rattle.flt_notes.specs.declared.readings.Studied.{Studied}
 use Rattle.flt_notes.proofs.Said.{said_more}
-use Rattle.flt_notes.proofs.Several.{summed}
+use Rattle.flt_notes.proofs.Several.{several_print, summed}
 use Rattle.flt_notes.proofs.printing.Stage.put_several.Goals as goal
 
 pub returns-clause-reports : goal.returns-clause-reports
@@ -13,7 +16,7 @@ returns-clause-reports g c = record {
   are = c.in_ok-printed.ensures.printed.parts;
   whole = summed c.in_ok-printed.printed.output.bytes.items c.as_bytes.result.now c.lines.new.self.bytes.items _ _ _ _
       c.in_ok-lines.ensures.bytes (c.as_bytes.ensures.value ∙ c.in_ok-line.ensures.ok)
-      (sym (length-map c.args.each.now (λ (s : Studied). s.source.text.now)));
+      (sym (length-map (sources_read c.args.each.now) (λ (s : Source). s.text.now) ∙ length-map c.args.each.now (λ (s : Studied). s.source)));
 }
 
 pub returns-clause-notes : goal.returns-clause-notes
@@ -23,3 +26,10 @@ pub returns-clause-said : goal.returns-clause-said
 returns-clause-said g c =
     said_more _ _ c.in_ok-printed.printed.output c.lines.new.self c.as_bytes.result.now c.in_ok-printed.ensures.printed.said c.in_ok-lines.ensures.bytes
     c.in_ok-lines.ensures.noted
+
+pub returns-clause-print : goal.returns-clause-print
+returns-clause-print g c =
+    several_print (look_of c.args.self.now) _ c.args.each.now c.in_ok-printed.printed c.lines.new.self.noted c.as_bytes.result.now
+    c.lines.new.self.bytes.items (length c.args.each.now) c.in_ok-printed.ensures.printed c.in_ok-lines.ensures.noted
+    c.in_ok-lines.ensures.bytes (c.as_bytes.ensures.value ∙ c.in_ok-line.ensures.ok)
+    (sym (length-map c.args.each.now (λ (s : Studied). s.source)))

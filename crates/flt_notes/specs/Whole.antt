@@ -1,0 +1,162 @@
+-- What is printed of files for people, from the first line to the last. This project's own program.
+use Rattle.std.specs.Prelude.{◌≡◌, ◌⊎◌, ℕ, ◌+◌, Bool, false, List, [], ◌∷◌, ◌++◌, Some, length, max, slice_get}
+use Rattle.flt_syntax.specs.declared.fault.SyntaxFault.{SyntaxFault}
+use Rattle.flt_tree.specs.Names.{Text}
+use Rattle.flt_tree.specs.declared.tree.Tree.{Tree}
+use Rattle.flt_graph.specs.declared.graph.Graph.{Graph}
+use Rattle.flt_explain.specs.declared.finding.Finding.{Finding}
+use Rattle.flt_model.specs.Program.{filters_of}
+use Rattle.flt_reasons.specs.Notice as notices
+use Rattle.flt_reasons.specs.declared.notice.Kind.{Kind}
+use Rattle.flt_reasons.specs.declared.notice.Notice.{Notice}
+use Rattle.flt_details.specs.Closing.{findings_closing, syntax_line}
+use Rattle.flt_details.specs.Reports.{IsKnown, findings_status, texts_of}
+use Rattle.flt_details.specs.declared.sources.Source.{Source}
+use Rattle.flt_reports.specs.Fault.{IsFaultReport}
+use Rattle.flt_reports.specs.Reports.{AreReports, nothing_report}
+use Rattle.flt_reports.specs.declared.reports.Report.{Report}
+use Rattle.flt_notes.specs.Lines.{again_line, note_line}
+use Rattle.flt_notes.specs.Noted.{AreNoted}
+use Rattle.flt_notes.specs.Notices.{AreNoticeLines, detaches}
+use Rattle.flt_notes.specs.Parsed.{AreParsed, IsOther, IsUnread}
+use Rattle.flt_notes.specs.Quiet.{quieted}
+use Rattle.flt_notes.specs.Reported.{faults_in, stack_of}
+use Rattle.flt_notes.specs.Rows.{AreAgainRows, AreNoteRows}
+use Rattle.flt_notes.specs.Totals.{some, summary}
+use Rattle.flt_notes.specs.declared.explaining.Asking.{Asking}
+use Rattle.flt_notes.specs.declared.noted.Noted.{Noted}
+
+-- with colours or without, and how many states the search for runs of a text goes on from at most
+pub record Look : Type 0 where
+  pub coloured : Bool
+  pub states : ℕ
+
+-- the same, as it is asked for
+abbrev pub look_for : Asking → Look
+look_for asking = record { coloured = asking.coloured; states = asking.states }
+
+-- ---- a text that parses
+
+-- the reports of what is found of a text
+abbrev pub AreReported : Look → Source → Tree → Graph → List Finding → List Report → Type 0
+AreReported look s tree graph found reports = AreReports look.coloured s.name.now s.text.now tree.filter graph found reports
+
+-- what is printed of a finding that has a report: the report; the line of its note, and rows; the line on one more callback, and rows
+pub record IsBlock (trees : List Tree) (states : ℕ) (text : Text) (r : Report) (n : Noted) (printed : List ℕ) : Type 0 where
+  pub finding : n.finding ≡ r.finding
+  pub behind : n.is_behind ≡ r.is_behind
+  pub rows : List ℕ
+  pub are : AreNoteRows trees n rows
+  pub again : List ℕ
+  pub more : AreAgainRows text n.again again
+  pub whole : printed ≡ quieted r.lines.items ++ note_line trees states n ++ quieted rows ++ again_line n.again ++ quieted again
+
+-- the same of each report and its note, one below the other
+pub data AreBlocks (trees : List Tree) (states : ℕ) (text : Text) : List Report → List Noted → List ℕ → Type 0 where
+  no_block : AreBlocks trees states text [] [] []
+  one_block_more : {rs : List Report} {ns : List Noted} {printed : List ℕ} {r : Report} {n : Noted} {own : List ℕ} →
+      AreBlocks trees states text rs ns printed → IsBlock trees states text r n own →
+      AreBlocks trees states text (rs ++ r ∷ []) (ns ++ n ∷ []) (printed ++ own)
+
+-- all reports of a text, each with its note
+pub record AreReportsWithNotes (look : Look) (trees : List Tree) (s : Source) (tree : Tree) (graph : Graph) (found : List Finding)
+    (notes : List Noted) (printed : List ℕ) : Type 0 where
+  pub reports : List Report
+  pub are : AreReported look s tree graph found reports
+  pub blocks : AreBlocks trees look.states s.text.now reports notes printed
+
+-- what stands above the last line: what is said where nothing is found, or the reports with their notes
+abbrev pub IsBody : Look → List Tree → Source → Tree → Graph → List Finding → List Noted → List ℕ → Type 0
+IsBody look trees s tree graph [] notes printed = (notes ≡ []) × (printed ≡ quieted (nothing_report s.name.now))
+IsBody look trees s tree graph (f ∷ fs) notes printed = AreReportsWithNotes look trees s tree graph (f ∷ fs) notes printed
+
+-- what is printed of a text that parses, whose tree is that of this place, with its status and how many findings it has
+pub record IsKnownPrint (look : Look) (trees : List Tree) (place : ℕ) (s : Source) (notes : List Noted) (printed : List ℕ)
+    (status count : ℕ) : Type 0 where
+  pub tree : Tree
+  pub own : slice_get trees place ≡ Some tree
+  pub graph : Graph
+  pub found : List Finding
+  pub known : IsKnown s.text.now tree graph found
+  pub noted : AreNoted trees s.text.now place graph found notes
+  pub above : List ℕ
+  pub body : IsBody look trees s tree graph found notes above
+  pub whole : printed ≡ above ++ findings_closing found
+  pub worth : status ≡ findings_status found
+  pub many : count ≡ length found
+
+-- ---- one that doesn't
+
+-- what is printed of a text that doesn't parse, and isn't taken for anything else
+pub record IsUnreadPrint (look : Look) (s : Source) (printed : List ℕ) (status count : ℕ) : Type 0 where
+  pub fault : SyntaxFault
+  pub unread : IsUnread s.text.now fault
+  pub lines : List ℕ
+  pub are : IsFaultReport look.coloured s.name.now s.text.now lines
+  pub whole : printed ≡ quieted lines ++ (syntax_line fault ++ 10 ∷ [])
+  pub worth : status ≡ 2
+  pub many : count ≡ 1
+
+-- a script detaches filters, and no text parses that they could be of
+abbrev pub is_alone : List Tree → Text → Bool
+is_alone [] text = detaches text
+is_alone (t ∷ ts) text = false
+
+-- what is printed of a certificate, a journal or a script. These are the trees of the texts that parse
+pub record IsNoticePrint (look : Look) (trees : List Tree) (s : Source) (printed : List ℕ) (status count : ℕ) : Type 0 where
+  pub kind : Kind
+  pub other : IsOther s.text.now kind
+  pub notice : Notice
+  pub is : notices.IsNotice (stack_of (filters_of trees)) kind s.text.now notice
+  pub lines : List ℕ
+  pub are : AreNoticeLines look.coloured (is_alone trees s.text.now) s.name.now notice lines
+  pub whole : printed ≡ quieted lines ++ notices.closing notice
+  pub worth : status ≡ notices.status_of notice
+  pub many : count ≡ faults_in notice
+
+-- either of them
+abbrev pub IsFailedPrint : Look → List Tree → Source → List ℕ → ℕ → ℕ → Type 0
+IsFailedPrint look trees s printed status count =
+    IsUnreadPrint look s printed status count ⊎ IsNoticePrint look trees s printed status count
+
+-- ---- several
+
+-- what is printed of each file, with an empty line below, and how many of them parse; with the greatest status, and so many findings in so
+-- many files
+pub data ArePrints (look : Look) (trees : List Tree) : ℕ → List Source → List Noted → List ℕ → ℕ → ℕ → ℕ → Type 0 where
+  no_print : ArePrints look trees 0 [] [] [] 0 0 0
+  fails : {place : ℕ} {ss : List Source} {ns : List Noted} {printed : List ℕ} {greatest findings files : ℕ} {s : Source} {own : List ℕ}
+      {status count : ℕ} → ArePrints look trees place ss ns printed greatest findings files → IsFailedPrint look trees s own status count →
+      ArePrints look trees place (ss ++ s ∷ []) ns (printed ++ own ++ 10 ∷ []) (max greatest status) (findings + count) (files + some count)
+  parses : {place : ℕ} {ss : List Source} {ns : List Noted} {printed : List ℕ} {greatest findings files : ℕ} {s : Source}
+      {more : List Noted} {own : List ℕ} {status count : ℕ} → ArePrints look trees place ss ns printed greatest findings files →
+      IsKnownPrint look trees place s more own status count →
+      ArePrints look trees (place + 1) (ss ++ s ∷ []) (ns ++ more) (printed ++ own ++ 10 ∷ []) (max greatest status) (findings + count)
+      (files + some count)
+
+-- the same of several files, and a line that says how much is found
+pub record AreSeveralPrinted (look : Look) (trees : List Tree) (sources : List Source) (notes : List Noted) (printed : List ℕ)
+    (status : ℕ) : Type 0 where
+  pub place : ℕ
+  pub prints : List ℕ
+  pub findings : ℕ
+  pub files : ℕ
+  pub are : ArePrints look trees place sources notes prints status findings files
+  pub whole : printed ≡ prints ++ summary findings files (length sources) ++ 10 ∷ []
+
+-- what is printed of one file alone
+pub record IsOnePrinted (look : Look) (trees : List Tree) (s : Source) (notes : List Noted) (printed : List ℕ) (status : ℕ) : Type 0 where
+  pub count : ℕ
+  pub is : IsKnownPrint look trees 0 s notes printed status count ⊎ ((notes ≡ []) × IsFailedPrint look trees s printed status count)
+
+-- what is printed of files, where there are none, one or several
+abbrev pub IsPrintOfAll : Look → List Tree → List Source → List Noted → List ℕ → ℕ → Type 0
+IsPrintOfAll look trees [] notes printed status = (notes ≡ []) × (printed ≡ []) × (status ≡ 0)
+IsPrintOfAll look trees (s ∷ []) notes printed status = IsOnePrinted look trees s notes printed status
+IsPrintOfAll look trees (s ∷ t ∷ ss) notes printed status = AreSeveralPrinted look trees (s ∷ t ∷ ss) notes printed status
+
+-- the same, where the trees are those of the texts that parse
+pub record IsPrint (look : Look) (sources : List Source) (notes : List Noted) (printed : List ℕ) (status : ℕ) : Type 0 where
+  pub trees : List Tree
+  pub parsed : AreParsed (texts_of sources) (filters_of trees)
+  pub are : IsPrintOfAll look trees sources notes printed status
