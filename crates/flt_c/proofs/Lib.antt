@@ -1,0 +1,11 @@
+pub mod Beside
+pub mod Divided
+pub mod FilesOn
+pub mod Follow
+pub mod Kept
+pub mod Pieced
+pub mod Placing
+pub mod Reading
+pub mod Rests
+pub mod Standing
+pub mod Taken

@@ -1,0 +1,24 @@
+//! What the text of annotations is in C.
+
+ghost use Rattle.flt_c.specs.Laws as spec;
+ghost use Rattle.flt_c.specs.Pieces as pieces;
+
+/// Each byte of the text of some files stands in C at its line's place plus its column, or ends a line where its annotation ends; each line
+/// begins further on than the one before it ended. It does nothing: its clause is the law.
+#[tactic(auto, using(crate::proofs::Standing::each_byte_stands))]
+pub fn each_byte_stands_in_c()
+    ensures { spec.EachByteStands }
+{}
+
+/// Each byte that is read of an annotation is in the text, at its place, but the `*/` that ends it. It does nothing: its clause is the law.
+#[tactic(auto, using(crate::proofs::Taken::no_byte_is_left_out))]
+pub fn no_byte_is_left_out()
+    ensures { spec.NoByteIsLeftOut }
+{}
+
+/// A file that is read is, without its continuations, a sequence of pieces of C: code, comments, strings, character constants and ends of
+/// lines; and its text is that of its comments. It does nothing: its clause is the law.
+#[tactic(auto, using(crate::proofs::Divided::files_are_pieces))]
+pub fn files_are_pieces()
+    ensures { pieces.FilesArePieces }
+{}

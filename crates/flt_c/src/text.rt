@@ -1,0 +1,144 @@
+//! The text that annotations make, and where each line of it begins in C.
+
+ghost use Rattle.std.specs.Prelude.{◌≡◌, ◌<◌, ◌^◌, length, IfOk, OnOk, MatchResult, Ok, Err};
+ghost use Rattle.flt_c.specs.Scan as scan;
+ghost use Rattle.flt_c.specs.Texts as spec;
+
+use crate::fault::Fault;
+use crate::mode::{Mode, is_blank, is_note};
+use crate::place::Place;
+use crate::scan::{Scanner, after, blamed, continuation, join, open_at_end, start, step};
+use std::alloc::{AllocError, Global};
+
+/// Where a line of the text begins in C: the number of its file, from 0, and the place of its first byte there.
+#[derive(Clone, Copy)]
+pub struct Line {
+    pub file: usize,
+    pub place: Place,
+}
+
+/// The text that annotations make, and where each line of it begins.
+#[derive(Drop)]
+pub struct Annotations {
+    pub bytes: Vec<u8>,
+    pub lines: Vec<Line>,
+    /// Whether a line begins after the text.
+    fresh: bool,
+}
+
+impl Annotations {
+    /// No text.
+    pub(crate) fn new(alloc: Global) -> Annotations
+        ensures { spec.text_in result ≡ spec.empty }
+    {
+        Annotations {
+            bytes: Vec::new(alloc),
+            lines: Vec::new(alloc),
+            fresh: true,
+        }
+    }
+
+    /// One byte more, which stands there in a file.
+    fn put(&mut self, file: usize, byte: u8, place: Place) -> Result<(), AllocError>
+        ensures { OnOk result (spec.text_in self.new ≡ spec.put file (spec.text_in self.old) (record { byte = byte; place = place })) }
+    {
+        if self.fresh {
+            self.lines.push(Line { file, place })?;
+        }
+        self.bytes.push(byte)?;
+        self.fresh = byte == b'\n';
+        Ok(())
+    }
+
+    /// What a byte adds after a `*` in a block: a `*/` ends the line there.
+    fn add_after_star(&mut self, file: usize, s: Scanner, b: u8) -> Result<(), AllocError>
+        requires { s.mode ≡ Mode.BlockTextStar }
+        ensures { OnOk result (spec.text_in self.new ≡ spec.put_all file (spec.text_in self.old) (scan.added s b)) }
+    {
+        match b {
+            b'/' => self.put(file, b'\n', s.last),
+            b'*' => self.put(file, b'*', s.last),
+            _ => {
+                self.put(file, b'*', s.last)?;
+                self.put(file, b, s.at)
+            }
+        }
+    }
+
+    /// What a byte adds.
+    fn add(&mut self, file: usize, s: Scanner, b: u8) -> Result<(), AllocError>
+        ensures { OnOk result (spec.text_in self.new ≡ spec.put_all file (spec.text_in self.old) (scan.added s b)) }
+    {
+        match s.mode {
+            Mode::LineText => self.put(file, b, s.at),
+            Mode::LineMarked | Mode::BlockMarked => {
+                if is_blank(b) {
+                    self.put(file, b, s.at)
+                } else {
+                    Ok(())
+                }
+            }
+            Mode::BlockText => {
+                if b == b'*' {
+                    Ok(())
+                } else {
+                    self.put(file, b, s.at)
+                }
+            }
+            Mode::BlockTextStar => self.add_after_star(file, s, b),
+            _ => Ok(()),
+        }
+    }
+
+    /// The end of the file: an annotation's line ends there.
+    fn end(&mut self, file: usize, s: Scanner) -> Result<(), AllocError>
+        ensures { OnOk result (spec.text_in self.new ≡ spec.put_all file (spec.text_in self.old) (scan.last_line s)) }
+    {
+        if is_note(s.mode) {
+            self.put(file, b'\n', s.at)
+        } else {
+            Ok(())
+        }
+    }
+
+    /// The text of the annotations of one file more, or the file's first fault.
+    pub(crate) fn read(
+        &mut self,
+        number: usize,
+        file: &[u8],
+    ) -> Result<Result<(), Fault>, AllocError>
+        requires { length file.now < 2 ^ 32 }
+        ensures { IfOk result (λ done. MatchResult done
+            (λ _. spec.after number (spec.text_in self.old) (scan.annotations file.now) ≡ Ok (spec.text_in self.new))
+            (λ fault. spec.after number (spec.text_in self.old) (scan.annotations file.now) ≡ Err fault)) }
+    {
+        let mut s = start();
+        let mut rest = file;
+        while let [b, ..] = rest {
+            let n = continuation(rest);
+            if n == 0 {
+                match step(s, *b) {
+                    Ok(next) => {
+                        self.add(number, s, *b)?;
+                        s = next;
+                        rest = after(rest, 1);
+                    }
+                    Err(fault) => return Ok(Err(fault)),
+                }
+            } else {
+                match join(s, n) {
+                    Ok(next) => {
+                        s = next;
+                        rest = after(rest, n);
+                    }
+                    Err(fault) => return Ok(Err(fault)),
+                }
+            }
+        }
+        if let Some(kind) = open_at_end(s) {
+            return Ok(Err(blamed(s, kind)));
+        }
+        self.end(number, s)?;
+        Ok(Ok(()))
+    }
+}
