@@ -20,6 +20,7 @@ use Rattle.flt_forms.specs.declared.unread.UnreadFile.{UnreadFile}
 use Rattle.flt_forms.specs.declared.as_lines.Style.TheVariants.{Object, Sentence}
 use Rattle.flt_notes.specs.Reported.{AreAllReports, AreParts, IsNoticeReport, IsText, IsTextReport}
 use Rattle.flt_notes.specs.Reported as reports
+use Rattle.flt_notes.specs.Whole.{Look}
 use Rattle.flt_details.specs.Reports.{IsJudged, IsKnown, findings_status, status_of as status_of_judged, texts_of}
 use Rattle.flt_details.specs.declared.sources.Explained.{Explained as Told}
 use Rattle.flt_details.specs.declared.sources.Source.{Source}
@@ -40,13 +41,13 @@ use Rattle.flt_commands.specs.Answer.{status_of, told_status}
 use Rattle.flt_commands.specs.Check.{Decides, HasPoints, IsAnswer, IsChecked}
 use Rattle.flt_commands.specs.Clean.{BreakNothing, BreaksNothing, EachBreaksNothing, IsClean}
 use Rattle.flt_commands.specs.Commands.{IsSaid, IsReported}
-use Rattle.flt_commands.specs.Explain.{IsExplained, IsTold}
+use Rattle.flt_commands.specs.Explain.{IsExplained, IsTold, look_in}
 use Rattle.flt_commands.specs.Inputs.{Giving, given, Says, Text, unread}
 use Rattle.flt_commands.specs.Running.{IsRan}
 use Rattle.flt_commands.specs.Thin.{IsThinned, Decides as DecidesThin}
-use Rattle.flt_words.specs.Request.{Asked, Check, Analyse, Thin, Run, Replay, Show, Explain, Pages}
+use Rattle.flt_words.specs.Request.{Asked, Check, Analyse, Thin, Run, Replay, Show, Explain, Extract, Pages}
 use Rattle.flt_commands.specs.declared.answer.Answer.{Answer}
-use Rattle.flt_commands.specs.declared.answer.Answer.TheVariants.{Accepted, Refused, Certificate as Written, Judged, Ran as has_run, FileRefused, Explained, Pages as has_pages, Shown}
+use Rattle.flt_commands.specs.declared.answer.Answer.TheVariants.{Accepted, Refused, Certificate as Written, Judged, Ran as has_run, FileRefused, Explained, Extracted as has_text, Pages as has_pages, Shown}
 use Rattle.flt_commands.specs.declared.failure.Failure.{Failure}
 
 -- the laws' clauses
@@ -93,6 +94,7 @@ module _ (law : Law) (runs : LawOfRuns) (nowhere : SpelledFailsNowhere) where
   judged text certificate (FileRefused n f) said good = absurd said.decided
   judged text certificate (Explained r missed) said good = absurd said.decided
   judged text certificate (Shown rows v) said good = absurd said.decided
+  judged text certificate (has_text b) said good = absurd said.decided
   judged text certificate (has_pages t) said good = absurd said.decided
 
   checked : (texts : List Text) (answer : Answer) (file : Text) (cert : Option Text) → IsChecked texts (Ok answer) →
@@ -112,6 +114,7 @@ module _ (law : Law) (runs : LawOfRuns) (nowhere : SpelledFailsNowhere) where
   left text certificate (FileRefused n f) said good = absurd said.decided
   left text certificate (Explained r missed) said good = absurd said.decided
   left text certificate (Shown rows v) said good = absurd said.decided
+  left text certificate (has_text b) said good = absurd said.decided
   left text certificate (has_pages t) said good = absurd said.decided
 
   thinned : (texts : List Text) (answer : Answer) (file : Text) (cert : Option Text) → IsThinned texts (Ok answer) →
@@ -132,6 +135,7 @@ module _ (law : Law) (runs : LawOfRuns) (nowhere : SpelledFailsNowhere) where
   analysed (text ∷ []) (FileRefused n f) file said good = absurd said
   analysed (text ∷ []) (Explained r missed) file said good = absurd said
   analysed (text ∷ []) (Shown rows v) file said good = absurd said
+  analysed (text ∷ []) (has_text b) file said good = absurd said
   analysed (text ∷ []) (has_pages t) file said good = absurd said
   analysed (text ∷ more ∷ texts) answer file said good = said
 
@@ -143,6 +147,7 @@ module _ (law : Law) (runs : LawOfRuns) (nowhere : SpelledFailsNowhere) where
   driven (bytes ∷ texts) Accepted workers quiet script files said good = absurd said
   driven (bytes ∷ texts) (Explained r missed) workers quiet script files said good = absurd said
   driven (bytes ∷ texts) (Shown rows v) workers quiet script files said good = absurd said
+  driven (bytes ∷ texts) (has_text b) workers quiet script files said good = absurd said
   driven (bytes ∷ texts) (has_pages t) workers quiet script files said good = absurd said
   driven (bytes ∷ texts) (Refused f) workers quiet script files said good = absurd said
   driven (bytes ∷ texts) (Written c) workers quiet script files said good = absurd said
@@ -228,19 +233,20 @@ module _ (law : Law) (runs : LawOfRuns) (nowhere : SpelledFailsNowhere) where
   own_zero status [] good = good
   own_zero status (file ∷ files) good = absurd (omega (arith, good))
 
-  explained : (gives : Giving) (form : Form) (colour : Colour) (states : ℕ) (journal : Option Text) (files texts : List Text) (answer : Answer) →
-      IsExplained gives form states journal files texts (Ok answer) → status_of answer ≡ 0 → IsClean (Explain form colour states journal files) texts
-  explained gives form colour states journal files texts (Explained e missed) said good =
+  explained : (gives : Giving) (form : Form) (colour : Colour) (states : ℕ) (look : Look) (journal : Option Text) (files texts : List Text) (answer : Answer) →
+      IsExplained gives form look journal files texts (Ok answer) → status_of answer ≡ 0 → IsClean (Explain form colour states journal files) texts
+  explained gives form colour states look journal files texts (Explained e missed) said good =
       subst EachBreaksNothing said.told.given
       (told_well form said.told.sources missed.items e.explained said.told.told (own_zero e.explained.status missed.items good))
-  explained gives form colour states journal files texts (Shown rows v) said good = absurd said
-  explained gives form colour states journal files texts (has_pages t) said good = absurd said
-  explained gives form colour states journal files texts (has_run ran) said good = absurd said
-  explained gives form colour states journal files texts (FileRefused n f) said good = absurd said
-  explained gives form colour states journal files texts Accepted said good = absurd said
-  explained gives form colour states journal files texts (Refused f) said good = absurd said
-  explained gives form colour states journal files texts (Written c) said good = absurd said
-  explained gives form colour states journal files texts (Judged v) said good = absurd said
+  explained gives form colour states look journal files texts (Shown rows v) said good = absurd said
+  explained gives form colour states look journal files texts (has_text b) said good = absurd said
+  explained gives form colour states look journal files texts (has_pages t) said good = absurd said
+  explained gives form colour states look journal files texts (has_run ran) said good = absurd said
+  explained gives form colour states look journal files texts (FileRefused n f) said good = absurd said
+  explained gives form colour states look journal files texts Accepted said good = absurd said
+  explained gives form colour states look journal files texts (Refused f) said good = absurd said
+  explained gives form colour states look journal files texts (Written c) said good = absurd said
+  explained gives form colour states look journal files texts (Judged v) said good = absurd said
 
   -- where this is said of what the names give, and reported with the status 0, that holds which it says of an answer with that status
   says_clean : (gives : Giving) (names texts : List Text) (IsSaidOf : List Text → Result Answer Failure → Type 0) (P : Type 0)
@@ -253,27 +259,28 @@ module _ (law : Law) (runs : LawOfRuns) (nowhere : SpelledFailsNowhere) where
   says_clean gives names texts IsSaidOf P (Ok answer) bytes status holds (given result there said) reported good =
       holds answer said (sym reported.1 ∙ good)
 
-  explains_clean : (gives : Giving) (form : Form) (colour : Colour) (states : ℕ) (journal : Option Text) (files texts : List Text)
-      (said : Result Answer Failure) (bytes : List ℕ) (status : ℕ) → IsExplained gives form states journal files texts said → IsReported said bytes status →
+  explains_clean : (gives : Giving) (form : Form) (colour : Colour) (states : ℕ) (look : Look) (journal : Option Text) (files texts : List Text)
+      (said : Result Answer Failure) (bytes : List ℕ) (status : ℕ) → IsExplained gives form look journal files texts said → IsReported said bytes status →
       status ≡ 0 → IsClean (Explain form colour states journal files) texts
-  explains_clean gives form colour states journal files texts (Ok answer) bytes status said reported good =
-      explained gives form colour states journal files texts answer said (sym reported.1 ∙ good)
-  explains_clean gives form colour states journal files texts (Err f) bytes status said reported good =
+  explains_clean gives form colour states look journal files texts (Ok answer) bytes status said reported good =
+      explained gives form colour states look journal files texts answer said (sym reported.1 ∙ good)
+  explains_clean gives form colour states look journal files texts (Err f) bytes status said reported good =
       absurd (omega (arith, reported.1.1, good))
 
   -- where this is said of what is asked for, and reported with the status 0, the text breaks nothing
-  pub clean_of : (gives : Giving) (request : Asked) (texts : List Text) (said : Result Answer Failure) (bytes : List ℕ) (status : ℕ) →
-      IsSaid gives request texts said → IsReported said bytes status → status ≡ 0 → IsClean request texts
-  clean_of gives (Check file cert) texts said bytes status is reported good =
+  pub clean_of : (shown : Bool) (gives : Giving) (request : Asked) (texts : List Text) (said : Result Answer Failure) (bytes : List ℕ) (status : ℕ) →
+      IsSaid shown gives request texts said → IsReported said bytes status → status ≡ 0 → IsClean request texts
+  clean_of shown gives (Check file cert) texts said bytes status is reported good =
       says_clean gives _ texts IsChecked _ said bytes status (λ answer is well. checked texts answer file cert is well) is reported good
-  clean_of gives (Analyse file) texts said bytes status is reported good =
+  clean_of shown gives (Analyse file) texts said bytes status is reported good =
       says_clean gives _ texts IsAnalysed _ said bytes status (λ answer is well. analysed texts answer file is well) is reported good
-  clean_of gives (Thin file cert) texts said bytes status is reported good =
+  clean_of shown gives (Thin file cert) texts said bytes status is reported good =
       says_clean gives _ texts IsThinned _ said bytes status (λ answer is well. thinned texts answer file cert is well) is reported good
-  clean_of gives (Run workers quiet script files) texts said bytes status is reported good =
+  clean_of shown gives (Run workers quiet script files) texts said bytes status is reported good =
       says_clean gives _ texts IsRan _ said bytes status (λ answer is well. driven texts answer workers quiet script files is well) is reported good
-  clean_of gives (Replay journal files) texts said bytes status is reported good = tt
-  clean_of gives (Show timeline picture journal files) texts said bytes status is reported good = tt
-  clean_of gives (Explain form colour states journal files) texts said bytes status is reported good =
-      explains_clean gives form colour states journal files texts said bytes status is reported good
-  clean_of gives (Pages names) texts said bytes status is reported good = tt
+  clean_of shown gives (Replay journal files) texts said bytes status is reported good = tt
+  clean_of shown gives (Show timeline picture journal files) texts said bytes status is reported good = tt
+  clean_of shown gives (Explain form colour states journal files) texts said bytes status is reported good =
+      explains_clean gives form colour states (look_in colour shown states) journal files texts said bytes status is reported good
+  clean_of shown gives (Extract of_map files) texts said bytes status is reported good = tt
+  clean_of shown gives (Pages names) texts said bytes status is reported good = tt

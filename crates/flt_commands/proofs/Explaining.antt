@@ -6,12 +6,13 @@ use Rattle.std.specs.Io.KnownBytes.{Appends}
 use Rattle.flt_details.specs.Reports.{texts_of}
 use Rattle.flt_details.specs.declared.sources.Source.{Source}
 use Rattle.flt_forms.specs.declared.unread.UnreadFile.{UnreadFile}
+use Rattle.flt_notes.specs.Whole.{Look}
 use Rattle.flt_notes.specs.declared.explaining.Told.{Told}
 use Rattle.flt_words.specs.declared.request.Form.{Form}
 use Rattle.flt_commands.proofs.Sent.{cut_short}
 use Rattle.flt_commands.specs.Answer.{sent_in}
 use Rattle.flt_commands.specs.Commands.{IsReported}
-use Rattle.flt_commands.specs.Explain.{AreNotedFor, HoldsBack, IsCutIn, IsCutShort, IsCutUnder, IsExplained, IsNoteTold, IsSent, IsTold, IsToldOrUnwritten, IsToldUnder, names_in, said_of, told_name}
+use Rattle.flt_commands.specs.Explain.{AreNotedFor, HoldsBack, IsCutIn, IsCutShort, IsCutUnder, IsExplained, IsNoteTold, IsPrintTold, IsSent, IsTold, IsToldOrUnwritten, IsToldUnder, names_in, said_of, told_name}
 use Rattle.flt_commands.specs.Explain as explain
 use Rattle.flt_commands.specs.Inputs.{AreReadIn, Giving, Text}
 use Rattle.flt_commands.specs.Remarks.{unread_in, unread_lines}
@@ -36,19 +37,21 @@ holds_some form journal name same = rw same tt
 
 -- ---- of names and what they give
 
-pub told_under : (form : Form) (states : ℕ) (journal : Option Text) (names texts : List Text) (unread : List UnreadFile) (sources : List Source)
+pub told_under : (form : Form) (look : Look) (journal : Option Text) (names texts : List Text) (unread : List UnreadFile) (sources : List Source)
     (result : Result Told CommandFault) → names_in sources ≡ map (told_name form) names → texts_of sources ≡ texts →
     IfOk result (λ t. IsTold form sources unread t.explained) → IfOk result (λ t. AreNotedFor form journal (texts_of sources) t.noted) →
-    IfOk result (IsNoteTold form (texts_of sources) states) → IfOk result (IsToldUnder form states journal names texts unread)
-told_under form states journal names texts unread sources (Ok t) named given told noted notes = record {
+    IfOk result (IsNoteTold form (texts_of sources) look.states) → IfOk result (IsPrintTold form look sources) →
+    IfOk result (IsToldUnder form look journal names texts unread)
+told_under form look journal names texts unread sources (Ok t) named given told noted notes print = record {
   sources = sources;
   named = named;
   given = given;
   told = told;
   noted = subst (λ ts. AreNotedFor form journal ts t.noted) given noted;
-  notes = subst (λ ts. IsNoteTold form ts states t) given notes;
+  notes = subst (λ ts. IsNoteTold form ts look.states t) given notes;
+  print = print;
 }
-told_under form states journal names texts unread sources (Err e) named given told noted notes = tt
+told_under form look journal names texts unread sources (Err e) named given told noted notes print = tt
 
 pub cut_some : (form : Form) (states : ℕ) (names texts : List Text) (sources : List Source) (result : Result Told CommandFault)
     (old new : Option Text) → names_in sources ≡ map (told_name form) names → texts_of sources ≡ texts →
@@ -73,30 +76,30 @@ module _ (gives : Giving) (form : Form) (states : ℕ) (files : List Text) where
       rw (held (holds_named form journal named)) (cut_short gives form states files (taken old))
 
   -- nor where its journal isn't written
-  pub cut_unwritten : {O : Type 0} (taken : O → Option Text) (old new : O) (journal : Option Text) (texts : List Text) (said : Explanation) →
-      IsErr (said_of said) → IsExplained gives form states journal files texts (said_of said) → (HoldsBack form journal → new ≡ old) →
+  pub cut_unwritten : {O : Type 0} (taken : O → Option Text) (old new : O) (look : Look) (journal : Option Text) (texts : List Text)
+      (said : Explanation) → IsErr (said_of said) → IsExplained gives form look journal files texts (said_of said) → (HoldsBack form journal → new ≡ old) →
       IsCutShort gives form states files (taken old) (taken new)
-  cut_unwritten taken old new journal texts (Said t unread) err is held =
+  cut_unwritten taken old new look journal texts (Said t unread) err is held =
       let e : false ≡ true = err in let no : ⊥ = cc in absurd no
-  cut_unwritten taken old new journal texts (Unwritten name why) err is held =
+  cut_unwritten taken old new look journal texts (Unwritten name why) err is held =
       rw (held (holds_some form journal name.now is.0)) (cut_short gives form states files (taken old))
 
   -- the same of a report
-  pub cut_reported : {O : Type 0} (taken : O → Option Text) (old new : O) (journal : Option Text) (texts : List Text) (said : Explanation)
-      (result : Result Report CommandFault) → IfErr result (λ e. (e ≡ OutOfMemory) × IsErr (said_of said)) →
-      IsExplained gives form states journal files texts (said_of said) → (HoldsBack form journal → new ≡ old) →
+  pub cut_reported : {O : Type 0} (taken : O → Option Text) (old new : O) (look : Look) (journal : Option Text) (texts : List Text)
+      (said : Explanation) (result : Result Report CommandFault) → IfErr result (λ e. (e ≡ OutOfMemory) × IsErr (said_of said)) →
+      IsExplained gives form look journal files texts (said_of said) → (HoldsBack form journal → new ≡ old) →
       IfErr result (λ e. e ≡ OutOfMemory → IsCutShort gives form states files (taken old) (taken new))
-  cut_reported taken old new journal texts said (Ok report) err is held = tt
-  cut_reported taken old new journal texts said (Err e) err is held =
-      λ short. cut_unwritten taken old new journal texts said err.1 is held
+  cut_reported taken old new look journal texts said (Ok report) err is held = tt
+  cut_reported taken old new look journal texts said (Err e) err is held =
+      λ short. cut_unwritten taken old new look journal texts said err.1 is held
 
   -- what is said of them
-  pub explained_of : (journal : Option Text) (r : ReadFiles) (told : Told) (said : Explanation) → AreReadIn gives files r →
-      IsToldUnder form states journal (map (λ name. name.now) r.names.items) (map (λ text. text.items) r.texts.items) r.unread.items told →
+  pub explained_of : (look : Look) (journal : Option Text) (r : ReadFiles) (told : Told) (said : Explanation) → AreReadIn gives files r →
+      IsToldUnder form look journal (map (λ name. name.now) r.names.items) (map (λ text. text.items) r.texts.items) r.unread.items told →
       IsToldOrUnwritten told r.unread.items journal said →
-      IsExplained gives form states journal files (map (λ text. text.items) r.texts.items) (said_of said)
-  explained_of journal r told (Said t unread) are is (same, all) = rw (same, all) (record { names = _; read = are; told = is })
-  explained_of journal r told (Unwritten name why) are is same = (same, record { names = _; unread = _; read = are })
+      IsExplained gives form look journal files (map (λ text. text.items) r.texts.items) (said_of said)
+  explained_of look journal r told (Said t unread) are is (same, all) = rw (same, all) (record { names = _; read = are; told = is })
+  explained_of look journal r told (Unwritten name why) are is same = (same, record { names = _; unread = _; read = are })
 
 -- what went out of it
 pub sent_of_said : {O : Type 0} (taken : O → Option Text) (old new : O) (form : Form) (journal : Option Text) (told : Told)

@@ -10,6 +10,7 @@ pub mod OneAnalysis
 pub mod OneAnswer
 pub mod OneCheck
 pub mod OneDecision
+pub mod OneExtraction
 pub mod OnePlace
 pub mod OneReading
 pub mod OneThin

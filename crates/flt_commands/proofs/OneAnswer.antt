@@ -1,17 +1,19 @@
 -- A command line has one answer at most.
 use Rattle.std.proofs.Common.{◌≡◌, ◌≢◌, ℕ, Bool, true, false, List, Option, Some, None, Result, Ok, Err, refl, sym, ap, unwrap_or, ◌∙◌}
 use Rattle.std.specs.Str.{bytes_eq}
+use Rattle.flt_commands.proofs.OneExtraction.{extracts_once}
 use Rattle.flt_commands.proofs.OneReading.{says_once}
 use Rattle.flt_commands.specs.Analyse.{IsAnalysed}
 use Rattle.flt_commands.specs.Answer.{output, status_of}
 use Rattle.flt_commands.specs.Check.{IsChecked}
 use Rattle.flt_commands.specs.Commands.{AnswersFor, IsReported, IsSaid, giving_for}
+use Rattle.flt_commands.specs.Extract.{IsExtracted}
 use Rattle.flt_commands.specs.Inputs.{Giving, Text, gives_but, gives_if, gives_text, kept}
 use Rattle.flt_commands.specs.Names.{names_of}
 use Rattle.flt_commands.specs.Replay.{IsReplayed}
 use Rattle.flt_commands.specs.Single.{AreSame, AskForOne, GivesOne, HasOneAnswer, SaysOne, seen, told}
 use Rattle.flt_commands.specs.Thin.{IsThinned}
-use Rattle.flt_words.specs.Request.{Asked, Check, Analyse, Thin, Run, Replay, Show, Explain, Pages}
+use Rattle.flt_words.specs.Request.{Asked, Check, Analyse, Thin, Run, Replay, Show, Explain, Extract, Pages}
 use Rattle.flt_commands.specs.declared.answer.Answer.{Answer}
 use Rattle.flt_commands.specs.declared.failure.Failure.{Failure}
 use Rattle.flt_commands.specs.declared.failure.Failure.TheVariants.{OutOfMemory}
@@ -78,31 +80,35 @@ module _ (gives : Giving) (one : GivesOne gives) where
   gives_one (Replay journal files) = but_once (Some journal)
   gives_one (Show timeline picture journal files) = but_once (Some journal)
   gives_one (Explain form colour states journal files) = one
+  gives_one (Extract of_map files) = one
   gives_one (Pages names) = one
 
 module _ (checked : SaysOne IsChecked) (analysed : SaysOne IsAnalysed) (thinned : SaysOne IsThinned) (replayed : SaysOne IsReplayed) where
   -- of what is asked for one thing is said at most
-  pub said_once : (gives : Giving) (request : Asked) (texts more : List Text) (a b : Result Answer Failure) → HasOneAnswer request →
-      GivesOne gives → IsSaid gives request texts a → IsSaid gives request more b → AreSame a b
-  said_once gives (Check file cert) texts more a b has one x y =
+  pub said_once : (gives : Giving) (shown showing : Bool) (request : Asked) (texts more : List Text) (a b : Result Answer Failure) → HasOneAnswer request →
+      GivesOne gives → IsSaid shown gives request texts a → IsSaid showing gives request more b → AreSame a b
+  said_once gives shown showing (Check file cert) texts more a b has one x y =
       says_once gives one (names_of (Check file cert)) IsChecked checked texts more a b x y
-  said_once gives (Analyse file) texts more a b has one x y =
+  said_once gives shown showing (Analyse file) texts more a b has one x y =
       says_once gives one (names_of (Analyse file)) IsAnalysed analysed texts more a b x y
-  said_once gives (Thin file cert) texts more a b has one x y =
+  said_once gives shown showing (Thin file cert) texts more a b has one x y =
       says_once gives one (names_of (Thin file cert)) IsThinned thinned texts more a b x y
-  said_once gives (Run workers quiet script files) texts more a b has one x y = absurd has
-  said_once gives (Replay journal files) texts more a b has one x y =
+  said_once gives shown showing (Run workers quiet script files) texts more a b has one x y = absurd has
+  said_once gives shown showing (Replay journal files) texts more a b has one x y =
       says_once gives one (names_of (Replay journal files)) IsReplayed replayed texts more a b x y
-  said_once gives (Show timeline picture journal files) texts more a b has one x y = absurd has
-  said_once gives (Explain form colour states journal files) texts more a b has one x y = absurd has
-  said_once gives (Pages names) texts more a b has one x y = absurd has
+  said_once gives shown showing (Show timeline picture journal files) texts more a b has one x y = absurd has
+  said_once gives shown showing (Explain form colour states journal files) texts more a b has one x y = absurd has
+  said_once gives shown showing (Extract of_map files) texts more a b has one x y =
+      says_once gives one (names_of (Extract of_map files)) (IsExtracted of_map files) (extracts_once of_map files) texts more a b x y
+  said_once gives shown showing (Pages names) texts more a b has one x y = absurd has
 
   -- one thing is printed at most, with one exit status
-  pub printed_once : (gives : Giving) (written others : Text → Text → Type 0) (untouched kept : Type 0) (request : Option Asked) (r s : Report) →
-      AskForOne request → GivesOne gives → AnswersFor gives written untouched request r → AnswersFor gives others kept request s →
+  pub printed_once : (gives : Giving) (written others : Text → Text → Type 0) (untouched kept : Type 0) (shown showing : Bool) (request : Option Asked)
+      (r s : Report) →
+      AskForOne request → GivesOne gives → AnswersFor shown gives written untouched request r → AnswersFor showing gives others kept request s →
       (r.output.items ≡ s.output.items) × (r.status ≡ s.status)
-  printed_once gives written others untouched kept None r s has one x y = (x.0.0 ∙ sym y.0.0, x.0.1 ∙ sym y.0.1)
-  printed_once gives written others untouched kept (Some request) r s has one x y =
+  printed_once gives written others untouched kept shown showing None r s has one x y = (x.0.0 ∙ sym y.0.0, x.0.1 ∙ sym y.0.1)
+  printed_once gives written others untouched kept shown showing (Some request) r s has one x y =
       reported_once r.output.items s.output.items r.status s.status x.said y.said
-      (said_once (giving_for request gives) request x.texts y.texts x.said y.said has (gives_one gives one request) x.is y.is)
+      (said_once (giving_for request gives) shown showing request x.texts y.texts x.said y.said has (gives_one gives one request) x.is y.is)
       x.reported y.reported

@@ -7,7 +7,7 @@ use Rattle.flt_check.specs.declared.checker.Refusal.{Refusal}
 use Rattle.flt_commands.proofs.OneDecision.{DecidesOne}
 use Rattle.flt_commands.specs.Check.{Decides}
 use Rattle.flt_commands.specs.Single.{seen}
-use Rattle.flt_commands.specs.declared.answer.Answer.TheVariants.{Accepted, Refused, Certificate as Written, Judged, Ran, FileRefused, Explained, Pages, Shown}
+use Rattle.flt_commands.specs.declared.answer.Answer.TheVariants.{Accepted, Refused, Certificate as Written, Judged, Ran, FileRefused, Explained, Extracted, Pages, Shown}
 
 -- the laws' clauses
 abbrev pub HasOneFault : Type 0
@@ -27,6 +27,7 @@ module _ (one : HasOneFault) (none : CoversWithoutFault) where
   checks_once g c Accepted (FileRefused n h) x y = absurd y
   checks_once g c Accepted (Explained r files) x y = absurd y
   checks_once g c Accepted (Shown rows v) x y = absurd y
+  checks_once g c Accepted (Extracted bytes) x y = absurd y
   checks_once g c Accepted (Pages t) x y = absurd y
   checks_once g c (Refused f) Accepted x y = absurd (none g c f y x)
   checks_once g c (Refused f) (Refused h) x y = ap (λ r. seen (Ok (Refused r))) (one g c f h x y)
@@ -36,6 +37,7 @@ module _ (one : HasOneFault) (none : CoversWithoutFault) where
   checks_once g c (Refused f) (FileRefused n h) x y = absurd y
   checks_once g c (Refused f) (Explained r files) x y = absurd y
   checks_once g c (Refused f) (Shown rows v) x y = absurd y
+  checks_once g c (Refused f) (Extracted bytes) x y = absurd y
   checks_once g c (Refused f) (Pages t) x y = absurd y
   checks_once g c (Written d) b x y = absurd x
   checks_once g c (Judged v) b x y = absurd x
@@ -43,4 +45,5 @@ module _ (one : HasOneFault) (none : CoversWithoutFault) where
   checks_once g c (FileRefused n h) b x y = absurd x
   checks_once g c (Explained r files) b x y = absurd x
   checks_once g c (Shown rows v) b x y = absurd x
+  checks_once g c (Extracted bytes) b x y = absurd x
   checks_once g c (Pages t) b x y = absurd x

@@ -3,7 +3,7 @@ use Rattle.std.proofs.Common.{◌≡◌, ◌≢◌, ◌∙◌, ℕ, List, [], �
 use Rattle.std.proofs.Math.Path.{subst}
 use Rattle.flt_syntax.specs.TextFails.{SpelledFailsNowhere}
 use Rattle.flt_commands.proofs.Covered.{Law, LawOfRuns, clean_of}
-use Rattle.flt_commands.specs.Commands.{Answers, AnswersFor, AreThose, HoldsBack, IsAnswered, IsBefore, IsCutShort, IsKept, IsKeptAs, IsRemarked, NamesNoJournal, IsRemarkedAfter, IsReported, IsSaid, giving_for, texts_in}
+use Rattle.flt_commands.specs.Commands.{Answers, AnswersFor, AnswersSomehow, AreThose, HoldsBack, IsAnswered, IsBefore, IsCutShort, IsKept, IsKeptAs, IsRemarked, NamesNoJournal, IsRemarkedAfter, IsReported, IsSaid, giving_for, texts_in}
 use Rattle.flt_commands.specs.Explain.{ArePaged, IsSpelledAs, IsWritten}
 use Rattle.flt_notes.specs.Noted.{first_journal}
 use Rattle.std.specs.Prelude.{⊤}
@@ -17,7 +17,7 @@ use Rattle.flt_words.specs.Words.{asked}
 use Rattle.flt_words.specs.declared.request.Colour.{Colour}
 use Rattle.flt_words.specs.declared.request.Form.{Form}
 use Rattle.flt_commands.specs.declared.answer.Answer.{Answer}
-use Rattle.flt_commands.specs.declared.answer.Answer.TheVariants.{Accepted, Refused, Certificate, Judged, Explained, Pages, Ran, FileRefused, Shown}
+use Rattle.flt_commands.specs.declared.answer.Answer.TheVariants.{Accepted, Refused, Certificate, Judged, Explained, Extracted, Pages, Ran, FileRefused, Shown}
 use Rattle.flt_commands.specs.declared.failure.Failure.{Failure}
 use Rattle.flt_commands.specs.declared.fault.CommandFault.{CommandFault}
 use Rattle.flt_commands.specs.declared.fault.CommandFault.TheVariants.{OutOfMemory}
@@ -86,6 +86,7 @@ unread_none Accepted good = refl
 unread_none (Refused f) good = refl
 unread_none (Certificate bytes) good = refl
 unread_none (Judged v) good = refl
+unread_none (Extracted bytes) good = refl
 unread_none (Pages pages) good = refl
 unread_none (Ran ran) good = refl
 unread_none (Shown rows v) good = refl
@@ -106,10 +107,11 @@ quiet_for form colour states journal files before said (Err e) found reported sa
 -- ---- of a request, and of the words that ask for it
 
 module _ (words : List (List ℕ)) (request : Asked) (asks : Some request ≡ asked words) where
-  pub answers_asked : (gives : Giving) (written : Text → Text → Type 0) (untouched : Type 0) (result : Result Report CommandFault) →
-      IfOk result (IsAnswered gives written untouched request) → IfOk result (λ report. Answers gives written untouched words report)
-  answers_asked gives written untouched (Ok report) is = rw (← asks) is
-  answers_asked gives written untouched (Err e) is = tt
+  pub answers_asked : (shown : Bool) (gives : Giving) (written : Text → Text → Type 0) (untouched : Type 0)
+      (result : Result Report CommandFault) → IfOk result (IsAnswered shown gives written untouched request) →
+      IfOk result (λ report. Answers shown gives written untouched words report)
+  answers_asked shown gives written untouched (Ok report) is = rw (← asks) is
+  answers_asked shown gives written untouched (Err e) is = tt
 
   pub quiet_asked : (result : Result Report CommandFault) →
       IfOk result (λ report. report.status ≢ 2 → NamesNoJournal (Some request) → report.remark.items ≡ []) →
@@ -144,10 +146,10 @@ kept_anyway written untouched (Explain form colour states journal files) (Err f)
 kept_anyway written untouched (Show timeline (Some picture) journal files) said is = tt
 kept_anyway written untouched _ said is = tt
 
-answered_anyway : (gives : Giving) (written : Text → Text → Type 0) (untouched : Type 0) (request : Option Asked) (report : Report) →
-    AnswersFor gives written untouched request report → AnswersFor gives written ⊤ request report
-answered_anyway gives written untouched None report is = (is.0, tt)
-answered_anyway gives written untouched (Some request) report is = record {
+answered_anyway : (shown : Bool) (gives : Giving) (written : Text → Text → Type 0) (untouched : Type 0) (request : Option Asked) (report : Report) →
+    AnswersFor shown gives written untouched request report → AnswersFor shown gives written ⊤ request report
+answered_anyway shown gives written untouched None report is = (is.0, tt)
+answered_anyway shown gives written untouched (Some request) report is = record {
   said = is.said;
   texts = is.texts;
   those = is.those;
@@ -158,21 +160,23 @@ answered_anyway gives written untouched (Some request) report is = record {
   kept = kept_anyway written untouched request is.said is.kept;
 }
 
-pub answers_anyway : (gives : Giving) (written : Text → Text → Type 0) (untouched : Type 0) (words : List (List ℕ))
-    (result : Result Report CommandFault) → IfOk result (Answers gives written untouched words) → IfOk result (Answers gives written ⊤ words)
-answers_anyway gives written untouched words (Ok report) is = answered_anyway gives written untouched (asked words) report is
-answers_anyway gives written untouched words (Err e) is = tt
+pub answers_anyway : (shown : Bool) (gives : Giving) (written : Text → Text → Type 0) (untouched : Type 0) (words : List (List ℕ))
+    (result : Result Report CommandFault) → IfOk result (Answers shown gives written untouched words) →
+    IfOk result (AnswersSomehow gives written words)
+answers_anyway shown gives written untouched words (Ok report) is =
+    (shown, answered_anyway shown gives written untouched (asked words) report is)
+answers_anyway shown gives written untouched words (Err e) is = tt
 
 -- ---- all of it
 
-module _ (law : Law) (runs : LawOfRuns) (nowhere : SpelledFailsNowhere) (gives : Giving) (written : Text → Text → Type 0)
-    (untouched : Type 0) where
+module _ (law : Law) (runs : LawOfRuns) (nowhere : SpelledFailsNowhere) (shown : Bool) (gives : Giving)
+    (written : Text → Text → Type 0) (untouched : Type 0) where
   -- what is said of what is asked for, and reported, answers it
   pub answered_of : (request : Asked) (texts : List Text) (said : Result Answer Failure) (result : Result Report CommandFault) →
-      IsSaid (giving_for request gives) request texts said → IsKept written untouched request said →
+      IsSaid shown (giving_for request gives) request texts said → IsKept written untouched request said →
       IfOk result (λ report. AreThose request report texts said) →
       IfOk result (λ report. IsReported said report.output.items report.status) →
-      IfOk result (λ report. IsRemarked request said report.remark.items) → IfOk result (IsAnswered gives written untouched request)
+      IfOk result (λ report. IsRemarked request said report.remark.items) → IfOk result (IsAnswered shown gives written untouched request)
   answered_of request texts said (Ok report) is kept those reported remarked = record {
     said = said;
     texts = texts;
@@ -180,18 +184,18 @@ module _ (law : Law) (runs : LawOfRuns) (nowhere : SpelledFailsNowhere) (gives :
     is = is;
     reported = reported;
     remarked = remarked;
-    clean = λ good. clean_of law runs nowhere (giving_for request gives) request texts said report.output.items report.status is reported good;
+    clean = λ good. clean_of law runs nowhere shown (giving_for request gives) request texts said report.output.items report.status is reported good;
     kept = kept;
   }
   answered_of request texts said (Err f) is kept those reported remarked = tt
 
   -- the same of what the words ask for
   pub answers_of : (words : List (List ℕ)) (request : Asked) (texts : List Text) (said : Result Answer Failure)
-      (result : Result Report CommandFault) → Some request ≡ asked words → IsSaid (giving_for request gives) request texts said →
+      (result : Result Report CommandFault) → Some request ≡ asked words → IsSaid shown (giving_for request gives) request texts said →
       IsKept written untouched request said → IfOk result (λ report. AreThose request report texts said) →
       IfOk result (λ report. IsReported said report.output.items report.status) →
       IfOk result (λ report. IsRemarked request said report.remark.items) →
-      IfOk result (λ report. Answers gives written untouched words report)
+      IfOk result (λ report. Answers shown gives written untouched words report)
   answers_of words request texts said (Ok report) asks is kept those reported remarked =
       rw (← asks) (answered_of request texts said (Ok report) is kept those reported remarked)
   answers_of words request texts said (Err f) asks is kept those reported remarked = tt

@@ -14,7 +14,7 @@ use Rattle.flt_model.specs.declared.verdict.Violation.{Violation}
 use Rattle.flt_model.specs.declared.verdict.Violation.TheVariants.{V1, V2, V3, V4, V5, V6, V7, V8}
 use Rattle.flt_commands.specs.declared.failure.Failure.{Failure}
 use Rattle.flt_commands.specs.declared.answer.Answer.{Answer}
-use Rattle.flt_commands.specs.declared.answer.Answer.TheVariants.{Accepted, Refused, Certificate, Judged, Explained, Pages, Ran, FileRefused, Shown}
+use Rattle.flt_commands.specs.declared.answer.Answer.TheVariants.{Accepted, Refused, Certificate, Judged, Explained, Extracted, Pages, Ran, FileRefused, Shown}
 
 -- `R01` to `R15`
 abbrev pub rule_name : Rule → List ℕ
@@ -53,7 +53,7 @@ verdict_line Legal = codes "legal"
 verdict_line (NotARun n) = codes "not a run at " ++ decimal n
 verdict_line (Breaks v n) = codes "breaks V" ++ decimal (violation_number v) ++ codes " at " ++ decimal n
 
--- what stands on the standard output: the certificate, reports, pages with an empty line between them, the journal, or a line and a line
+-- what stands on the standard output: the certificate, a text or its map, reports, pages with an empty line between them, the journal, or a line and a line
 -- feed; of a journal that is shown, rows before that line
 abbrev pub output : Answer → List ℕ
 output Accepted = codes "accepted" ++ 10 ∷ []
@@ -61,6 +61,7 @@ output (Refused f) = refusal_line f ++ 10 ∷ []
 output (Certificate bytes) = bytes.items
 output (Judged v) = verdict_line v ++ 10 ∷ []
 output (Explained e unread) = e.explained.output.items
+output (Extracted bytes) = bytes.items
 output (Pages pages) = join_by (λ page. page.now) (10 ∷ []) pages.items
 output (Ran ran) = ran.journal.items
 output (Shown rows v) = rows.items ++ (verdict_line v ++ 10 ∷ [])
@@ -96,6 +97,7 @@ status_of (Certificate bytes) = 0
 status_of (Judged Legal) = 0
 status_of (Judged _) = 1
 status_of (Explained e unread) = told_status e.explained.status unread.items
+status_of (Extracted bytes) = 0
 status_of (Pages pages) = 0
 status_of (Ran ran) = ended_status ran.ending
 status_of (FileRefused file f) = 1

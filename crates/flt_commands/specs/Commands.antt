@@ -1,13 +1,14 @@
 -- What a command line comes to: what is read, what is said of it, how that is printed, what it is worth and what is kept. This project's own
 -- program.
 use Rattle.std.specs.Io.KnownBytes.{Appends}
-use Rattle.std.specs.Prelude.{◌≡◌, ◌≢◌, ℕ, List, [], ◌∷◌, ◌++◌, Option, Some, None, Result, Ok, Err, IfOk, OnOk, map, unwrap_or}
+use Rattle.std.specs.Prelude.{◌≡◌, ◌≢◌, ℕ, Bool, List, [], ◌∷◌, ◌++◌, Option, Some, None, Result, Ok, Err, IfOk, OnOk, map, unwrap_or, ⊤}
 use Rattle.flt_commands.specs.Analyse.{IsAnalysed}
 use Rattle.flt_commands.specs.Answer.{ending_of, output, remark, status_of}
 use Rattle.flt_commands.specs.Check.{IsChecked}
 use Rattle.flt_commands.specs.Clean.{IsClean}
 use Rattle.flt_commands.specs.Explain as explain
-use Rattle.flt_commands.specs.Explain.{ArePaged, IsExplained, IsWritten}
+use Rattle.flt_commands.specs.Explain.{ArePaged, IsExplained, IsWritten, look_in}
+use Rattle.flt_commands.specs.Extract.{IsExtracted}
 use Rattle.flt_commands.specs.Failure.{failure_line}
 use Rattle.flt_commands.specs.Inputs.{Giving, Says, Text, gives_but}
 use Rattle.flt_commands.specs.Names.{names_of}
@@ -16,7 +17,7 @@ use Rattle.flt_commands.specs.Replay.{IsReplayed, IsShown}
 use Rattle.flt_commands.specs.Running.{IsRan}
 use Rattle.flt_commands.specs.Thin.{IsThinned}
 use Rattle.flt_model.specs.JournalText.{Entries, spelling}
-use Rattle.flt_words.specs.Request.{Asked, Check, Analyse, Thin, Run, Replay, Show, Explain, Pages}
+use Rattle.flt_words.specs.Request.{Asked, Check, Analyse, Thin, Run, Replay, Show, Explain, Extract, Pages}
 use Rattle.flt_words.specs.Words.{asked}
 use Rattle.flt_commands.specs.declared.answer.Answer.{Answer}
 use Rattle.flt_commands.specs.declared.failure.Failure.{Failure}
@@ -37,17 +38,18 @@ giving_for (Show timeline picture journal files) = gives_but (Some journal)
 giving_for request = λ gives. gives
 
 -- what is said of what is asked for, an answer or why there is none, where the names give these texts; `explain` alone says something of
--- some of them where others can't be read
-abbrev pub IsSaid : Giving → Asked → List Text → Result Answer Failure → Type 0
-IsSaid gives (Check file cert) = Says gives (names_of (Check file cert)) IsChecked
-IsSaid gives (Analyse file) = Says gives (names_of (Analyse file)) IsAnalysed
-IsSaid gives (Thin file cert) = Says gives (names_of (Thin file cert)) IsThinned
-IsSaid gives (Run workers quiet script files) = Says gives (names_of (Run workers quiet script files)) IsRan
-IsSaid gives (Replay journal files) = Says gives (names_of (Replay journal files)) IsReplayed
-IsSaid gives (Show timeline picture journal files) =
+-- some of them where others can't be read, with colours where the words ask for them or a terminal shows them
+abbrev pub IsSaid : Bool → Giving → Asked → List Text → Result Answer Failure → Type 0
+IsSaid shown gives (Check file cert) = Says gives (names_of (Check file cert)) IsChecked
+IsSaid shown gives (Analyse file) = Says gives (names_of (Analyse file)) IsAnalysed
+IsSaid shown gives (Thin file cert) = Says gives (names_of (Thin file cert)) IsThinned
+IsSaid shown gives (Run workers quiet script files) = Says gives (names_of (Run workers quiet script files)) IsRan
+IsSaid shown gives (Replay journal files) = Says gives (names_of (Replay journal files)) IsReplayed
+IsSaid shown gives (Show timeline picture journal files) =
     Says gives (names_of (Show timeline picture journal files)) (IsShown timeline picture)
-IsSaid gives (Explain form colour states journal files) = IsExplained gives form states journal files
-IsSaid gives (Pages names) = Says gives (names_of (Pages names)) (λ texts. ArePaged names)
+IsSaid shown gives (Explain form colour states journal files) = IsExplained gives form (look_in colour shown states) journal files
+IsSaid shown gives (Extract of_map files) = Says gives (names_of (Extract of_map files)) (IsExtracted of_map files)
+IsSaid shown gives (Pages names) = Says gives (names_of (Pages names)) (λ texts. ArePaged names)
 
 -- ---- how that is printed
 
@@ -124,20 +126,25 @@ IsKept written untouched request said = untouched
 -- the report on what is asked for. All of it speaks of the same texts, which are the report's: they are what the names give; this is said of
 -- them; that is what the report has for the standard output, for the exit status and for the standard error; with the status 0 the filters
 -- that they spell break nothing; and what is written for it into a file, or that all that is written stays as it was
-pub record IsAnswered (gives : Giving) (written : Text → Text → Type 0) (untouched : Type 0) (request : Asked) (report : Report) : Type 0 where
+pub record IsAnswered (shown : Bool) (gives : Giving) (written : Text → Text → Type 0) (untouched : Type 0) (request : Asked)
+    (report : Report) : Type 0 where
   pub said : Result Answer Failure
   pub texts : List Text
   pub those : AreThose request report texts said
-  pub is : IsSaid (giving_for request gives) request texts said
+  pub is : IsSaid shown (giving_for request gives) request texts said
   pub reported : IsReported said report.output.items report.status
   pub remarked : IsRemarked request said report.remark.items
   pub clean : report.status ≡ 0 → IsClean request texts
   pub kept : IsKept written untouched request said
 
 -- the report on a command line; of words that ask for nothing there is a text about their use
-abbrev pub AnswersFor : Giving → (Text → Text → Type 0) → Type 0 → Option Asked → Report → Type 0
-AnswersFor gives written untouched None report = IsNothing report.output.items report.status × untouched
-AnswersFor gives written untouched (Some request) report = IsAnswered gives written untouched request report
+abbrev pub AnswersFor : Bool → Giving → (Text → Text → Type 0) → Type 0 → Option Asked → Report → Type 0
+AnswersFor shown gives written untouched None report = IsNothing report.output.items report.status × untouched
+AnswersFor shown gives written untouched (Some request) report = IsAnswered shown gives written untouched request report
 
-abbrev pub Answers : Giving → (Text → Text → Type 0) → Type 0 → List (List ℕ) → Report → Type 0
-Answers gives written untouched words report = AnswersFor gives written untouched (asked words) report
+abbrev pub Answers : Bool → Giving → (Text → Text → Type 0) → Type 0 → List (List ℕ) → Report → Type 0
+Answers shown gives written untouched words report = AnswersFor shown gives written untouched (asked words) report
+
+-- the same, where nobody knows whether a terminal shows colours, nor whether what is written stays as it was
+abbrev pub AnswersSomehow : Giving → (Text → Text → Type 0) → List (List ℕ) → Report → Type 0
+AnswersSomehow gives written words report = (shown : Bool) × Answers shown gives written ⊤ words report

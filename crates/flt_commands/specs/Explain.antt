@@ -2,7 +2,7 @@
 use Rattle.std.specs.Io.{StartsWith}
 use Rattle.std.specs.Io.KnownBytes.{Appends}
 use Rattle.std.specs.List.{AllZip, list_all}
-use Rattle.std.specs.Prelude.{◌≡◌, ℕ, List, [], ◌∷◌, ◌++◌, map, true, false, Option, Some, None, Result, Ok, Err, length, take}
+use Rattle.std.specs.Prelude.{◌≡◌, ℕ, List, [], ◌∷◌, ◌++◌, Bool, map, true, false, Option, Some, None, Result, Ok, Err, length, take}
 use Rattle.flt_pages.specs.Pages.{has_page, title}
 use Rattle.flt_forms.specs.Lines.{AreLines}
 use Rattle.flt_forms.specs.Sarif.{IsSarif}
@@ -12,11 +12,14 @@ use Rattle.flt_model.specs.JournalText.{Entries, spelling}
 use Rattle.flt_notes.specs.Noted.{AreNotes, first_journal}
 use Rattle.flt_notes.specs.Reported.{AreReports, IsAllButLast, IsCut}
 use Rattle.flt_notes.specs.Told.{Tells}
+use Rattle.flt_notes.specs.Whole.{IsPrint, Look}
 use Rattle.flt_notes.specs.declared.noted.Noted.{Noted}
 use Rattle.flt_notes.specs.declared.explaining.Told.{Told}
 use Rattle.flt_details.specs.Reports.{texts_of}
 use Rattle.flt_details.specs.declared.sources.Explained.{Explained as Reported}
 use Rattle.flt_details.specs.declared.sources.Source.{Source}
+use Rattle.flt_words.specs.declared.request.Colour.{Colour}
+use Rattle.flt_words.specs.declared.request.Colour.TheVariants.{Auto, Always, Never}
 use Rattle.flt_words.specs.declared.request.Form.{Form}
 use Rattle.flt_words.specs.Shown.{visible}
 use Rattle.flt_words.specs.declared.request.Form.TheVariants.{Human, Lines, Sarif, Short}
@@ -25,6 +28,7 @@ use Rattle.flt_commands.specs.Inputs.{AreRead, Giving, Text, unread_names}
 use Rattle.flt_commands.specs.Answer.{output, sent_of}
 use Rattle.flt_commands.specs.declared.answer.Answer.{Answer}
 use Rattle.flt_commands.specs.declared.answer.Answer.TheVariants.{Explained, Pages}
+use Rattle.flt_commands.specs.declared.explain.Asked.{Asked}
 use Rattle.flt_commands.specs.declared.explain.Explanation.{Explanation}
 use Rattle.flt_commands.specs.declared.explain.Explanation.TheVariants.{Told as Said, Unwritten}
 use Rattle.flt_commands.specs.declared.failure.Failure.{Failure}
@@ -59,22 +63,32 @@ abbrev pub IsNoteTold : Form → List Text → ℕ → Told → Type 0
 IsNoteTold Human texts states e = Tells texts states e.noted e.explained.output.items
 IsNoteTold _ texts states e = Unit {0}
 
+-- how it is printed: with colours or without, and after how many states the search for runs ends
+abbrev pub look_of : Asked → Look
+look_of asked = record { coloured = asked.coloured; states = asked.states }
+
+-- for people all of what is printed is the reports with the notes, to the letter
+abbrev pub IsPrintTold : Form → Look → List Source → Told → Type 0
+IsPrintTold Human look sources e = IsPrint look sources e.noted e.explained.output.items e.explained.status
+IsPrintTold _ look sources e = Unit {0}
+
 -- the same of names and what they give, beside these files, with what came of the findings of these texts
-pub record IsToldUnder (form : Form) (states : ℕ) (journal : Option Text) (names texts : List Text) (unread : List UnreadFile) (e : Told) :
+pub record IsToldUnder (form : Form) (look : Look) (journal : Option Text) (names texts : List Text) (unread : List UnreadFile) (e : Told) :
     Type 0 where
   pub sources : List Source
   pub named : names_in sources ≡ map (told_name form) names
   pub given : texts_of sources ≡ texts
   pub told : IsTold form sources unread e.explained
   pub noted : AreNotedFor form journal texts e.noted
-  pub notes : IsNoteTold form texts states e
+  pub notes : IsNoteTold form texts look.states e
+  pub print : IsPrintTold form look sources e
 
 -- the same of those of these files that are read: they give these texts, and these others aren't read
-pub record IsToldOf (gives : Giving) (form : Form) (states : ℕ) (journal : Option Text) (files texts : List Text) (unread : List UnreadFile)
+pub record IsToldOf (gives : Giving) (form : Form) (look : Look) (journal : Option Text) (files texts : List Text) (unread : List UnreadFile)
     (e : Told) : Type 0 where
   pub names : List Text
   pub read : AreRead gives files names texts (unread_names unread)
-  pub told : IsToldUnder form states journal names texts unread e
+  pub told : IsToldUnder form look journal names texts unread e
 
 -- those of these files that are read give these texts
 pub record GiveTexts (gives : Giving) (files texts : List Text) : Type 0 where
@@ -83,11 +97,21 @@ pub record GiveTexts (gives : Giving) (files texts : List Text) : Type 0 where
   pub read : AreRead gives files names texts unread
 
 -- what is said of the bytes of each FILE that is read; a journal may not be written
-abbrev pub IsExplained : Giving → Form → ℕ → Option Text → List Text → List Text → Result Answer Failure → Type 0
-IsExplained gives form states journal files texts (Ok (Explained e unread)) = IsToldOf gives form states journal files texts unread.items e
-IsExplained gives form states journal files texts (Ok _) = ⊥
-IsExplained gives form states journal files texts (Err (CannotWrite name why)) = (journal ≡ Some name.now) × GiveTexts gives files texts
-IsExplained gives form states journal files texts (Err _) = ⊥
+abbrev pub IsExplained : Giving → Form → Look → Option Text → List Text → List Text → Result Answer Failure → Type 0
+IsExplained gives form look journal files texts (Ok (Explained e unread)) = IsToldOf gives form look journal files texts unread.items e
+IsExplained gives form look journal files texts (Ok _) = ⊥
+IsExplained gives form look journal files texts (Err (CannotWrite name why)) = (journal ≡ Some name.now) × GiveTexts gives files texts
+IsExplained gives form look journal files texts (Err _) = ⊥
+
+-- whether there are colours: as the words say, or where these leave it to the terminal, whether it shows them
+abbrev pub is_coloured : Colour → Bool → Bool
+is_coloured Auto shown = shown
+is_coloured Always shown = true
+is_coloured Never shown = false
+
+-- how it is printed then
+abbrev pub look_in : Colour → Bool → ℕ → Look
+look_in colour shown states = record { coloured = is_coloured colour shown; states = states }
 
 -- what is said of it: an answer, or that a file can't be written
 abbrev pub said_of : Explanation → Result Answer Failure

@@ -1,6 +1,7 @@
 -- Why a command has no answer, and in which words.
 use Rattle.std.specs.Prelude.{List, ℕ, ◌++◌, codes}
 use Rattle.std.specs.Fmt.{decimal}
+use Rattle.flt_commands.specs.Flaws.{flaw_line}
 use Rattle.flt_details.specs.Closing.{syntax_line}
 use Rattle.flt_words.specs.Shown.{visible}
 use Rattle.flt_syntax.specs.declared.fault.ParseError.{ParseError}
@@ -9,7 +10,7 @@ use Rattle.flt_syntax.specs.declared.fault.ParseError.TheVariants as parse
 use Rattle.flt_cert.specs.declared.fault.CertFault.{CertFault}
 use Rattle.flt_cert.specs.declared.fault.CertFault.TheVariants as cert
 use Rattle.flt_commands.specs.declared.failure.Failure.{Failure}
-use Rattle.flt_commands.specs.declared.failure.Failure.TheVariants.{CannotRead, CannotWrite, NoFile, TooManyFiles, Syntax, FileSyntax, Certificate, JournalLine, ScriptLine, Altitude, OutOfMemory}
+use Rattle.flt_commands.specs.declared.failure.Failure.TheVariants.{CannotRead, CannotWrite, NoFile, TooManyFiles, Syntax, FileSyntax, Certificate, JournalLine, ScriptLine, Flawed, Altitude, OutOfMemory}
 
 -- how a fault of a certificate is reported
 abbrev pub of_certificate : CertFault → Failure
@@ -36,5 +37,6 @@ failure_line (FileSyntax file f) = file_syntax_line file f
 failure_line (Certificate line) = codes "certificate line " ++ decimal line
 failure_line (JournalLine line) = codes "journal line " ++ decimal line
 failure_line (ScriptLine line) = codes "script line " ++ decimal line
+failure_line (Flawed name flaw) = flaw_line (visible name.now) flaw
 failure_line (Altitude file) = codes "altitude file " ++ decimal file
 failure_line OutOfMemory = codes "out of memory"

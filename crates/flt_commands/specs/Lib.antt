@@ -4,8 +4,10 @@ pub mod Check
 pub mod Clean
 pub mod Commands
 pub mod Explain
+pub mod Extract
 pub mod Failure
 pub mod Fault
+pub mod Flaws
 pub mod InTurn
 pub mod Inputs
 pub mod Names

@@ -1,9 +1,6 @@
 -- What `replay` says. This project's own program.
-use Rattle.std.specs.Prelude.{◌≡◌, ℕ, ◌≤◌, ◌<◌, List, ◌∷◌, ◌++◌, length, Result, Ok, Err, [], Bool, false, Option, Some}
-use Rattle.std.specs.List.{AllZip}
-use Rattle.flt_syntax.specs.Spelling.{Spells}
-use Rattle.flt_syntax.specs.TextFails.{Fails}
-use Rattle.flt_syntax.specs.declared.fault.SyntaxFault.{SyntaxFault}
+use Rattle.std.specs.Prelude.{◌≡◌, ℕ, ◌≤◌, ◌<◌, List, ◌∷◌, length, Result, Ok, Err, [], Bool, false, Option, Some}
+use Rattle.flt_driven.specs.Texts.{AreSpelled, IsSyntaxFault}
 use Rattle.flt_tree.specs.declared.filter.Filter.{Filter}
 use Rattle.flt_model.specs.Expansion.{verdict}
 use Rattle.flt_model.specs.JournalText.{Entries, IsJournal, IsFirstFault, spelling}
@@ -16,20 +13,6 @@ use Rattle.flt_commands.specs.declared.failure.Failure.{Failure}
 use Rattle.flt_commands.specs.declared.failure.Failure.TheVariants.{CannotWrite, TooManyFiles, FileSyntax, JournalLine, Altitude, OutOfMemory}
 
 -- ---- the filters
-
-abbrev pub AreSpelled : List Text → List Filter → Type 0
-AreSpelled = AllZip Spells
-
--- the first text with a fault, by its number, and its fault
-pub record IsSyntaxFault (texts : List Text) (number : ℕ) (f : SyntaxFault) : Type 0 where
-  pub before : List Text
-  pub text : Text
-  pub after : List Text
-  pub parts : texts ≡ before ++ text ∷ after
-  pub filters : List Filter
-  pub spelled : AreSpelled before filters
-  pub counted : number ≡ length before
-  pub fault : Fails text f
 
 -- memory ran out, or the texts have this failure
 abbrev pub TextsFail : List Text → Failure → Type 0

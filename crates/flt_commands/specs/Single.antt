@@ -5,7 +5,7 @@ use Rattle.flt_commands.specs.Answer.{output, status_of}
 use Rattle.flt_commands.specs.Inputs.{Giving, Text}
 use Rattle.flt_commands.specs.declared.answer.Answer.{Answer}
 use Rattle.flt_commands.specs.declared.failure.Failure.{Failure}
-use Rattle.flt_commands.specs.declared.failure.Failure.TheVariants.{CannotRead, OutOfMemory}
+use Rattle.flt_commands.specs.declared.failure.Failure.TheVariants.{CannotRead, Flawed, OutOfMemory}
 
 -- for each name one thing is given at most: its bytes, or none
 abbrev pub GivesOne : Giving → Type 0
@@ -14,6 +14,7 @@ GivesOne gives = (name : Text) (a b : Option Text) → gives name a → gives na
 -- a failure, whatever the address of the name in it
 abbrev pub told : Failure → Failure
 told (CannotRead name) = CannotRead (record { ref_ptr = (0, 0); now = name.now })
+told (Flawed name flaw) = Flawed (record { ref_ptr = (0, 0); now = name.now }) flaw
 told f = f
 
 -- what is seen of what is said: the output and the exit status, or why there is none
@@ -26,8 +27,8 @@ abbrev pub AreSame : Result Answer Failure → Result Answer Failure → Type 0
 AreSame a b = a ≢ Err OutOfMemory → b ≢ Err OutOfMemory → seen a ≡ seen b
 
 -- of what is asked for one thing is said at most: of all but a run, a journal that is shown, reports and pages. A run's journal is legal,
--- but which journal it is stands in no clause; nor is there more of rows than what stands behind them, of reports than how they end,
--- and of a page than how it begins
+-- but which journal it is stands in no clause; nor is it said which of several runs a report shows, and there is no more of rows than what
+-- stands below them, and of a page than how it begins
 abbrev pub HasOneAnswer : Asked → Type 0
 HasOneAnswer (Run workers quiet script files) = ⊥
 HasOneAnswer (Show timeline picture journal files) = ⊥

@@ -2,7 +2,9 @@
 
 ghost use Rattle.std.specs.Prelude.{◌≡◌, ◌<◌, map};
 ghost use Rattle.flt_commands.specs.Analyse as spec;
-ghost use Rattle.flt_commands.specs.Commands.{IsSaid};
+ghost use Rattle.flt_commands.specs.Analyse.{IsAnalysed};
+ghost use Rattle.flt_commands.specs.Inputs.{Says};
+ghost use Rattle.flt_commands.specs.Names.{names_of};
 ghost use Rattle.flt_words.specs.Request.{Analyse};
 
 use crate::answer::Answer;
@@ -49,7 +51,7 @@ pub fn analyse_file<'a, I: Inputs>(
     file: &'a str,
     contents: &mut Contents,
 ) -> Result<Answer, Failure<'a>>
-    ensures { IsSaid (I.gives inputs.now) (Analyse file.entry.now) (map (λ text. text.items) contents.new.texts.items) result }
+    ensures { Says (I.gives inputs.now) (names_of (Analyse file.entry.now)) IsAnalysed (map (λ text. text.items) contents.new.texts.items) result }
 {
     contents.texts = read_all(alloc, inputs, &[file])?;
     analyse_text::<Brand>(alloc, contents.texts[0].as_slice(), Blank::new(1))

@@ -25,6 +25,8 @@ pub enum Answer {
     Judged(Verdict),
     /// Reports of texts, with what came of the findings in runs; and the files that aren't read.
     Explained(Told, Vec<UnreadFile>),
+    /// The text of the annotations of C files, or where its lines begin.
+    Extracted(Vec<u8>),
     /// The pages of rules, violations, faults of a text, calls or statuses.
     Pages(Vec<&'static str>),
     /// What a script came to.
@@ -43,7 +45,7 @@ impl Answer {
     {
         match self {
             Answer::Accepted | Answer::Certificate(_) | Answer::Judged(Verdict::Legal) => 0,
-            Answer::Pages(_) | Answer::Shown(_, Verdict::Legal) => 0,
+            Answer::Extracted(_) | Answer::Pages(_) | Answer::Shown(_, Verdict::Legal) => 0,
             Answer::Explained(told, unread) => {
                 told_status(told.explained.status, unread.as_slice())
             }
@@ -63,6 +65,7 @@ impl Answer {
             Answer::Accepted | Answer::Refused(_) | Answer::Certificate(_) => Ending::Whole,
             Answer::Judged(_) | Answer::Explained(_, _) | Answer::Pages(_) => Ending::Whole,
             Answer::FileRefused(_, _) | Answer::Shown(_, _) => Ending::Whole,
+            Answer::Extracted(_) => Ending::Whole,
         }
     }
 
@@ -72,6 +75,7 @@ impl Answer {
     {
         let line = match self {
             Answer::Certificate(bytes) => return Ok(bytes),
+            Answer::Extracted(bytes) => return Ok(bytes),
             Answer::Explained(told, _) => return Ok(told.explained.output),
             Answer::Ran(ran) => return Ok(ran.journal),
             Answer::Shown(rows, verdict) => return shown(alloc, rows, verdict),

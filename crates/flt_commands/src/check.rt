@@ -2,7 +2,9 @@
 
 ghost use Rattle.std.specs.Prelude.{map, option_map};
 ghost use Rattle.flt_commands.specs.Check as spec;
-ghost use Rattle.flt_commands.specs.Commands.{IsSaid};
+ghost use Rattle.flt_commands.specs.Check.{IsChecked};
+ghost use Rattle.flt_commands.specs.Inputs.{Says};
+ghost use Rattle.flt_commands.specs.Names.{names_of};
 ghost use Rattle.flt_words.specs.Request.{Check};
 
 use crate::answer::Answer;
@@ -44,7 +46,7 @@ pub fn check_files<'a, I: Inputs>(
     cert: Option<&'a str>,
     contents: &mut Contents,
 ) -> Result<Answer, Failure<'a>>
-    ensures { IsSaid (I.gives inputs.now) (Check file.entry.now (option_map (λ name. name.now) cert.entry))
+    ensures { Says (I.gives inputs.now) (names_of (Check file.entry.now (option_map (λ name. name.now) cert.entry))) IsChecked
         (map (λ text. text.items) contents.new.texts.items) result }
 {
     match cert {

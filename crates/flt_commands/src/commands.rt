@@ -3,6 +3,7 @@
 ghost use Rattle.std.specs.Io.KnownBytes.{Appends};
 ghost use Rattle.std.specs.Prelude.{◌≡◌, ◌≢◌, ◌⊎◌, [], OnOk, IfOk, IfErr, drop, map, option_map, string_bytes, take, unwrap_or};
 ghost use Rattle.flt_commands.specs.Commands as spec;
+ghost use Rattle.flt_commands.specs.Explain.{is_coloured as is_coloured_as};
 ghost use Rattle.flt_words.specs.Words.{asked};
 
 use crate::analyse::analyse_file;
@@ -11,6 +12,7 @@ use crate::clean::{covered_texts_break_nothing, driven_texts_break_nothing};
 use crate::deadlock::tell_deadlock;
 use crate::explain::{Asked, pages_of};
 use crate::explained::report_on_files;
+use crate::extract::extract_files;
 use crate::fault::CommandFault;
 use crate::inputs::{Inputs, Pictures};
 use crate::remarks::show_remark;
@@ -40,7 +42,9 @@ fn last_of<'a>(file: &'a str, cert: Option<&'a str>) -> &'a str
 }
 
 /// Whether reports have colours, where a terminal that shows them would have them or not.
-fn is_coloured(colour: Colour, shown: bool) -> bool {
+fn is_coloured(colour: Colour, shown: bool) -> bool
+    ensures { result ≡ is_coloured_as colour shown }
+{
     match colour {
         Colour::Auto => shown,
         Colour::Always => true,
@@ -60,7 +64,7 @@ fn report_of<'a, R: Threads + Wait + Sync, I: Inputs, P: Pictures, O: Sink, W: W
     out: &mut O,
     watch: &mut W,
 ) -> Result<Report, CommandFault>
-    ensures answers { IfOk result (spec.Answers (I.gives inputs.now) (P.written pictures.new) (pictures.new ≡ pictures.old)
+    ensures answers { IfOk result (spec.Answers coloured (I.gives inputs.now) (P.written pictures.new) (pictures.new ≡ pictures.old)
         (map string_bytes words.now)) }
     ensures quiet { IfOk result (λ report. report.status ≢ 2 → spec.NamesNoJournal (asked (map string_bytes words.now)) →
         report.remark.items ≡ []) }
@@ -180,6 +184,10 @@ fn report_of<'a, R: Threads + Wait + Sync, I: Inputs, P: Pictures, O: Sink, W: W
             let files = files.as_slice();
             report_on_files(alloc, asked, inputs, files, pictures, out, &mut search)
         }
+        Request::Extract { map, files } => {
+            let said = extract_files(alloc, inputs, map, files.as_slice(), &mut contents);
+            report_on(alloc, Vec::new(alloc), said, contents)
+        }
         Request::Pages { names } => {
             let said = pages_of(alloc, names.as_slice());
             report_on(alloc, Vec::new(alloc), said, contents)
@@ -239,7 +247,7 @@ pub fn command<
     err: &mut E,
     watch: &mut W,
 ) -> Result<Report, CommandFault>
-    ensures answers { IfOk result (spec.Answers (I.gives inputs.now) (P.written pictures.new) (pictures.new ≡ pictures.old)
+    ensures answers { IfOk result (spec.Answers coloured (I.gives inputs.now) (P.written pictures.new) (pictures.new ≡ pictures.old)
         (map string_bytes words.now)) }
     ensures prints { IfOk result (λ report. Appends (O.taken out.old) (O.taken out.new) report.output.items) }
     ensures remarks { IfOk result (λ report. Appends (E.taken err.old) (E.taken err.new) report.remark.items) }

@@ -90,6 +90,7 @@ pub struct Asked<'a> {
 
 /// The same, as reports for people are asked for it.
 fn asking(asked: Asked<'_>, is_held: bool) -> Asking
+    ensures coloured { result.coloured ≡ asked.entry.coloured }
     ensures states { result.states ≡ asked.entry.states }
     ensures held { result.is_held ≡ is_held }
 {
@@ -140,6 +141,7 @@ fn told_in_turn<O: Sink, W: SearchWatch>(
     ensures told { IfOk result (λ t. spec.IsTold asked.entry.form sources.now unread.now t.explained) }
     ensures noted { IfOk result (λ t. spec.AreNotedFor asked.entry.form None (texts_of sources.now) t.noted) }
     ensures notes { IfOk result (spec.IsNoteTold asked.entry.form (texts_of sources.now) asked.entry.states) }
+    ensures print { IfOk result (spec.IsPrintTold asked.entry.form (spec.look_of asked.entry) sources.now) }
     ensures sent { IfOk result (λ t. Appends (O.taken out.old) (O.taken out.new) (take t.sent t.explained.output.items)) }
     ensures early { IfOk result (spec.GoesOutEarly asked.entry.form (texts_of sources.now) asked.entry.states) }
     ensures held { spec.HoldsBack asked.entry.form None → out.new ≡ out.old }
@@ -169,6 +171,7 @@ fn told_whole<O: Sink, W: SearchWatch>(
     ensures told { IfOk result (λ t. spec.IsTold asked.entry.form sources.now unread.now t.explained) }
     ensures noted { IfOk result (λ t. AreNotes (texts_of sources.now) t.noted) }
     ensures notes { IfOk result (spec.IsNoteTold asked.entry.form (texts_of sources.now) asked.entry.states) }
+    ensures print { IfOk result (spec.IsPrintTold asked.entry.form (spec.look_of asked.entry) sources.now) }
     ensures sent { IfOk result (λ t. Appends (O.taken out.old) (O.taken out.new) (take t.sent t.explained.output.items)) }
     ensures held { out.new ≡ out.old }
     ensures err { IfErr result (λ e. e ≡ CommandFault.OutOfMemory) }
@@ -199,6 +202,7 @@ fn told<O: Sink, W: SearchWatch>(
     ensures noted { IfOk result (λ t. spec.AreNotedFor asked.entry.form (option_map (λ name. name.now) asked.entry.journal)
         (texts_of sources.now) t.noted) }
     ensures notes { IfOk result (spec.IsNoteTold asked.entry.form (texts_of sources.now) asked.entry.states) }
+    ensures print { IfOk result (spec.IsPrintTold asked.entry.form (spec.look_of asked.entry) sources.now) }
     ensures sent { IfOk result (λ t. Appends (O.taken out.old) (O.taken out.new) (take t.sent t.explained.output.items)) }
     ensures held { spec.HoldsBack asked.entry.form (option_map (λ name. name.now) asked.entry.journal) → out.new ≡ out.old }
     ensures fine { OnOk result (O.failures out.new ≡ O.failures out.old) }
@@ -224,7 +228,7 @@ fn explain_read<O: Sink, W: SearchWatch>(
     watch: &mut W,
 ) -> Result<Told, CommandFault>
     requires { length texts.now ≡ length names.now }
-    ensures told { IfOk result (spec.IsToldUnder asked.entry.form asked.entry.states (option_map (λ name. name.now) asked.entry.journal)
+    ensures told { IfOk result (spec.IsToldUnder asked.entry.form (spec.look_of asked.entry) (option_map (λ name. name.now) asked.entry.journal)
         (map (λ name. name.now) names.now) (map (λ text. text.items) texts.now) unread.now) }
     ensures sent { IfOk result (λ t. Appends (O.taken out.old) (O.taken out.new) (take t.sent t.explained.output.items)) }
     ensures held { spec.HoldsBack asked.entry.form (option_map (λ name. name.now) asked.entry.journal) → out.new ≡ out.old }
@@ -299,7 +303,7 @@ pub fn explain_files<'a, I: Inputs, P: Pictures, O: Sink, W: SearchWatch>(
     contents: &mut Contents,
     remark: &mut Vec<u8>,
 ) -> Result<Explanation<'a>, CommandFault>
-    ensures said { IfOk result (λ said. spec.IsExplained (I.gives inputs.now) asked.entry.form asked.entry.states
+    ensures said { IfOk result (λ said. spec.IsExplained (I.gives inputs.now) asked.entry.form (spec.look_of asked.entry)
         (option_map (λ name. name.now) asked.entry.journal) (map (λ name. name.now) files.now)
         (map (λ text. text.items) contents.new.texts.items) (spec.said_of said)) }
     ensures unread { IfOk result (λ said. IfOk (spec.said_of said) (λ answer. remark.new.items ≡ unread_in answer)) }

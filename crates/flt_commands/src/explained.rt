@@ -1,7 +1,7 @@
 //! The report on what `explain` of files comes to.
 
 ghost use Rattle.std.specs.Io.KnownBytes.{Appends};
-ghost use Rattle.std.specs.Prelude.{◌≡◌, ◌≢◌, [], IfErr, IfOk, OnOk, Some, map, option_map, take};
+ghost use Rattle.std.specs.Prelude.{◌≡◌, ◌≢◌, [], Bool, IfErr, IfOk, OnOk, Some, map, option_map, take};
 ghost use Rattle.flt_commands.specs.Commands.{IsAnswered, NamesNoJournal};
 ghost use Rattle.flt_commands.specs.Explain as spec;
 ghost use Rattle.flt_words.specs.Request.{Explain};
@@ -28,7 +28,7 @@ pub(crate) fn report_on_files<'a, I: Inputs, P: Pictures, O: Sink, W: SearchWatc
     out: &mut O,
     watch: &mut W,
 ) -> Result<Report, CommandFault>
-    ensures answered { (colour : Colour) → IfOk result (IsAnswered (I.gives inputs.now) (P.written pictures.new) (pictures.new ≡ pictures.old)
+    ensures answered { (colour : Colour) → (shown : Bool) → asked.entry.coloured ≡ spec.is_coloured colour shown → IfOk result (IsAnswered shown (I.gives inputs.now) (P.written pictures.new) (pictures.new ≡ pictures.old)
         (Explain asked.entry.form colour asked.entry.states (option_map (λ name. name.now) asked.entry.journal) (map (λ name. name.now) files.now))) }
     ensures quiet { (colour : Colour) → IfOk result (λ report. report.status ≢ 2 → NamesNoJournal (Some (Explain asked.entry.form colour
         asked.entry.states (option_map (λ name. name.now) asked.entry.journal) (map (λ name. name.now) files.now))) → report.remark.items ≡ []) }

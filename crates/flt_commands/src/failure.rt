@@ -3,7 +3,9 @@
 ghost use Rattle.std.specs.Prelude.{◌≡◌, IfOk, Some, string_bytes};
 ghost use Rattle.flt_commands.specs.Failure as spec;
 
+use crate::extract::flaw_line;
 use crate::unwritten::Unwritten;
+use flt_c::Flaw;
 use flt_cert::CertFault;
 use flt_details::SyntaxLine;
 use flt_syntax::{ParseError, SyntaxFault};
@@ -29,6 +31,8 @@ pub enum Failure<'a> {
     JournalLine(usize),
     /// The same of a script.
     ScriptLine(usize),
+    /// What is wrong with the C file of a name.
+    Flawed(&'a str, Flaw),
     /// The first file, from 0, whose altitude an earlier one has.
     Altitude(usize),
     OutOfMemory,
@@ -75,6 +79,7 @@ impl Failure<'_> {
             Failure::Certificate(line) => format!(in alloc; "certificate line {line}"),
             Failure::JournalLine(line) => format!(in alloc; "journal line {line}"),
             Failure::ScriptLine(line) => format!(in alloc; "script line {line}"),
+            Failure::Flawed(name, flaw) => flaw_line(alloc, name, *flaw),
             Failure::Altitude(file) => format!(in alloc; "altitude file {file}"),
             Failure::OutOfMemory => String::from_str(alloc, "out of memory"),
         }

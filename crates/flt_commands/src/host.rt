@@ -1,7 +1,7 @@
 //! The system that the program runs on: its files, its streams, and the program's own words.
 
-ghost use Rattle.std.specs.Prelude.{◌≡◌, IfNone, IfOk, IfSome, map, string_bytes, ⊤};
-ghost use Rattle.flt_commands.specs.Commands.{Answers};
+ghost use Rattle.std.specs.Prelude.{◌≡◌, IfNone, IfOk, IfSome, map, string_bytes};
+ghost use Rattle.flt_commands.specs.Commands.{AnswersSomehow};
 ghost use Rattle.flt_commands.specs.System.{given_by_host, written_by_host};
 
 use crate::commands::command;
@@ -401,13 +401,12 @@ fn shows_colours(rt: &HostRuntime) -> Result<bool, AllocError> {
 }
 
 /// Runs the command of some words on the system. Why the answer isn't written stands on the standard error.
-#[tactic(auto, using(crate::proofs::Reported::answers_anyway))]
 fn execute<R: Threads + Wait + Sync>(
     rt: &HostRuntime,
     threads: &R,
     words: &[String],
 ) -> Result<Report, CommandFault>
-    ensures { IfOk result (Answers given_by_host written_by_host ⊤ (map string_bytes words.now)) }
+    ensures { IfOk result (AnswersSomehow given_by_host written_by_host (map string_bytes words.now)) }
 {
     let fault = Cell::new(None);
     let host = Host { rt, fault };
@@ -438,7 +437,7 @@ fn execute<R: Threads + Wait + Sync>(
 /// Runs the command of the program's own words on the system, and hands out the words with what they came to. `threads` is the same runtime
 /// once more: `main` alone can hand out that it starts threads.
 pub fn run<R: Threads + Wait + Sync>(rt: &HostRuntime, threads: &R) -> Execution
-    ensures { IfSome result.report (Answers given_by_host written_by_host ⊤ (map string_bytes result.words.items)) }
+    ensures { IfSome result.report (AnswersSomehow given_by_host written_by_host (map string_bytes result.words.items)) }
 {
     let Some(words) = words_of(rt) else {
         return Execution {

@@ -10,6 +10,7 @@ mod commands;
 mod deadlock;
 mod explain;
 mod explained;
+mod extract;
 mod failure;
 mod fault;
 mod folders;

@@ -2,8 +2,11 @@
 
 ghost use Rattle.std.specs.Prelude.{◌≡◌, ◌∷◌, List, ℕ, None, IfOk, IfErr, map};
 ghost use Rattle.flt_model.specs.JournalText.{IsJournal, spelling};
+ghost use Rattle.flt_driven.specs.Texts.{AreSpelled};
 ghost use Rattle.flt_replay.specs.Judging.{filters_of};
-ghost use Rattle.flt_commands.specs.Commands.{IsKeptAs, IsSaid};
+ghost use Rattle.flt_commands.specs.Commands.{IsKeptAs};
+ghost use Rattle.flt_commands.specs.Inputs.{Says};
+ghost use Rattle.flt_commands.specs.Names.{names_of};
 ghost use Rattle.flt_commands.specs.Replay as spec;
 ghost use Rattle.flt_words.specs.Request.{Replay};
 
@@ -24,7 +27,7 @@ const MAX_FILTERS: usize = 16;
 
 /// The trees of the texts, in order.
 fn parse_all<'a>(alloc: Global, texts: &[Vec<u8>]) -> Result<Vec<Tree>, Failure<'a>>
-    ensures ok { IfOk result (λ trees. spec.AreSpelled (map (λ text. text.items) texts.now) (filters_of trees.items)) }
+    ensures ok { IfOk result (λ trees. AreSpelled (map (λ text. text.items) texts.now) (filters_of trees.items)) }
     ensures err { IfErr result (spec.TextsFail (map (λ text. text.items) texts.now)) }
 {
     let mut trees = Vec::new(alloc);
@@ -117,7 +120,7 @@ pub fn replay_files<'a, I: Inputs>(
     files: &[&'a str],
     contents: &mut Contents,
 ) -> Result<Answer, Failure<'a>>
-    ensures { (bytes : List ℕ) × IsSaid (I.gives inputs.now) (Replay journal.entry.now (map (λ name. name.now) files.now))
+    ensures { (bytes : List ℕ) × Says (I.gives inputs.now) (names_of (Replay journal.entry.now (map (λ name. name.now) files.now))) spec.IsReplayed
         (bytes ∷ map (λ text. text.items) contents.new.texts.items) result × IsKeptAs contents.new.journal bytes result }
 {
     contents.journal = None;

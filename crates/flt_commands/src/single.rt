@@ -1,6 +1,6 @@
 //! That a command line has one answer at most.
 
-ghost use Rattle.std.specs.Prelude.{◌≡◌, ℕ, List, Result};
+ghost use Rattle.std.specs.Prelude.{◌≡◌, ℕ, Bool, List, Result};
 ghost use Rattle.flt_commands.specs.Analyse.{IsAnalysed};
 ghost use Rattle.flt_commands.specs.Check.{HasPoints, IsChecked};
 ghost use Rattle.flt_commands.specs.Commands.{Answers, IsSaid};
@@ -79,11 +79,11 @@ fn one_verdict_at_most()
 /// A command line has one answer at most, where the inputs give one thing for each name, and it asks for no run, no reports and
 /// no page. What is printed is one, and so is the exit status; why there is none is one too, unless memory ran out. It does nothing: its clauses are the law.
 pub fn one_answer_at_most<I: Inputs, P: Pictures>()
-    ensures one { (inputs : I) (before pictures past others : P) (words : List (List ℕ)) (a b : Report) → spec.AskForOne (asked words) →
-        spec.GivesOne (I.gives inputs) → Answers (I.gives inputs) (P.written pictures) (pictures ≡ before) words a →
-        Answers (I.gives inputs) (P.written others) (others ≡ past) words b → (a.output.items ≡ b.output.items) × (a.status ≡ b.status) }
-    ensures said { (inputs : I) (request : Asked) (texts others : List Text) (a b : Result Answer Failure) → spec.HasOneAnswer request →
-        spec.GivesOne (I.gives inputs) → IsSaid (I.gives inputs) request texts a → IsSaid (I.gives inputs) request others b →
+    ensures one { (inputs : I) (before pictures past others : P) (shown showing : Bool) (words : List (List ℕ)) (a b : Report) → spec.AskForOne (asked words) →
+        spec.GivesOne (I.gives inputs) → Answers shown (I.gives inputs) (P.written pictures) (pictures ≡ before) words a →
+        Answers showing (I.gives inputs) (P.written others) (others ≡ past) words b → (a.output.items ≡ b.output.items) × (a.status ≡ b.status) }
+    ensures said { (inputs : I) (shown showing : Bool) (request : Asked) (texts others : List Text) (a b : Result Answer Failure) → spec.HasOneAnswer request →
+        spec.GivesOne (I.gives inputs) → IsSaid shown (I.gives inputs) request texts a → IsSaid showing (I.gives inputs) request others b →
         spec.AreSame a b }
 {
     one_check_at_most();

@@ -3,7 +3,9 @@
 ghost use Rattle.std.specs.Prelude.{◌≡◌, IfOk, map, option_map};
 ghost use Rattle.flt_cert.specs.Spelling.{spelling, thinned};
 ghost use Rattle.flt_commands.specs.Check.{Judges, JudgesTogether};
-ghost use Rattle.flt_commands.specs.Commands.{IsSaid};
+ghost use Rattle.flt_commands.specs.Inputs.{Says};
+ghost use Rattle.flt_commands.specs.Names.{names_of};
+ghost use Rattle.flt_commands.specs.Thin.{IsThinned};
 ghost use Rattle.flt_commands.specs.Thin as spec;
 ghost use Rattle.flt_words.specs.Request.{Thin};
 
@@ -59,7 +61,7 @@ pub fn thin_files<'a, I: Inputs>(
     cert: Option<&'a str>,
     contents: &mut Contents,
 ) -> Result<Answer, Failure<'a>>
-    ensures { IsSaid (I.gives inputs.now) (Thin file.entry.now (option_map (λ name. name.now) cert.entry))
+    ensures { Says (I.gives inputs.now) (names_of (Thin file.entry.now (option_map (λ name. name.now) cert.entry))) IsThinned
         (map (λ text. text.items) contents.new.texts.items) result }
 {
     match cert {

@@ -9,6 +9,8 @@ mod dice;
 #[cfg(test)]
 mod journals;
 #[cfg(test)]
+mod layouts;
+#[cfg(test)]
 mod lists;
 #[cfg(test)]
 mod loading;

@@ -1,6 +1,7 @@
 //! Every word of the language: it is read, it is printed in the canonical layout, and each variable has its own place. What is said of
 //! texts that are none stands in `examples/cases/texts.cases`.
 
+use flt_layout::lay_out;
 use flt_print::print;
 use flt_syntax::{Action, OperationVariable, ParseError, Statement, parse};
 use std::alloc::Global;
@@ -94,6 +95,24 @@ fn is_printed(alloc: Global, text: &[u8], canonical: &[u8]) -> Result<bool, Pars
     Ok(printed(alloc, text)?.as_slice() == canonical)
 }
 
+/// Whether a text is its own layout.
+fn is_laid_out(alloc: Global, text: &[u8]) -> Result<bool, ParseError> {
+    if 65_536 < text.len() {
+        return Ok(false);
+    }
+    Ok(lay_out(alloc, text)?.as_slice() == text)
+}
+
+/// The first canonical text that isn't its own layout.
+fn other_layout(alloc: Global, rows: &[(&[u8], &[u8])]) -> Result<Option<usize>, ParseError> {
+    for (row, (_, canonical)) in rows.iter().enumerate() {
+        if !is_laid_out(alloc, canonical)? {
+            return Ok(Some(row));
+        }
+    }
+    Ok(None)
+}
+
 /// The first text that hasn't its canonical text, or whose canonical text hasn't itself.
 fn wrong_layout(alloc: Global, rows: &[(&[u8], &[u8])]) -> Result<Option<usize>, ParseError> {
     for (row, (text, canonical)) in rows.iter().enumerate() {
@@ -117,6 +136,13 @@ fn have_own_places(alloc: Global, text: &[u8], places: &[(u8, usize)]) -> Result
 #[test]
 fn texts_are_printed_within_memory(rt: HostRuntime) -> Result<(), Fail> {
     assert!(rt; wrong_layout(rt.alloc(), &LAYOUTS)?.is_none());
+    Ok(())
+}
+
+/// The layout of a text without comments, blank lines and empty `else` is what the printer prints.
+#[test]
+fn canonical_texts_are_laid_out_within_memory(rt: HostRuntime) -> Result<(), Fail> {
+    assert!(rt; other_layout(rt.alloc(), &LAYOUTS)?.is_none());
     Ok(())
 }
 

@@ -73,6 +73,10 @@ timeline_rule = record (new_rule (codes "timeline")) { long = Some (codes "timel
 abbrev pub picture_rule : Rule
 picture_rule = record (new_rule (codes "svg")) { long = Some (codes "svg"); value_names = 1 }
 
+-- `--map`
+abbrev pub map_rule : Rule
+map_rule = record (new_rule (codes "map")) { long = Some (codes "map"); action = Some SetTrue }
+
 -- ---- commands
 
 abbrev pub bare_check_app : App
@@ -115,6 +119,13 @@ abbrev pub explain_app : App
 explain_app =
     with_rule (with_rule (with_rule (with_rule (with_rule bare_explain_app form_rule) colour_rule) states_rule) written_rule) texts_rule
 
+abbrev pub bare_extract_app : App
+bare_extract_app = new_app (codes "extract")
+
+-- `extract [--map] FILE..`
+abbrev pub extract_app : App
+extract_app = with_rule (with_rule bare_extract_app map_rule) texts_rule
+
 -- the program without its commands: one is asked for, the program's own name is left out, and `--version` answers
 abbrev pub bare_app : App
 bare_app = let a = new_app (codes "fltstack") in
@@ -123,8 +134,8 @@ bare_app = let a = new_app (codes "fltstack") in
 -- the program
 abbrev pub program_app : App
 program_app =
-    with_subcommand (with_subcommand (with_subcommand (with_subcommand (with_subcommand (with_subcommand bare_app check_app.top)
-    analyse_app.top) thin_app.top) explain_app.top) run_app.top) replay_app.top
+    with_subcommand (with_subcommand (with_subcommand (with_subcommand (with_subcommand (with_subcommand (with_subcommand bare_app check_app.top)
+    analyse_app.top) thin_app.top) explain_app.top) run_app.top) replay_app.top) extract_app.top
 
 -- ---- what of it words need
 
@@ -140,4 +151,5 @@ app_for word =
     else (if bytes_eq word (codes "thin") then program_with thin_app
     else (if bytes_eq word (codes "explain") then program_with explain_app
     else (if bytes_eq word (codes "run") then program_with run_app
-    else (if bytes_eq word (codes "replay") then program_with replay_app else program_app)))))
+    else (if bytes_eq word (codes "replay") then program_with replay_app
+    else (if bytes_eq word (codes "extract") then program_with extract_app else program_app))))))

@@ -15,6 +15,7 @@ pub data Asked : Type 0 where
   Replay : (journal : Text) (files : List Text) → Asked
   Show : (timeline : Bool) (picture : Option Text) (journal : Text) (files : List Text) → Asked
   Explain : (form : Form) (colour : Colour) (states : ℕ) (journal : Option Text) (files : List Text) → Asked
+  Extract : (map : Bool) (files : List Text) → Asked
   Pages : (names : List Text) → Asked
 
 -- what a request asks for, none where it is for a text of the program's own: its use, or its version
@@ -28,5 +29,6 @@ asked_of (request.Show timeline picture journal files) =
     Some (Show timeline (option_map (λ name. name.now) picture) journal.now (map (λ name. name.now) files.items))
 asked_of (request.Explain form colour states journal files) =
     Some (Explain form colour states (option_map (λ name. name.now) journal) (map (λ name. name.now) files.items))
+asked_of (request.Extract of_map files) = Some (Extract of_map (map (λ name. name.now) files.items))
 asked_of (request.Pages names) = Some (Pages (map (λ name. name.now) names.items))
 asked_of (request.Usage text) = None

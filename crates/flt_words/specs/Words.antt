@@ -18,7 +18,7 @@ use Rattle.flt_words.specs.declared.request.Form.TheVariants.{Human, Lines, Sari
 use Rattle.flt_words.specs.declared.request.Colour.{Colour}
 use Rattle.flt_words.specs.declared.request.Colour.TheVariants.{Auto, Always, Never}
 use Rattle.flt_words.specs.Workers.{within}
-use Rattle.flt_words.specs.Request.{Asked, Check, Analyse, Thin, Run, Replay, Show, Explain, Pages}
+use Rattle.flt_words.specs.Request.{Asked, Check, Analyse, Thin, Run, Replay, Show, Explain, Extract, Pages}
 
 -- ---- values
 
@@ -92,6 +92,9 @@ analyse_of rows = Analyse (text_of (codes "FILE") rows)
 abbrev pub thin_of : List Row → Asked
 thin_of rows = Thin (text_of (codes "FILE") rows) (first_of (codes "CERT") rows)
 
+abbrev pub extract_of : List Row → Asked
+extract_of rows = Extract (is_set (codes "map") rows) (files_of rows)
+
 -- another number of workers than 1 to 16 asks for nothing
 abbrev pub run_of : List Row → Option Asked
 run_of rows =
@@ -140,7 +143,8 @@ asked_by (name, rows) =
     else (if bytes_eq name (codes "thin") then Some (thin_of rows)
     else (if bytes_eq name (codes "explain") then explain_by rows
     else (if bytes_eq name (codes "run") then run_of rows
-    else (if bytes_eq name (codes "replay") then replay_of rows else None)))))
+    else (if bytes_eq name (codes "replay") then replay_of rows
+    else (if bytes_eq name (codes "extract") then Some (extract_of rows) else None))))))
 
 -- ---- all of it
 

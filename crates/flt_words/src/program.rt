@@ -160,6 +160,17 @@ fn picture_argument<'a>(alloc: Global) -> Arg<'a>
         .help("Draw the journal into this file")
 }
 
+/// The flag `--map`.
+fn map_argument<'a>(alloc: Global) -> Arg<'a>
+    ensures rule { rule_of result ≡ spec.map_rule }
+    ensures own { result.global ≡ false }
+{
+    Arg::new(alloc, "map")
+        .long("map")
+        .action(ArgAction::SetTrue)
+        .help("Print where each line of the text begins in its file, as `driver.c:12:8: line 3`")
+}
+
 // ---- commands
 
 /// A command with an argument more, if memory was there for both.
@@ -301,6 +312,28 @@ fn explain_command<'a>(alloc: Global) -> Result<Command<'a>, AllocError>
     )
 }
 
+/// The command `extract` without its arguments.
+fn bare_extract<'a>(alloc: Global) -> Command<'a>
+    ensures { spec.IsCommand result spec.bare_extract_app }
+{
+    Command::new(alloc, "extract")
+        .about("Prints the text that the annotations of C files make")
+        .override_usage("fltstack extract [--map] <FILE>...")
+        .after_help(
+            "An annotation is what stands behind `//@flt` in its line, or behind `/*@flt` up to `*/`. Prints all of them, in\nthe order of the files (exit 0). Errors go to the standard error with exit 2.\n\nExample: fltstack extract examples/c/counts_opens.c",
+        )
+}
+
+fn extract_command<'a>(alloc: Global) -> Result<Command<'a>, AllocError>
+    ensures { IfOk result (λ c. spec.IsCommand c spec.extract_app) }
+{
+    let command = with_argument(Ok(bare_extract(alloc)), map_argument(alloc));
+    with_argument(
+        command,
+        texts_argument(alloc, "The C files; `-` is the standard input"),
+    )
+}
+
 // ---- the program
 
 /// The program without its commands.
@@ -313,7 +346,7 @@ fn bare_program<'a>(alloc: Global) -> Command<'a>
             "A static verifier for Windows file-system minifilters, and the stack that runs what it accepts",
         )
         .after_help(
-            "With no words it acts as `check -`. `fltstack <COMMAND> --help` says more of a command.\n\nExit status: 0 for `accepted`, a certificate, a journal, `legal` or nothing found; 1 for any other answer;\n2 where there is none, and the standard error says why.\n\nExample: fltstack analyse examples/pending_reads.flt",
+            "With no words it acts as `check -`. `fltstack <COMMAND> --help` says more of a command.\n\nExit status: 0 for `accepted`, a certificate, a journal, a text, `legal` or nothing found; 1 for any other answer;\n2 where there is none, and the standard error says why.\n\nExample: fltstack analyse examples/pending_reads.flt",
         )
         .subcommand_required(true)
         .no_binary_name(true)
@@ -340,7 +373,8 @@ pub(crate) fn program<'a>(alloc: Global) -> Result<Command<'a>, AllocError>
     let program = with_command(program, thin_command(alloc));
     let program = with_command(program, explain_command(alloc));
     let program = with_command(program, run_command(alloc));
-    with_command(program, replay_command(alloc))
+    let program = with_command(program, replay_command(alloc));
+    with_command(program, extract_command(alloc))
 }
 
 /// The program with one of its commands alone.
@@ -367,6 +401,7 @@ pub(crate) fn program_for<'a>(alloc: Global, word: &str) -> Result<Command<'a>, 
         "explain" => program_with(alloc, explain_command(alloc)),
         "run" => program_with(alloc, run_command(alloc)),
         "replay" => program_with(alloc, replay_command(alloc)),
+        "extract" => program_with(alloc, extract_command(alloc)),
         _ => program(alloc),
     }
 }

@@ -73,6 +73,12 @@ pub enum Request<'a> {
         journal: Option<&'a str>,
         files: Vec<&'a str>,
     },
+    /// Print the text of the annotations of some C files.
+    Extract {
+        /// Whether the place of each line of it is printed in its place.
+        map: bool,
+        files: Vec<&'a str>,
+    },
     /// Print the pages of some names: of rules, violations, faults of a text, calls or statuses.
     Pages {
         names: Vec<&'a str>,

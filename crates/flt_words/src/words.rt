@@ -319,6 +319,16 @@ fn asked_replay<'a>(alloc: Global, replay: &ArgMatches<'a>) -> Result<Request<'a
     ))
 }
 
+/// What the matches of `extract` ask for.
+fn asked_extract<'a>(alloc: Global, extract: &ArgMatches<'a>) -> Result<Request<'a>, AllocError>
+    ensures { IfOk result (λ r. asked_of r ≡ Some (spec.extract_of (rows_of (found_of extract.now)))) }
+{
+    Ok(Request::Extract {
+        map: is_set(extract, "map"),
+        files: files_of(alloc, extract)?,
+    })
+}
+
 /// What the matches of a command line ask for.
 fn matched<'a>(alloc: Global, matches: &ArgMatches<'a>) -> Result<Request<'a>, AllocError>
     ensures { IfOk result (λ r. asked_of r ≡ option_and_then spec.asked_by (subcommand_rows_of matches.now)) }
@@ -338,8 +348,11 @@ fn matched<'a>(alloc: Global, matches: &ArgMatches<'a>) -> Result<Request<'a>, A
     if let Some(run) = matches.subcommand_matches("run") {
         return asked_run(alloc, run);
     }
-    match matches.subcommand_matches("replay") {
-        Some(replay) => asked_replay(alloc, replay),
+    if let Some(replay) = matches.subcommand_matches("replay") {
+        return asked_replay(alloc, replay);
+    }
+    match matches.subcommand_matches("extract") {
+        Some(extract) => asked_extract(alloc, extract),
         None => Ok(Request::Usage(String::new(alloc))),
     }
 }

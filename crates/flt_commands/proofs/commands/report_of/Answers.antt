@@ -1,13 +1,13 @@
 use Rattle.std.proofs.Common.{ap, map, option_map, refl}
 use Rattle.flt_commands.proofs.Reported.{answers_asked, answers_of, cut_asked, held_asked, kept_shown, quiet_asked, remarked_after, says_of_pages, those_after, those_of}
-use Rattle.flt_words.specs.Request.{Check, Analyse, Thin, Run, Replay, Show, Pages}
+use Rattle.flt_words.specs.Request.{Check, Analyse, Thin, Run, Replay, Show, Extract, Pages}
 use Rattle.flt_commands.proofs.commands.report_of.Goals as goal
 
 pub returns-in-Check-clause-answers : goal.returns-in-Check-clause-answers
 returns-in-Check-clause-answers g c =
     let request = Check c.in-Check.file.now (option_map (λ name. name.now) c.in-Check.cert) in
     answers_of c.covered_texts_break_nothing.ensures c.driven_texts_break_nothing.ensures
-    c.fails_exactly_where_nothing_is_spelled.ensures.nowhere _ _ _ _ request _ _ _
+    c.fails_exactly_where_nothing_is_spelled.ensures.nowhere _ _ _ _ _ request _ _ _
     (rw c.in-Check.is at c.in_ok-text.ensures) (rw c.last_of.ensures at c.check_files-said.ensures) refl (those_of _ _ c.report_on.ensures.texts)
     c.report_on.ensures.reported (remarked_after request _ _ _ c.new.ensures.items c.report_on.ensures.remarked)
 
@@ -15,7 +15,7 @@ pub returns-in-Analyse-clause-answers : goal.returns-in-Analyse-clause-answers
 returns-in-Analyse-clause-answers g c =
     let request = Analyse c.in-Analyse.file.now in
     answers_of c.covered_texts_break_nothing.ensures c.driven_texts_break_nothing.ensures
-    c.fails_exactly_where_nothing_is_spelled.ensures.nowhere _ _ _ _ request _ _ _
+    c.fails_exactly_where_nothing_is_spelled.ensures.nowhere _ _ _ _ _ request _ _ _
     (rw c.in-Analyse.is at c.in_ok-text.ensures) c.analyse_file-said.ensures refl (those_of _ _ c.report_on-in-Analyse.ensures.texts)
     c.report_on-in-Analyse.ensures.reported (remarked_after request _ _ _ c.new-in-Analyse.ensures.items c.report_on-in-Analyse.ensures.remarked)
 
@@ -23,7 +23,7 @@ pub returns-in-Thin-clause-answers : goal.returns-in-Thin-clause-answers
 returns-in-Thin-clause-answers g c =
     let request = Thin c.in-Thin.file.now (option_map (λ name. name.now) c.in-Thin.cert) in
     answers_of c.covered_texts_break_nothing.ensures c.driven_texts_break_nothing.ensures
-    c.fails_exactly_where_nothing_is_spelled.ensures.nowhere _ _ _ _ request _ _ _
+    c.fails_exactly_where_nothing_is_spelled.ensures.nowhere _ _ _ _ _ request _ _ _
     (rw c.in-Thin.is at c.in_ok-text.ensures) (rw c.last_of-in-Thin.ensures at c.thin_files-said.ensures) refl (those_of _ _ c.report_on-in-Thin.ensures.texts)
     c.report_on-in-Thin.ensures.reported (remarked_after request _ _ _ c.new-in-Thin.ensures.items c.report_on-in-Thin.ensures.remarked)
 
@@ -31,7 +31,7 @@ pub returns-in-Run-default-true-default-default-clause-answers : goal.returns-in
 returns-in-Run-default-true-default-default-clause-answers g c =
     let request = Run c.in-Run-default-true-default-default.workers.count c.in-Run-default-true-default-default.quiet c.in-Run-default-true-default-default.script.now (map (λ name. name.now) c.in-Run-default-true-default-default.files.items) in
     answers_of c.covered_texts_break_nothing.ensures c.driven_texts_break_nothing.ensures
-    c.fails_exactly_where_nothing_is_spelled.ensures.nowhere _ _ _ _ request _ _
+    c.fails_exactly_where_nothing_is_spelled.ensures.nowhere _ _ _ _ _ request _ _
     _ (rw c.in-Run-default-true-default-default.is at c.in_ok-text.ensures)
     (rw c.as_slice-files.ensures.value at c.run_files-said.ensures) refl
     (those_of _ _ c.report_on-in-Run-default-true-default-default.ensures.texts)
@@ -41,7 +41,7 @@ pub returns-in_ok-tell_deadlock-in-Run-clause-answers : goal.returns-in_ok-tell_
 returns-in_ok-tell_deadlock-in-Run-clause-answers g c =
     let request = Run c.in-Run.workers.count c.in-Run.quiet c.in-Run.script.now (map (λ name. name.now) c.in-Run.files.items) in
     answers_of c.covered_texts_break_nothing.ensures c.driven_texts_break_nothing.ensures
-    c.fails_exactly_where_nothing_is_spelled.ensures.nowhere _ _ _ _ request _ _
+    c.fails_exactly_where_nothing_is_spelled.ensures.nowhere _ _ _ _ _ request _ _
     _ (rw c.in-Run.is at c.in_ok-text.ensures) (rw c.as_slice.ensures.value at c.run_files-said-in-Run.ensures) refl
     (those_of _ _ c.report_on-in-Run.ensures.texts) c.report_on-in-Run.ensures.reported (remarked_after request _ _ _ c.new-in-Run.ensures.items c.report_on-in-Run.ensures.remarked)
 
@@ -50,7 +50,7 @@ returns-in-Replay-clause-answers g c =
     let request = Replay c.in-Replay.journal.now (map (λ name. name.now) c.in-Replay.files.items) in
     let said = rw c.as_slice-files-in-Replay.ensures.value at c.replay_files-said.ensures in
     answers_of c.covered_texts_break_nothing.ensures c.driven_texts_break_nothing.ensures
-    c.fails_exactly_where_nothing_is_spelled.ensures.nowhere _ _ _ _ request _ _
+    c.fails_exactly_where_nothing_is_spelled.ensures.nowhere _ _ _ _ _ request _ _
     _ (rw c.in-Replay.is at c.in_ok-text.ensures) said.1 refl
     (those_after _ _ _ _ _ c.report_on-in-Replay.ensures.texts c.report_on-in-Replay.ensures.journal said.2)
     c.report_on-in-Replay.ensures.reported (remarked_after request _ _ _ c.new-in-Replay.ensures.items c.report_on-in-Replay.ensures.remarked)
@@ -60,24 +60,33 @@ returns-in_ok-before-in-Show-clause-answers g c =
     let request = Show c.in-Show.timeline (option_map (λ name. name.now) c.in-Show.picture) c.in-Show.journal.now (map (λ name. name.now) c.in-Show.files.items) in
     let said = rw c.as_slice-files-in-Show.ensures.value at c.show_files-said.ensures.said in
     answers_of c.covered_texts_break_nothing.ensures c.driven_texts_break_nothing.ensures
-    c.fails_exactly_where_nothing_is_spelled.ensures.nowhere _ _ _ _ request _ _
+    c.fails_exactly_where_nothing_is_spelled.ensures.nowhere _ _ _ _ _ request _ _
     _ (rw c.in-Show.is at c.in_ok-text.ensures) said.1 (kept_shown (g.P.Pictures.written c.show_files-said.new.pictures) _ c.in-Show.timeline _ _ _ _ c.show_files-said.ensures.untouched)
     (those_after _ _ _ _ _ c.report_on-in-Show.ensures.texts c.report_on-in-Show.ensures.journal said.2)
     c.report_on-in-Show.ensures.reported (remarked_after request _ _ _ c.in_ok-before-in-Show.ensures c.report_on-in-Show.ensures.remarked)
+
+pub returns-in-Extract-clause-answers : goal.returns-in-Extract-clause-answers
+returns-in-Extract-clause-answers g c =
+    let request = Extract c.in-Extract.map (map (λ name. name.now) c.in-Extract.files.items) in
+    answers_of c.covered_texts_break_nothing.ensures c.driven_texts_break_nothing.ensures
+    c.fails_exactly_where_nothing_is_spelled.ensures.nowhere _ _ _ _ _ request _ _ _
+    (rw c.in-Extract.is at c.in_ok-text.ensures) (rw c.as_slice-in-Extract.ensures.value at c.extract_files-said.ensures) refl
+    (those_of _ _ c.report_on-in-Extract.ensures.texts) c.report_on-in-Extract.ensures.reported
+    (remarked_after request _ _ _ c.new-in-Extract.ensures.items c.report_on-in-Extract.ensures.remarked)
 
 pub returns-in-Pages-clause-answers : goal.returns-in-Pages-clause-answers
 returns-in-Pages-clause-answers g c =
     let request = Pages (map (λ name. name.now) c.in-Pages.names.items) in
     answers_of c.covered_texts_break_nothing.ensures c.driven_texts_break_nothing.ensures
-    c.fails_exactly_where_nothing_is_spelled.ensures.nowhere _ _ _ _ request _ _ _
+    c.fails_exactly_where_nothing_is_spelled.ensures.nowhere _ _ _ _ _ request _ _ _
     (rw c.in-Pages.is at c.in_ok-text.ensures)
     (says_of_pages _ _ _ _ (ap (map (λ t. t.items)) c.new-contents.ensures.texts) (rw c.as_slice-in-Pages.ensures.value at c.pages_of-said.ensures)) refl
     (those_of _ _ c.report_on-in-Pages.ensures.texts) c.report_on-in-Pages.ensures.reported (remarked_after request _ _ _ c.new-in-Pages.ensures.items c.report_on-in-Pages.ensures.remarked)
 
 pub returns-in-Explain-clause-answers : goal.returns-in-Explain-clause-answers
 returns-in-Explain-clause-answers g c =
-    answers_asked _ _ (rw c.in-Explain.is at c.in_ok-text.ensures) _ _ _ _
-    (rw c.as_slice-files-in-Explain.ensures.value at (c.report_on_files.ensures.answered c.in-Explain.colour))
+    answers_asked _ _ (rw c.in-Explain.is at c.in_ok-text.ensures) c.args.coloured _ _ _ _
+    (rw c.as_slice-files-in-Explain.ensures.value at (c.report_on_files.ensures.answered c.in-Explain.colour c.args.coloured c.is_coloured.ensures))
 
 pub returns-in-Explain-clause-quiet : goal.returns-in-Explain-clause-quiet
 returns-in-Explain-clause-quiet g c =

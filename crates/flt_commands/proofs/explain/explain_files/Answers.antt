@@ -21,7 +21,7 @@ returns-in_err-said-clause-memory g c =
 
 pub returns-clause-said : goal.returns-clause-said
 returns-clause-said g c =
-    explained_of _ _ _ _ _ c.in_ok-read.read _ _ c.in_ok-read.ensures
+    explained_of _ _ c.args.asked.states _ _ _ c.in_ok-read.read _ _ c.in_ok-read.ensures
     (rw (c.as_slice-2.ensures.value, c.as_slice-3.ensures.value, c.as_slice-4.ensures.value) at c.in_ok-told.ensures.told)
     c.in_ok-said.ensures.said
 

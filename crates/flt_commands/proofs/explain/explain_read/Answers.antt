@@ -11,6 +11,7 @@ returns-clause-told g c =
     ∙ sym (mapped_twice (λ (n : Bor (List ℕ)). n.now) (told_name c.args.asked.form) c.args.names.now) in
     told_under _ _ _ _ _ _ _ _ named c.in_ok-sources.ensures.texts (rw c.as_slice-sources.ensures.value at c.told.ensures.told)
     (rw c.as_slice-sources.ensures.value at c.told.ensures.noted) (rw c.as_slice-sources.ensures.value at c.told.ensures.notes)
+    (rw c.as_slice-sources.ensures.value at c.told.ensures.print)
 
 pub returns-clause-memory : goal.returns-clause-memory
 returns-clause-memory g c =

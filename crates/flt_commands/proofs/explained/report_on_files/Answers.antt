@@ -17,10 +17,11 @@ returns-in_err-before-clause-memory g c =
 
 pub returns-clause-answered : goal.returns-clause-answered
 returns-clause-answered g c =
-    λ colour. let request = Explain c.args.asked.form colour c.args.asked.states (option_map (λ name. name.now) c.args.asked.journal)
+    λ colour shown look. let request = Explain c.args.asked.form colour c.args.asked.states (option_map (λ name. name.now) c.args.asked.journal)
     (map (λ name. name.now) c.args.files.now) in
+    let said = rw look at c.in_ok-said.ensures.said in
     answered_of c.covered_texts_break_nothing.ensures c.driven_texts_break_nothing.ensures
-    c.fails_exactly_where_nothing_is_spelled.ensures.nowhere _ _ _ request _ _ _ c.in_ok-said.ensures.said c.in_ok-said.ensures.written
+    c.fails_exactly_where_nothing_is_spelled.ensures.nowhere shown _ _ _ request _ _ _ said c.in_ok-said.ensures.written
     (those_of _ _ c.report_on_explanation.ensures.texts) c.report_on_explanation.ensures.reported
     (remarked_after request _ _ _ c.in_ok-before.ensures.found c.report_on_explanation.ensures.remarked)
 
@@ -35,4 +36,4 @@ returns-clause-sent g c =
 
 pub returns-clause-memory : goal.returns-clause-memory
 returns-clause-memory g c =
-    cut_reported _ _ _ _ g.O.Sink.taken _ _ _ _ _ _ c.report_on_explanation.ensures.err c.in_ok-said.ensures.said c.in_ok-said.ensures.held
+    cut_reported _ _ _ _ g.O.Sink.taken _ _ _ _ _ _ _ c.report_on_explanation.ensures.err c.in_ok-said.ensures.said c.in_ok-said.ensures.held

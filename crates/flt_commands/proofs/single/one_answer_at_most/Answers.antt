@@ -10,7 +10,7 @@ returns g c =
     let thinned = c.one_thin_at_most.ensures in
     let replayed = c.one_verdict_at_most.ensures in
     record {
-      one = λ inputs before pictures past others words. printed_once checked analysed thinned replayed (g.I.Inputs.gives inputs)
-          (g.P.Pictures.written pictures) (g.P.Pictures.written others) (pictures ≡ before) (others ≡ past) (asked words);
+      one = λ inputs before pictures past others shown showing words. printed_once checked analysed thinned replayed (g.I.Inputs.gives inputs)
+          (g.P.Pictures.written pictures) (g.P.Pictures.written others) (pictures ≡ before) (others ≡ past) shown showing (asked words);
       said = λ inputs. said_once checked analysed thinned replayed (g.I.Inputs.gives inputs);
     }

@@ -17,3 +17,6 @@ returns-in-run c = rw c.in-run.is (c.program_with-in-run.ensures _ c.run_command
 
 pub returns-in-replay : goal.returns-in-replay
 returns-in-replay c = rw c.in-replay.is (c.program_with-in-replay.ensures _ c.replay_command.ensures)
+
+pub returns-in-extract : goal.returns-in-extract
+returns-in-extract c = rw c.in-extract.is (c.program_with-in-extract.ensures _ c.extract_command.ensures)

@@ -1,0 +1,34 @@
+-- What is wrong with a C file, in words. This project's own program.
+use Rattle.std.specs.Fmt.{decimal}
+use Rattle.std.specs.Prelude.{ℕ, List, ◌++◌, codes}
+use Rattle.flt_c.specs.declared.fault.Fault.{Fault}
+use Rattle.flt_c.specs.declared.fault.FaultKind.{FaultKind}
+use Rattle.flt_c.specs.declared.fault.FaultKind.TheVariants as k
+use Rattle.flt_c.specs.declared.files.Flaw.{Flaw}
+use Rattle.flt_c.specs.declared.files.Flaw.TheVariants.{Faulty, Large, Bare, Long}
+use Rattle.flt_c.specs.declared.place.Place.{Place}
+
+-- a fault in words
+abbrev pub reason : FaultKind → List ℕ
+reason k.Comment = codes "comment without end"
+reason k.String = codes "string without end"
+reason k.Character = codes "character constant without end"
+reason k.RawString = codes "raw string"
+reason k.Marker = codes "no blank after @flt"
+reason k.Continued = codes "annotation in a continued line"
+reason k.Group = codes "#if 0 without #endif"
+
+-- a place of a file, as compilers write it behind its name
+abbrev pub spot : Place → List ℕ
+spot at = decimal at.line ++ codes ":" ++ decimal at.column
+
+-- a fault of the file of a name
+abbrev pub fault_line : List ℕ → Fault → List ℕ
+fault_line name f = name ++ (codes ":" ++ (spot f.place ++ (codes ": " ++ reason f.kind)))
+
+-- what is wrong with the file of a name
+abbrev pub flaw_line : List ℕ → Flaw → List ℕ
+flaw_line name (Faulty f) = fault_line name f
+flaw_line name Large = name ++ codes ": too large"
+flaw_line name Bare = name ++ codes ": no annotation"
+flaw_line name Long = name ++ codes ": text too long"
