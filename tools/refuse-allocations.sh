@@ -169,6 +169,8 @@ runs=(
     "check pending_reads.flt pending_reads_full.cert"
     "thin pending_reads.flt pending_reads_full.cert"
     "thin two_locks.flt two_locks.cert"
+    "extract c/counts_opens.c"
+    "extract --map c/counts_opens.c"
     "analyse reads_wait_for_a_write.flt"
     "analyse stream_context_broken.flt"
     "run pending_reads_detached.script pending_reads.flt"

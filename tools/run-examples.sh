@@ -254,9 +254,9 @@ for file in verdicts/*; do
     judges "$file"
 done
 
-for file in *; do
+for file in * c/*; do
     case $file in
-    README.md | expected | verdicts | cases) ;;
+    README.md | expected | verdicts | cases | c) ;;
     *) grep -qF " $file " "$work/named" || differs "$file: no line of expected has it" ;;
     esac
 done
