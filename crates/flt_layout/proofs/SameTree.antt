@@ -142,45 +142,31 @@ lock (c.lock a0 a1) s = let r1 = name a0 s in (r1.0, c.lock r1.1 a1, r1.2)
 
 plain : {x y : Text} {locks : List Lock} {queue : Bool} {m : PlainCall} {i o j : Input} → PlainAt (scope x locks queue) i m o →
     Same x y i j → (p : Input) × PlainAt (scope y locks queue) j m p × Same x y o p
-plain (c.delete a0 a1) s = let r1 = next a0 s in let r2 = meant a1 r1.2 in (r2.0, c.delete r1.1 r2.1, r2.2)
-plain (c.reference a0 a1 a2 a3 a4) s = let r1 = next a0 s in let r2 = meant a1 r1.2 in let r3 = next a2 r2.2 in
+plain (c.end_context a0 a1) s = let r1 = meant a0 s in let r2 = meant a1 r1.2 in (r2.0, c.end_context r1.1 r2.1, r2.2)
+plain (c.reference a0 a1 a2 a3 a4) s = let r1 = meant a0 s in let r2 = meant a1 r1.2 in let r3 = next a2 r2.2 in
     let r4 = meant a3 r3.2 in (r4.0, c.reference r1.1 r2.1 r3.1 r4.1 a4, r4.2)
-plain (c.release a0 a1) s = let r1 = next a0 s in let r2 = meant a1 r1.2 in (r2.0, c.release r1.1 r2.1, r2.2)
-plain (c.acquire_spin a0 a1) s = let r1 = next a0 s in let r2 = lock a1 r1.2 in (r2.0, c.acquire_spin r1.1 r2.1, r2.2)
-plain (c.release_spin a0 a1) s = let r1 = next a0 s in let r2 = lock a1 r1.2 in (r2.0, c.release_spin r1.1 r2.1, r2.2)
-plain (c.acquire_fast a0 a1) s = let r1 = next a0 s in let r2 = lock a1 r1.2 in (r2.0, c.acquire_fast r1.1 r2.1, r2.2)
-plain (c.release_fast a0 a1) s = let r1 = next a0 s in let r2 = lock a1 r1.2 in (r2.0, c.release_fast r1.1 r2.1, r2.2)
-plain (c.acquire_push a0 a1) s = let r1 = next a0 s in let r2 = lock a1 r1.2 in (r2.0, c.acquire_push r1.1 r2.1, r2.2)
-plain (c.acquire_push_shared a0 a1) s = let r1 = next a0 s in let r2 = lock a1 r1.2 in (r2.0, c.acquire_push_shared r1.1 r2.1, r2.2)
-plain (c.release_push a0 a1) s = let r1 = next a0 s in let r2 = lock a1 r1.2 in (r2.0, c.release_push r1.1 r2.1, r2.2)
-plain (c.complete_pre a0 a1 a2) s = let r1 = next a0 s in let r2 = meant a1 r1.2 in
+plain (c.lock_call a0 a1) s = let r1 = meant a0 s in let r2 = lock a1 r1.2 in (r2.0, c.lock_call r1.1 r2.1, r2.2)
+plain (c.complete_pre a0 a1 a2) s = let r1 = meant a0 s in let r2 = meant a1 r1.2 in
     let r3 = status a2 r2.2 in (r3.0, c.complete_pre r1.1 r2.1 r3.1, r3.2)
-plain (c.complete_post a0 a1) s = let r1 = next a0 s in let r2 = next a1 r1.2 in (r2.0, c.complete_post r1.1 r2.1, r2.2)
+plain (c.complete_post a0 a1) s = let r1 = meant a0 s in let r2 = next a1 r1.2 in (r2.0, c.complete_post r1.1 r2.1, r2.2)
 
 fallible : {x y : Text} {locks : List Lock} {queue : Bool} {m : FallibleCall} {i o j : Input} →
     FallibleAt (scope x locks queue) i m o → Same x y i j →
     (n : FallibleCall) × (p : Input) × FallibleAt (scope y locks queue) j n p × Same x y o p × AlikeCall m n
-fallible {m = m} (c.allocate a0 a1) s = let r1 = next a0 s in let r2 = meant a1 r1.2 in (m, r2.0, c.allocate r1.1 r2.1, r2.2, l.same)
-fallible {m = m} (c.get_stream a0 a1) s = let r1 = next a0 s in let r2 = meant a1 r1.2 in (m, r2.0, c.get_stream r1.1 r2.1, r2.2, l.same)
-fallible {m = m} (c.get_instance a0 a1) s = let r1 = next a0 s in
-    let r2 = meant a1 r1.2 in (m, r2.0, c.get_instance r1.1 r2.1, r2.2, l.same)
-fallible {m = m} (c.set_stream a0 a1 a2 a3 a4) s = let r1 = next a0 s in let r2 = meant a1 r1.2 in let r3 = meant a2 r2.2 in
-    let r4 = optional a3 r3.2 in (m, r4.0, c.set_stream r1.1 r2.1 r3.1 r4.1 a4, r4.2, l.same)
-fallible {m = m} (c.set_instance a0 a1 a2 a3 a4) s = let r1 = next a0 s in let r2 = meant a1 r1.2 in let r3 = meant a2 r2.2 in
-    let r4 = optional a3 r3.2 in (m, r4.0, c.set_instance r1.1 r2.1 r3.1 r4.1 a4, r4.2, l.same)
-fallible {m = m} (c.delete_stream a0 a1) s = let r1 = next a0 s in
-    let r2 = optional a1 r1.2 in (m, r2.0, c.delete_stream r1.1 r2.1, r2.2, l.same)
-fallible {m = m} (c.delete_instance a0 a1) s = let r1 = next a0 s in
-    let r2 = optional a1 r1.2 in (m, r2.0, c.delete_instance r1.1 r2.1, r2.2, l.same)
-fallible {m = m} (c.insert_io a0 a1 a2 a3) s = let r1 = next a1 s in let r2 = next a2 r1.2 in
+fallible {m = m} (c.obtain a0 a1) s = let r1 = meant a0 s in let r2 = meant a1 r1.2 in (m, r2.0, c.obtain r1.1 r2.1, r2.2, l.same)
+fallible {m = m} (c.set_context a0 a1 a2 a3 a4) s = let r1 = meant a0 s in let r2 = meant a1 r1.2 in let r3 = meant a2 r2.2 in
+    let r4 = optional a3 r3.2 in (m, r4.0, c.set_context r1.1 r2.1 r3.1 r4.1 a4, r4.2, l.same)
+fallible {m = m} (c.delete_context_of a0 a1) s = let r1 = meant a0 s in
+    let r2 = optional a1 r1.2 in (m, r2.0, c.delete_context_of r1.1 r2.1, r2.2, l.same)
+fallible {m = m} (c.insert_io a0 a1 a2 a3) s = let r1 = meant a1 s in let r2 = next a2 r1.2 in
     let r3 = optional a3 r2.2 in (m, r3.0, c.insert_io a0 r1.1 r2.1 r3.1, r3.2, l.same)
-fallible {m = m} (c.remove_next_io a0 a1 a2 a3 a4) s = let r1 = next a1 s in let r2 = meant a2 r1.2 in let r3 = next a3 r2.2 in
+fallible {m = m} (c.remove_next_io a0 a1 a2 a3 a4) s = let r1 = meant a1 s in let r2 = meant a2 r1.2 in let r3 = next a3 r2.2 in
     let r4 = meant a4 r3.2 in (m, r4.0, c.remove_next_io a0 r1.1 r2.1 r3.1 r4.1, r4.2, l.same)
 fallible (c.queue_deferred {c = v} a0 a1 a2 a3) s =
-    let r1 = next a0 s in let r2 = next a1 r1.2 in let r3 = routine a2 r2.2 in let r4 = optional a3 r3.3 in
+    let r1 = meant a0 s in let r2 = next a1 r1.2 in let r3 = routine a2 r2.2 in let r4 = optional a3 r3.3 in
     (calls.QueueDeferredIoWorkItem r3.0 v, r4.0, c.queue_deferred r1.1 r2.1 r3.2 r4.1, r4.2, l.deferred r3.4)
 fallible (c.queue_generic {c = v} a0 a1 a2) s =
-    let r1 = next a0 s in let r2 = routine a1 r1.2 in let r3 = optional a2 r2.3 in
+    let r1 = meant a0 s in let r2 = routine a1 r1.2 in let r3 = optional a2 r2.3 in
     (calls.QueueGenericWorkItem r2.0 v, r3.0, c.queue_generic r1.1 r2.2 r3.1, r3.2, l.generic r2.4)
 
 condition : {x y : Text} {locks : List Lock} {queue : Bool} {m : Condition} {i o j : Input} →

@@ -182,32 +182,21 @@ optional_status_free (calling.some_status p) =
 -- fallible, which stays over where the next token is the same
 pub fallible_free : {scope : Scope} {i o : Input} {c : FallibleCall} (p : FallibleAt scope i c o) →
     Detached (λ j c z. (q : FallibleAt scope j c z) × (FallibleOver p → front z ≡ front o → FallibleOver q)) i c o
-fallible_free (calling.allocate n p) =
-    let dn = next_free refl n in shift dn (made (meant_free (refl, refl, refl) p)
-    (λ j z y. (calling.allocate (dn.again j) y, λ over same. tt)))
-fallible_free (calling.get_stream n p) =
-    let dn = next_free refl n in shift dn (made (meant_free (refl, refl, refl) p)
-    (λ j z y. (calling.get_stream (dn.again j) y, λ over same. tt)))
-fallible_free (calling.get_instance n p) =
-    let dn = next_free refl n in shift dn (made (meant_free (refl, refl, refl) p)
-    (λ j z y. (calling.get_instance (dn.again j) y, λ over same. tt)))
-fallible_free (calling.set_stream n p q x h) =
-    let dn = next_free refl n in let dp = meant_free (refl, refl, refl) p in let dq = meant_free (refl, refl, refl) q in
+fallible_free (calling.obtain n p) =
+    let dn = meant_free (refl, refl, refl) n in shift dn (made (meant_free (refl, refl, refl) p)
+    (λ j z y. (calling.obtain (dn.again j) y, λ over same. tt)))
+fallible_free (calling.set_context n p q x h) =
+    let dn = meant_free (refl, refl, refl) n in let dp = meant_free (refl, refl, refl) p in let dq = meant_free (refl, refl, refl) q in
     shift dn (shift dp (shift dq (made (optional_free refl x)
-    (λ j z y. (calling.set_stream (dn.again (dp.taken ++ (dq.taken ++ j))) (dp.again (dq.taken ++ j)) (dq.again j) y.0 h, y.1)))))
-fallible_free (calling.set_instance n p q x h) =
-    let dn = next_free refl n in let dp = meant_free (refl, refl, refl) p in let dq = meant_free (refl, refl, refl) q in
-    shift dn (shift dp (shift dq (made (optional_free refl x)
-    (λ j z y. (calling.set_instance (dn.again (dp.taken ++ (dq.taken ++ j))) (dp.again (dq.taken ++ j)) (dq.again j) y.0 h, y.1)))))
-fallible_free (calling.delete_stream n p) =
-    let dn = next_free refl n in shift dn (made (optional_free refl p) (λ j z y. (calling.delete_stream (dn.again j) y.0, y.1)))
-fallible_free (calling.delete_instance n p) =
-    let dn = next_free refl n in shift dn (made (optional_free refl p) (λ j z y. (calling.delete_instance (dn.again j) y.0, y.1)))
+    (λ j z y. (calling.set_context (dn.again (dp.taken ++ (dq.taken ++ j))) (dp.again (dq.taken ++ j)) (dq.again j) y.0 h, y.1)))))
+fallible_free (calling.delete_context_of n p) =
+    let dn = meant_free (refl, refl, refl) n in
+    shift dn (made (optional_free refl p) (λ j z y. (calling.delete_context_of (dn.again j) y.0, y.1)))
 fallible_free (calling.insert_io q n m p) =
-    let dn = next_free refl n in let dm = next_free refl m in shift dn (shift dm (made (optional_free refl p)
+    let dn = meant_free (refl, refl, refl) n in let dm = next_free refl m in shift dn (shift dm (made (optional_free refl p)
     (λ j z y. (calling.insert_io q (dn.again (dm.taken ++ j)) (dm.again j) y.0, y.1))))
 fallible_free (calling.remove_next_io q n p m x) =
-    let dn = next_free refl n in let dp = meant_free (refl, refl, refl) p in let dm = next_free refl m in
+    let dn = meant_free (refl, refl, refl) n in let dp = meant_free (refl, refl, refl) p in let dm = next_free refl m in
     shift dn (shift dp (shift dm (made (meant_free (refl, refl, refl) x)
     (λ j z y. (
       calling.remove_next_io q (dn.again (dp.taken ++ (dm.taken ++ j))) (dp.again (dm.taken ++ j))
@@ -215,45 +204,31 @@ fallible_free (calling.remove_next_io q n p m x) =
       λ over same. tt,
     )))))
 fallible_free (calling.queue_deferred n m p q) =
-    let dn = next_free refl n in let dm = next_free refl m in let dp = routine_free p in
+    let dn = meant_free (refl, refl, refl) n in let dm = next_free refl m in let dp = routine_free p in
     shift dn (shift dm (shift dp (made (optional_free refl q)
     (λ j z y. (calling.queue_deferred (dn.again (dm.taken ++ (dp.taken ++ j))) (dm.again (dp.taken ++ j)) (dp.again j) y.0, y.1)))))
 fallible_free (calling.queue_generic n p q) =
-    let dn = next_free refl n in let dp = routine_free p in shift dn (shift dp (made (optional_free refl q)
+    let dn = meant_free (refl, refl, refl) n in let dp = routine_free p in shift dn (shift dp (made (optional_free refl q)
     (λ j z y. (calling.queue_generic (dn.again (dp.taken ++ j)) (dp.again j) y.0, y.1))))
 
 plain_free : {scope : Scope} {i o : Input} {c : PlainCall} (p : PlainAt scope i c o) →
     Detached (λ j c z. (q : PlainAt scope j c z) × (PlainOver p → front z ≡ front o → PlainOver q)) i c o
-plain_free (calling.delete n p) =
-    let dn = next_free refl n in shift dn (made (meant_free (refl, refl, refl) p)
-    (λ j z y. (calling.delete (dn.again j) y, λ over same. tt)))
+plain_free (calling.end_context n p) =
+    let dn = meant_free (refl, refl, refl) n in shift dn (made (meant_free (refl, refl, refl) p)
+    (λ j z y. (calling.end_context (dn.again j) y, λ over same. tt)))
 plain_free (calling.reference n p m q h) =
-    let dn = next_free refl n in let dp = meant_free (refl, refl, refl) p in let dm = next_free refl m in
+    let dn = meant_free (refl, refl, refl) n in let dp = meant_free (refl, refl, refl) p in let dm = next_free refl m in
     shift dn (shift dp (shift dm (made (meant_free (refl, refl, refl) q)
     (λ j z y. (calling.reference (dn.again (dp.taken ++ (dm.taken ++ j))) (dp.again (dm.taken ++ j)) (dm.again j) y h, λ over same. tt)))))
-plain_free (calling.release n p) =
-    let dn = next_free refl n in shift dn (made (meant_free (refl, refl, refl) p)
-    (λ j z y. (calling.release (dn.again j) y, λ over same. tt)))
-plain_free (calling.acquire_spin n p) =
-    let dn = next_free refl n in shift dn (made (lock_free p) (λ j z y. (calling.acquire_spin (dn.again j) y, λ over same. tt)))
-plain_free (calling.release_spin n p) =
-    let dn = next_free refl n in shift dn (made (lock_free p) (λ j z y. (calling.release_spin (dn.again j) y, λ over same. tt)))
-plain_free (calling.acquire_fast n p) =
-    let dn = next_free refl n in shift dn (made (lock_free p) (λ j z y. (calling.acquire_fast (dn.again j) y, λ over same. tt)))
-plain_free (calling.release_fast n p) =
-    let dn = next_free refl n in shift dn (made (lock_free p) (λ j z y. (calling.release_fast (dn.again j) y, λ over same. tt)))
-plain_free (calling.acquire_push n p) =
-    let dn = next_free refl n in shift dn (made (lock_free p) (λ j z y. (calling.acquire_push (dn.again j) y, λ over same. tt)))
-plain_free (calling.acquire_push_shared n p) =
-    let dn = next_free refl n in shift dn (made (lock_free p)
-    (λ j z y. (calling.acquire_push_shared (dn.again j) y, λ over same. tt)))
-plain_free (calling.release_push n p) =
-    let dn = next_free refl n in shift dn (made (lock_free p) (λ j z y. (calling.release_push (dn.again j) y, λ over same. tt)))
+plain_free (calling.lock_call n p) =
+    let dn = meant_free (refl, refl, refl) n in
+    shift dn (made (lock_free p) (λ j z y. (calling.lock_call (dn.again j) y, λ over same. tt)))
 plain_free (calling.complete_pre n p q) =
-    let dn = next_free refl n in let dp = meant_free (refl, refl, refl) p in shift dn (shift dp (made (status_free q)
+    let dn = meant_free (refl, refl, refl) n in let dp = meant_free (refl, refl, refl) p in shift dn (shift dp (made (status_free q)
     (λ j z y. (calling.complete_pre (dn.again (dp.taken ++ j)) (dp.again j) y.0, y.1))))
 plain_free (calling.complete_post n m) =
-    let dn = next_free refl n in shift dn (made (next_free refl m) (λ j z y. (calling.complete_post (dn.again j) y, λ over same. tt)))
+    let dn = meant_free (refl, refl, refl) n in
+    shift dn (made (next_free refl m) (λ j z y. (calling.complete_post (dn.again j) y, λ over same. tt)))
 
 -- atom
 pub atom_free : {i o : Input} {x : Atom} → AtomAt i x o → Detached AtomAt i x o
@@ -343,18 +318,11 @@ action_some (acting.clear_context p m n) h = meant_some p h
 action_some (acting.clear_operation p m n) h = meant_some p h
 
 plain_some : {scope : Scope} {i o : Input} {c : PlainCall} → PlainAt scope i c o → i ≡ [] → ⊥
-plain_some (calling.delete n p) h = next_some n h
-plain_some (calling.reference n p m q d) h = next_some n h
-plain_some (calling.release n p) h = next_some n h
-plain_some (calling.acquire_spin n p) h = next_some n h
-plain_some (calling.release_spin n p) h = next_some n h
-plain_some (calling.acquire_fast n p) h = next_some n h
-plain_some (calling.release_fast n p) h = next_some n h
-plain_some (calling.acquire_push n p) h = next_some n h
-plain_some (calling.acquire_push_shared n p) h = next_some n h
-plain_some (calling.release_push n p) h = next_some n h
-plain_some (calling.complete_pre n p q) h = next_some n h
-plain_some (calling.complete_post n m) h = next_some n h
+plain_some (calling.end_context n p) h = meant_some n h
+plain_some (calling.reference n p m q d) h = meant_some n h
+plain_some (calling.lock_call n p) h = meant_some n h
+plain_some (calling.complete_pre n p q) h = meant_some n h
+plain_some (calling.complete_post n m) h = meant_some n h
 
 -- what takes a token keeps its first one
 pub same_token : (taken z i o : Input) → i ≡ taken ++ o → (taken ≡ [] → ⊥) → front (taken ++ z) ≡ front i

@@ -6,6 +6,7 @@ use Rattle.flt_rules.specs.declared.call.LockNumber.{LockNumber}
 use Rattle.flt_tree.specs.Declarations.{lock_number}
 use Rattle.flt_tree.specs.declared.filter.PlainCall.{PlainCall}
 use Rattle.flt_tree.specs.declared.filter.Statement.{Statement}
+use Rattle.flt_syntax.specs.declared.shape.PlainShape.{PlainShape}
 use Rattle.flt_syntax.specs.declared.token.Kind.{Kind}
 use Rattle.flt_syntax.specs.declared.token.Kind.TheVariants as k
 use Rattle.flt_syntax.specs.CallGrammar as calling
@@ -16,14 +17,13 @@ use Rattle.flt_syntax.specs.Words.{Next}
 use Rattle.flt_syntax.specs.Scope.{Scope}
 use Rattle.flt_syntax.specs.Cursor.{Input, kind}
 use Rattle.flt_syntax.specs.FirstWords.{has_blocks}
-use Rattle.flt_prefix.specs.Prefix.{is_lock_word}
 use Rattle.flt_syntax.specs.ActionGrammar as acting
 use Rattle.flt_syntax.specs.ActionGrammar.{ActionAt}
-use Rattle.flt_syntax.specs.FirstWords.{has_blocks}
+use Rattle.flt_syntax.specs.Tables.{plain_shape_of}
 use Rattle.flt_syntax.specs.Words as words
 use Rattle.flt_syntax.specs.Words.{Meant}
 use Rattle.flt_tree.specs.declared.filter.Action.{Action}
-use Rattle.flt_prefix.specs.Prefix.{is_lock_word, NoLockCall, NoBlock}
+use Rattle.flt_prefix.specs.Prefix.{names_lock, is_lock_word, NoLockCall, NoBlock}
 
 differ : false ≡ true → ⊥
 differ e = cc
@@ -39,20 +39,13 @@ kind_is (words.next e) = e
 no_lock_at : {scope : Scope} {lk : LockKind} {i o : Input} {l : LockNumber} → scope.locks ≡ [] → LockAt scope lk i l o → ⊥
 no_lock_at {lk = lk} {l = l} e (calling.lock {name = name} p h) = none_some l (sym (ap (lock_number lk name) e) ∙ h)
 
-other_word : {kd : Kind} {i o : Input} → Next kd i o → is_lock_word kd ≡ false → is_lock_word (kind i) ≡ true → ⊥
-other_word n e h = differ (sym (ap is_lock_word (kind_is n) ∙ e) ∙ h)
+other_word : {x : PlainShape} {i o : Input} → Meant plain_shape_of i x o → names_lock (Some x) ≡ false → is_lock_word (kind i) ≡ true → ⊥
+other_word (words.meant m) e h = differ (sym (ap names_lock m ∙ e) ∙ h)
 
 no_lock : {scope : Scope} {i o : Input} {c : PlainCall} → scope.locks ≡ [] → is_lock_word (kind i) ≡ true → PlainAt scope i c o → ⊥
-no_lock e h (calling.delete n p) = other_word n refl h
+no_lock e h (calling.end_context n p) = other_word n refl h
 no_lock e h (calling.reference n p m q d) = other_word n refl h
-no_lock e h (calling.release n p) = other_word n refl h
-no_lock e h (calling.acquire_spin n p) = no_lock_at e p
-no_lock e h (calling.release_spin n p) = no_lock_at e p
-no_lock e h (calling.acquire_fast n p) = no_lock_at e p
-no_lock e h (calling.release_fast n p) = no_lock_at e p
-no_lock e h (calling.acquire_push n p) = no_lock_at e p
-no_lock e h (calling.acquire_push_shared n p) = no_lock_at e p
-no_lock e h (calling.release_push n p) = no_lock_at e p
+no_lock e h (calling.lock_call n p) = no_lock_at e p
 no_lock e h (calling.complete_pre n p q) = other_word n refl h
 no_lock e h (calling.complete_post n m) = other_word n refl h
 
@@ -85,18 +78,11 @@ no_action h (acting.clear_context p m n) = other_meaning p refl refl h
 no_action h (acting.clear_operation p m n) = other_meaning p refl refl h
 
 no_plain : {scope : Scope} {i o : Input} {c : PlainCall} → has_blocks (kind i) ≡ true → PlainAt scope i c o → ⊥
-no_plain h (calling.delete n p) = other_start n refl h
-no_plain h (calling.reference n p m q d) = other_start n refl h
-no_plain h (calling.release n p) = other_start n refl h
-no_plain h (calling.acquire_spin n p) = other_start n refl h
-no_plain h (calling.release_spin n p) = other_start n refl h
-no_plain h (calling.acquire_fast n p) = other_start n refl h
-no_plain h (calling.release_fast n p) = other_start n refl h
-no_plain h (calling.acquire_push n p) = other_start n refl h
-no_plain h (calling.acquire_push_shared n p) = other_start n refl h
-no_plain h (calling.release_push n p) = other_start n refl h
-no_plain h (calling.complete_pre n p q) = other_start n refl h
-no_plain h (calling.complete_post n m) = other_start n refl h
+no_plain h (calling.end_context n p) = other_meaning n refl refl h
+no_plain h (calling.reference n p m q d) = other_meaning n refl refl h
+no_plain h (calling.lock_call n p) = other_meaning n refl refl h
+no_plain h (calling.complete_pre n p q) = other_meaning n refl refl h
+no_plain h (calling.complete_post n m) = other_meaning n refl refl h
 
 no_block : {scope : Scope} {r : ℕ} {i o : Input} {ss : List Statement} (d : ℕ) → d ≡ 0 → BlockAt scope d r i ss o → ⊥
 no_block _ e (grammar.block {d = d} n p m) = absurd (omega (arith, e))

@@ -1,12 +1,13 @@
 -- The tokens before an E03 begin what spells, unless a lock's name must stand there, and the depth of blocks aside.
 use Rattle.std.proofs.Common.{◌≡◌, ◌≢◌, true, ℕ, zero, suc, ◌+◌, ◌≤◌, List, [], ◌∷◌, ◌++◌, refl, sym, ap, subst, ◌∙◌, append_assoc, arith}
 use Rattle.std.specs.Prelude.{Option, Some, None}
-use Rattle.flt_rules.specs.declared.call.Anchor.TheVariants.{Stream, Instance}
 use Rattle.flt_rules.specs.declared.call.Existing.TheVariants as kept
 use Rattle.flt_rules.specs.declared.call.LockKind.{LockKind}
 use Rattle.flt_rules.specs.declared.status.FinalStatus.TheVariants as finals
 use Rattle.flt_syntax.specs.declared.fault.FaultKind.TheVariants.{E01, E02, E03, E04, E05, E06, E08}
 use Rattle.flt_syntax.specs.declared.fault.SyntaxFault.{SyntaxFault}
+use Rattle.flt_syntax.specs.declared.shape.ContextEnd.TheVariants as ends
+use Rattle.flt_syntax.specs.declared.shape.ContextSource.TheVariants as sources
 use Rattle.flt_syntax.specs.declared.token.Kind.{Kind}
 use Rattle.flt_syntax.specs.declared.token.Kind.TheVariants as k
 use Rattle.flt_syntax.specs.declared.token.Token.{Token}
@@ -34,6 +35,7 @@ use Rattle.flt_syntax.specs.Grammar.{StatementAt, ElseAt, BlockAt, StatementsAt}
 use Rattle.flt_syntax.specs.Words as words
 use Rattle.flt_syntax.specs.Words.{Next, Meant, NameAt, NumberAt, ContextAt, OptionalAt}
 use Rattle.flt_syntax.specs.Scope.{Scope}
+use Rattle.flt_syntax.specs.Shape.{obtaining, ending}
 use Rattle.flt_syntax.specs.Cursor.{span, Input, bytes_of, fault_at}
 use Rattle.flt_prefix.proofs.Detached.{passable, AllPassed, passed_both, Detached, next_free, meant_free, number_free, routine_free, atom_free, condition_free, statement_free, block_free}
 use Rattle.flt_prefix.proofs.DetachedFiles.{head_free, callback_free}
@@ -48,7 +50,7 @@ use Rattle.flt_syntax.specs.StatementFails.{StatementFails, ElseFails, BlockFail
 use Rattle.flt_syntax.specs.FileFails as file
 use Rattle.flt_syntax.specs.FileFails.{NewNameFails, HeadFails, CallbackFails, CallbacksFails}
 use Rattle.flt_prefix.specs.Prefix as prefix
-use Rattle.flt_prefix.specs.Prefix.{is_lock_word, AsksNoLock, AnyCallbackAt, AnyCallbacksAt, CallbacksBegin}
+use Rattle.flt_prefix.specs.Prefix.{names_lock, AsksNoLock, AnyCallbackAt, AnyCallbacksAt, CallbacksBegin}
 use Rattle.flt_rules.specs.declared.place.Operation.TheVariants as operating
 use Rattle.flt_syntax.specs.Grammar.{HeadAt, CallbackAt}
 use Rattle.flt_tree.specs.declared.filter.Callback.{Callback}
@@ -231,90 +233,60 @@ status_fin (call_fails.complete n h) e =
 fallible_fin : {scope : Scope} {i : Input} {f : SyntaxFault} → FallibleFails scope i f → f.kind ≡ E03 → Finishes (FallibleAt scope) i f
 fallible_fin (call_fails.no_fallible {i = i} b r) e =
     fin_at i (a_token k.AllocateContext ∷ (a_token k.C0 ∷ [])) (refused_at r e)
-    (λ o. (fallible.AllocateContext contexts.C0, calling.allocate (words.next refl) (words.meant refl)))
-fallible_fin (call_fails.insert_unknown n q) e = elim (not_four e) [ ]
-fallible_fin (call_fails.remove_unknown n q) e = elim (not_four e) [ ]
-fallible_fin (call_fails.allocate n h) e =
-    let dn = next_free refl n in fin_shift dn (fin_by (context_fin h e)
-    (λ j o u y. (fallible.AllocateContext u, calling.allocate (dn.again j) y)))
-fallible_fin (call_fails.get_stream n h) e =
-    let dn = next_free refl n in fin_shift dn (fin_by (context_fin h e)
-    (λ j o u y. (fallible.GetContext Stream u, calling.get_stream (dn.again j) y)))
-fallible_fin (call_fails.get_instance n h) e =
-    let dn = next_free refl n in fin_shift dn (fin_by (context_fin h e)
-    (λ j o u y. (fallible.GetContext Instance u, calling.get_instance (dn.again j) y)))
-fallible_fin (call_fails.set_stream_existing n h) e =
-    let dn = next_free refl n in fin_shift dn (fin_more (a_token k.C0 ∷ []) (meant_fin k.KeepIfExists kept.Keep refl h e)
+    (λ o. (_, calling.obtain {s = sources.Allocate} {c = contexts.C0} (words.meant refl) (words.meant refl)))
+fallible_fin (call_fails.queue_unknown n q) e = elim (not_four e) [ ]
+fallible_fin (call_fails.obtain {s = s} n h) e =
+    let dn = meant_free (refl, refl, refl) n in
+    fin_shift dn (fin_by (context_fin h e) (λ j o u y. (obtaining s u, calling.obtain (dn.again j) y)))
+fallible_fin (call_fails.set_existing {x = x} n h) e =
+    let dn = meant_free (refl, refl, refl) n in fin_shift dn (fin_more (a_token k.C0 ∷ []) (meant_fin k.KeepIfExists kept.Keep refl h e)
     (λ j o u y. (
-      fallible.SetContext Stream u contexts.C0 None,
-      calling.set_stream (dn.again j) y (words.meant refl) words.without
+      fallible.SetContext x u contexts.C0 None,
+      calling.set_context (dn.again j) y (words.meant refl) words.without
           (λ x. none_some contexts.C0 x),
     )))
-fallible_fin (call_fails.set_stream_context {e = k} n p h) e =
-    let dn = next_free refl n in let dp = meant_free (refl, refl, refl) p in fin_shift dn (fin_shift dp (fin_by (context_fin h e)
+fallible_fin (call_fails.set_context {x = x} {e = k} n p h) e =
+    let dn = meant_free (refl, refl, refl) n in let dp = meant_free (refl, refl, refl) p in
+    fin_shift dn (fin_shift dp (fin_by (context_fin h e)
     (λ j o u y. (
-      fallible.SetContext Stream k u None,
-      calling.set_stream (dn.again (dp.taken ++ j)) (dp.again j) y words.without
+      fallible.SetContext x k u None,
+      calling.set_context (dn.again (dp.taken ++ j)) (dp.again j) y words.without
           (λ x. none_some u x),
     ))))
-fallible_fin (call_fails.set_stream_old {e = k} {c = c} n p q h) e =
-    let dn = next_free refl n in let dp = meant_free (refl, refl, refl) p in let dq = meant_free (refl, refl, refl) q in
+fallible_fin (call_fails.set_old {x = x} {e = k} {c = c} n p q h) e =
+    let dn = meant_free (refl, refl, refl) n in let dp = meant_free (refl, refl, refl) p in let dq = meant_free (refl, refl, refl) q in
     fin_shift dn (fin_shift dp (fin_shift dq (fin_by (other_old_fin h e)
     (λ j o u y. (
-      fallible.SetContext Stream k c u,
-      calling.set_stream (dn.again (dp.taken ++ (dq.taken ++ j))) (dp.again (dq.taken ++ j))
+      fallible.SetContext x k c u,
+      calling.set_context (dn.again (dp.taken ++ (dq.taken ++ j))) (dp.again (dq.taken ++ j))
           (dq.again j) y.0 y.1,
     )))))
-fallible_fin (call_fails.set_instance_existing n h) e =
-    let dn = next_free refl n in fin_shift dn (fin_more (a_token k.C0 ∷ []) (meant_fin k.KeepIfExists kept.Keep refl h e)
-    (λ j o u y. (
-      fallible.SetContext Instance u contexts.C0 None,
-      calling.set_instance (dn.again j) y (words.meant refl) words.without
-          (λ x. none_some contexts.C0 x),
-    )))
-fallible_fin (call_fails.set_instance_context {e = k} n p h) e =
-    let dn = next_free refl n in let dp = meant_free (refl, refl, refl) p in fin_shift dn (fin_shift dp (fin_by (context_fin h e)
-    (λ j o u y. (
-      fallible.SetContext Instance k u None,
-      calling.set_instance (dn.again (dp.taken ++ j)) (dp.again j) y words.without
-          (λ x. none_some u x),
-    ))))
-fallible_fin (call_fails.set_instance_old {e = k} {c = c} n p q h) e =
-    let dn = next_free refl n in let dp = meant_free (refl, refl, refl) p in let dq = meant_free (refl, refl, refl) q in
-    fin_shift dn (fin_shift dp (fin_shift dq (fin_by (other_old_fin h e)
-    (λ j o u y. (
-      fallible.SetContext Instance k c u,
-      calling.set_instance (dn.again (dp.taken ++ (dq.taken ++ j))) (dp.again
-          (dq.taken ++ j)) (dq.again j) y.0 y.1,
-    )))))
-fallible_fin (call_fails.delete_stream n h) e =
-    let dn = next_free refl n in fin_shift dn (fin_by (optional_fin refl h e)
-    (λ j o u y. (fallible.DeleteContextOf Stream u, calling.delete_stream (dn.again j) y)))
-fallible_fin (call_fails.delete_instance n h) e =
-    let dn = next_free refl n in fin_shift dn (fin_by (optional_fin refl h e)
-    (λ j o u y. (fallible.DeleteContextOf Instance u, calling.delete_instance (dn.again j) y)))
+fallible_fin (call_fails.delete_context_of {x = x} n h) e =
+    let dn = meant_free (refl, refl, refl) n in fin_shift dn (fin_by (optional_fin refl h e)
+    (λ j o u y. (fallible.DeleteContextOf x u, calling.delete_context_of (dn.again j) y)))
 fallible_fin (call_fails.insert_data q n h) e =
-    let dn = next_free refl n in fin_shift dn (fin_by (next_fin h e)
+    let dn = meant_free (refl, refl, refl) n in fin_shift dn (fin_by (next_fin h e)
     (λ j o u y. (fallible.InsertIo None, calling.insert_io q (dn.again j) y words.without)))
 fallible_fin (call_fails.insert_context q n m h) e =
-    let dn = next_free refl n in let dm = next_free refl m in fin_shift dn (fin_shift dm (fin_by (optional_fin refl h e)
+    let dn = meant_free (refl, refl, refl) n in let dm = next_free refl m in fin_shift dn (fin_shift dm (fin_by (optional_fin refl h e)
     (λ j o u y. (fallible.InsertIo u, calling.insert_io q (dn.again (dm.taken ++ j)) (dm.again j) y))))
 fallible_fin (call_fails.remove_operation q n h) e =
-    let dn = next_free refl n in fin_shift dn (fin_more (a_token k.Context ∷ (a_token k.C0 ∷ []))
+    let dn = meant_free (refl, refl, refl) n in fin_shift dn (fin_more (a_token k.Context ∷ (a_token k.C0 ∷ []))
     (known_fin k.O0 removed.O0 refl h e) (λ j o u y. (
       fallible.RemoveNextIo u contexts.C0,
       calling.remove_next_io q (dn.again j) y
           (words.next refl) (words.meant refl),
     )))
 fallible_fin (call_fails.remove_word {x = v} q n p h) e =
-    let dn = next_free refl n in let dp = meant_free (refl, refl, refl) p in fin_shift dn (fin_shift dp (fin_more (a_token k.C0 ∷ [])
+    let dn = meant_free (refl, refl, refl) n in let dp = meant_free (refl, refl, refl) p in
+    fin_shift dn (fin_shift dp (fin_more (a_token k.C0 ∷ [])
     (next_fin h e) (λ j o u y. (
       fallible.RemoveNextIo v contexts.C0,
       calling.remove_next_io q (dn.again (dp.taken ++ j)) (dp.again j) y
           (words.meant refl),
     ))))
 fallible_fin (call_fails.remove_context {x = v} q n p m h) e =
-    let dn = next_free refl n in let dp = meant_free (refl, refl, refl) p in let dm = next_free refl m in
+    let dn = meant_free (refl, refl, refl) n in let dp = meant_free (refl, refl, refl) p in let dm = next_free refl m in
     fin_shift dn (fin_shift dp (fin_shift dm (fin_by (context_fin h e)
     (λ j o u y. (
       fallible.RemoveNextIo v u,
@@ -322,13 +294,13 @@ fallible_fin (call_fails.remove_context {x = v} q n p m h) e =
           (dm.again j) y,
     )))))
 fallible_fin (call_fails.deferred_data n h) e =
-    let dn = next_free refl n in fin_shift dn (fin_more (a_token k.Name ∷ []) (next_fin h e)
+    let dn = meant_free (refl, refl, refl) n in fin_shift dn (fin_more (a_token k.Name ∷ []) (next_fin h e)
     (λ j o u y. (_, calling.queue_deferred (dn.again j) y (calling.routine (words.name refl)) words.without)))
 fallible_fin (call_fails.deferred_name n m h) e =
-    let dn = next_free refl n in let dm = next_free refl m in fin_shift dn (fin_shift dm (fin_by (routine_fin h e)
+    let dn = meant_free (refl, refl, refl) n in let dm = next_free refl m in fin_shift dn (fin_shift dm (fin_by (routine_fin h e)
     (λ j o u y. (fallible.QueueDeferredIoWorkItem u None, calling.queue_deferred (dn.again (dm.taken ++ j)) (dm.again j) y words.without))))
 fallible_fin (call_fails.deferred_context {r = r} n m p h) e =
-    let dn = next_free refl n in let dm = next_free refl m in let dp = routine_free p in
+    let dn = meant_free (refl, refl, refl) n in let dm = next_free refl m in let dp = routine_free p in
     fin_shift dn (fin_shift dm (fin_shift dp (fin_by (optional_fin refl h e)
     (λ j o u y. (
       fallible.QueueDeferredIoWorkItem r u,
@@ -336,10 +308,10 @@ fallible_fin (call_fails.deferred_context {r = r} n m p h) e =
           (dp.taken ++ j)) (dp.again j) y,
     )))))
 fallible_fin (call_fails.generic_name n h) e =
-    let dn = next_free refl n in fin_shift dn (fin_by (routine_fin h e)
+    let dn = meant_free (refl, refl, refl) n in fin_shift dn (fin_by (routine_fin h e)
     (λ j o u y. (fallible.QueueGenericWorkItem u None, calling.queue_generic (dn.again j) y words.without)))
 fallible_fin (call_fails.generic_context {r = r} n p h) e =
-    let dn = next_free refl n in let dp = routine_free p in fin_shift dn (fin_shift dp (fin_by (optional_fin refl h e)
+    let dn = meant_free (refl, refl, refl) n in let dp = routine_free p in fin_shift dn (fin_shift dp (fin_by (optional_fin refl h e)
     (λ j o u y. (fallible.QueueGenericWorkItem r u, calling.queue_generic (dn.again (dp.taken ++ j)) (dp.again j) y))))
 
 one_zero : contexts.C1 ≡ contexts.C0 → ⊥
@@ -372,52 +344,44 @@ module _ (scope : Scope) where
   plain_fin : {i : Input} {f : SyntaxFault} → AsksNoLock i f → PlainFails scope i f → f.kind ≡ E03 → Finishes (PlainAt scope) i f
   plain_fin g (call_fails.no_plain {i = i} b r) e =
       fin_at i (a_token k.DeleteContext ∷ (a_token k.C0 ∷ [])) (refused_at r e)
-      (λ o. (plain.DeleteContext contexts.C0, calling.delete (words.next refl) (words.meant refl)))
+      (λ o. (_, calling.end_context {e = ends.Delete} {c = contexts.C0} (words.meant refl) (words.meant refl)))
+  plain_fin g (call_fails.end_context {e = how} n h) e =
+      let dn = meant_free (refl, refl, refl) n in
+      fin_shift dn (fin_by (context_fin h e) (λ j o u y. (ending how u, calling.end_context (dn.again j) y)))
   plain_fin g (call_fails.reference_context n h) e =
-      let dn = next_free refl n in
+      let dn = meant_free (refl, refl, refl) n in
       fin_shift dn (fin_more (a_token k.As ∷ (a_token k.C1 ∷ [])) (fixed_fin h e) (λ j o u y. (
         plain.ReferenceContext contexts.C0 contexts.C1,
         calling.reference (dn.again j) y (words.next refl) (words.meant refl)
             (λ x. one_zero x),
       )))
   plain_fin g (call_fails.reference_word {c = c} n p h) e =
-      let a = another c in let dn = next_free refl n in let dp = meant_free (refl, refl, refl) p in
+      let a = another c in let dn = meant_free (refl, refl, refl) n in let dp = meant_free (refl, refl, refl) p in
       fin_shift dn (fin_shift dp (fin_more (a_token a.1 ∷ []) (next_fin h e) (λ j o u y.
       (plain.ReferenceContext c a.0, calling.reference (dn.again (dp.taken ++ j)) (dp.again j) y (a.2 o) a.3))))
   plain_fin g (call_fails.reference_copy {c = c} n p m h) e =
-      let dn = next_free refl n in let dp = meant_free (refl, refl, refl) p in let dm = next_free refl m in
+      let dn = meant_free (refl, refl, refl) n in let dp = meant_free (refl, refl, refl) p in let dm = next_free refl m in
       fin_shift dn (fin_shift dp (fin_shift dm (fin_by (other_fin h e)
       (λ j o u y. (
         plain.ReferenceContext c u,
         calling.reference (dn.again (dp.taken ++ (dm.taken ++ j))) (dp.again (dm.taken ++ j))
             (dm.again j) y.0 y.1,
       )))))
-  plain_fin g (call_fails.delete n h) e =
-      let dn = next_free refl n in fin_shift dn (fin_by (context_fin h e)
-      (λ j o u y. (plain.DeleteContext u, calling.delete (dn.again j) y)))
-  plain_fin g (call_fails.release n h) e =
-      let dn = next_free refl n in fin_shift dn (fin_by (context_fin h e)
-      (λ j o u y. (plain.ReleaseContext u, calling.release (dn.again j) y)))
-  plain_fin g (call_fails.acquire_spin (words.next {t = t} {o = o} q) h) e = elim (g [] t o refl (ap is_lock_word q) (lock_asked h e)) [ ]
-  plain_fin g (call_fails.release_spin (words.next {t = t} {o = o} q) h) e = elim (g [] t o refl (ap is_lock_word q) (lock_asked h e)) [ ]
-  plain_fin g (call_fails.acquire_fast (words.next {t = t} {o = o} q) h) e = elim (g [] t o refl (ap is_lock_word q) (lock_asked h e)) [ ]
-  plain_fin g (call_fails.release_fast (words.next {t = t} {o = o} q) h) e = elim (g [] t o refl (ap is_lock_word q) (lock_asked h e)) [ ]
-  plain_fin g (call_fails.acquire_push (words.next {t = t} {o = o} q) h) e = elim (g [] t o refl (ap is_lock_word q) (lock_asked h e)) [ ]
-  plain_fin g (call_fails.acquire_push_shared (words.next {t = t} {o = o} q) h) e =
-      elim (g [] t o refl (ap is_lock_word q) (lock_asked h e)) [ ]
-  plain_fin g (call_fails.release_push (words.next {t = t} {o = o} q) h) e = elim (g [] t o refl (ap is_lock_word q) (lock_asked h e)) [ ]
+  plain_fin g (call_fails.lock_call (words.meant {t = t} {o = o} q) h) e = elim (g [] t o refl (ap names_lock q) (lock_asked h e)) [ ]
   plain_fin g (call_fails.complete_pre_operation n h) e =
-      let dn = next_free refl n in fin_shift dn (fin_more (a_token k.Pending ∷ []) (known_fin k.Data operations.Data refl h e)
+      let dn = meant_free (refl, refl, refl) n in
+      fin_shift dn (fin_more (a_token k.Pending ∷ []) (known_fin k.Data operations.Data refl h e)
       (λ j o u y. (
         plain.CompletePendedPreOperation u statuses.Pending,
         calling.complete_pre (dn.again j) y (calling.bare
             (words.meant refl)),
       )))
   plain_fin g (call_fails.complete_pre_status {d = d} n p h) e =
-      let dn = next_free refl n in let dp = meant_free (refl, refl, refl) p in fin_shift dn (fin_shift dp (fin_by (status_fin h e)
+      let dn = meant_free (refl, refl, refl) n in let dp = meant_free (refl, refl, refl) p in
+      fin_shift dn (fin_shift dp (fin_by (status_fin h e)
       (λ j o u y. (plain.CompletePendedPreOperation d u, calling.complete_pre (dn.again (dp.taken ++ j)) (dp.again j) y))))
   plain_fin g (call_fails.complete_post n h) e =
-      let dn = next_free refl n in fin_shift dn (fin_by (next_fin h e)
+      let dn = meant_free (refl, refl, refl) n in fin_shift dn (fin_by (next_fin h e)
       (λ j o u y. (plain.CompletePendedPostOperation, calling.complete_post (dn.again j) y)))
 
 optional_status_fin : {i : Input} {f : SyntaxFault} → OptionalStatusFails i f → f.kind ≡ E03 → Finishes OptionalStatusAt i f

@@ -10,9 +10,10 @@ use Rattle.flt_syntax.specs.Grammar as grammar
 use Rattle.flt_syntax.specs.Grammar.{StatementAt, ElseAt, BlockAt, StatementsAt, HeadAt, CallbackAt, CallbacksAt, QueueAt, FileAt}
 use Rattle.flt_syntax.specs.Scope.{Scope}
 use Rattle.flt_syntax.specs.Words as words
-use Rattle.flt_syntax.specs.Words.{Next}
+use Rattle.flt_syntax.specs.Words.{Next, Meant}
 use Rattle.flt_syntax.specs.declared.fault.FaultKind.TheVariants.{E04, E07}
 use Rattle.flt_syntax.specs.declared.fault.SyntaxFault.{SyntaxFault}
+use Rattle.flt_syntax.specs.declared.shape.ContextSource.TheVariants as sources
 use Rattle.flt_syntax.specs.declared.token.Kind.{Kind}
 use Rattle.flt_syntax.specs.declared.token.Token.{Token}
 use Rattle.flt_tree.specs.Declarations.{has_event, has_deferred, has_generic, lacks_pre}
@@ -71,6 +72,9 @@ module _ {A : Type 0} {at : A → Position} where
   next_over : {kd : Kind} {i o : Input} → Next kd i o → Spans at i [] o
   next_over (words.next e) = pass stop
 
+  meant_over : {B : Type 0} {table : Kind → Option B} {i o : Input} {x : B} → Meant table i x o → Spans at i [] o
+  meant_over (words.meant e) = pass stop
+
 -- faults at the places
 faults_at : {i o : Input} {ps : List Position} → Spans here i ps o → Spans place i (map (fault E04) ps) o
 faults_at stop = stop
@@ -90,20 +94,17 @@ routine_spans false (calling.routine (words.name e)) = take refl stop
 
 module _ (scope : Scope) (cs : List Callback) (from : Head) where
   fallible_spans : {i o : Input} {c : FallibleCall} → FallibleAt scope i c o → Spans here i (lacking_in cs from c) o
-  fallible_spans (calling.allocate n p) = over (fallible_free {scope = scope} (calling.allocate n p))
-  fallible_spans (calling.get_stream n p) = over (fallible_free {scope = scope} (calling.get_stream n p))
-  fallible_spans (calling.get_instance n p) = over (fallible_free {scope = scope} (calling.get_instance n p))
-  fallible_spans (calling.set_stream n p q x h) = over (fallible_free {scope = scope} (calling.set_stream n p q x h))
-  fallible_spans (calling.set_instance n p q x h) = over (fallible_free {scope = scope} (calling.set_instance n p q x h))
-  fallible_spans (calling.delete_stream n p) = over (fallible_free {scope = scope} (calling.delete_stream n p))
-  fallible_spans (calling.delete_instance n p) = over (fallible_free {scope = scope} (calling.delete_instance n p))
+  fallible_spans (calling.obtain {s = sources.Allocate} n p) = over (fallible_free {scope = scope} (calling.obtain n p))
+  fallible_spans (calling.obtain {s = sources.Get anchor} n p) = over (fallible_free {scope = scope} (calling.obtain n p))
+  fallible_spans (calling.set_context n p q x h) = over (fallible_free {scope = scope} (calling.set_context n p q x h))
+  fallible_spans (calling.delete_context_of n p) = over (fallible_free {scope = scope} (calling.delete_context_of n p))
   fallible_spans (calling.insert_io q n m p) = over (fallible_free {scope = scope} (calling.insert_io q n m p))
   fallible_spans (calling.remove_next_io q n p m x) = over (fallible_free {scope = scope} (calling.remove_next_io q n p m x))
   fallible_spans (calling.queue_deferred {r = r} n m p q) =
-      then_some (next_over n) (then_some (next_over m)
+      then_some (meant_over n) (then_some (next_over m)
       (then_none (routine_spans (has_deferred from r.name cs) p) (over (optional_free refl q))))
   fallible_spans (calling.queue_generic {r = r} n p q) =
-      then_some (next_over n) (then_none (routine_spans (has_generic r.name cs) p) (over (optional_free refl q)))
+      then_some (meant_over n) (then_none (routine_spans (has_generic r.name cs) p) (over (optional_free refl q)))
 
   condition_spans : {i o : Input} {c : Condition} → ConditionAt scope i c o → Spans here i (lacking_by cs from c) o
   condition_spans (acting.test p) = over (condition_free {scope = scope} (acting.test p))

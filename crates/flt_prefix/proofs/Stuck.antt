@@ -1,19 +1,20 @@
 -- What fails fails so whatever stands behind the token at fault: words, calls, statements and blocks.
 use Rattle.std.proofs.Common.{◌≡◌, ℕ, Bool, false, true, [], ◌∷◌, ◌++◌, refl, sym, ap, subst, ◌∙◌, append_assoc}
-use Rattle.std.specs.Prelude.{Option, None}
+use Rattle.std.specs.Prelude.{Option, Some, None}
 use Rattle.flt_rules.specs.declared.call.LockKind.{LockKind}
 use Rattle.flt_syntax.specs.declared.fault.FaultKind.TheVariants.{E01, E02, E03, E04, E05, E06, E08}
 use Rattle.flt_syntax.specs.declared.fault.SyntaxFault.{SyntaxFault}
+use Rattle.flt_syntax.specs.declared.shape.FallibleShape.TheVariants as shapes
 use Rattle.flt_syntax.specs.declared.token.Kind.{Kind}
 use Rattle.flt_syntax.specs.declared.token.Kind.TheVariants as k
 use Rattle.flt_syntax.specs.declared.token.Token.{Token}
 use Rattle.flt_tree.specs.declared.variable.ContextVariable.{ContextVariable}
 use Rattle.flt_syntax.specs.Words as words
-use Rattle.flt_syntax.specs.Words.{Next}
+use Rattle.flt_syntax.specs.Words.{Meant}
 use Rattle.flt_syntax.specs.Lex.{is_fault}
 use Rattle.flt_syntax.specs.Scope.{Scope}
 use Rattle.flt_syntax.specs.FirstWords.{begins_status}
-use Rattle.flt_syntax.specs.Tables.{number_variable_of}
+use Rattle.flt_syntax.specs.Tables.{number_variable_of, fallible_shape_of}
 use Rattle.flt_syntax.specs.Cursor.{Input, front, kind, is_word, fault, fault_at}
 use Rattle.flt_syntax.specs.FirstWords.{begins_fallible, begins_plain, begins_test, begins_other}
 use Rattle.flt_syntax.specs.WordFails as word_fails
@@ -24,7 +25,6 @@ use Rattle.flt_syntax.specs.ActionFails as bad
 use Rattle.flt_syntax.specs.ActionFails.{AtomFails, LeadingFails, ExpressionFails, ActionFails, ConditionFails}
 use Rattle.flt_syntax.specs.StatementFails as statement_fails
 use Rattle.flt_syntax.specs.StatementFails.{StatementFails, ElseFails, BlockFails, StatementsFails}
-use Rattle.flt_rules.specs.declared.call.LockKind.{LockKind}
 use Rattle.flt_syntax.specs.Cursor.{bytes_of, next}
 use Rattle.flt_tree.specs.Declarations.{lock_number}
 use Rattle.flt_prefix.specs.Prefix.{is_of_token}
@@ -32,6 +32,9 @@ use Rattle.flt_prefix.proofs.Detached.{passable, AllPassed, passed_both, Detache
 
 differ : false ≡ true → ⊥
 differ e = cc
+
+none_some : {A : Type 0} (a : A) → None ≡ Some a → ⊥
+none_some a e = cc
 
 -- where the tokens up to the fault are the same, it fails the same
 pub record Stuck (F : Input → SyntaxFault → Type 0) (i : Input) (f : SyntaxFault) : Type 0 where
@@ -154,10 +157,11 @@ other_stuck (word_fails.twice p) h = elim (not_eight h) [ ]
 no_end : (kd : Kind) (t : Token) → is_word kd ≡ true → front [] ≡ t → t.word.kind ≡ kd → ⊥
 no_end kd t w same e = differ (ap (λ (t : Token). is_word t.word.kind) same ∙ ap is_word e ∙ w)
 
--- a word that stands at the front stands there as the next token
-word_again : (kd : Kind) (t : Token) (z : Input) → is_word kd ≡ true → t.word.kind ≡ kd → front z ≡ t → Next kd z (next z)
-word_again kd t [] w e same = elim (no_end kd t w same e) [ ]
-word_again kd t (u ∷ z) w e same = words.next (ap (λ (t : Token). t.word.kind) same ∙ e)
+-- a word of a table that stands at the front stands there as the next token
+meant_again : {A : Type 0} (table : Kind → Option A) (x : A) (t : Token) (z : Input) → table k.End ≡ None → table t.word.kind ≡ Some x →
+    front z ≡ t → Meant table z x (next z)
+meant_again table x t [] h e same = elim (none_some x (sym h ∙ (ap (λ (t : Token). table t.word.kind) same ∙ e))) [ ]
+meant_again table x t (u ∷ z) h e same = words.meant (ap (λ (t : Token). table t.word.kind) same ∙ e)
 
 unknown_lock_again : (scope : Scope) (lk : LockKind) (t : Token) (z : Input) → is_word t.word.kind ≡ true →
     lock_number lk (bytes_of scope.text t) scope.locks ≡ None → front z ≡ t → LockFails scope lk z (fault E04 t.position)
@@ -204,115 +208,85 @@ fallible_stuck : {scope : Scope} {i : Input} {f : SyntaxFault} → FallibleFails
     Stuck (FallibleFails scope) i f
 fallible_stuck (call_fails.no_fallible {i = i} b r) e =
     stuck_at i (refused_at r) (λ z same. call_fails.no_fallible (next_is begins_fallible i z b same) (refused_again r z same))
-fallible_stuck (call_fails.allocate n h) e =
-    let dn = next_free refl n in stuck_shift dn (stuck_by (known_stuck h e) (λ z same y. call_fails.allocate (dn.again z) y))
-fallible_stuck (call_fails.get_stream n h) e =
-    let dn = next_free refl n in stuck_shift dn (stuck_by (known_stuck h e) (λ z same y. call_fails.get_stream (dn.again z) y))
-fallible_stuck (call_fails.get_instance n h) e =
-    let dn = next_free refl n in stuck_shift dn (stuck_by (known_stuck h e) (λ z same y. call_fails.get_instance (dn.again z) y))
-fallible_stuck (call_fails.set_stream_existing n h) e =
-    let dn = next_free refl n in stuck_shift dn (stuck_by (meant_stuck h e)
-    (λ z same y. call_fails.set_stream_existing (dn.again z) y))
-fallible_stuck (call_fails.set_stream_context n p h) e =
-    let dn = next_free refl n in let dp = meant_free (refl, refl, refl) p in stuck_shift dn (stuck_shift dp (stuck_by
-    (known_stuck h e) (λ z same y. call_fails.set_stream_context (dn.again (dp.taken ++ z)) (dp.again z) y)))
-fallible_stuck (call_fails.set_stream_old n p q h) e =
-    let dn = next_free refl n in let dp = meant_free (refl, refl, refl) p in let dq = meant_free (refl, refl, refl) q in
+fallible_stuck (call_fails.obtain n h) e =
+    let dn = meant_free (refl, refl, refl) n in stuck_shift dn (stuck_by (known_stuck h e) (λ z same y. call_fails.obtain (dn.again z) y))
+fallible_stuck (call_fails.set_existing n h) e =
+    let dn = meant_free (refl, refl, refl) n in
+    stuck_shift dn (stuck_by (meant_stuck h e) (λ z same y. call_fails.set_existing (dn.again z) y))
+fallible_stuck (call_fails.set_context n p h) e =
+    let dn = meant_free (refl, refl, refl) n in let dp = meant_free (refl, refl, refl) p in stuck_shift dn (stuck_shift dp (stuck_by
+    (known_stuck h e) (λ z same y. call_fails.set_context (dn.again (dp.taken ++ z)) (dp.again z) y)))
+fallible_stuck (call_fails.set_old n p q h) e =
+    let dn = meant_free (refl, refl, refl) n in let dp = meant_free (refl, refl, refl) p in let dq = meant_free (refl, refl, refl) q in
     stuck_shift dn (stuck_shift dp (stuck_shift dq (stuck_by (other_old_stuck h e)
-    (λ z same y. call_fails.set_stream_old (dn.again (dp.taken ++ (dq.taken ++ z))) (dp.again (dq.taken ++ z)) (dq.again z) y))))
-fallible_stuck (call_fails.set_instance_existing n h) e =
-    let dn = next_free refl n in stuck_shift dn (stuck_by (meant_stuck h e)
-    (λ z same y. call_fails.set_instance_existing (dn.again z) y))
-fallible_stuck (call_fails.set_instance_context n p h) e =
-    let dn = next_free refl n in let dp = meant_free (refl, refl, refl) p in stuck_shift dn (stuck_shift dp (stuck_by
-    (known_stuck h e) (λ z same y. call_fails.set_instance_context (dn.again (dp.taken ++ z)) (dp.again z) y)))
-fallible_stuck (call_fails.set_instance_old n p q h) e =
-    let dn = next_free refl n in let dp = meant_free (refl, refl, refl) p in let dq = meant_free (refl, refl, refl) q in
-    stuck_shift dn (stuck_shift dp (stuck_shift dq (stuck_by (other_old_stuck h e)
-    (λ z same y. call_fails.set_instance_old (dn.again (dp.taken ++ (dq.taken ++ z))) (dp.again (dq.taken ++ z)) (dq.again z) y))))
-fallible_stuck (call_fails.delete_stream n h) e =
-    let dn = next_free refl n in stuck_shift dn (stuck_by (optional_stuck refl h e)
-    (λ z same y. call_fails.delete_stream (dn.again z) y))
-fallible_stuck (call_fails.delete_instance n h) e =
-    let dn = next_free refl n in stuck_shift dn (stuck_by (optional_stuck refl h e)
-    (λ z same y. call_fails.delete_instance (dn.again z) y))
-fallible_stuck {scope = scope} (call_fails.insert_unknown (words.next {t = t} {o = o} n) q) e =
+    (λ z same y. call_fails.set_old (dn.again (dp.taken ++ (dq.taken ++ z))) (dp.again (dq.taken ++ z)) (dq.again z) y))))
+fallible_stuck (call_fails.delete_context_of n h) e =
+    let dn = meant_free (refl, refl, refl) n in stuck_shift dn (stuck_by (optional_stuck refl h e)
+    (λ z same y. call_fails.delete_context_of (dn.again z) y))
+fallible_stuck {scope = scope} (call_fails.queue_unknown {x = x} (words.meant {t = t} {o = o} m) q) e =
     stuck_at (t ∷ o) refl (λ z same. subst (FallibleFails scope z) (ap (λ (t : Token). fault E04 t.position) same)
-    (call_fails.insert_unknown (word_again k.InsertIo t z refl n same) q))
+    (call_fails.queue_unknown (meant_again fallible_shape_of (shapes.Queue x) t z refl m same) q))
 fallible_stuck (call_fails.insert_data q n h) e =
-    let dn = next_free refl n in stuck_shift dn (stuck_by (next_stuck h e) (λ z same y. call_fails.insert_data q (dn.again z) y))
+    let dn = meant_free (refl, refl, refl) n in
+    stuck_shift dn (stuck_by (next_stuck h e) (λ z same y. call_fails.insert_data q (dn.again z) y))
 fallible_stuck (call_fails.insert_context q n m h) e =
-    let dn = next_free refl n in let dm = next_free refl m in stuck_shift dn (stuck_shift dm (stuck_by
+    let dn = meant_free (refl, refl, refl) n in let dm = next_free refl m in stuck_shift dn (stuck_shift dm (stuck_by
     (optional_stuck refl h e) (λ z same y. call_fails.insert_context q (dn.again (dm.taken ++ z)) (dm.again z) y)))
-fallible_stuck {scope = scope} (call_fails.remove_unknown (words.next {t = t} {o = o} n) q) e =
-    stuck_at (t ∷ o) refl (λ z same. subst (FallibleFails scope z) (ap (λ (t : Token). fault E04 t.position) same)
-    (call_fails.remove_unknown (word_again k.RemoveNextIo t z refl n same) q))
 fallible_stuck (call_fails.remove_operation q n h) e =
-    let dn = next_free refl n in stuck_shift dn (stuck_by (known_stuck h e)
-    (λ z same y. call_fails.remove_operation q (dn.again z) y))
+    let dn = meant_free (refl, refl, refl) n in
+    stuck_shift dn (stuck_by (known_stuck h e) (λ z same y. call_fails.remove_operation q (dn.again z) y))
 fallible_stuck (call_fails.remove_word q n p h) e =
-    let dn = next_free refl n in let dp = meant_free (refl, refl, refl) p in stuck_shift dn (stuck_shift dp (stuck_by
+    let dn = meant_free (refl, refl, refl) n in let dp = meant_free (refl, refl, refl) p in stuck_shift dn (stuck_shift dp (stuck_by
     (next_stuck h e) (λ z same y. call_fails.remove_word q (dn.again (dp.taken ++ z)) (dp.again z) y)))
 fallible_stuck (call_fails.remove_context q n p m h) e =
-    let dn = next_free refl n in let dp = meant_free (refl, refl, refl) p in let dm = next_free refl m in
+    let dn = meant_free (refl, refl, refl) n in let dp = meant_free (refl, refl, refl) p in let dm = next_free refl m in
     stuck_shift dn (stuck_shift dp (stuck_shift dm (stuck_by (known_stuck h e)
     (λ z same y. call_fails.remove_context q (dn.again (dp.taken ++ (dm.taken ++ z))) (dp.again (dm.taken ++ z)) (dm.again z) y))))
 fallible_stuck (call_fails.deferred_data n h) e =
-    let dn = next_free refl n in stuck_shift dn (stuck_by (next_stuck h e) (λ z same y. call_fails.deferred_data (dn.again z) y))
+    let dn = meant_free (refl, refl, refl) n in
+    stuck_shift dn (stuck_by (next_stuck h e) (λ z same y. call_fails.deferred_data (dn.again z) y))
 fallible_stuck (call_fails.deferred_name n m h) e =
-    let dn = next_free refl n in let dm = next_free refl m in stuck_shift dn (stuck_shift dm (stuck_by (name_stuck h e)
+    let dn = meant_free (refl, refl, refl) n in let dm = next_free refl m in stuck_shift dn (stuck_shift dm (stuck_by (name_stuck h e)
     (λ z same y. call_fails.deferred_name (dn.again (dm.taken ++ z)) (dm.again z) y)))
 fallible_stuck (call_fails.deferred_context n m p h) e =
-    let dn = next_free refl n in let dm = next_free refl m in let dp = routine_free p in
+    let dn = meant_free (refl, refl, refl) n in let dm = next_free refl m in let dp = routine_free p in
     stuck_shift dn (stuck_shift dm (stuck_shift dp (stuck_by (optional_stuck refl h e)
     (λ z same y. call_fails.deferred_context (dn.again (dm.taken ++ (dp.taken ++ z))) (dm.again (dp.taken ++ z)) (dp.again z) y))))
 fallible_stuck (call_fails.generic_name n h) e =
-    let dn = next_free refl n in stuck_shift dn (stuck_by (name_stuck h e) (λ z same y. call_fails.generic_name (dn.again z) y))
+    let dn = meant_free (refl, refl, refl) n in
+    stuck_shift dn (stuck_by (name_stuck h e) (λ z same y. call_fails.generic_name (dn.again z) y))
 fallible_stuck (call_fails.generic_context n p h) e =
-    let dn = next_free refl n in let dp = routine_free p in stuck_shift dn (stuck_shift dp (stuck_by
+    let dn = meant_free (refl, refl, refl) n in let dp = routine_free p in stuck_shift dn (stuck_shift dp (stuck_by
     (optional_stuck refl h e) (λ z same y. call_fails.generic_context (dn.again (dp.taken ++ z)) (dp.again z) y)))
 
 plain_stuck : {scope : Scope} {i : Input} {f : SyntaxFault} → PlainFails scope i f → is_of_token f.kind ≡ true →
     Stuck (PlainFails scope) i f
 plain_stuck (call_fails.no_plain {i = i} b r) e =
     stuck_at i (refused_at r) (λ z same. call_fails.no_plain (next_is begins_plain i z b same) (refused_again r z same))
-plain_stuck (call_fails.delete n h) e =
-    let dn = next_free refl n in stuck_shift dn (stuck_by (known_stuck h e) (λ z same y. call_fails.delete (dn.again z) y))
+plain_stuck (call_fails.end_context n h) e =
+    let dn = meant_free (refl, refl, refl) n in
+    stuck_shift dn (stuck_by (known_stuck h e) (λ z same y. call_fails.end_context (dn.again z) y))
 plain_stuck (call_fails.reference_context n h) e =
-    let dn = next_free refl n in stuck_shift dn (stuck_by (known_stuck h e)
-    (λ z same y. call_fails.reference_context (dn.again z) y))
+    let dn = meant_free (refl, refl, refl) n in
+    stuck_shift dn (stuck_by (known_stuck h e) (λ z same y. call_fails.reference_context (dn.again z) y))
 plain_stuck (call_fails.reference_word n p h) e =
-    let dn = next_free refl n in let dp = meant_free (refl, refl, refl) p in stuck_shift dn (stuck_shift dp (stuck_by
+    let dn = meant_free (refl, refl, refl) n in let dp = meant_free (refl, refl, refl) p in stuck_shift dn (stuck_shift dp (stuck_by
     (next_stuck h e) (λ z same y. call_fails.reference_word (dn.again (dp.taken ++ z)) (dp.again z) y)))
 plain_stuck (call_fails.reference_copy n p m h) e =
-    let dn = next_free refl n in let dp = meant_free (refl, refl, refl) p in let dm = next_free refl m in
+    let dn = meant_free (refl, refl, refl) n in let dp = meant_free (refl, refl, refl) p in let dm = next_free refl m in
     stuck_shift dn (stuck_shift dp (stuck_shift dm (stuck_by (other_stuck h e)
     (λ z same y. call_fails.reference_copy (dn.again (dp.taken ++ (dm.taken ++ z))) (dp.again (dm.taken ++ z)) (dm.again z) y))))
-plain_stuck (call_fails.release n h) e =
-    let dn = next_free refl n in stuck_shift dn (stuck_by (known_stuck h e) (λ z same y. call_fails.release (dn.again z) y))
-plain_stuck (call_fails.acquire_spin n h) e =
-    let dn = next_free refl n in stuck_shift dn (stuck_by (lock_stuck h e) (λ z same y. call_fails.acquire_spin (dn.again z) y))
-plain_stuck (call_fails.release_spin n h) e =
-    let dn = next_free refl n in stuck_shift dn (stuck_by (lock_stuck h e) (λ z same y. call_fails.release_spin (dn.again z) y))
-plain_stuck (call_fails.acquire_fast n h) e =
-    let dn = next_free refl n in stuck_shift dn (stuck_by (lock_stuck h e) (λ z same y. call_fails.acquire_fast (dn.again z) y))
-plain_stuck (call_fails.release_fast n h) e =
-    let dn = next_free refl n in stuck_shift dn (stuck_by (lock_stuck h e) (λ z same y. call_fails.release_fast (dn.again z) y))
-plain_stuck (call_fails.acquire_push n h) e =
-    let dn = next_free refl n in stuck_shift dn (stuck_by (lock_stuck h e) (λ z same y. call_fails.acquire_push (dn.again z) y))
-plain_stuck (call_fails.acquire_push_shared n h) e =
-    let dn = next_free refl n in stuck_shift dn (stuck_by (lock_stuck h e)
-    (λ z same y. call_fails.acquire_push_shared (dn.again z) y))
-plain_stuck (call_fails.release_push n h) e =
-    let dn = next_free refl n in stuck_shift dn (stuck_by (lock_stuck h e) (λ z same y. call_fails.release_push (dn.again z) y))
+plain_stuck (call_fails.lock_call n h) e =
+    let dn = meant_free (refl, refl, refl) n in stuck_shift dn (stuck_by (lock_stuck h e) (λ z same y. call_fails.lock_call (dn.again z) y))
 plain_stuck (call_fails.complete_pre_operation n h) e =
-    let dn = next_free refl n in stuck_shift dn (stuck_by (known_stuck h e)
-    (λ z same y. call_fails.complete_pre_operation (dn.again z) y))
+    let dn = meant_free (refl, refl, refl) n in
+    stuck_shift dn (stuck_by (known_stuck h e) (λ z same y. call_fails.complete_pre_operation (dn.again z) y))
 plain_stuck (call_fails.complete_pre_status n p h) e =
-    let dn = next_free refl n in let dp = meant_free (refl, refl, refl) p in stuck_shift dn (stuck_shift dp (stuck_by
+    let dn = meant_free (refl, refl, refl) n in let dp = meant_free (refl, refl, refl) p in stuck_shift dn (stuck_shift dp (stuck_by
     (status_stuck h e) (λ z same y. call_fails.complete_pre_status (dn.again (dp.taken ++ z)) (dp.again z) y)))
 plain_stuck (call_fails.complete_post n h) e =
-    let dn = next_free refl n in stuck_shift dn (stuck_by (next_stuck h e) (λ z same y. call_fails.complete_post (dn.again z) y))
+    let dn = meant_free (refl, refl, refl) n in
+    stuck_shift dn (stuck_by (next_stuck h e) (λ z same y. call_fails.complete_post (dn.again z) y))
 
 atom_stuck : {i : Input} {f : SyntaxFault} → AtomFails i f → is_of_token f.kind ≡ true → Stuck AtomFails i f
 atom_stuck (bad.no_atom {i = i} b n u) e = stuck_at i (unknown_at u) (λ z same.

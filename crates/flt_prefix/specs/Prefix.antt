@@ -1,6 +1,6 @@
 -- What a fault says of other texts. With the tokens up to the one at fault, that one among them, no filter is spelled. The tokens before
 -- a fault E03 begin one, with two exceptions. Both speak of token lists: the names in them are those of one text.
-use Rattle.std.specs.Prelude.{◌≡◌, ◌≢◌, ◌≤◌, ◌++◌, [], ◌∷◌, ℕ, Bool, true, false, List, is_some, Option}
+use Rattle.std.specs.Prelude.{◌≡◌, ◌≢◌, ◌≤◌, ◌++◌, [], ◌∷◌, ℕ, Bool, true, false, List, is_some, Option, Some}
 use Rattle.flt_syntax.specs.FileFails.{CallbacksFails, FileFails}
 use Rattle.flt_syntax.specs.TextFails.{Reads, Fails}
 use Rattle.flt_syntax.specs.CallGrammar.{PlainAt}
@@ -9,7 +9,10 @@ use Rattle.flt_syntax.specs.Cursor.{Input, front, kind, fault, fault_at}
 use Rattle.flt_syntax.specs.Grammar.{StatementAt, StatementsAt, HeadAt, LocksAt, QueueAt}
 use Rattle.flt_syntax.specs.Lex.{tokens}
 use Rattle.flt_syntax.specs.Scope.{Scope}
+use Rattle.flt_syntax.specs.Tables.{plain_shape_of}
 use Rattle.flt_syntax.specs.Words.{Next, NameAt, NumberAt}
+use Rattle.flt_syntax.specs.declared.shape.PlainShape.{PlainShape}
+use Rattle.flt_syntax.specs.declared.shape.PlainShape.TheVariants as shapes
 use Rattle.flt_syntax.specs.declared.token.Kind.{Kind}
 use Rattle.flt_syntax.specs.declared.token.Kind.TheVariants as k
 use Rattle.flt_syntax.specs.declared.token.Token.{Token}
@@ -55,16 +58,14 @@ NothingGoesOnInTexts =
 
 -- ---- the tokens before a fault E03 begin callbacks, if blocks may nest however deep, and unless a lock's name must stand there
 
--- the calls that take or release a lock
+-- the shape of a call that takes or releases a lock
+abbrev pub names_lock : Option PlainShape → Bool
+names_lock (Some (shapes.Lock call)) = true
+names_lock _ = false
+
+-- the words of the calls that take or release a lock
 abbrev pub is_lock_word : Kind → Bool
-is_lock_word k.AcquireSpinLock = true
-is_lock_word k.ReleaseSpinLock = true
-is_lock_word k.AcquireFastMutex = true
-is_lock_word k.ReleaseFastMutex = true
-is_lock_word k.AcquirePushLock = true
-is_lock_word k.AcquirePushLockShared = true
-is_lock_word k.ReleasePushLock = true
-is_lock_word _ = false
+is_lock_word kind = names_lock (plain_shape_of kind)
 
 -- the fault doesn't stand behind the word of such a call, where a lock's name must stand
 abbrev pub AsksNoLock : Input → SyntaxFault → Type 0

@@ -1,6 +1,7 @@
 -- The words of statuses, calls, tests and actions say them.
 use Rattle.std.proofs.Common.{◌≡◌, Bool, true, List, [], ◌∷◌, refl}
 use Rattle.std.specs.Prelude.{Option, Some, None}
+use Rattle.flt_rules.specs.declared.call.Anchor.{Anchor}
 use Rattle.flt_rules.specs.declared.call.Anchor.TheVariants.{Stream, Instance}
 use Rattle.flt_rules.specs.declared.call.LockKind.{LockKind}
 use Rattle.flt_rules.specs.declared.call.LockKind.TheVariants.{Spin, Fast, Push}
@@ -16,11 +17,11 @@ use Rattle.flt_syntax.specs.Cursor.{position}
 use Rattle.flt_tree.specs.Names.{Text}
 use Rattle.flt_syntax.specs.Lex.{keyword, same_kind}
 use Rattle.flt_syntax.specs.Scope.{Scope}
-use Rattle.flt_syntax.specs.Tables.{bare_status_of}
-use Rattle.flt_print.specs.Vocabulary.{spelling, atom_word}
+use Rattle.flt_syntax.specs.Tables.{bare_status_of, fallible_shape_of, plain_shape_of}
+use Rattle.flt_print.specs.Vocabulary.{spelling, atom_word, acquire_kind, release_kind, get_kind, set_kind, delete_kind}
 use Rattle.flt_tree.specs.WellFormed.{IsAtom, IsExpression, IsAction, IsTest, IsFallible, IsCondition, IsLock, IsPlain}
 use Rattle.flt_syntax.specs.Words as words
-use Rattle.flt_syntax.specs.Words.{OptionalAt}
+use Rattle.flt_syntax.specs.Words.{Meant, OptionalAt}
 use Rattle.flt_tree.specs.declared.filter.Action.{Action}
 use Rattle.flt_tree.specs.declared.filter.Action.TheVariants.{SetNumber, ReadValue, ReadFile, WriteValue, ClearContext, ClearOperation}
 use Rattle.flt_tree.specs.declared.filter.Condition.{Condition}
@@ -34,6 +35,14 @@ use Rattle.flt_tree.specs.declared.filter.Status.{Status}
 use Rattle.flt_tree.specs.declared.filter.Status.TheVariants as statuses
 use Rattle.flt_tree.specs.declared.filter.Test.{Test}
 use Rattle.flt_tree.specs.declared.filter.Test.TheVariants.{ContextIsSome, OperationIsSome, Equal, Less, IsIrp, IsDraining}
+use Rattle.flt_syntax.specs.declared.shape.ContextEnd.TheVariants as ends
+use Rattle.flt_syntax.specs.declared.shape.ContextSource.TheVariants as sources
+use Rattle.flt_syntax.specs.declared.shape.FallibleShape.{FallibleShape}
+use Rattle.flt_syntax.specs.declared.shape.FallibleShape.TheVariants as shapes
+use Rattle.flt_syntax.specs.declared.shape.LockCall.TheVariants as does
+use Rattle.flt_syntax.specs.declared.shape.PlainShape.{PlainShape}
+use Rattle.flt_syntax.specs.declared.shape.PlainShape.TheVariants as plain_shapes
+use Rattle.flt_syntax.specs.declared.shape.QueueCall.TheVariants as queued
 use Rattle.flt_syntax.specs.declared.token.Kind.{Kind}
 use Rattle.flt_syntax.specs.declared.token.Kind.TheVariants as k
 use Rattle.flt_tree.specs.declared.variable.Atom.{Atom}
@@ -76,42 +85,51 @@ module _ (text : Text) (locks : List Lock) (queue : Bool) where
   says_optional_status None = says_none (λ i. calls.no_status)
   says_optional_status (Some s) = says_by (says_status s) (λ i o p. calls.some_status p)
 
+  -- the word of a call says its shape
+  says_shape : (kd : Kind) (s : FallibleShape) → reads_back kd ≡ true → fallible_shape_of kd ≡ Some s →
+      Says text (spelling kd ∷ []) (λ i o. Meant fallible_shape_of i s o)
+  says_shape kd s e h = says_meant fallible_shape_of kd s e h
+
+  says_get : (x : Anchor) → Says text (spelling (get_kind x) ∷ []) (λ i o. Meant fallible_shape_of i (shapes.Obtain (sources.Get x)) o)
+  unfolding spelling keyword same_kind
+  says_get Stream = says_shape k.GetStreamContext (shapes.Obtain (sources.Get Stream)) refl refl
+  says_get Instance = says_shape k.GetInstanceContext (shapes.Obtain (sources.Get Instance)) refl refl
+
+  says_set : (x : Anchor) → Says text (spelling (set_kind x) ∷ []) (λ i o. Meant fallible_shape_of i (shapes.Set x) o)
+  unfolding spelling keyword same_kind
+  says_set Stream = says_shape k.SetStreamContext (shapes.Set Stream) refl refl
+  says_set Instance = says_shape k.SetInstanceContext (shapes.Set Instance) refl refl
+
+  says_delete : (x : Anchor) → Says text (spelling (delete_kind x) ∷ []) (λ i o. Meant fallible_shape_of i (shapes.Delete x) o)
+  unfolding spelling keyword same_kind
+  says_delete Stream = says_shape k.DeleteStreamContext (shapes.Delete Stream) refl refl
+  says_delete Instance = says_shape k.DeleteInstanceContext (shapes.Delete Instance) refl refl
+
   -- a call, but for where a routine's name stands
   pub says_call : (c : FallibleCall) → IsFallible queue c →
       Says text (fallible_words c) (λ i o. (d : FallibleCall) × FallibleAt scope i d o × AlikeCall c d)
   unfolding spelling keyword same_kind
   says_call (fallible.AllocateContext c) h =
-      says_by (says_both (says_kind k.AllocateContext refl) (says_context c))
-      (λ i o p. (fallible.AllocateContext c, calls.allocate p.1 p.2, same))
-  says_call (fallible.GetContext Stream c) h =
-      says_by (says_both (says_kind k.GetStreamContext refl) (says_context c))
-      (λ i o p. (fallible.GetContext Stream c, calls.get_stream p.1 p.2, same))
-  says_call (fallible.SetContext Stream e c old) h =
-      says_by (says_both (says_kind k.SetStreamContext refl)
-      (says_both (says_existing e) (says_both (says_context c) (says_optional k.Old refl old))))
-      (λ i o p. (fallible.SetContext Stream e c old, calls.set_stream p.1 p.2.1 p.2.2.1 p.2.2.2 h, same))
-  says_call (fallible.DeleteContextOf Stream old) h =
-      says_by (says_both (says_kind k.DeleteStreamContext refl) (says_optional k.Old refl old))
-      (λ i o p. (fallible.DeleteContextOf Stream old, calls.delete_stream p.1 p.2, same))
-  says_call (fallible.GetContext Instance c) h =
-      says_by (says_both (says_kind k.GetInstanceContext refl) (says_context c))
-      (λ i o p. (fallible.GetContext Instance c, calls.get_instance p.1 p.2, same))
-  says_call (fallible.SetContext Instance e c old) h =
-      says_by (says_both (says_kind k.SetInstanceContext refl)
-      (says_both (says_existing e) (says_both (says_context c) (says_optional k.Old refl old))))
-      (λ i o p. (fallible.SetContext Instance e c old, calls.set_instance p.1 p.2.1 p.2.2.1 p.2.2.2 h, same))
-  says_call (fallible.DeleteContextOf Instance old) h =
-      says_by (says_both (says_kind k.DeleteInstanceContext refl) (says_optional k.Old refl old))
-      (λ i o p. (fallible.DeleteContextOf Instance old, calls.delete_instance p.1 p.2, same))
+      says_by (says_both (says_shape k.AllocateContext (shapes.Obtain sources.Allocate) refl refl) (says_context c))
+      (λ i o p. (fallible.AllocateContext c, calls.obtain p.1 p.2, same))
+  says_call (fallible.GetContext x c) h =
+      says_by (says_both (says_get x) (says_context c)) (λ i o p. (fallible.GetContext x c, calls.obtain p.1 p.2, same))
+  says_call (fallible.SetContext x e c old) h =
+      says_by (says_both (says_set x) (says_both (says_existing e) (says_both (says_context c) (says_optional k.Old refl old))))
+      (λ i o p. (fallible.SetContext x e c old, calls.set_context p.1 p.2.1 p.2.2.1 p.2.2.2 h, same))
+  says_call (fallible.DeleteContextOf x old) h =
+      says_by (says_both (says_delete x) (says_optional k.Old refl old))
+      (λ i o p. (fallible.DeleteContextOf x old, calls.delete_context_of p.1 p.2, same))
   says_call (fallible.InsertIo c) h =
-      says_by (says_both (says_kind k.InsertIo refl) (says_both (says_kind k.Data refl) (says_optional k.Context refl c)))
+      says_by (says_both (says_shape k.InsertIo (shapes.Queue queued.Insert) refl refl)
+      (says_both (says_kind k.Data refl) (says_optional k.Context refl c)))
       (λ i o p. (fallible.InsertIo c, calls.insert_io h p.1 p.2.1 p.2.2, same))
   says_call (fallible.RemoveNextIo x c) h =
-      says_by (says_both (says_kind k.RemoveNextIo refl)
+      says_by (says_both (says_shape k.RemoveNextIo (shapes.Queue queued.RemoveNext) refl refl)
       (says_both (says_removed x) (says_both (says_kind k.Context refl) (says_context c))))
       (λ i o p. (fallible.RemoveNextIo x c, calls.remove_next_io h p.1 p.2.1 p.2.2.1 p.2.2.2, same))
   says_call (fallible.QueueDeferredIoWorkItem r c) h =
-      says_by (says_both (says_kind k.QueueDeferredIoWorkItem refl)
+      says_by (says_both (says_shape k.QueueDeferredIoWorkItem shapes.QueueDeferred refl refl)
       (says_both (says_kind k.Data refl) (says_both (says_name r.name h) (says_optional k.Context refl c))))
       (λ i o p. (
         fallible.QueueDeferredIoWorkItem (record { name = r.name; position = position p.2.0 }) c,
@@ -119,7 +137,7 @@ module _ (text : Text) (locks : List Lock) (queue : Bool) where
         deferred refl,
       ))
   says_call (fallible.QueueGenericWorkItem r c) h =
-      says_by (says_both (says_kind k.QueueGenericWorkItem refl)
+      says_by (says_both (says_shape k.QueueGenericWorkItem shapes.QueueGeneric refl refl)
       (says_both (says_name r.name h) (says_optional k.Context refl c)))
       (λ i o p. (
         fallible.QueueGenericWorkItem (record { name = r.name; position = position p.0 }) c,
@@ -130,35 +148,49 @@ module _ (text : Text) (locks : List Lock) (queue : Bool) where
   says_lock : (kind : LockKind) (l : LockNumber) → IsLock locks kind l → Says text (lock_name locks l ∷ []) (λ i o. LockAt scope kind i l o)
   says_lock kind l h = says_by (says_name (lock_name locks l) h.0) (λ i o p. calls.lock p h.1)
 
+  -- the word of a call says its shape
+  says_plain_shape : (kd : Kind) (s : PlainShape) → reads_back kd ≡ true → plain_shape_of kd ≡ Some s →
+      Says text (spelling kd ∷ []) (λ i o. Meant plain_shape_of i s o)
+  says_plain_shape kd s e h = says_meant plain_shape_of kd s e h
+
+  says_acquire : (kind : LockKind) →
+      Says text (spelling (acquire_kind kind) ∷ []) (λ i o. Meant plain_shape_of i (plain_shapes.Lock (does.Acquire kind)) o)
+  unfolding spelling keyword same_kind
+  says_acquire Spin = says_plain_shape k.AcquireSpinLock (plain_shapes.Lock (does.Acquire Spin)) refl refl
+  says_acquire Fast = says_plain_shape k.AcquireFastMutex (plain_shapes.Lock (does.Acquire Fast)) refl refl
+  says_acquire Push = says_plain_shape k.AcquirePushLock (plain_shapes.Lock (does.Acquire Push)) refl refl
+
+  says_release : (kind : LockKind) →
+      Says text (spelling (release_kind kind) ∷ []) (λ i o. Meant plain_shape_of i (plain_shapes.Lock (does.Release kind)) o)
+  unfolding spelling keyword same_kind
+  says_release Spin = says_plain_shape k.ReleaseSpinLock (plain_shapes.Lock (does.Release Spin)) refl refl
+  says_release Fast = says_plain_shape k.ReleaseFastMutex (plain_shapes.Lock (does.Release Fast)) refl refl
+  says_release Push = says_plain_shape k.ReleasePushLock (plain_shapes.Lock (does.Release Push)) refl refl
+
   pub says_plain : (c : PlainCall) → IsPlain locks c → Says text (plain_words locks c) (λ i o. PlainAt scope i c o)
   unfolding spelling keyword same_kind
   says_plain (plain.DeleteContext c) h =
-      says_by (says_both (says_kind k.DeleteContext refl) (says_context c)) (λ i o p. calls.delete p.1 p.2)
+      says_by (says_both (says_plain_shape k.DeleteContext (plain_shapes.End ends.Delete) refl refl) (says_context c))
+      (λ i o p. calls.end_context p.1 p.2)
   says_plain (plain.ReferenceContext c d) h =
-      says_by (says_both (says_kind k.ReferenceContext refl)
+      says_by (says_both (says_plain_shape k.ReferenceContext plain_shapes.Reference refl refl)
       (says_both (says_context c) (says_both (says_kind k.As refl) (says_context d))))
       (λ i o p. calls.reference p.1 p.2.1 p.2.2.1 p.2.2.2 h)
   says_plain (plain.ReleaseContext c) h =
-      says_by (says_both (says_kind k.ReleaseContext refl) (says_context c)) (λ i o p. calls.release p.1 p.2)
-  says_plain (plain.AcquireLock Spin l) h =
-      says_by (says_both (says_kind k.AcquireSpinLock refl) (says_lock Spin l h)) (λ i o p. calls.acquire_spin p.1 p.2)
-  says_plain (plain.AcquireLock Fast l) h =
-      says_by (says_both (says_kind k.AcquireFastMutex refl) (says_lock Fast l h)) (λ i o p. calls.acquire_fast p.1 p.2)
-  says_plain (plain.AcquireLock Push l) h =
-      says_by (says_both (says_kind k.AcquirePushLock refl) (says_lock Push l h)) (λ i o p. calls.acquire_push p.1 p.2)
+      says_by (says_both (says_plain_shape k.ReleaseContext (plain_shapes.End ends.Release) refl refl) (says_context c))
+      (λ i o p. calls.end_context p.1 p.2)
+  says_plain (plain.AcquireLock kind l) h = says_by (says_both (says_acquire kind) (says_lock kind l h)) (λ i o p. calls.lock_call p.1 p.2)
   says_plain (plain.AcquirePushLockShared l) h =
-      says_by (says_both (says_kind k.AcquirePushLockShared refl) (says_lock Push l h)) (λ i o p. calls.acquire_push_shared p.1 p.2)
-  says_plain (plain.ReleaseLock Spin l) h =
-      says_by (says_both (says_kind k.ReleaseSpinLock refl) (says_lock Spin l h)) (λ i o p. calls.release_spin p.1 p.2)
-  says_plain (plain.ReleaseLock Fast l) h =
-      says_by (says_both (says_kind k.ReleaseFastMutex refl) (says_lock Fast l h)) (λ i o p. calls.release_fast p.1 p.2)
-  says_plain (plain.ReleaseLock Push l) h =
-      says_by (says_both (says_kind k.ReleasePushLock refl) (says_lock Push l h)) (λ i o p. calls.release_push p.1 p.2)
+      says_by (says_both (says_plain_shape k.AcquirePushLockShared (plain_shapes.Lock does.AcquireShared) refl refl) (says_lock Push l h))
+      (λ i o p. calls.lock_call p.1 p.2)
+  says_plain (plain.ReleaseLock kind l) h = says_by (says_both (says_release kind) (says_lock kind l h)) (λ i o p. calls.lock_call p.1 p.2)
   says_plain (plain.CompletePendedPreOperation d s) h =
-      says_by (says_both (says_kind k.CompletePendedPreOperation refl) (says_both (says_operation_variable d) (says_status s)))
+      says_by (says_both (says_plain_shape k.CompletePendedPreOperation plain_shapes.CompletePre refl refl)
+      (says_both (says_operation_variable d) (says_status s)))
       (λ i o p. calls.complete_pre p.1 p.2.1 p.2.2)
   says_plain plain.CompletePendedPostOperation h =
-      says_by (says_both (says_kind k.CompletePendedPostOperation refl) (says_kind k.Data refl)) (λ i o p. calls.complete_post p.1 p.2)
+      says_by (says_both (says_plain_shape k.CompletePendedPostOperation plain_shapes.CompletePost refl refl) (says_kind k.Data refl))
+      (λ i o p. calls.complete_post p.1 p.2)
 
   says_atom : (x : Atom) → IsAtom x → Says text (atom_word x ∷ []) (λ i o. AtomAt i x o)
   says_atom (atoms.Number n) h = says_by (says_number n h) (λ i o p. actions.number p)

@@ -4,10 +4,13 @@ use Rattle.std.specs.Prelude.{Option, Some, is_some, ◌||◌}
 use denote.Enum.Bare.{false_same}
 use Rattle.flt_rules.specs.declared.call.Existing.{Existing}
 use Rattle.flt_rules.specs.declared.call.LockKind.{LockKind}
-use Rattle.flt_rules.specs.declared.call.LockKind.TheVariants.{Spin, Fast, Push}
 use Rattle.flt_rules.specs.declared.call.LockNumber.{LockNumber}
 use Rattle.flt_rules.specs.declared.status.FinalStatus.{FinalStatus}
 use Rattle.flt_tree.specs.contracts.variable.ContextVariable.{the_type}
+use Rattle.flt_syntax.specs.declared.shape.FallibleShape.{FallibleShape}
+use Rattle.flt_syntax.specs.declared.shape.FallibleShape.TheVariants as shapes
+use Rattle.flt_syntax.specs.declared.shape.PlainShape.{PlainShape}
+use Rattle.flt_syntax.specs.declared.shape.QueueCall.{QueueCall}
 use Rattle.flt_syntax.specs.declared.token.Kind.{Kind}
 use Rattle.flt_syntax.specs.declared.token.Kind.TheVariants as k
 use Rattle.flt_tree.specs.declared.filter.Routine.{Routine}
@@ -18,20 +21,20 @@ use Rattle.flt_tree.specs.declared.variable.ContextVariable.{ContextVariable}
 use Rattle.flt_tree.specs.declared.variable.OperationVariable.{OperationVariable}
 use Rattle.flt_tree.specs.declared.variable.RemovedVariable.{RemovedVariable}
 use Rattle.flt_tree.specs.Names.{Text}
-use Rattle.flt_syntax.specs.Lex.{same_kind}
 use Rattle.flt_syntax.specs.Words as words
 use Rattle.flt_syntax.specs.CallGrammar as g
 use Rattle.flt_syntax.specs.CallGrammar.{StatusAt, OptionalStatusAt, RoutineAt, LockAt, FallibleAt, PlainAt}
 use Rattle.flt_syntax.specs.Words.{Next, Meant, ContextAt, OptionalAt}
 use Rattle.flt_syntax.specs.Operand.{context_variable, removed_variable, removed_variable_of, operation_variable, operation_variable_of, same_context, other_context, with_context}
 use Rattle.flt_syntax.specs.Scope.{Scope, lock_named, routine}
+use Rattle.flt_syntax.specs.Shape.{lock_kind}
 use Rattle.flt_syntax.specs.Status.{final_status_of, final_status, bare_status_of, bare_status, status_by, status, has_more, begins_status, optional_status}
-use Rattle.flt_syntax.specs.Call.{existing_of, existing, old, other_old, get_context, set_context, delete_context_of, insert_io, remove_next_io, queue_call, queue_deferred, queue_generic, fallible_by, fallible_call, reference_context, acquire_lock, acquire_shared, release_lock, complete_pre, complete_post, plain_by, plain_call}
-use Rattle.flt_syntax.specs.Cursor.{Input, kind, refusal, unknown, expect, name}
+use Rattle.flt_syntax.specs.Call.{existing_of, existing, old, other_old, obtain_context, set_context, delete_context_of, insert_io, remove_next_io, queue_by, queue_call, queue_deferred, queue_generic, fallible_by, fallible_call, end_context, reference_context, lock_call, complete_pre, complete_post, plain_by, plain_call, fallible_shape_of, plain_shape_of}
+use Rattle.flt_syntax.specs.Cursor.{Input, kind, refusal, refuse, unknown, expect, name, given}
 use Rattle.flt_syntax.proofs.TokenKinds.{none_some, not_seen}
 use Rattle.flt_syntax.specs.FirstWords.{begins_fallible, begins_plain}
 use Rattle.flt_syntax.specs.Over.{OptionalOver, StatusOver, OptionalStatusOver, FallibleOver, PlainOver}
-use Rattle.flt_syntax.proofs.Complete.{then_again, kind_is, rest_is, means, sees_it, expect_again, eat_again, eat_none, known_again, context_again, spelled_again, next_less, meant_less, name_less, optional_less}
+use Rattle.flt_syntax.proofs.Complete.{then_again, kind_is, rest_is, left_is, means, some_of, expect_again, eat_again, eat_none, known_again, context_again, spelled_again, next_less, meant_less, name_less, optional_less}
 
 -- ---- variables
 
@@ -138,111 +141,77 @@ pub existing_again : {i o : Input} {x : Existing} → Meant existing_of i x o �
 unfolding existing
 existing_again {i = i} p = known_again (refusal i) p
 
--- the rule for a word, at that word
-pub fallible_at : {kd : Kind} {i j : Input} (scope : Scope) → Next kd i j → fallible_call scope i ≡ fallible_by scope kd i
+-- the rule for the shape of a word, at that word
+pub fallible_at : {s : FallibleShape} {i j : Input} (scope : Scope) → Meant fallible_shape_of i s j →
+    fallible_call scope i ≡ fallible_by scope s i
 unfolding fallible_call
-fallible_at {i = i} scope n = ap (λ x. fallible_by scope x i) (kind_is n)
+fallible_at {i = i} scope n = ap (λ m. given m (fallible_by scope) refuse i) (means n)
 
--- with a queue FltCbdqInsertIo is read
-pub insert_at : {i j : Input} (scope : Scope) → scope.queue ≡ true → Next k.InsertIo i j → fallible_call scope i ≡ insert_io i
+-- with a queue its call is read
+pub queue_at : {x : QueueCall} {i j : Input} (scope : Scope) → scope.queue ≡ true → Meant fallible_shape_of i (shapes.Queue x) j →
+    fallible_call scope i ≡ queue_by x i
 unfolding queue_call
-insert_at scope q n = fallible_at scope n ∙ rw (q, sees_it n) refl
-
--- with a queue FltCbdqRemoveNextIo is read
-pub remove_at : {i j : Input} (scope : Scope) → scope.queue ≡ true → Next k.RemoveNextIo i j → fallible_call scope i ≡ remove_next_io i
-unfolding queue_call same_kind
-remove_at scope q n = fallible_at scope n ∙ rw (q, kind_is n) refl
+queue_at scope q n = fallible_at scope n ∙ rw q refl
 
 -- fallible: what is spelled and over is read
 pub fallible_again : {scope : Scope} {i o : Input} {c : FallibleCall} (p : FallibleAt scope i c o) → FallibleOver p →
     fallible_call scope i ≡ Ok (c, o)
-unfolding get_context set_context delete_context_of insert_io remove_next_io queue_deferred queue_generic
-fallible_again {scope = scope} (g.allocate n p) f = fallible_at scope n
-    ∙ then_again _ (ap context_variable (rest_is n) ∙ context_again p) refl
-fallible_again {scope = scope} (g.get_stream n p) f = fallible_at scope n
-    ∙ then_again _ (ap context_variable (rest_is n) ∙ context_again p) refl
-fallible_again {scope = scope} (g.get_instance n p) f = fallible_at scope n
-    ∙ then_again _ (ap context_variable (rest_is n) ∙ context_again p) refl
-fallible_again {scope = scope} (g.set_stream n p q x h) f =
-    fallible_at scope n ∙ then_again _ (ap existing (rest_is n) ∙ existing_again p)
+unfolding obtain_context set_context delete_context_of insert_io remove_next_io queue_deferred queue_generic
+fallible_again {scope = scope} (g.obtain n p) f = fallible_at scope n
+    ∙ then_again _ (ap context_variable (left_is n) ∙ context_again p) refl
+fallible_again {scope = scope} (g.set_context n p q x h) f =
+    fallible_at scope n ∙ then_again _ (ap existing (left_is n) ∙ existing_again p)
     (then_again _ (context_again q) (then_again _ (other_old_again _ x h f) refl))
-fallible_again {scope = scope} (g.set_instance n p q x h) f =
-    fallible_at scope n ∙ then_again _ (ap existing (rest_is n) ∙ existing_again p)
-    (then_again _ (context_again q) (then_again _ (other_old_again _ x h f) refl))
-fallible_again {scope = scope} (g.delete_stream n p) f = fallible_at scope n ∙ then_again _ (ap old (rest_is n) ∙ old_again p f) refl
-fallible_again {scope = scope} (g.delete_instance n p) f = fallible_at scope n ∙ then_again _ (ap old (rest_is n) ∙ old_again p f) refl
+fallible_again {scope = scope} (g.delete_context_of n p) f = fallible_at scope n ∙ then_again _ (ap old (left_is n) ∙ old_again p f) refl
 fallible_again {scope = scope} (g.insert_io q n m p) f =
-    insert_at scope q n ∙ then_again _ (ap (expect k.Data) (rest_is n) ∙ expect_again m) (then_again _ (with_context_again p f) refl)
+    queue_at scope q n ∙ then_again _ (ap (expect k.Data) (left_is n) ∙ expect_again m) (then_again _ (with_context_again p f) refl)
 fallible_again {scope = scope} (g.remove_next_io q n p m x) f =
-    remove_at scope q n ∙ then_again _ (ap removed_variable (rest_is n) ∙ removed_again p)
+    queue_at scope q n ∙ then_again _ (ap removed_variable (left_is n) ∙ removed_again p)
     (then_again _ (expect_again m) (then_again _ (context_again x) refl))
 fallible_again {scope = scope} (g.queue_deferred n m p q) f =
-    fallible_at scope n ∙ then_again _ (ap (expect k.Data) (rest_is n) ∙ expect_again m)
+    fallible_at scope n ∙ then_again _ (ap (expect k.Data) (left_is n) ∙ expect_again m)
     (then_again _ (routine_again scope p) (then_again _ (with_context_again q f) refl))
 fallible_again {scope = scope} (g.queue_generic n p q) f =
-    fallible_at scope n ∙ then_again _ (ap (routine scope) (rest_is n) ∙ routine_again scope p) (then_again _ (with_context_again q f) refl)
+    fallible_at scope n ∙ then_again _ (ap (routine scope) (left_is n) ∙ routine_again scope p) (then_again _ (with_context_again q f) refl)
 
--- the rule for a word, at that word
-pub plain_at : {kd : Kind} {i j : Input} (scope : Scope) → Next kd i j → plain_call scope i ≡ plain_by scope kd i
+-- the rule for the shape of a word, at that word
+pub plain_at : {s : PlainShape} {i j : Input} (scope : Scope) → Meant plain_shape_of i s j → plain_call scope i ≡ plain_by scope s i
 unfolding plain_call
-plain_at {i = i} scope n = ap (λ x. plain_by scope x i) (kind_is n)
+plain_at {i = i} scope n = ap (λ m. given m (plain_by scope) refuse i) (means n)
 
 -- plain: what is spelled and over is read
 pub plain_again : {scope : Scope} {i o : Input} {c : PlainCall} (p : PlainAt scope i c o) → PlainOver p → plain_call scope i ≡ Ok (c, o)
-unfolding reference_context acquire_lock acquire_shared release_lock complete_pre complete_post
-plain_again {scope = scope} (g.delete n p) f = plain_at scope n ∙ then_again _ (ap context_variable (rest_is n) ∙ context_again p) refl
+unfolding end_context reference_context lock_call complete_pre complete_post
+plain_again {scope = scope} (g.end_context n p) f =
+    plain_at scope n ∙ then_again _ (ap context_variable (left_is n) ∙ context_again p) refl
 plain_again {scope = scope} (g.reference n p m q h) f =
-    plain_at scope n ∙ then_again _ (ap context_variable (rest_is n) ∙ context_again p)
+    plain_at scope n ∙ then_again _ (ap context_variable (left_is n) ∙ context_again p)
     (then_again _ (expect_again m) (then_again _ (other_again _ q h) refl))
-plain_again {scope = scope} (g.release n p) f = plain_at scope n ∙ then_again _ (ap context_variable (rest_is n) ∙ context_again p) refl
-plain_again {scope = scope} (g.acquire_spin n p) f = plain_at scope n
-    ∙ then_again _ (ap (lock_named scope Spin) (rest_is n) ∙ lock_again p) refl
-plain_again {scope = scope} (g.release_spin n p) f = plain_at scope n
-    ∙ then_again _ (ap (lock_named scope Spin) (rest_is n) ∙ lock_again p) refl
-plain_again {scope = scope} (g.acquire_fast n p) f = plain_at scope n
-    ∙ then_again _ (ap (lock_named scope Fast) (rest_is n) ∙ lock_again p) refl
-plain_again {scope = scope} (g.release_fast n p) f = plain_at scope n
-    ∙ then_again _ (ap (lock_named scope Fast) (rest_is n) ∙ lock_again p) refl
-plain_again {scope = scope} (g.acquire_push n p) f = plain_at scope n
-    ∙ then_again _ (ap (lock_named scope Push) (rest_is n) ∙ lock_again p) refl
-plain_again {scope = scope} (g.acquire_push_shared n p) f = plain_at scope n
-    ∙ then_again _ (ap (lock_named scope Push) (rest_is n) ∙ lock_again p) refl
-plain_again {scope = scope} (g.release_push n p) f = plain_at scope n
-    ∙ then_again _ (ap (lock_named scope Push) (rest_is n) ∙ lock_again p) refl
+plain_again {scope = scope} (g.lock_call {x = x} n p) f =
+    plain_at scope n ∙ then_again _ (ap (lock_named scope (lock_kind x)) (left_is n) ∙ lock_again p) refl
 plain_again {scope = scope} (g.complete_pre n p q) f =
-    plain_at scope n ∙ then_again _ (ap operation_variable (rest_is n) ∙ operation_again p) (then_again _ (status_again q f) refl)
-plain_again {scope = scope} (g.complete_post n m) f = plain_at scope n ∙ then_again _ (ap (expect k.Data) (rest_is n) ∙ expect_again m) refl
+    plain_at scope n ∙ then_again _ (ap operation_variable (left_is n) ∙ operation_again p) (then_again _ (status_again q f) refl)
+plain_again {scope = scope} (g.complete_post n m) f = plain_at scope n ∙ then_again _ (ap (expect k.Data) (left_is n) ∙ expect_again m) refl
 
 -- ---- with what calls begin
 
 -- with what words they begin
 pub fallible_begins : {scope : Scope} {i o : Input} {c : FallibleCall} → FallibleAt scope i c o → begins_fallible (kind i) ≡ true
-fallible_begins (g.allocate n _) = ap begins_fallible (kind_is n)
-fallible_begins (g.get_stream n _) = ap begins_fallible (kind_is n)
-fallible_begins (g.get_instance n _) = ap begins_fallible (kind_is n)
-fallible_begins (g.set_stream n _ _ _ _) = ap begins_fallible (kind_is n)
-fallible_begins (g.set_instance n _ _ _ _) = ap begins_fallible (kind_is n)
-fallible_begins (g.delete_stream n _) = ap begins_fallible (kind_is n)
-fallible_begins (g.delete_instance n _) = ap begins_fallible (kind_is n)
-fallible_begins (g.insert_io _ n _ _) = ap begins_fallible (kind_is n)
-fallible_begins (g.remove_next_io _ n _ _ _) = ap begins_fallible (kind_is n)
-fallible_begins (g.queue_deferred n _ _ _) = ap begins_fallible (kind_is n)
-fallible_begins (g.queue_generic n _ _) = ap begins_fallible (kind_is n)
+fallible_begins (g.obtain n _) = some_of (means n)
+fallible_begins (g.set_context n _ _ _ _) = some_of (means n)
+fallible_begins (g.delete_context_of n _) = some_of (means n)
+fallible_begins (g.insert_io _ n _ _) = some_of (means n)
+fallible_begins (g.remove_next_io _ n _ _ _) = some_of (means n)
+fallible_begins (g.queue_deferred n _ _ _) = some_of (means n)
+fallible_begins (g.queue_generic n _ _) = some_of (means n)
 
 -- with what words they begin
 pub plain_begins : {scope : Scope} {i o : Input} {c : PlainCall} → PlainAt scope i c o → begins_plain (kind i) ≡ true
-plain_begins (g.delete n _) = ap begins_plain (kind_is n)
-plain_begins (g.reference n _ _ _ _) = ap begins_plain (kind_is n)
-plain_begins (g.release n _) = ap begins_plain (kind_is n)
-plain_begins (g.acquire_spin n _) = ap begins_plain (kind_is n)
-plain_begins (g.release_spin n _) = ap begins_plain (kind_is n)
-plain_begins (g.acquire_fast n _) = ap begins_plain (kind_is n)
-plain_begins (g.release_fast n _) = ap begins_plain (kind_is n)
-plain_begins (g.acquire_push n _) = ap begins_plain (kind_is n)
-plain_begins (g.acquire_push_shared n _) = ap begins_plain (kind_is n)
-plain_begins (g.release_push n _) = ap begins_plain (kind_is n)
-plain_begins (g.complete_pre n _ _) = ap begins_plain (kind_is n)
-plain_begins (g.complete_post n _) = ap begins_plain (kind_is n)
+plain_begins (g.end_context n _) = some_of (means n)
+plain_begins (g.reference n _ _ _ _) = some_of (means n)
+plain_begins (g.lock_call n _) = some_of (means n)
+plain_begins (g.complete_pre n _ _) = some_of (means n)
+plain_begins (g.complete_post n _) = some_of (means n)
 
 -- ---- calls take tokens
 
@@ -265,29 +234,18 @@ lock_less (g.lock p e) = name_less p
 
 -- fallible: fewer tokens are left behind it
 pub fallible_less : {scope : Scope} {i o : Input} {c : FallibleCall} → FallibleAt scope i c o → length o < length i
-fallible_less (g.allocate n p) = omega (arith, next_less n, meant_less p)
-fallible_less (g.get_stream n p) = omega (arith, next_less n, meant_less p)
-fallible_less (g.get_instance n p) = omega (arith, next_less n, meant_less p)
-fallible_less (g.set_stream n p q x h) = omega (arith, next_less n, meant_less p, meant_less q, optional_less x)
-fallible_less (g.set_instance n p q x h) = omega (arith, next_less n, meant_less p, meant_less q, optional_less x)
-fallible_less (g.delete_stream n p) = omega (arith, next_less n, optional_less p)
-fallible_less (g.delete_instance n p) = omega (arith, next_less n, optional_less p)
-fallible_less (g.insert_io q n m p) = omega (arith, next_less n, next_less m, optional_less p)
-fallible_less (g.remove_next_io q n p m x) = omega (arith, next_less n, meant_less p, next_less m, meant_less x)
-fallible_less (g.queue_deferred n m p q) = omega (arith, next_less n, next_less m, routine_less p, optional_less q)
-fallible_less (g.queue_generic n p q) = omega (arith, next_less n, routine_less p, optional_less q)
+fallible_less (g.obtain n p) = omega (arith, meant_less n, meant_less p)
+fallible_less (g.set_context n p q x h) = omega (arith, meant_less n, meant_less p, meant_less q, optional_less x)
+fallible_less (g.delete_context_of n p) = omega (arith, meant_less n, optional_less p)
+fallible_less (g.insert_io q n m p) = omega (arith, meant_less n, next_less m, optional_less p)
+fallible_less (g.remove_next_io q n p m x) = omega (arith, meant_less n, meant_less p, next_less m, meant_less x)
+fallible_less (g.queue_deferred n m p q) = omega (arith, meant_less n, next_less m, routine_less p, optional_less q)
+fallible_less (g.queue_generic n p q) = omega (arith, meant_less n, routine_less p, optional_less q)
 
 -- plain: fewer tokens are left behind it
 pub plain_less : {scope : Scope} {i o : Input} {c : PlainCall} → PlainAt scope i c o → length o < length i
-plain_less (g.delete n p) = omega (arith, next_less n, meant_less p)
-plain_less (g.reference n p m q h) = omega (arith, next_less n, meant_less p, next_less m, meant_less q)
-plain_less (g.release n p) = omega (arith, next_less n, meant_less p)
-plain_less (g.acquire_spin n p) = omega (arith, next_less n, lock_less p)
-plain_less (g.release_spin n p) = omega (arith, next_less n, lock_less p)
-plain_less (g.acquire_fast n p) = omega (arith, next_less n, lock_less p)
-plain_less (g.release_fast n p) = omega (arith, next_less n, lock_less p)
-plain_less (g.acquire_push n p) = omega (arith, next_less n, lock_less p)
-plain_less (g.acquire_push_shared n p) = omega (arith, next_less n, lock_less p)
-plain_less (g.release_push n p) = omega (arith, next_less n, lock_less p)
-plain_less (g.complete_pre n p q) = omega (arith, next_less n, meant_less p, status_less q)
-plain_less (g.complete_post n m) = omega (arith, next_less n, next_less m)
+plain_less (g.end_context n p) = omega (arith, meant_less n, meant_less p)
+plain_less (g.reference n p m q h) = omega (arith, meant_less n, meant_less p, next_less m, meant_less q)
+plain_less (g.lock_call n p) = omega (arith, meant_less n, lock_less p)
+plain_less (g.complete_pre n p q) = omega (arith, meant_less n, meant_less p, status_less q)
+plain_less (g.complete_post n m) = omega (arith, meant_less n, next_less m)

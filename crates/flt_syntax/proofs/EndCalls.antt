@@ -1,9 +1,14 @@
 -- Each reader ends: what it gives is spelled and over, and its fault is one by the relation beside the grammar. Statuses and calls.
-use Rattle.std.proofs.Common.{◌≡◌, Bool, true, false, Ok, refl, sym, ap, subst}
+use Rattle.std.proofs.Common.{◌≡◌, Bool, true, false, Ok, refl, ap}
 use Rattle.std.specs.Prelude.{Option, Some, None, if◌then◌else◌, ◌||◌, is_some}
 use Rattle.flt_rules.specs.declared.call.LockKind.{LockKind}
-use Rattle.flt_rules.specs.declared.call.LockKind.TheVariants.{Spin, Fast, Push}
 use Rattle.flt_rules.specs.declared.call.LockNumber.{LockNumber}
+use Rattle.flt_syntax.specs.declared.shape.FallibleShape.{FallibleShape}
+use Rattle.flt_syntax.specs.declared.shape.FallibleShape.TheVariants as shapes
+use Rattle.flt_syntax.specs.declared.shape.PlainShape.{PlainShape}
+use Rattle.flt_syntax.specs.declared.shape.PlainShape.TheVariants as plain_shapes
+use Rattle.flt_syntax.specs.declared.shape.QueueCall.{QueueCall}
+use Rattle.flt_syntax.specs.declared.shape.QueueCall.TheVariants as queued
 use Rattle.flt_syntax.specs.declared.token.Kind.{Kind}
 use Rattle.flt_syntax.specs.declared.token.Kind.TheVariants as k
 use Rattle.flt_syntax.specs.declared.token.Token.{Token}
@@ -14,15 +19,15 @@ use Rattle.flt_tree.specs.declared.filter.Status.{Status}
 use Rattle.flt_syntax.specs.Lex.{same_kind}
 use Rattle.flt_syntax.specs.CallGrammar as g
 use Rattle.flt_syntax.specs.CallGrammar.{StatusAt, OptionalStatusAt, RoutineAt, LockAt, FallibleAt, PlainAt}
-use Rattle.flt_syntax.specs.Words.{Next, Meant}
+use Rattle.flt_syntax.specs.Words.{Meant}
 use Rattle.flt_syntax.specs.Operand.{removed_variable, removed_variable_of, operation_variable, operation_variable_of}
 use Rattle.flt_syntax.specs.Scope.{Scope, lock_named, routine}
 use Rattle.flt_tree.specs.Declarations.{lock_number}
+use Rattle.flt_syntax.specs.Shape.{lock_kind}
 use Rattle.flt_syntax.specs.Status.{final_status_of, final_status, bare_status_of, bare_status, status_by, status, has_more, begins_status, optional_status}
-use Rattle.flt_syntax.specs.Call.{existing_of, existing, get_context, set_context, delete_context_of, insert_io, remove_next_io, queue_call, queue_deferred, queue_generic, fallible_by, fallible_call, reference_context, acquire_lock, acquire_shared, release_lock, complete_pre, complete_post, plain_by, plain_call}
-use Rattle.flt_syntax.specs.Cursor.{Input, ◌<$>◌, kind, next, bytes_of, refusal, fault_at, fail, sees, found_or, known_or}
+use Rattle.flt_syntax.specs.Call.{existing_of, existing, obtain_context, set_context, delete_context_of, insert_io, remove_next_io, queue_by, queue_call, queue_deferred, queue_generic, fallible_by, fallible_call, end_context, reference_context, lock_call, complete_pre, complete_post, plain_by, plain_call, fallible_shape_of, plain_shape_of}
+use Rattle.flt_syntax.specs.Cursor.{Input, ◌<$>◌, kind, next, bytes_of, refusal, refuse, fault_at, fail, found_or, known_or, given}
 use Rattle.flt_syntax.proofs.TokenKinds.{took, meant_at}
-use Rattle.flt_syntax.specs.FirstWords.{begins_fallible, begins_plain}
 use Rattle.flt_syntax.specs.Over.{StatusOver, OptionalStatusOver, FallibleOver, PlainOver}
 use Rattle.flt_syntax.specs.WordFails.{NameFails, KnownFails, MeantFails}
 use Rattle.flt_syntax.specs.CallFails as bad
@@ -117,14 +122,14 @@ existing_ends : (i : Input) → Ends (Meant existing_of i) (MeantFails existing_
 unfolding existing
 existing_ends i = meant_ends existing_of i _ refl refl
 
-insert_ends : (scope : Scope) (i : Input) → scope.queue ≡ true → Next k.InsertIo i (next i) →
+insert_ends : (scope : Scope) (i : Input) → scope.queue ≡ true → Meant fallible_shape_of i (shapes.Queue queued.Insert) (next i) →
     Ends (FallibleHere scope i) (FallibleFails scope i) (insert_io i)
 unfolding insert_io same_kind
 insert_ends scope i q n =
     then_ends _ (expect_ends (next i) k.Data refl) (λ x h. bad.insert_data q n h) (λ _ b m.
     then_ends _ (with_context_ends b) (λ x h. bad.insert_context q n m h) (λ c o p. gives (g.insert_io q n m p.0, p.1)))
 
-remove_ends : (scope : Scope) (i : Input) → scope.queue ≡ true → Next k.RemoveNextIo i (next i) →
+remove_ends : (scope : Scope) (i : Input) → scope.queue ≡ true → Meant fallible_shape_of i (shapes.Queue queued.RemoveNext) (next i) →
     Ends (FallibleHere scope i) (FallibleFails scope i) (remove_next_io i)
 unfolding remove_next_io same_kind
 remove_ends scope i q n =
@@ -132,120 +137,71 @@ remove_ends scope i q n =
     then_ends _ (expect_ends b k.Context refl) (λ x h. bad.remove_word q n p h) (λ _ l m.
     then_ends _ (context_ends l) (λ x h. bad.remove_context q n p m h) (λ c o r. gives (g.remove_next_io q n p m r, tt))))
 
-queue_insert : (scope : Scope) (i : Input) (q : Bool) → scope.queue ≡ q → kind i ≡ k.InsertIo →
-    Ends (FallibleHere scope i) (FallibleFails scope i)
-    (if q then (if sees k.InsertIo i then insert_io i else remove_next_io i) else fail E04 i)
-unfolding same_kind
-queue_insert scope i false h e = fails (bad.insert_unknown (took i k.InsertIo refl e) h)
-queue_insert scope i true h e =
-    subst (λ b. Ends (FallibleHere scope i) (FallibleFails scope i) (if b then insert_io i else remove_next_io i))
-    (sym (ap (λ x. same_kind x k.InsertIo) e)) (insert_ends scope i h (took i k.InsertIo refl e))
+queue_ends : (scope : Scope) (i : Input) (q : Bool) (x : QueueCall) → scope.queue ≡ q →
+    Meant fallible_shape_of i (shapes.Queue x) (next i) →
+    Ends (FallibleHere scope i) (FallibleFails scope i) (if q then queue_by x i else fail E04 i)
+queue_ends scope i false x h n = fails (bad.queue_unknown n h)
+queue_ends scope i true queued.Insert h n = insert_ends scope i h n
+queue_ends scope i true queued.RemoveNext h n = remove_ends scope i h n
 
-queue_remove : (scope : Scope) (i : Input) (q : Bool) → scope.queue ≡ q → kind i ≡ k.RemoveNextIo →
-    Ends (FallibleHere scope i) (FallibleFails scope i)
-    (if q then (if sees k.InsertIo i then insert_io i else remove_next_io i) else fail E04 i)
-unfolding same_kind
-queue_remove scope i false h e = fails (bad.remove_unknown (took i k.RemoveNextIo refl e) h)
-queue_remove scope i true h e =
-    subst (λ b. Ends (FallibleHere scope i) (FallibleFails scope i) (if b then insert_io i else remove_next_io i))
-    (sym (ap (λ x. same_kind x k.InsertIo) e)) (remove_ends scope i h (took i k.RemoveNextIo refl e))
-
-fallible_by_ends : (scope : Scope) (i : Input) (kd : Kind) → kind i ≡ kd →
-    Ends (FallibleHere scope i) (FallibleFails scope i) (fallible_by scope kd i)
-unfolding same_kind get_context set_context delete_context_of queue_call queue_deferred queue_generic
-fallible_by_ends scope i k.AllocateContext e =
-    let n = took i k.AllocateContext refl e in
-    then_ends _ (context_ends (next i)) (λ x h. bad.allocate n h) (λ c o p. gives (g.allocate n p, tt))
-fallible_by_ends scope i k.GetStreamContext e =
-    let n = took i k.GetStreamContext refl e in
-    then_ends _ (context_ends (next i)) (λ x h. bad.get_stream n h) (λ c o p. gives (g.get_stream n p, tt))
-fallible_by_ends scope i k.GetInstanceContext e =
-    let n = took i k.GetInstanceContext refl e in
-    then_ends _ (context_ends (next i)) (λ x h. bad.get_instance n h) (λ c o p. gives (g.get_instance n p, tt))
-fallible_by_ends scope i k.SetStreamContext e =
-    let n = took i k.SetStreamContext refl e in
-    then_ends _ (existing_ends (next i)) (λ x h. bad.set_stream_existing n h) (λ y b p.
-    then_ends _ (context_ends b) (λ x h. bad.set_stream_context n p h) (λ c l q.
-    then_ends _ (other_old_ends c l) (λ x h. bad.set_stream_old n p q h) (λ d o r. gives (g.set_stream n p q r.0 r.2, r.1))))
-fallible_by_ends scope i k.SetInstanceContext e =
-    let n = took i k.SetInstanceContext refl e in
-    then_ends _ (existing_ends (next i)) (λ x h. bad.set_instance_existing n h) (λ y b p.
-    then_ends _ (context_ends b) (λ x h. bad.set_instance_context n p h) (λ c l q.
-    then_ends _ (other_old_ends c l) (λ x h. bad.set_instance_old n p q h) (λ d o r. gives (g.set_instance n p q r.0 r.2, r.1))))
-fallible_by_ends scope i k.DeleteStreamContext e =
-    let n = took i k.DeleteStreamContext refl e in
-    then_ends _ (old_ends (next i)) (λ x h. bad.delete_stream n h) (λ d o p. gives (g.delete_stream n p.0, p.1))
-fallible_by_ends scope i k.DeleteInstanceContext e =
-    let n = took i k.DeleteInstanceContext refl e in
-    then_ends _ (old_ends (next i)) (λ x h. bad.delete_instance n h) (λ d o p. gives (g.delete_instance n p.0, p.1))
-fallible_by_ends scope i k.InsertIo e = queue_insert scope i scope.queue refl e
-fallible_by_ends scope i k.RemoveNextIo e = queue_remove scope i scope.queue refl e
-fallible_by_ends scope i k.QueueDeferredIoWorkItem e =
-    let n = took i k.QueueDeferredIoWorkItem refl e in
+fallible_by_ends : (scope : Scope) (i : Input) (s : FallibleShape) → Meant fallible_shape_of i s (next i) →
+    Ends (FallibleHere scope i) (FallibleFails scope i) (fallible_by scope s i)
+unfolding same_kind obtain_context set_context delete_context_of queue_call queue_deferred queue_generic
+fallible_by_ends scope i (shapes.Obtain source) n =
+    then_ends _ (context_ends (next i)) (λ x h. bad.obtain n h) (λ c o p. gives (g.obtain n p, tt))
+fallible_by_ends scope i (shapes.Set anchor) n =
+    then_ends _ (existing_ends (next i)) (λ x h. bad.set_existing n h) (λ y b p.
+    then_ends _ (context_ends b) (λ x h. bad.set_context n p h) (λ c l q.
+    then_ends _ (other_old_ends c l) (λ x h. bad.set_old n p q h) (λ d o r. gives (g.set_context n p q r.0 r.2, r.1))))
+fallible_by_ends scope i (shapes.Delete anchor) n =
+    then_ends _ (old_ends (next i)) (λ x h. bad.delete_context_of n h) (λ d o p. gives (g.delete_context_of n p.0, p.1))
+fallible_by_ends scope i (shapes.Queue call) n = queue_ends scope i scope.queue call refl n
+fallible_by_ends scope i shapes.QueueDeferred n =
     then_ends _ (expect_ends (next i) k.Data refl) (λ x h. bad.deferred_data n h) (λ _ b m.
     then_ends _ (routine_ends scope b) (λ x h. bad.deferred_name n m h) (λ y l p.
     then_ends _ (with_context_ends l) (λ x h. bad.deferred_context n m p h) (λ c o q. gives (g.queue_deferred n m p q.0, q.1))))
-fallible_by_ends scope i k.QueueGenericWorkItem e =
-    let n = took i k.QueueGenericWorkItem refl e in
+fallible_by_ends scope i shapes.QueueGeneric n =
     then_ends _ (routine_ends scope (next i)) (λ x h. bad.generic_name n h) (λ y b p.
     then_ends _ (with_context_ends b) (λ x h. bad.generic_context n p h) (λ c o q. gives (g.queue_generic n p q.0, q.1)))
-fallible_by_ends scope i _ e = fails (bad.no_fallible (ap begins_fallible e) (refused i))
+
+fallible_as : (scope : Scope) (i : Input) (m : Option FallibleShape) → fallible_shape_of (kind i) ≡ m →
+    Ends (FallibleHere scope i) (FallibleFails scope i) (given m (fallible_by scope) refuse i)
+fallible_as scope i None e = fails (bad.no_fallible (ap is_some e) (refused i))
+fallible_as scope i (Some s) e = fallible_by_ends scope i s (meant_at fallible_shape_of i s refl e)
 
 -- fallible: what is read is spelled and over, else it fails so
 pub fallible_ends : (scope : Scope) (i : Input) → Ends (FallibleHere scope i) (FallibleFails scope i) (fallible_call scope i)
 unfolding fallible_call
-fallible_ends scope i = fallible_by_ends scope i (kind i) refl
+fallible_ends scope i = fallible_as scope i (fallible_shape_of (kind i)) refl
 
 -- ---- calls that always succeed
 
 abbrev pub PlainHere : Scope → Input → PlainCall → Input → Type 0
 PlainHere scope i c o = (p : PlainAt scope i c o) × PlainOver p
 
-plain_by_ends : (scope : Scope) (i : Input) (kd : Kind) → kind i ≡ kd →
-    Ends (PlainHere scope i) (PlainFails scope i) (plain_by scope kd i)
-unfolding same_kind reference_context acquire_lock acquire_shared release_lock complete_pre complete_post
-plain_by_ends scope i k.DeleteContext e =
-    let n = took i k.DeleteContext refl e in
-    then_ends _ (context_ends (next i)) (λ x h. bad.delete n h) (λ c o p. gives (g.delete n p, tt))
-plain_by_ends scope i k.ReferenceContext e =
-    let n = took i k.ReferenceContext refl e in
+plain_by_ends : (scope : Scope) (i : Input) (s : PlainShape) → Meant plain_shape_of i s (next i) →
+    Ends (PlainHere scope i) (PlainFails scope i) (plain_by scope s i)
+unfolding same_kind end_context reference_context lock_call complete_pre complete_post
+plain_by_ends scope i (plain_shapes.End how) n =
+    then_ends _ (context_ends (next i)) (λ x h. bad.end_context n h) (λ c o p. gives (g.end_context n p, tt))
+plain_by_ends scope i plain_shapes.Reference n =
     then_ends _ (context_ends (next i)) (λ x h. bad.reference_context n h) (λ c b p.
     then_ends _ (expect_ends b k.As refl) (λ x h. bad.reference_word n p h) (λ _ l m.
     then_ends _ (other_ends c l) (λ x h. bad.reference_copy n p m h) (λ d o q. gives (g.reference n p m q.0 q.1, tt))))
-plain_by_ends scope i k.ReleaseContext e =
-    let n = took i k.ReleaseContext refl e in
-    then_ends _ (context_ends (next i)) (λ x h. bad.release n h) (λ c o p. gives (g.release n p, tt))
-plain_by_ends scope i k.AcquireSpinLock e =
-    let n = took i k.AcquireSpinLock refl e in
-    then_ends _ (lock_ends scope Spin (next i)) (λ x h. bad.acquire_spin n h) (λ l o p. gives (g.acquire_spin n p, tt))
-plain_by_ends scope i k.ReleaseSpinLock e =
-    let n = took i k.ReleaseSpinLock refl e in
-    then_ends _ (lock_ends scope Spin (next i)) (λ x h. bad.release_spin n h) (λ l o p. gives (g.release_spin n p, tt))
-plain_by_ends scope i k.AcquireFastMutex e =
-    let n = took i k.AcquireFastMutex refl e in
-    then_ends _ (lock_ends scope Fast (next i)) (λ x h. bad.acquire_fast n h) (λ l o p. gives (g.acquire_fast n p, tt))
-plain_by_ends scope i k.ReleaseFastMutex e =
-    let n = took i k.ReleaseFastMutex refl e in
-    then_ends _ (lock_ends scope Fast (next i)) (λ x h. bad.release_fast n h) (λ l o p. gives (g.release_fast n p, tt))
-plain_by_ends scope i k.AcquirePushLock e =
-    let n = took i k.AcquirePushLock refl e in
-    then_ends _ (lock_ends scope Push (next i)) (λ x h. bad.acquire_push n h) (λ l o p. gives (g.acquire_push n p, tt))
-plain_by_ends scope i k.AcquirePushLockShared e =
-    let n = took i k.AcquirePushLockShared refl e in
-    then_ends _ (lock_ends scope Push (next i)) (λ x h. bad.acquire_push_shared n h) (λ l o p. gives (g.acquire_push_shared n p, tt))
-plain_by_ends scope i k.ReleasePushLock e =
-    let n = took i k.ReleasePushLock refl e in
-    then_ends _ (lock_ends scope Push (next i)) (λ x h. bad.release_push n h) (λ l o p. gives (g.release_push n p, tt))
-plain_by_ends scope i k.CompletePendedPreOperation e =
-    let n = took i k.CompletePendedPreOperation refl e in
+plain_by_ends scope i (plain_shapes.Lock call) n =
+    then_ends _ (lock_ends scope (lock_kind call) (next i)) (λ x h. bad.lock_call n h) (λ l o p. gives (g.lock_call n p, tt))
+plain_by_ends scope i plain_shapes.CompletePre n =
     then_ends _ (operation_ends (next i)) (λ x h. bad.complete_pre_operation n h) (λ d b p.
     then_ends _ (status_ends b) (λ x h. bad.complete_pre_status n p h) (λ s o q. gives (g.complete_pre n p q.0, q.1)))
-plain_by_ends scope i k.CompletePendedPostOperation e =
-    let n = took i k.CompletePendedPostOperation refl e in
+plain_by_ends scope i plain_shapes.CompletePost n =
     then_ends _ (expect_ends (next i) k.Data refl) (λ x h. bad.complete_post n h) (λ _ o m. gives (g.complete_post n m, tt))
-plain_by_ends scope i _ e = fails (bad.no_plain (ap begins_plain e) (refused i))
+
+plain_as : (scope : Scope) (i : Input) (m : Option PlainShape) → plain_shape_of (kind i) ≡ m →
+    Ends (PlainHere scope i) (PlainFails scope i) (given m (plain_by scope) refuse i)
+plain_as scope i None e = fails (bad.no_plain (ap is_some e) (refused i))
+plain_as scope i (Some s) e = plain_by_ends scope i s (meant_at plain_shape_of i s refl e)
 
 -- plain: what is read is spelled and over, else it fails so
 pub plain_ends : (scope : Scope) (i : Input) → Ends (PlainHere scope i) (PlainFails scope i) (plain_call scope i)
 unfolding plain_call
-plain_ends scope i = plain_by_ends scope i (kind i) refl
+plain_ends scope i = plain_as scope i (plain_shape_of (kind i)) refl

@@ -19,6 +19,7 @@ use Rattle.flt_tree.specs.Declarations.{name_of, lock_name, same_lock_kind, lock
 use Rattle.flt_syntax.specs.Cursor.{Input}
 use Rattle.flt_tree.specs.Names.{Text, is_name}
 use Rattle.flt_syntax.specs.Scope.{Scope}
+use Rattle.flt_syntax.specs.Shape.{obtaining, ending, lock_kind, locking}
 use Rattle.flt_tree.specs.WellFormed.{IsAtom, IsExpression, IsAction, IsTest, IsFallible, IsCondition, IsLock, IsPlain}
 use Rattle.flt_syntax.specs.Words as words
 use Rattle.flt_syntax.specs.Words.{Next, Meant, NameAt, NumberAt, OptionalAt}
@@ -30,6 +31,12 @@ use Rattle.flt_tree.specs.declared.filter.PlainCall.{PlainCall}
 use Rattle.flt_tree.specs.declared.filter.Routine.{Routine}
 use Rattle.flt_tree.specs.declared.filter.Status.{Status}
 use Rattle.flt_tree.specs.declared.filter.Test.{Test}
+use Rattle.flt_syntax.specs.declared.shape.ContextEnd.{ContextEnd}
+use Rattle.flt_syntax.specs.declared.shape.ContextEnd.TheVariants as ends
+use Rattle.flt_syntax.specs.declared.shape.ContextSource.{ContextSource}
+use Rattle.flt_syntax.specs.declared.shape.ContextSource.TheVariants as sources
+use Rattle.flt_syntax.specs.declared.shape.LockCall.{LockCall}
+use Rattle.flt_syntax.specs.declared.shape.LockCall.TheVariants as does
 use Rattle.flt_syntax.specs.declared.token.Kind.{Kind}
 use Rattle.flt_tree.specs.declared.variable.Atom.{Atom}
 use Rattle.flt_tree.specs.declared.variable.ContextVariable.{ContextVariable}
@@ -112,34 +119,37 @@ fine_routine : {text : Text} {i o : Input} {r : Routine} → RoutineAt text i r 
     × AreTokens text o
 fine_routine (calls.routine p) h = fine_name p h
 
+fine_obtained : (queue : Bool) (s : ContextSource) (c : ContextVariable) → IsFallible queue (obtaining s c)
+fine_obtained queue sources.Allocate c = tt
+fine_obtained queue (sources.Get anchor) c = tt
+
 fine_call : {scope : Scope} {i o : Input} {c : FallibleCall} → FallibleAt scope i c o → AreTokens scope.text i →
     IsFallible scope.queue c × AreTokens scope.text o
-fine_call (calls.allocate n p) h = (tt, meant_on p (next_on n h))
-fine_call (calls.get_stream n p) h = (tt, meant_on p (next_on n h))
-fine_call (calls.get_instance n p) h = (tt, meant_on p (next_on n h))
-fine_call (calls.set_stream n m p q e) h = (e, optional_on q (meant_on p (meant_on m (next_on n h))))
-fine_call (calls.set_instance n m p q e) h = (e, optional_on q (meant_on p (meant_on m (next_on n h))))
-fine_call (calls.delete_stream n p) h = (tt, optional_on p (next_on n h))
-fine_call (calls.delete_instance n p) h = (tt, optional_on p (next_on n h))
-fine_call (calls.insert_io e n m p) h = (e, optional_on p (next_on m (next_on n h)))
-fine_call (calls.remove_next_io e n p m q) h = (e, meant_on q (next_on m (meant_on p (next_on n h))))
-fine_call (calls.queue_deferred n m p q) h = let r = fine_routine p (next_on m (next_on n h)) in (r.0, optional_on q r.1)
-fine_call (calls.queue_generic n p q) h = let r = fine_routine p (next_on n h) in (r.0, optional_on q r.1)
+fine_call {scope = scope} (calls.obtain {s = s} {c = c} n p) h = (fine_obtained scope.queue s c, meant_on p (meant_on n h))
+fine_call (calls.set_context n m p q e) h = (e, optional_on q (meant_on p (meant_on m (meant_on n h))))
+fine_call (calls.delete_context_of n p) h = (tt, optional_on p (meant_on n h))
+fine_call (calls.insert_io e n m p) h = (e, optional_on p (next_on m (meant_on n h)))
+fine_call (calls.remove_next_io e n p m q) h = (e, meant_on q (next_on m (meant_on p (meant_on n h))))
+fine_call (calls.queue_deferred n m p q) h = let r = fine_routine p (next_on m (meant_on n h)) in (r.0, optional_on q r.1)
+fine_call (calls.queue_generic n p q) h = let r = fine_routine p (meant_on n h) in (r.0, optional_on q r.1)
+
+fine_ended : (locks : List Lock) (e : ContextEnd) (c : ContextVariable) → IsPlain locks (ending e c)
+fine_ended locks ends.Delete c = tt
+fine_ended locks ends.Release c = tt
+
+fine_locked : (locks : List Lock) (x : LockCall) (l : LockNumber) → IsLock locks (lock_kind x) l → IsPlain locks (locking x l)
+fine_locked locks (does.Acquire kind) l h = h
+fine_locked locks does.AcquireShared l h = h
+fine_locked locks (does.Release kind) l h = h
 
 pub fine_plain : {scope : Scope} {i o : Input} {c : PlainCall} → PlainAt scope i c o → AreTokens scope.text i →
     IsPlain scope.locks c × AreTokens scope.text o
-fine_plain (calls.delete n p) h = (tt, meant_on p (next_on n h))
-fine_plain (calls.reference n p m q e) h = (e, meant_on q (next_on m (meant_on p (next_on n h))))
-fine_plain (calls.release n p) h = (tt, meant_on p (next_on n h))
-fine_plain (calls.acquire_spin n p) h = fine_lock p (next_on n h)
-fine_plain (calls.release_spin n p) h = fine_lock p (next_on n h)
-fine_plain (calls.acquire_fast n p) h = fine_lock p (next_on n h)
-fine_plain (calls.release_fast n p) h = fine_lock p (next_on n h)
-fine_plain (calls.acquire_push n p) h = fine_lock p (next_on n h)
-fine_plain (calls.acquire_push_shared n p) h = fine_lock p (next_on n h)
-fine_plain (calls.release_push n p) h = fine_lock p (next_on n h)
-fine_plain (calls.complete_pre n p q) h = (tt, status_on q (meant_on p (next_on n h)))
-fine_plain (calls.complete_post n m) h = (tt, next_on m (next_on n h))
+fine_plain {scope = scope} (calls.end_context {e = e} {c = c} n p) h = (fine_ended scope.locks e c, meant_on p (meant_on n h))
+fine_plain (calls.reference n p m q e) h = (e, meant_on q (next_on m (meant_on p (meant_on n h))))
+fine_plain {scope = scope} (calls.lock_call {x = x} {l = l} n p) h =
+    let f = fine_lock p (meant_on n h) in (fine_locked scope.locks x l f.0, f.1)
+fine_plain (calls.complete_pre n p q) h = (tt, status_on q (meant_on p (meant_on n h)))
+fine_plain (calls.complete_post n m) h = (tt, next_on m (meant_on n h))
 
 -- ---- actions and tests
 

@@ -109,10 +109,8 @@ optional_status_over (calling.no_status {i = i}) f = no_status i f
 optional_status_over (calling.some_status p) f = status_over p f
 
 fallible_over : {scope : Scope} {i o : Input} {c : FallibleCall} (p : FallibleAt scope i c o) → Follows o → FallibleOver p
-fallible_over (calling.set_stream n p q x h) f = optional_over x refl f
-fallible_over (calling.set_instance n p q x h) f = optional_over x refl f
-fallible_over (calling.delete_stream n p) f = optional_over p refl f
-fallible_over (calling.delete_instance n p) f = optional_over p refl f
+fallible_over (calling.set_context n p q x h) f = optional_over x refl f
+fallible_over (calling.delete_context_of n p) f = optional_over p refl f
 fallible_over (calling.insert_io q n m p) f = optional_over p refl f
 fallible_over (calling.queue_deferred n m p q) f = optional_over q refl f
 fallible_over (calling.queue_generic n p q) f = optional_over q refl f

@@ -2,24 +2,24 @@
 use Rattle.std.proofs.Common.{◌≡◌, false, Err, refl, sym, ap, ◌∙◌}
 use Rattle.std.specs.Prelude.{None}
 use Rattle.flt_rules.specs.declared.call.LockKind.{LockKind}
-use Rattle.flt_rules.specs.declared.call.LockKind.TheVariants.{Spin, Fast, Push}
 use Rattle.flt_syntax.specs.declared.fault.FaultKind.TheVariants.{E04}
 use Rattle.flt_syntax.specs.declared.fault.SyntaxFault.{SyntaxFault}
+use Rattle.flt_syntax.specs.declared.shape.QueueCall.{QueueCall}
 use Rattle.flt_syntax.specs.declared.token.Kind.{Kind}
 use Rattle.flt_syntax.specs.declared.token.Kind.TheVariants as k
 use Rattle.flt_syntax.specs.Words as words
 use Rattle.flt_syntax.specs.Operand.{context_variable, removed_variable, removed_variable_of, operation_variable, operation_variable_of, with_context}
 use Rattle.flt_syntax.specs.Scope.{Scope, lock_named, routine}
+use Rattle.flt_syntax.specs.Shape.{lock_kind}
 use Rattle.flt_syntax.specs.Status.{final_status_of, final_status, bare_status_of, bare_status, status_by, status, has_more, optional_status}
-use Rattle.flt_syntax.specs.Call.{existing_of, existing, old, get_context, set_context, delete_context_of, insert_io, remove_next_io, queue_call, queue_deferred, queue_generic, fallible_by, fallible_call, reference_context, acquire_lock, acquire_shared, release_lock, complete_pre, complete_post, plain_by, plain_call}
-use Rattle.flt_syntax.specs.Cursor.{Input, kind, known_or, refusal, fault_at, expect, name}
+use Rattle.flt_syntax.specs.Call.{existing_of, existing, old, obtain_context, set_context, delete_context_of, insert_io, remove_next_io, queue_call, queue_deferred, queue_generic, fallible_by, fallible_call, end_context, reference_context, lock_call, complete_pre, complete_post, plain_by, plain_call}
+use Rattle.flt_syntax.specs.Cursor.{Input, kind, known_or, given, refusal, refuse, fault_at, expect, name}
 use Rattle.flt_syntax.proofs.TokenKinds.{differ}
-use Rattle.flt_syntax.proofs.Complete.{then_again, rest_is, expect_again, context_again, none_of, left_false, right_false}
-use Rattle.flt_syntax.specs.FirstWords.{begins_fallible, begins_plain}
+use Rattle.flt_syntax.proofs.Complete.{then_again, rest_is, left_is, expect_again, context_again, none_of, left_false, right_false}
 use Rattle.flt_syntax.specs.WordFails.{MeantFails, KnownFails, NameFails}
 use Rattle.flt_syntax.specs.CallFails as bad
 use Rattle.flt_syntax.specs.CallFails.{StatusFails, OptionalStatusFails, LockFails, FallibleFails, PlainFails}
-use Rattle.flt_syntax.proofs.CompleteCalls.{removed_again, operation_again, status_at, routine_again, existing_again, fallible_at, insert_at, remove_at, plain_at}
+use Rattle.flt_syntax.proofs.CompleteCalls.{removed_again, operation_again, status_at, routine_again, existing_again, fallible_at, queue_at, plain_at}
 use Rattle.flt_syntax.proofs.Tells.{then_fails, refuses, expect_tells, meant_tells, known_tells, context_tells, word_tells, spelled_tells, other_tells, with_context_tells, old_tells, other_old_tells}
 
 -- ---- variables
@@ -79,113 +79,68 @@ existing_tells : {i : Input} {f : SyntaxFault} → MeantFails existing_of i f �
 unfolding existing
 existing_tells h = meant_tells h
 
-no_fallible : (scope : Scope) (i : Input) (a : Kind) → begins_fallible a ≡ false → fallible_by scope a i ≡ Err (refusal i)
-no_fallible scope i k.AllocateContext e = elim (differ (sym e)) [ ]
-no_fallible scope i k.GetStreamContext e = elim (differ (sym e)) [ ]
-no_fallible scope i k.GetInstanceContext e = elim (differ (sym e)) [ ]
-no_fallible scope i k.SetStreamContext e = elim (differ (sym e)) [ ]
-no_fallible scope i k.SetInstanceContext e = elim (differ (sym e)) [ ]
-no_fallible scope i k.DeleteStreamContext e = elim (differ (sym e)) [ ]
-no_fallible scope i k.DeleteInstanceContext e = elim (differ (sym e)) [ ]
-no_fallible scope i k.InsertIo e = elim (differ (sym e)) [ ]
-no_fallible scope i k.RemoveNextIo e = elim (differ (sym e)) [ ]
-no_fallible scope i k.QueueDeferredIoWorkItem e = elim (differ (sym e)) [ ]
-no_fallible scope i k.QueueGenericWorkItem e = elim (differ (sym e)) [ ]
-no_fallible scope i _ e = refl
-
-no_queue : (scope : Scope) (i : Input) → scope.queue ≡ false → queue_call scope i ≡ Err (fault_at E04 i)
+-- without a queue its call is an unknown name
+no_queue : (scope : Scope) (x : QueueCall) (i : Input) → scope.queue ≡ false → queue_call scope x i ≡ Err (fault_at E04 i)
 unfolding queue_call
-no_queue scope i q = rw q refl
+no_queue scope x i q = rw q refl
 
 -- fallible: where it fails, that is reported
 pub fallible_tells : {scope : Scope} {i : Input} {f : SyntaxFault} → FallibleFails scope i f → fallible_call scope i ≡ Err f
-unfolding fallible_call get_context set_context delete_context_of insert_io remove_next_io queue_deferred queue_generic
-fallible_tells {scope = scope} (bad.no_fallible {i = i} e h) = no_fallible scope i (kind i) e ∙ ap (λ x. Err x) (refuses h)
-fallible_tells {scope = scope} (bad.allocate n h) = fallible_at scope n ∙ then_fails _ (ap context_variable (rest_is n) ∙ context_tells h)
-fallible_tells {scope = scope} (bad.get_stream n h) = fallible_at scope n ∙ then_fails _ (ap context_variable (rest_is n) ∙ context_tells h)
-fallible_tells {scope = scope} (bad.get_instance n h) =
-    fallible_at scope n ∙ then_fails _ (ap context_variable (rest_is n) ∙ context_tells h)
-fallible_tells {scope = scope} (bad.set_stream_existing n h) =
-    fallible_at scope n ∙ then_fails _ (ap existing (rest_is n) ∙ existing_tells h)
-fallible_tells {scope = scope} (bad.set_stream_context n p h) =
-    fallible_at scope n ∙ then_again _ (ap existing (rest_is n) ∙ existing_again p) (then_fails _ (context_tells h))
-fallible_tells {scope = scope} (bad.set_stream_old n p q h) =
-    fallible_at scope n ∙ then_again _ (ap existing (rest_is n) ∙ existing_again p)
+unfolding fallible_call obtain_context set_context delete_context_of insert_io remove_next_io queue_deferred queue_generic
+fallible_tells {scope = scope} (bad.no_fallible {i = i} e h) =
+    ap (λ m. given m (fallible_by scope) refuse i) (none_of _ e) ∙ ap (λ x. Err x) (refuses h)
+fallible_tells {scope = scope} (bad.obtain n h) = fallible_at scope n ∙ then_fails _ (ap context_variable (left_is n) ∙ context_tells h)
+fallible_tells {scope = scope} (bad.set_existing n h) =
+    fallible_at scope n ∙ then_fails _ (ap existing (left_is n) ∙ existing_tells h)
+fallible_tells {scope = scope} (bad.set_context n p h) =
+    fallible_at scope n ∙ then_again _ (ap existing (left_is n) ∙ existing_again p) (then_fails _ (context_tells h))
+fallible_tells {scope = scope} (bad.set_old n p q h) =
+    fallible_at scope n ∙ then_again _ (ap existing (left_is n) ∙ existing_again p)
     (then_again _ (context_again q) (then_fails _ (other_old_tells h)))
-fallible_tells {scope = scope} (bad.set_instance_existing n h) =
-    fallible_at scope n ∙ then_fails _ (ap existing (rest_is n) ∙ existing_tells h)
-fallible_tells {scope = scope} (bad.set_instance_context n p h) =
-    fallible_at scope n ∙ then_again _ (ap existing (rest_is n) ∙ existing_again p) (then_fails _ (context_tells h))
-fallible_tells {scope = scope} (bad.set_instance_old n p q h) =
-    fallible_at scope n ∙ then_again _ (ap existing (rest_is n) ∙ existing_again p)
-    (then_again _ (context_again q) (then_fails _ (other_old_tells h)))
-fallible_tells {scope = scope} (bad.delete_stream n h) = fallible_at scope n ∙ then_fails _ (ap old (rest_is n) ∙ old_tells h)
-fallible_tells {scope = scope} (bad.delete_instance n h) = fallible_at scope n ∙ then_fails _ (ap old (rest_is n) ∙ old_tells h)
-fallible_tells {scope = scope} (bad.insert_unknown {i = i} n q) = fallible_at scope n ∙ no_queue scope i q
+fallible_tells {scope = scope} (bad.delete_context_of n h) = fallible_at scope n ∙ then_fails _ (ap old (left_is n) ∙ old_tells h)
+fallible_tells {scope = scope} (bad.queue_unknown {i = i} {x = x} n q) = fallible_at scope n ∙ no_queue scope x i q
 fallible_tells {scope = scope} (bad.insert_data q n h) =
-    insert_at scope q n ∙ then_fails _ (ap (expect k.Data) (rest_is n) ∙ expect_tells h)
+    queue_at scope q n ∙ then_fails _ (ap (expect k.Data) (left_is n) ∙ expect_tells h)
 fallible_tells {scope = scope} (bad.insert_context q n m h) =
-    insert_at scope q n ∙ then_again _ (ap (expect k.Data) (rest_is n) ∙ expect_again m) (then_fails _ (with_context_tells h))
-fallible_tells {scope = scope} (bad.remove_unknown {i = i} n q) = fallible_at scope n ∙ no_queue scope i q
+    queue_at scope q n ∙ then_again _ (ap (expect k.Data) (left_is n) ∙ expect_again m) (then_fails _ (with_context_tells h))
 fallible_tells {scope = scope} (bad.remove_operation q n h) =
-    remove_at scope q n ∙ then_fails _ (ap removed_variable (rest_is n) ∙ removed_tells h)
+    queue_at scope q n ∙ then_fails _ (ap removed_variable (left_is n) ∙ removed_tells h)
 fallible_tells {scope = scope} (bad.remove_word q n p h) =
-    remove_at scope q n ∙ then_again _ (ap removed_variable (rest_is n) ∙ removed_again p) (then_fails _ (expect_tells h))
+    queue_at scope q n ∙ then_again _ (ap removed_variable (left_is n) ∙ removed_again p) (then_fails _ (expect_tells h))
 fallible_tells {scope = scope} (bad.remove_context q n p m h) =
-    remove_at scope q n ∙ then_again _ (ap removed_variable (rest_is n) ∙ removed_again p)
+    queue_at scope q n ∙ then_again _ (ap removed_variable (left_is n) ∙ removed_again p)
     (then_again _ (expect_again m) (then_fails _ (context_tells h)))
 fallible_tells {scope = scope} (bad.deferred_data n h) =
-    fallible_at scope n ∙ then_fails _ (ap (expect k.Data) (rest_is n) ∙ expect_tells h)
+    fallible_at scope n ∙ then_fails _ (ap (expect k.Data) (left_is n) ∙ expect_tells h)
 fallible_tells {scope = scope} (bad.deferred_name n m h) =
-    fallible_at scope n ∙ then_again _ (ap (expect k.Data) (rest_is n) ∙ expect_again m) (then_fails _ (routine_tells scope h))
+    fallible_at scope n ∙ then_again _ (ap (expect k.Data) (left_is n) ∙ expect_again m) (then_fails _ (routine_tells scope h))
 fallible_tells {scope = scope} (bad.deferred_context n m p h) =
-    fallible_at scope n ∙ then_again _ (ap (expect k.Data) (rest_is n) ∙ expect_again m)
+    fallible_at scope n ∙ then_again _ (ap (expect k.Data) (left_is n) ∙ expect_again m)
     (then_again _ (routine_again scope p) (then_fails _ (with_context_tells h)))
 fallible_tells {scope = scope} (bad.generic_name n h) =
-    fallible_at scope n ∙ then_fails _ (ap (routine scope) (rest_is n) ∙ routine_tells scope h)
+    fallible_at scope n ∙ then_fails _ (ap (routine scope) (left_is n) ∙ routine_tells scope h)
 fallible_tells {scope = scope} (bad.generic_context n p h) =
-    fallible_at scope n ∙ then_again _ (ap (routine scope) (rest_is n) ∙ routine_again scope p) (then_fails _ (with_context_tells h))
+    fallible_at scope n ∙ then_again _ (ap (routine scope) (left_is n) ∙ routine_again scope p) (then_fails _ (with_context_tells h))
 
 -- ---- calls that always succeed
 
-no_plain : (scope : Scope) (i : Input) (a : Kind) → begins_plain a ≡ false → plain_by scope a i ≡ Err (refusal i)
-no_plain scope i k.DeleteContext e = elim (differ (sym e)) [ ]
-no_plain scope i k.ReferenceContext e = elim (differ (sym e)) [ ]
-no_plain scope i k.ReleaseContext e = elim (differ (sym e)) [ ]
-no_plain scope i k.AcquireSpinLock e = elim (differ (sym e)) [ ]
-no_plain scope i k.ReleaseSpinLock e = elim (differ (sym e)) [ ]
-no_plain scope i k.AcquireFastMutex e = elim (differ (sym e)) [ ]
-no_plain scope i k.ReleaseFastMutex e = elim (differ (sym e)) [ ]
-no_plain scope i k.AcquirePushLock e = elim (differ (sym e)) [ ]
-no_plain scope i k.AcquirePushLockShared e = elim (differ (sym e)) [ ]
-no_plain scope i k.ReleasePushLock e = elim (differ (sym e)) [ ]
-no_plain scope i k.CompletePendedPreOperation e = elim (differ (sym e)) [ ]
-no_plain scope i k.CompletePendedPostOperation e = elim (differ (sym e)) [ ]
-no_plain scope i _ e = refl
-
 -- plain: where it fails, that is reported
 pub plain_tells : {scope : Scope} {i : Input} {f : SyntaxFault} → PlainFails scope i f → plain_call scope i ≡ Err f
-unfolding plain_call reference_context acquire_lock acquire_shared release_lock complete_pre complete_post
-plain_tells {scope = scope} (bad.no_plain {i = i} e h) = no_plain scope i (kind i) e ∙ ap (λ x. Err x) (refuses h)
-plain_tells {scope = scope} (bad.delete n h) = plain_at scope n ∙ then_fails _ (ap context_variable (rest_is n) ∙ context_tells h)
+unfolding plain_call end_context reference_context lock_call complete_pre complete_post
+plain_tells {scope = scope} (bad.no_plain {i = i} e h) =
+    ap (λ m. given m (plain_by scope) refuse i) (none_of _ e) ∙ ap (λ x. Err x) (refuses h)
+plain_tells {scope = scope} (bad.end_context n h) = plain_at scope n ∙ then_fails _ (ap context_variable (left_is n) ∙ context_tells h)
 plain_tells {scope = scope} (bad.reference_context n h) =
-    plain_at scope n ∙ then_fails _ (ap context_variable (rest_is n) ∙ context_tells h)
+    plain_at scope n ∙ then_fails _ (ap context_variable (left_is n) ∙ context_tells h)
 plain_tells {scope = scope} (bad.reference_word n p h) =
-    plain_at scope n ∙ then_again _ (ap context_variable (rest_is n) ∙ context_again p) (then_fails _ (expect_tells h))
+    plain_at scope n ∙ then_again _ (ap context_variable (left_is n) ∙ context_again p) (then_fails _ (expect_tells h))
 plain_tells {scope = scope} (bad.reference_copy n p m h) =
-    plain_at scope n ∙ then_again _ (ap context_variable (rest_is n) ∙ context_again p)
+    plain_at scope n ∙ then_again _ (ap context_variable (left_is n) ∙ context_again p)
     (then_again _ (expect_again m) (then_fails _ (other_tells h)))
-plain_tells {scope = scope} (bad.release n h) = plain_at scope n ∙ then_fails _ (ap context_variable (rest_is n) ∙ context_tells h)
-plain_tells {scope = scope} (bad.acquire_spin n h) = plain_at scope n ∙ then_fails _ (ap (lock_named scope Spin) (rest_is n) ∙ lock_tells h)
-plain_tells {scope = scope} (bad.release_spin n h) = plain_at scope n ∙ then_fails _ (ap (lock_named scope Spin) (rest_is n) ∙ lock_tells h)
-plain_tells {scope = scope} (bad.acquire_fast n h) = plain_at scope n ∙ then_fails _ (ap (lock_named scope Fast) (rest_is n) ∙ lock_tells h)
-plain_tells {scope = scope} (bad.release_fast n h) = plain_at scope n ∙ then_fails _ (ap (lock_named scope Fast) (rest_is n) ∙ lock_tells h)
-plain_tells {scope = scope} (bad.acquire_push n h) = plain_at scope n ∙ then_fails _ (ap (lock_named scope Push) (rest_is n) ∙ lock_tells h)
-plain_tells {scope = scope} (bad.acquire_push_shared n h) = plain_at scope n
-    ∙ then_fails _ (ap (lock_named scope Push) (rest_is n) ∙ lock_tells h)
-plain_tells {scope = scope} (bad.release_push n h) = plain_at scope n ∙ then_fails _ (ap (lock_named scope Push) (rest_is n) ∙ lock_tells h)
+plain_tells {scope = scope} (bad.lock_call {x = x} n h) =
+    plain_at scope n ∙ then_fails _ (ap (lock_named scope (lock_kind x)) (left_is n) ∙ lock_tells h)
 plain_tells {scope = scope} (bad.complete_pre_operation n h) =
-    plain_at scope n ∙ then_fails _ (ap operation_variable (rest_is n) ∙ operation_tells h)
+    plain_at scope n ∙ then_fails _ (ap operation_variable (left_is n) ∙ operation_tells h)
 plain_tells {scope = scope} (bad.complete_pre_status n p h) =
-    plain_at scope n ∙ then_again _ (ap operation_variable (rest_is n) ∙ operation_again p) (then_fails _ (status_tells h))
-plain_tells {scope = scope} (bad.complete_post n h) = plain_at scope n ∙ then_fails _ (ap (expect k.Data) (rest_is n) ∙ expect_tells h)
+    plain_at scope n ∙ then_again _ (ap operation_variable (left_is n) ∙ operation_again p) (then_fails _ (status_tells h))
+plain_tells {scope = scope} (bad.complete_post n h) = plain_at scope n ∙ then_fails _ (ap (expect k.Data) (left_is n) ∙ expect_tells h)

@@ -1,22 +1,28 @@
--- How calls are read. Each production begins at the call's own word, which its reader takes.
+-- How calls are read. Each production begins at the call's own word, which its reader takes; the word says the shape of what follows.
 use Rattle.std.specs.Prelude.{if◌then◌else◌, Option, Some, None}
 use Rattle.flt_rules.specs.declared.call.Anchor.{Anchor}
-use Rattle.flt_rules.specs.declared.call.Anchor.TheVariants.{Stream, Instance}
 use Rattle.flt_rules.specs.declared.call.Existing.{Existing}
-use Rattle.flt_rules.specs.declared.call.LockKind.{LockKind}
-use Rattle.flt_rules.specs.declared.call.LockKind.TheVariants.{Spin, Fast, Push}
-use Rattle.flt_syntax.specs.Cursor.{Parser, ◌>>=◌, ◌>>◌, pure, ◌<$>◌, kind, refusal, refuse, peek, take_token, known_or, sees, eat, expect}
+use Rattle.flt_syntax.specs.Cursor.{Parser, ◌>>=◌, ◌>>◌, pure, ◌<$>◌, kind, refusal, refuse, take_token, known_or, given, eat, expect}
 use Rattle.flt_syntax.specs.Operand.{context_variable, removed_variable, operation_variable, other_context, with_context}
 use Rattle.flt_syntax.specs.Scope.{Scope, in_queue, lock_named, routine}
+use Rattle.flt_syntax.specs.Shape.{obtaining, ending, lock_kind, locking}
 use Rattle.flt_syntax.specs.Status.{status}
 use Rattle.flt_tree.specs.declared.filter.FallibleCall.{FallibleCall}
 use Rattle.flt_tree.specs.declared.filter.FallibleCall.TheVariants as fallible
 use Rattle.flt_tree.specs.declared.filter.PlainCall.{PlainCall}
 use Rattle.flt_tree.specs.declared.filter.PlainCall.TheVariants as plain
-use Rattle.flt_syntax.specs.declared.token.Kind.{Kind}
+use Rattle.flt_syntax.specs.declared.shape.ContextEnd.{ContextEnd}
+use Rattle.flt_syntax.specs.declared.shape.ContextSource.{ContextSource}
+use Rattle.flt_syntax.specs.declared.shape.FallibleShape.{FallibleShape}
+use Rattle.flt_syntax.specs.declared.shape.FallibleShape.TheVariants as shapes
+use Rattle.flt_syntax.specs.declared.shape.LockCall.{LockCall}
+use Rattle.flt_syntax.specs.declared.shape.PlainShape.{PlainShape}
+use Rattle.flt_syntax.specs.declared.shape.PlainShape.TheVariants as plain_shapes
+use Rattle.flt_syntax.specs.declared.shape.QueueCall.{QueueCall}
+use Rattle.flt_syntax.specs.declared.shape.QueueCall.TheVariants as queued
 use Rattle.flt_syntax.specs.declared.token.Kind.TheVariants as k
 use Rattle.flt_tree.specs.declared.variable.ContextVariable.{ContextVariable}
-pub use Rattle.flt_syntax.specs.Tables.{existing_of}
+pub use Rattle.flt_syntax.specs.Tables.{existing_of, fallible_shape_of, plain_shape_of}
 
 -- ---- parts of calls
 
@@ -38,11 +44,11 @@ other_old first = do
 
 -- ---- calls that can fail
 
--- "FltGetStreamContext" C, "FltGetInstanceContext" C
-unfoldable pub get_context : Anchor → Parser FallibleCall
-get_context anchor = take_token >> fallible.GetContext anchor <$> context_variable
+-- C
+unfoldable pub obtain_context : ContextSource → Parser FallibleCall
+obtain_context source = take_token >> obtaining source <$> context_variable
 
--- ("FltSetStreamContext" | "FltSetInstanceContext") existing C [ "old" C ]
+-- existing C [ "old" C ]
 unfoldable pub set_context : Anchor → Parser FallibleCall
 set_context anchor = do
   take_token
@@ -51,15 +57,15 @@ set_context anchor = do
   d ← other_old c
   pure (fallible.SetContext anchor e c d)
 
--- ("FltDeleteStreamContext" | "FltDeleteInstanceContext") [ "old" C ]
+-- [ "old" C ]
 unfoldable pub delete_context_of : Anchor → Parser FallibleCall
 delete_context_of anchor = take_token >> fallible.DeleteContextOf anchor <$> old
 
--- "FltCbdqInsertIo" "data" [ "context" C ]
+-- "data" [ "context" C ]
 unfoldable pub insert_io : Parser FallibleCall
 insert_io = take_token >> expect k.Data >> fallible.InsertIo <$> with_context
 
--- "FltCbdqRemoveNextIo" O "context" C
+-- O "context" C
 unfoldable pub remove_next_io : Parser FallibleCall
 remove_next_io = do
   take_token
@@ -68,11 +74,16 @@ remove_next_io = do
   c ← context_variable
   pure (fallible.RemoveNextIo o c)
 
--- a call of the queue, at its word
-unfoldable pub queue_call : Scope → Parser FallibleCall
-queue_call scope = in_queue scope (λ i. if sees k.InsertIo i then insert_io i else remove_next_io i)
+-- a call of the queue, by what it does with it
+abbrev pub queue_by : QueueCall → Parser FallibleCall
+queue_by queued.Insert = insert_io
+queue_by queued.RemoveNext = remove_next_io
 
--- "FltQueueDeferredIoWorkItem" "data" NAME [ "context" C ]
+-- a call of the queue, without which its word is unknown
+unfoldable pub queue_call : Scope → QueueCall → Parser FallibleCall
+queue_call scope call = in_queue scope (queue_by call)
+
+-- "data" NAME [ "context" C ]
 unfoldable pub queue_deferred : Scope → Parser FallibleCall
 queue_deferred scope = do
   take_token
@@ -81,7 +92,7 @@ queue_deferred scope = do
   c ← with_context
   pure (fallible.QueueDeferredIoWorkItem r c)
 
--- "FltQueueGenericWorkItem" NAME [ "context" C ]
+-- NAME [ "context" C ]
 unfoldable pub queue_generic : Scope → Parser FallibleCall
 queue_generic scope = do
   take_token
@@ -89,28 +100,26 @@ queue_generic scope = do
   c ← with_context
   pure (fallible.QueueGenericWorkItem r c)
 
--- fallible, by its first word
-abbrev pub fallible_by : Scope → Kind → Parser FallibleCall
-fallible_by scope k.AllocateContext = take_token >> fallible.AllocateContext <$> context_variable
-fallible_by scope k.GetStreamContext = get_context Stream
-fallible_by scope k.GetInstanceContext = get_context Instance
-fallible_by scope k.SetStreamContext = set_context Stream
-fallible_by scope k.SetInstanceContext = set_context Instance
-fallible_by scope k.DeleteStreamContext = delete_context_of Stream
-fallible_by scope k.DeleteInstanceContext = delete_context_of Instance
-fallible_by scope k.InsertIo = queue_call scope
-fallible_by scope k.RemoveNextIo = queue_call scope
-fallible_by scope k.QueueDeferredIoWorkItem = queue_deferred scope
-fallible_by scope k.QueueGenericWorkItem = queue_generic scope
-fallible_by scope _ = refuse
+-- fallible, by its shape
+abbrev pub fallible_by : Scope → FallibleShape → Parser FallibleCall
+fallible_by scope (shapes.Obtain source) = obtain_context source
+fallible_by scope (shapes.Set anchor) = set_context anchor
+fallible_by scope (shapes.Delete anchor) = delete_context_of anchor
+fallible_by scope (shapes.Queue call) = queue_call scope call
+fallible_by scope shapes.QueueDeferred = queue_deferred scope
+fallible_by scope shapes.QueueGeneric = queue_generic scope
 
 -- fallible
 unfoldable pub fallible_call : Scope → Parser FallibleCall
-fallible_call scope = peek >>= fallible_by scope
+fallible_call scope = λ i. given (fallible_shape_of (kind i)) (fallible_by scope) refuse i
 
 -- ---- calls that always succeed
 
--- "FltReferenceContext" C "as" C
+-- C
+unfoldable pub end_context : ContextEnd → Parser PlainCall
+end_context how = take_token >> ending how <$> context_variable
+
+-- C "as" C
 unfoldable pub reference_context : Parser PlainCall
 reference_context = do
   take_token
@@ -119,19 +128,11 @@ reference_context = do
   d ← other_context c
   pure (plain.ReferenceContext c d)
 
--- ("KeAcquireSpinLock" | "ExAcquireFastMutex" | "FltAcquirePushLockExclusive") NAME
-unfoldable pub acquire_lock : Scope → LockKind → Parser PlainCall
-acquire_lock scope kind = take_token >> plain.AcquireLock kind <$> lock_named scope kind
+-- NAME of a lock
+unfoldable pub lock_call : Scope → LockCall → Parser PlainCall
+lock_call scope call = take_token >> locking call <$> lock_named scope (lock_kind call)
 
--- "FltAcquirePushLockShared" NAME
-unfoldable pub acquire_shared : Scope → Parser PlainCall
-acquire_shared scope = take_token >> plain.AcquirePushLockShared <$> lock_named scope Push
-
--- ("KeReleaseSpinLock" | "ExReleaseFastMutex" | "FltReleasePushLock") NAME
-unfoldable pub release_lock : Scope → LockKind → Parser PlainCall
-release_lock scope kind = take_token >> plain.ReleaseLock kind <$> lock_named scope kind
-
--- "FltCompletePendedPreOperation" D status
+-- D status
 unfoldable pub complete_pre : Parser PlainCall
 complete_pre = do
   take_token
@@ -139,26 +140,18 @@ complete_pre = do
   s ← status
   pure (plain.CompletePendedPreOperation d s)
 
--- "FltCompletePendedPostOperation" "data"
+-- "data"
 unfoldable pub complete_post : Parser PlainCall
 complete_post = take_token >> expect k.Data >> pure plain.CompletePendedPostOperation
 
--- plain, by its first word
-abbrev pub plain_by : Scope → Kind → Parser PlainCall
-plain_by scope k.DeleteContext = take_token >> plain.DeleteContext <$> context_variable
-plain_by scope k.ReferenceContext = reference_context
-plain_by scope k.ReleaseContext = take_token >> plain.ReleaseContext <$> context_variable
-plain_by scope k.AcquireSpinLock = acquire_lock scope Spin
-plain_by scope k.ReleaseSpinLock = release_lock scope Spin
-plain_by scope k.AcquireFastMutex = acquire_lock scope Fast
-plain_by scope k.ReleaseFastMutex = release_lock scope Fast
-plain_by scope k.AcquirePushLock = acquire_lock scope Push
-plain_by scope k.AcquirePushLockShared = acquire_shared scope
-plain_by scope k.ReleasePushLock = release_lock scope Push
-plain_by scope k.CompletePendedPreOperation = complete_pre
-plain_by scope k.CompletePendedPostOperation = complete_post
-plain_by scope _ = refuse
+-- plain, by its shape
+abbrev pub plain_by : Scope → PlainShape → Parser PlainCall
+plain_by scope (plain_shapes.End how) = end_context how
+plain_by scope plain_shapes.Reference = reference_context
+plain_by scope (plain_shapes.Lock call) = lock_call scope call
+plain_by scope plain_shapes.CompletePre = complete_pre
+plain_by scope plain_shapes.CompletePost = complete_post
 
 -- plain
 unfoldable pub plain_call : Scope → Parser PlainCall
-plain_call scope = peek >>= plain_by scope
+plain_call scope = λ i. given (plain_shape_of (kind i)) (plain_by scope) refuse i

@@ -1,6 +1,6 @@
 -- The first words of productions, where several may stand.
 use Rattle.std.specs.Prelude.{Bool, true, false, ◌||◌, is_some}
-use Rattle.flt_syntax.specs.Tables.{number_variable_of, context_variable_of, removed_variable_of, bare_status_of}
+use Rattle.flt_syntax.specs.Tables.{number_variable_of, context_variable_of, removed_variable_of, bare_status_of, fallible_shape_of, plain_shape_of}
 use Rattle.flt_syntax.specs.declared.token.Kind.{Kind}
 use Rattle.flt_syntax.specs.declared.token.Kind.TheVariants as k
 
@@ -17,34 +17,11 @@ begins_status kind = has_more kind || is_some (bare_status_of kind)
 
 -- the first words of the calls that can fail
 abbrev pub begins_fallible : Kind → Bool
-begins_fallible k.AllocateContext = true
-begins_fallible k.GetStreamContext = true
-begins_fallible k.GetInstanceContext = true
-begins_fallible k.SetStreamContext = true
-begins_fallible k.SetInstanceContext = true
-begins_fallible k.DeleteStreamContext = true
-begins_fallible k.DeleteInstanceContext = true
-begins_fallible k.InsertIo = true
-begins_fallible k.RemoveNextIo = true
-begins_fallible k.QueueDeferredIoWorkItem = true
-begins_fallible k.QueueGenericWorkItem = true
-begins_fallible _ = false
+begins_fallible kind = is_some (fallible_shape_of kind)
 
 -- the first words of the calls that always succeed
 abbrev pub begins_plain : Kind → Bool
-begins_plain k.DeleteContext = true
-begins_plain k.ReferenceContext = true
-begins_plain k.ReleaseContext = true
-begins_plain k.AcquireSpinLock = true
-begins_plain k.ReleaseSpinLock = true
-begins_plain k.AcquireFastMutex = true
-begins_plain k.ReleaseFastMutex = true
-begins_plain k.AcquirePushLock = true
-begins_plain k.AcquirePushLockShared = true
-begins_plain k.ReleasePushLock = true
-begins_plain k.CompletePendedPreOperation = true
-begins_plain k.CompletePendedPostOperation = true
-begins_plain _ = false
+begins_plain kind = is_some (plain_shape_of kind)
 
 -- a variable: N, C or O
 abbrev pub is_variable : Kind → Bool

@@ -16,6 +16,7 @@ pub mod Operand
 pub mod Over
 pub mod RoutineFails
 pub mod Scope
+pub mod Shape
 pub mod Spelling
 pub mod Statement
 pub mod StatementFails

@@ -42,10 +42,8 @@ OptionalStatusOver (calling.some_status p) = StatusOver p
 
 -- fallible
 abbrev pub FallibleOver : {scope : Scope} {i o : Input} {c : FallibleCall} → FallibleAt scope i c o → Type 0
-FallibleOver (calling.set_stream n p q x h) = OptionalOver x
-FallibleOver (calling.set_instance n p q x h) = OptionalOver x
-FallibleOver (calling.delete_stream n p) = OptionalOver p
-FallibleOver (calling.delete_instance n p) = OptionalOver p
+FallibleOver (calling.set_context n p q x h) = OptionalOver x
+FallibleOver (calling.delete_context_of n p) = OptionalOver p
 FallibleOver (calling.insert_io q n m p) = OptionalOver p
 FallibleOver (calling.queue_deferred n m p q) = OptionalOver q
 FallibleOver (calling.queue_generic n p q) = OptionalOver q

@@ -1,5 +1,6 @@
 -- What the words of the grammar stand for.
 use Rattle.std.specs.Prelude.{Option, Some, None}
+use Rattle.flt_rules.specs.declared.call.Anchor.TheVariants.{Stream, Instance}
 use Rattle.flt_rules.specs.declared.call.Existing.{Existing}
 use Rattle.flt_rules.specs.declared.call.Existing.TheVariants as kept
 use Rattle.flt_rules.specs.declared.call.LockKind.{LockKind}
@@ -10,6 +11,14 @@ use Rattle.flt_rules.specs.declared.status.FinalStatus.{FinalStatus}
 use Rattle.flt_rules.specs.declared.status.FinalStatus.TheVariants as finals
 use Rattle.flt_tree.specs.declared.filter.Status.{Status}
 use Rattle.flt_tree.specs.declared.filter.Status.TheVariants as statuses
+use Rattle.flt_syntax.specs.declared.shape.ContextEnd.TheVariants as ends
+use Rattle.flt_syntax.specs.declared.shape.ContextSource.TheVariants as sources
+use Rattle.flt_syntax.specs.declared.shape.FallibleShape.{FallibleShape}
+use Rattle.flt_syntax.specs.declared.shape.FallibleShape.TheVariants as fallible
+use Rattle.flt_syntax.specs.declared.shape.LockCall.TheVariants as does
+use Rattle.flt_syntax.specs.declared.shape.PlainShape.{PlainShape}
+use Rattle.flt_syntax.specs.declared.shape.PlainShape.TheVariants as plain
+use Rattle.flt_syntax.specs.declared.shape.QueueCall.TheVariants as queued
 use Rattle.flt_syntax.specs.declared.token.Kind.{Kind}
 use Rattle.flt_syntax.specs.declared.token.Kind.TheVariants as k
 use Rattle.flt_tree.specs.declared.variable.ContextVariable.{ContextVariable}
@@ -102,3 +111,34 @@ lock_kind_of k.Spin = Some locked.Spin
 lock_kind_of k.Fast = Some locked.Fast
 lock_kind_of k.Push = Some locked.Push
 lock_kind_of _ = None
+
+-- the shape of a call that can fail, by its word
+abbrev pub fallible_shape_of : Kind → Option FallibleShape
+fallible_shape_of k.AllocateContext = Some (fallible.Obtain sources.Allocate)
+fallible_shape_of k.GetStreamContext = Some (fallible.Obtain (sources.Get Stream))
+fallible_shape_of k.GetInstanceContext = Some (fallible.Obtain (sources.Get Instance))
+fallible_shape_of k.SetStreamContext = Some (fallible.Set Stream)
+fallible_shape_of k.SetInstanceContext = Some (fallible.Set Instance)
+fallible_shape_of k.DeleteStreamContext = Some (fallible.Delete Stream)
+fallible_shape_of k.DeleteInstanceContext = Some (fallible.Delete Instance)
+fallible_shape_of k.InsertIo = Some (fallible.Queue queued.Insert)
+fallible_shape_of k.RemoveNextIo = Some (fallible.Queue queued.RemoveNext)
+fallible_shape_of k.QueueDeferredIoWorkItem = Some fallible.QueueDeferred
+fallible_shape_of k.QueueGenericWorkItem = Some fallible.QueueGeneric
+fallible_shape_of _ = None
+
+-- the shape of a call that always succeeds, by its word
+abbrev pub plain_shape_of : Kind → Option PlainShape
+plain_shape_of k.DeleteContext = Some (plain.End ends.Delete)
+plain_shape_of k.ReferenceContext = Some plain.Reference
+plain_shape_of k.ReleaseContext = Some (plain.End ends.Release)
+plain_shape_of k.AcquireSpinLock = Some (plain.Lock (does.Acquire locked.Spin))
+plain_shape_of k.ReleaseSpinLock = Some (plain.Lock (does.Release locked.Spin))
+plain_shape_of k.AcquireFastMutex = Some (plain.Lock (does.Acquire locked.Fast))
+plain_shape_of k.ReleaseFastMutex = Some (plain.Lock (does.Release locked.Fast))
+plain_shape_of k.AcquirePushLock = Some (plain.Lock (does.Acquire locked.Push))
+plain_shape_of k.AcquirePushLockShared = Some (plain.Lock does.AcquireShared)
+plain_shape_of k.ReleasePushLock = Some (plain.Lock (does.Release locked.Push))
+plain_shape_of k.CompletePendedPreOperation = Some plain.CompletePre
+plain_shape_of k.CompletePendedPostOperation = Some plain.CompletePost
+plain_shape_of _ = None

@@ -1,4 +1,4 @@
-//! Reads calls.
+//! Reads calls, each by the shape that its word says.
 
 ghost use Rattle.flt_syntax.specs.Call as spec;
 ghost use Rattle.flt_syntax.specs.Cursor.{Reads};
@@ -12,9 +12,13 @@ use crate::operand::{
     context_variable, operation_variable, other_context, removed_variable, with_context,
 };
 use crate::scope::Scope;
+use crate::shape::{
+    ContextEnd, ContextSource, FallibleShape, LockCall, PlainShape, QueueCall, fallible_shape_of,
+    plain_shape_of,
+};
 use crate::status::status;
 use crate::token::Kind;
-use flt_rules::{Anchor, Existing, LockKind};
+use flt_rules::{Anchor, Existing};
 use flt_tree::{ContextVariable, FallibleCall, PlainCall};
 use std::alloc::Global;
 
@@ -98,18 +102,21 @@ fn remove_next_io(tokens: &mut Tokens<'_>) -> Result<FallibleCall, ParseError>
     Ok(FallibleCall::RemoveNextIo(operation, context))
 }
 
-/// A call of the queue, without which its name is unknown.
+/// A call of the queue, without which its word is unknown.
 #[tactic(auto, unfolding(crate::specs::Call::queue_call))]
-fn queue_call(scope: &Scope<'_>, tokens: &mut Tokens<'_>) -> Result<FallibleCall, ParseError>
-    ensures { Reads (spec.queue_call (scope_of scope.now) tokens.old.rest.now) result tokens.new.rest.now }
+fn queue_call(
+    scope: &Scope<'_>,
+    tokens: &mut Tokens<'_>,
+    call: QueueCall,
+) -> Result<FallibleCall, ParseError>
+    ensures { Reads (spec.queue_call (scope_of scope.now) call tokens.old.rest.now) result tokens.new.rest.now }
 {
     if !scope.has_queue {
         return Err(tokens.fault(FaultKind::E04));
     }
-    if tokens.sees(Kind::InsertIo) {
-        insert_io(tokens)
-    } else {
-        remove_next_io(tokens)
+    match call {
+        QueueCall::Insert => insert_io(tokens),
+        QueueCall::RemoveNext => remove_next_io(tokens),
     }
 }
 
@@ -142,12 +149,15 @@ fn queue_generic(
     Ok(FallibleCall::QueueGenericWorkItem(routine, context))
 }
 
-#[tactic(auto, unfolding(crate::specs::Call::get_context))]
-fn get_context(tokens: &mut Tokens<'_>, anchor: Anchor) -> Result<FallibleCall, ParseError>
-    ensures { Reads (spec.get_context anchor tokens.old.rest.now) result tokens.new.rest.now }
+#[tactic(auto, unfolding(crate::specs::Call::obtain_context))]
+fn obtain_context(
+    tokens: &mut Tokens<'_>,
+    source: ContextSource,
+) -> Result<FallibleCall, ParseError>
+    ensures { Reads (spec.obtain_context source tokens.old.rest.now) result tokens.new.rest.now }
 {
     tokens.take();
-    Ok(FallibleCall::GetContext(anchor, context_variable(tokens)?))
+    Ok(source.call(context_variable(tokens)?))
 }
 
 #[tactic(auto, unfolding(crate::specs::Call::delete_context_of))]
@@ -166,22 +176,23 @@ pub fn fallible_call(
 ) -> Result<FallibleCall, ParseError>
     ensures { Reads (spec.fallible_call (scope_of scope.now) tokens.old.rest.now) result tokens.new.rest.now }
 {
-    match tokens.peek() {
-        Kind::AllocateContext => {
-            tokens.take();
-            Ok(FallibleCall::AllocateContext(context_variable(tokens)?))
-        }
-        Kind::GetStreamContext => get_context(tokens, Anchor::Stream),
-        Kind::GetInstanceContext => get_context(tokens, Anchor::Instance),
-        Kind::SetStreamContext => set_context(tokens, Anchor::Stream),
-        Kind::SetInstanceContext => set_context(tokens, Anchor::Instance),
-        Kind::DeleteStreamContext => delete_context_of(tokens, Anchor::Stream),
-        Kind::DeleteInstanceContext => delete_context_of(tokens, Anchor::Instance),
-        Kind::InsertIo | Kind::RemoveNextIo => queue_call(scope, tokens),
-        Kind::QueueDeferredIoWorkItem => queue_deferred(alloc, scope, tokens),
-        Kind::QueueGenericWorkItem => queue_generic(alloc, scope, tokens),
-        _ => Err(tokens.refuse()),
+    match fallible_shape_of(tokens.peek()) {
+        Some(FallibleShape::Obtain(source)) => obtain_context(tokens, source),
+        Some(FallibleShape::Set(anchor)) => set_context(tokens, anchor),
+        Some(FallibleShape::Delete(anchor)) => delete_context_of(tokens, anchor),
+        Some(FallibleShape::Queue(call)) => queue_call(scope, tokens, call),
+        Some(FallibleShape::QueueDeferred) => queue_deferred(alloc, scope, tokens),
+        Some(FallibleShape::QueueGeneric) => queue_generic(alloc, scope, tokens),
+        None => Err(tokens.refuse()),
     }
+}
+
+#[tactic(auto, unfolding(crate::specs::Call::end_context))]
+fn end_context(tokens: &mut Tokens<'_>, how: ContextEnd) -> Result<PlainCall, ParseError>
+    ensures { Reads (spec.end_context how tokens.old.rest.now) result tokens.new.rest.now }
+{
+    tokens.take();
+    Ok(how.call(context_variable(tokens)?))
 }
 
 #[tactic(auto, unfolding(crate::specs::Call::reference_context))]
@@ -195,37 +206,16 @@ fn reference_context(tokens: &mut Tokens<'_>) -> Result<PlainCall, ParseError>
     Ok(PlainCall::ReferenceContext(context, copy))
 }
 
-#[tactic(auto, unfolding(crate::specs::Call::acquire_lock))]
-fn acquire_lock(
+#[tactic(auto, unfolding(crate::specs::Call::lock_call))]
+fn lock_call(
     scope: &Scope<'_>,
     tokens: &mut Tokens<'_>,
-    kind: LockKind,
+    call: LockCall,
 ) -> Result<PlainCall, ParseError>
-    ensures { Reads (spec.acquire_lock (scope_of scope.now) kind tokens.old.rest.now) result tokens.new.rest.now }
+    ensures { Reads (spec.lock_call (scope_of scope.now) call tokens.old.rest.now) result tokens.new.rest.now }
 {
     tokens.take();
-    Ok(PlainCall::AcquireLock(kind, lock_named(scope, tokens, kind)?))
-}
-
-#[tactic(auto, unfolding(crate::specs::Call::acquire_shared))]
-fn acquire_shared(scope: &Scope<'_>, tokens: &mut Tokens<'_>) -> Result<PlainCall, ParseError>
-    ensures { Reads (spec.acquire_shared (scope_of scope.now) tokens.old.rest.now) result tokens.new.rest.now }
-{
-    tokens.take();
-    let lock = lock_named(scope, tokens, LockKind::Push)?;
-    Ok(PlainCall::AcquirePushLockShared(lock))
-}
-
-#[tactic(auto, unfolding(crate::specs::Call::release_lock))]
-fn release_lock(
-    scope: &Scope<'_>,
-    tokens: &mut Tokens<'_>,
-    kind: LockKind,
-) -> Result<PlainCall, ParseError>
-    ensures { Reads (spec.release_lock (scope_of scope.now) kind tokens.old.rest.now) result tokens.new.rest.now }
-{
-    tokens.take();
-    Ok(PlainCall::ReleaseLock(kind, lock_named(scope, tokens, kind)?))
+    Ok(call.call(lock_named(scope, tokens, call.kind())?))
 }
 
 #[tactic(auto, unfolding(crate::specs::Call::complete_pre))]
@@ -251,25 +241,12 @@ fn complete_post(tokens: &mut Tokens<'_>) -> Result<PlainCall, ParseError>
 pub fn plain_call(scope: &Scope<'_>, tokens: &mut Tokens<'_>) -> Result<PlainCall, ParseError>
     ensures { Reads (spec.plain_call (scope_of scope.now) tokens.old.rest.now) result tokens.new.rest.now }
 {
-    match tokens.peek() {
-        Kind::DeleteContext => {
-            tokens.take();
-            Ok(PlainCall::DeleteContext(context_variable(tokens)?))
-        }
-        Kind::ReferenceContext => reference_context(tokens),
-        Kind::ReleaseContext => {
-            tokens.take();
-            Ok(PlainCall::ReleaseContext(context_variable(tokens)?))
-        }
-        Kind::AcquireSpinLock => acquire_lock(scope, tokens, LockKind::Spin),
-        Kind::ReleaseSpinLock => release_lock(scope, tokens, LockKind::Spin),
-        Kind::AcquireFastMutex => acquire_lock(scope, tokens, LockKind::Fast),
-        Kind::ReleaseFastMutex => release_lock(scope, tokens, LockKind::Fast),
-        Kind::AcquirePushLock => acquire_lock(scope, tokens, LockKind::Push),
-        Kind::AcquirePushLockShared => acquire_shared(scope, tokens),
-        Kind::ReleasePushLock => release_lock(scope, tokens, LockKind::Push),
-        Kind::CompletePendedPreOperation => complete_pre(tokens),
-        Kind::CompletePendedPostOperation => complete_post(tokens),
-        _ => Err(tokens.refuse()),
+    match plain_shape_of(tokens.peek()) {
+        Some(PlainShape::End(how)) => end_context(tokens, how),
+        Some(PlainShape::Reference) => reference_context(tokens),
+        Some(PlainShape::Lock(call)) => lock_call(scope, tokens, call),
+        Some(PlainShape::CompletePre) => complete_pre(tokens),
+        Some(PlainShape::CompletePost) => complete_post(tokens),
+        None => Err(tokens.refuse()),
     }
 }

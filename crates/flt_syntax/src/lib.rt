@@ -14,6 +14,7 @@ mod names;
 mod naming;
 mod operand;
 mod scope;
+mod shape;
 mod spelled;
 mod statement;
 mod status;
