@@ -1,4 +1,10 @@
 pub mod Alike
 pub mod Appending
+pub mod Bits
 pub mod Cuts
+pub mod LocalSteps
+pub mod Moves
+pub mod NextEntry
+pub mod SeenSteps
+pub mod Stacked
 pub mod Texts

@@ -1,5 +1,10 @@
+pub mod Callbacks
+pub mod Columns
+pub mod Course
 pub mod Folds
+pub mod Outcomes
 pub mod Reasons
+pub mod Refusals
 pub mod Rows
 pub mod Tellings
 pub mod Text

@@ -1,16 +1,28 @@
 -- Timelines. This project's own definitions.
-use Rattle.std.specs.Prelude.{◌≡◌, ℕ, length}
+use Rattle.std.specs.Prelude.{◌≡◌, ℕ, List, length}
+use Rattle.flt_tree.specs.declared.filter.Filter.{Filter}
+use Rattle.flt_model.specs.Program.{by_altitude}
+use Rattle.flt_model.specs.declared.moves.JournalEntry.{JournalEntry}
+use Rattle.flt_model.specs.declared.verdict.Verdict.{Verdict}
+use Rattle.flt_world.specs.Filters.{filters_behind}
+use Rattle.flt_timeline.specs.Course.{refused_of, told_of}
 use Rattle.flt_timeline.specs.Folds.{AreFolds}
 use Rattle.flt_timeline.specs.Folds as repeating
 use Rattle.flt_timeline.specs.Rows.{Cover}
 use Rattle.flt_timeline.specs.Rows as cutting
+use Rattle.flt_timeline.specs.Tellings.{AreToldBy}
 use Rattle.flt_timeline.specs.declared.timeline.Timeline.{Timeline}
 
--- each of so many entries is told once and stands in one row, in the journal's order; the rows are cut where an entry doesn't join the one
--- before it; each row stands in one block or repeats one, and the blocks are those that these rows have
-pub record IsTimeline (entries : ℕ) (t : Timeline) : Type 0 where
-  pub each : length t.told ≡ entries
-  pub rows : Cover 0 t.rows entries
+-- the timeline of a journal on some filters, in any order, of which this is the verdict: what is told of each entry and who was on is by
+-- the machine; each entry stands in one row, in the journal's order; the rows are cut where an entry doesn't join the one before it; each
+-- row stands in one block or repeats one, and the blocks are those that these rows have
+pub record IsTimeline (filters : List Filter) (journal : List JournalEntry) (verdict : Verdict) (t : Timeline) : Type 0 where
+  pub ordered : filters_behind t.filters.items ≡ by_altitude filters
+  pub judged : t.verdict ≡ verdict
+  pub refused : t.refusal ≡ refused_of (by_altitude filters) verdict journal
+  pub entries : AreToldBy t.tellings t.told t.whos (told_of (by_altitude filters) verdict journal)
+  pub each : length t.told ≡ length journal
+  pub rows : Cover 0 t.rows (length journal)
   pub cuts : t.rows ≡ cutting.rows_of t.whos
   pub folds : AreFolds t.told t.rows 0 t.folds (length t.rows)
   pub blocks : t.folds ≡ repeating.folds t.told t.rows

@@ -1,6 +1,11 @@
 //! The columns of operations. Where there are few operations, each has its own; else a column is free for the next operation once its
 //! own is done.
 
+ghost use Rattle.std.specs.Prelude.{◌≡◌, ◌≤◌, ◌<◌, ◌^◌, length, position};
+ghost use Rattle.flt_model.specs.Moves as moves;
+ghost use Rattle.flt_model.specs.World as machine;
+ghost use Rattle.flt_timeline.specs.Columns as spec;
+
 use crate::telling::Column;
 use flt_records::Position;
 use flt_world::World;
@@ -10,7 +15,7 @@ pub(crate) const COLUMNS: usize = 8;
 
 /// What is in a column.
 #[derive(Clone, Copy)]
-struct Tenant {
+pub(crate) struct Tenant {
     /// The number of the operation.
     operation: Option<usize>,
     /// The activation that was on there last.
@@ -33,21 +38,29 @@ pub(crate) struct Columns {
     shared: bool,
 }
 
-/// Whether the operation is up and nothing of it is left.
-fn is_done(world: &World<'_>, operation: usize) -> bool {
+fn has_no_frame(world: &World<'_>, operation: usize) -> bool
+    ensures { result ≡ moves.is_empty (machine.route_at world.now.store operation).frames }
+{
     match world.routes.get(operation) {
-        Some(route) => {
-            matches!(route.position, Position::Up)
-                && route.frames.as_slice().is_empty()
-                && world.are_settled(operation)
-        }
+        Some(route) => matches!(route.frames.as_slice(), []),
         None => true,
     }
 }
 
+/// Whether the operation is up and nothing of it is left.
+fn is_done(world: &World<'_>, operation: usize) -> bool
+    ensures { result ≡ moves.is_done world.now.store operation }
+{
+    matches!(world.position(operation), Position::Up)
+        && has_no_frame(world, operation)
+        && world.are_settled(operation)
+}
+
 impl Tenant {
     /// Whether nothing more comes of the operation.
-    fn is_over(self, world: &World<'_>) -> bool {
+    fn is_over(self, world: &World<'_>) -> bool
+        ensures { result ≡ spec.is_over world.now.store self }
+    {
         match self.operation {
             Some(operation) => self.running == 0 && is_done(world, operation),
             None => true,
@@ -55,98 +68,165 @@ impl Tenant {
     }
 }
 
+/// Whether an operation may take a column.
+fn is_free(shared: bool, world: &World<'_>, tenant: &Tenant) -> bool
+    ensures { result ≡ spec.is_free shared world.now.store tenant.now }
+{
+    if shared {
+        tenant.is_over(world)
+    } else {
+        tenant.operation.is_none()
+    }
+}
+
+fn is_of(operation: usize, tenant: &Tenant) -> bool
+    ensures { result ≡ spec.is_of operation tenant.now }
+{
+    tenant.operation == Some(operation)
+}
+
+/// The column of a number; behind all where there is none.
+fn column_by(number: Option<usize>) -> Column
+    ensures { result ≡ spec.column_by number }
+{
+    match number {
+        Some(number) => Column::Own(number),
+        None => Column::Beyond,
+    }
+}
+
+/// The bit of a column.
+fn bit_of(is_over: bool) -> u32
+    ensures exact { result ≡ spec.bit_of is_over }
+    ensures within { result ≤ 1 }
+{
+    if is_over { 0 } else { 1 }
+}
+
+/// The columns of which more comes, the first as the lowest bit.
+#[tactic(auto, using(crate::proofs::Bits::few, crate::proofs::Bits::one_more), unfolding(crate::specs::Columns::alive_in))]
+fn alive_in(world: &World<'_>, tenants: &[Tenant]) -> u32
+    requires { length tenants.now ≤ 8 }
+    ensures exact { result ≡ spec.alive_in world.now.store tenants.now }
+    ensures within { result < 2 ^ length tenants.now }
+{
+    match tenants {
+        [] => 0,
+        [first, others @ ..] => bit_of(first.is_over(world)) + 2 * alive_in(world, others),
+    }
+}
+
 impl Columns {
     /// No operation is there yet; so many will come.
-    pub(crate) fn new(operations: usize) -> Columns {
+    pub(crate) fn new(operations: usize) -> Columns
+        ensures { result ≡ spec.opened operations }
+    {
         Columns {
             tenants: [FREE; 8],
             shared: operations > COLUMNS,
         }
     }
 
+    /// The number of the column that an operation is in.
+    fn place_of(&self, operation: usize) -> Option<usize>
+        ensures { result ≡ position (spec.is_of operation) self.now.tenants }
+    {
+        self.tenants
+            .iter()
+            .position(|tenant| is_of(operation, tenant))
+    }
+
     /// The column of an operation; behind all where it has none.
-    pub(crate) fn find(&self, operation: Option<usize>) -> Column {
-        if operation.is_none() {
-            return Column::Margin;
+    pub(crate) fn find(&self, operation: Option<usize>) -> Column
+        ensures { result ≡ spec.column_of self.now.tenants operation }
+    {
+        match operation {
+            Some(operation) => column_by(self.place_of(operation)),
+            None => Column::Margin,
         }
-        for (number, tenant) in self.tenants.iter().enumerate() {
-            if tenant.operation == operation {
-                return Column::Own(number);
+    }
+
+    /// What is in a column; nothing elsewhere.
+    fn tenant(&self, column: Column) -> Tenant
+        ensures { result ≡ spec.tenant_in self.now.tenants column }
+    {
+        match column {
+            Column::Own(number) if number < COLUMNS => self.tenants[number],
+            _ => FREE,
+        }
+    }
+
+    /// Puts this into a column; elsewhere nothing is kept.
+    fn put(&mut self, column: Column, tenant: Tenant)
+        ensures { self.new ≡ spec.with_tenant self.old column tenant }
+    {
+        if let Column::Own(number) = column {
+            if number < COLUMNS {
+                self.tenants[number] = tenant;
             }
         }
-        Column::Beyond
     }
 
     /// The first column that an operation may take.
-    fn first_free(&self, world: &World<'_>) -> Option<usize> {
-        for (number, tenant) in self.tenants.iter().enumerate() {
-            let is_free = if self.shared {
-                tenant.is_over(world)
-            } else {
-                tenant.operation.is_none()
-            };
-            if is_free {
-                return Some(number);
-            }
-        }
-        None
+    fn first_free(&self, world: &World<'_>) -> Option<usize>
+        ensures { result ≡ position (spec.is_free self.now.shared world.now.store) self.now.tenants }
+    {
+        self.tenants
+            .iter()
+            .position(|tenant| is_free(self.shared, world, tenant))
     }
 
     /// An operation comes in.
-    pub(crate) fn add(&mut self, world: &World<'_>, operation: usize) {
-        if let Some(number) = self.first_free(world) {
-            if let Some(tenant) = self.tenants.get_mut(number) {
-                *tenant = Tenant {
-                    operation: Some(operation),
-                    ..FREE
-                };
-            }
-        }
-    }
-
-    /// An activation of an operation starts or goes on. True where it wasn't the last that was on there.
-    pub(crate) fn put_on(&mut self, column: Column, activation: usize) -> bool {
-        let Column::Own(number) = column else {
-            return true;
+    pub(crate) fn add(&mut self, world: &World<'_>, operation: usize)
+        ensures { self.new ≡ spec.arrived world.now.store self.old operation }
+    {
+        let column = column_by(self.first_free(world));
+        let tenant = Tenant {
+            operation: Some(operation),
+            last: None,
+            running: 0,
         };
-        match self.tenants.get_mut(number) {
-            Some(tenant) => {
-                let is_other = tenant.last != Some(activation);
-                tenant.last = Some(activation);
-                is_other
-            }
-            None => true,
-        }
+        self.put(column, tenant);
     }
 
     /// An activation starts.
-    pub(crate) fn start(&mut self, column: Column) {
-        if let Column::Own(number) = column {
-            if let Some(tenant) = self.tenants.get_mut(number) {
-                tenant.running = tenant.running.saturating_add(1);
-            }
-        }
+    pub(crate) fn start(&mut self, column: Column, activation: usize)
+        ensures { self.new ≡ spec.begun self.old column activation }
+    {
+        let tenant = self.tenant(column);
+        let started = Tenant {
+            operation: tenant.operation,
+            last: Some(activation),
+            running: tenant.running.saturating_add(1),
+        };
+        self.put(column, started);
     }
 
-    /// An activation ends.
-    pub(crate) fn end(&mut self, column: Column) {
-        if let Column::Own(number) = column {
-            if let Some(tenant) = self.tenants.get_mut(number) {
-                tenant.running = tenant.running.saturating_sub(1);
-            }
-        }
+    /// An activation goes on, and may have ended with that.
+    pub(crate) fn go_on(&mut self, column: Column, activation: usize, ends: bool)
+        ensures { self.new ≡ spec.gone_on self.old column activation ends }
+    {
+        let tenant = self.tenant(column);
+        let left = tenant.running.saturating_sub(1);
+        let gone = Tenant {
+            operation: tenant.operation,
+            last: Some(activation),
+            running: if ends { left } else { tenant.running },
+        };
+        self.put(column, gone);
+    }
+
+    /// Whether an activation was the last that was on in a column.
+    pub(crate) fn was_on(&self, column: Column, activation: usize) -> bool
+        ensures { result ≡ spec.was_on self.now.tenants column activation }
+    {
+        self.tenant(column).last == Some(activation)
     }
 
     /// The columns whose operation isn't done, column 0 as the lowest bit.
-    pub(crate) fn alive(&self, world: &World<'_>) -> u32 {
-        let mut alive = 0;
-        let mut bit: u32 = 1;
-        for tenant in &self.tenants {
-            if !tenant.is_over(world) {
-                alive |= bit;
-            }
-            bit = bit.wrapping_mul(2);
-        }
-        alive
+    pub(crate) fn alive(&self, world: &World<'_>) -> u32
+        ensures { result ≡ spec.alive_in world.now.store self.now.tenants }
+    {
+        alive_in(world, &self.tenants)
     }
 }

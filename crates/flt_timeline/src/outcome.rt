@@ -1,7 +1,16 @@
 //! Whether a call succeeded or a test held: what is looked at before the step and after it.
 
+ghost use Rattle.std.specs.Prelude.{◌≡◌, List, [], ◌∷◌, MatchOption};
+ghost use Rattle.flt_model.specs.Calls.{link_of as link};
+ghost use Rattle.flt_model.specs.Variables as variables;
+ghost use Rattle.flt_model.specs.World as machine;
+ghost use Rattle.flt_records.specs.Rest.{statement_of};
+ghost use Rattle.flt_tree.specs.declared.filter.Statement.{Statement as Written, out-Statement};
+ghost use Rattle.flt_tree.specs.declared.variable.OperationVariable.TheVariants.{Data};
+ghost use Rattle.flt_timeline.specs.Outcomes as spec;
+
 use flt_model::Key;
-use flt_records::Link;
+use flt_records::{Link, Upcoming};
 use flt_rules::Anchor;
 use flt_tree::{
     Condition, ContextVariable, FallibleCall, OperationVariable, RemovedVariable, Statement, Test,
@@ -26,46 +35,65 @@ pub(crate) enum Sign {
 }
 
 /// The link that a call works on; none where it is on the stream of `data`, which is NULL.
-fn link_of(world: &World<'_>, activation: usize, anchor: Anchor) -> Option<Link> {
+fn link_of(world: &World<'_>, activation: usize, anchor: Anchor) -> Option<Link>
+    ensures { result ≡ link world.now.store (machine.actor_at world.now activation).filter anchor
+        (variables.operation_in (machine.activation_at world.now activation) Data) }
+{
     let filter = world.filter(activation);
-    let key = match anchor {
-        Anchor::Instance => Key::Instance,
-        Anchor::Stream => {
-            let visit = world.operation_in(activation, OperationVariable::Data)?;
-            Key::Stream(world.file_of(visit))
-        }
-    };
-    Some(Link { filter, key })
-}
-
-/// A set succeeds where a context is linked by it that wasn't.
-fn sign_of_set(world: &World<'_>, activation: usize, context: ContextVariable) -> Sign {
-    match world.context_in(activation, context) {
-        Some(context) if !world.is_linked(context) => Sign::Links(context),
-        _ => Sign::Is(false),
+    match anchor {
+        Anchor::Stream => match world.operation_in(activation, OperationVariable::Data) {
+            Some(visit) => Some(Link {
+                filter,
+                key: Key::Stream(world.file_of(visit)),
+            }),
+            None => None,
+        },
+        Anchor::Instance => Some(Link {
+            filter,
+            key: Key::Instance,
+        }),
     }
 }
 
-fn sign_of_delete(world: &World<'_>, activation: usize, anchor: Anchor) -> Sign {
-    match link_of(world, activation, anchor) {
-        Some(link) => Sign::Is(world.linked_at(link).is_some()),
+/// A set succeeds where a context is linked by it that wasn't.
+fn sign_of_set(world: &World<'_>, activation: usize, context: ContextVariable) -> Sign
+    ensures { result ≡ spec.sign_of_set world.now.store (variables.context_in (machine.activation_at world.now activation) context) }
+{
+    match world.context_in(activation, context) {
+        Some(context) if world.is_linked(context) => Sign::Is(false),
+        Some(context) => Sign::Links(context),
         None => Sign::Is(false),
     }
 }
 
-fn sign_of_insert(world: &World<'_>, activation: usize) -> Sign {
+fn is_there(world: &World<'_>, link: Option<Link>) -> bool
+    ensures { result ≡ spec.is_there world.now.store link }
+{
+    match link {
+        Some(link) => world.linked_at(link).is_some(),
+        None => false,
+    }
+}
+
+fn sign_of_insert(world: &World<'_>, activation: usize) -> Sign
+    ensures { result ≡ spec.sign_of_insert world.now.store (variables.operation_in (machine.activation_at world.now activation) Data) }
+{
     match world.operation_in(activation, OperationVariable::Data) {
         Some(visit) => Sign::Waits(visit, world.waiting(visit)),
         None => Sign::Is(false),
     }
 }
 
-fn sign_of_call(world: &World<'_>, activation: usize, grant: bool, call: &FallibleCall) -> Sign {
+fn sign_of_call(world: &World<'_>, activation: usize, grant: bool, call: &FallibleCall) -> Sign
+    ensures { result ≡ spec.sign_of_call world.now activation grant call.now }
+{
     match call {
         FallibleCall::AllocateContext(_) => Sign::Is(grant),
         FallibleCall::GetContext(_, context) => Sign::Gives(*context),
         FallibleCall::SetContext(_, _, context, _) => sign_of_set(world, activation, *context),
-        FallibleCall::DeleteContextOf(anchor, _) => sign_of_delete(world, activation, *anchor),
+        FallibleCall::DeleteContextOf(anchor, _) => {
+            Sign::Is(is_there(world, link_of(world, activation, *anchor)))
+        }
         FallibleCall::InsertIo(_) => sign_of_insert(world, activation),
         FallibleCall::RemoveNextIo(removed, _) => Sign::Removes(*removed),
         FallibleCall::QueueDeferredIoWorkItem(_, _) | FallibleCall::QueueGenericWorkItem(_, _) => {
@@ -75,20 +103,23 @@ fn sign_of_call(world: &World<'_>, activation: usize, grant: bool, call: &Fallib
 }
 
 /// Whether the operation is an I/O request packet.
-fn is_irp(world: &World<'_>, activation: usize) -> bool {
+fn is_irp(world: &World<'_>, activation: usize) -> bool
+    ensures { result ≡ spec.is_packet world.now.store (variables.operation_in (machine.activation_at world.now activation) Data) }
+{
     match world.operation_in(activation, OperationVariable::Data) {
         Some(visit) => world.mode_of(visit).is_irp(),
         None => false,
     }
 }
 
-/// What shows how the next step comes out, with the choice that is left to the system; none where it can come out in one way alone.
-pub(crate) fn sign_of(
+fn sign_of_statement(
     world: &World<'_>,
     activation: usize,
     grant: bool,
     statement: &Statement,
-) -> Option<Sign> {
+) -> Option<Sign>
+    ensures { result ≡ spec.sign_of_statement world.now activation grant (out-Statement statement.now) }
+{
     match statement {
         Statement::If(_, Condition::Succeeds(call), _, _) => {
             Some(sign_of_call(world, activation, grant, call))
@@ -100,9 +131,29 @@ pub(crate) fn sign_of(
     }
 }
 
+/// What shows how the next step comes out, with the choice that is left to the system; none where it can come out in one way alone.
+pub(crate) fn sign_of(
+    world: &World<'_>,
+    activation: usize,
+    grant: bool,
+    next: Option<Upcoming<'_>>,
+) -> Option<Sign>
+    ensures { (statements rest : List Written) → MatchOption next.entry (statements ≡ []) (λ u. statements ≡ statement_of u ∷ rest) →
+        result ≡ spec.sign_of world.now activation grant statements }
+{
+    match next {
+        Some(Upcoming::Statement(statement)) => {
+            sign_of_statement(world, activation, grant, statement)
+        }
+        _ => None,
+    }
+}
+
 impl Sign {
     /// Whether it shows in the world behind the step.
-    pub(crate) fn shows(self, world: &World<'_>, activation: usize) -> bool {
+    pub(crate) fn shows(self, world: &World<'_>, activation: usize) -> bool
+        ensures { result ≡ spec.shows world.now activation self }
+    {
         match self {
             Sign::Is(known) => known,
             Sign::Gives(variable) => world.context_in(activation, variable).is_some(),

@@ -1,6 +1,11 @@
 //! Why an entry isn't enabled: which condition of its move or step fails, in the world in which it comes.
 
-ghost use Rattle.std.specs.Prelude.{◌≡◌};
+ghost use Rattle.std.specs.Prelude.{◌≡◌, Bool, List, is_some, length, [], ◌∷◌, MatchOption};
+ghost use Rattle.flt_model.specs.LocalSteps.{local_step};
+ghost use Rattle.flt_model.specs.World.{Activation as Acting, route_at};
+ghost use Rattle.flt_records.specs.Rest.{statement_of};
+ghost use Rattle.flt_tree.specs.declared.filter.Statement.{Statement as Written};
+ghost use Rattle.flt_timeline.specs.Refusals as reasons;
 
 use flt_course::is_local;
 use flt_model::{Move, fits_mode};
@@ -106,7 +111,9 @@ impl Refusal {
 
 // ---- operations
 
-fn of_arrival(kind: Operation, mode: Mode) -> Refusal {
+fn of_arrival(kind: Operation, mode: Mode) -> Refusal
+    ensures { result ≡ reasons.of_arrival kind mode }
+{
     if fits_mode(kind, mode) {
         Refusal::NoFile
     } else {
@@ -114,12 +121,26 @@ fn of_arrival(kind: Operation, mode: Mode) -> Refusal {
     }
 }
 
-/// An operation doesn't go down: it isn't there, is elsewhere, or is at a filter, which is a reason of its own.
-fn of_way_down(world: &World<'_>, stack: &Stack<'_>, serial: u32, at_filter: Refusal) -> Refusal {
-    let operation = serial as usize;
-    if operation >= world.routes.len() {
-        return Refusal::NoOperation;
+/// An operation isn't there, or this.
+fn of_operation(world: &World<'_>, operation: usize, why: Refusal) -> Refusal
+    ensures { result ≡ reasons.of_operation world.now.store operation why }
+{
+    if operation < world.routes.len() {
+        why
+    } else {
+        Refusal::NoOperation
     }
+}
+
+/// An operation doesn't go down: it is elsewhere, or at a filter, which is a reason of its own.
+fn of_position(
+    world: &World<'_>,
+    stack: &Stack<'_>,
+    operation: usize,
+    at_filter: Refusal,
+) -> Refusal
+    ensures { result ≡ reasons.of_position (length stack.now) at_filter (route_at world.now.store operation).position }
+{
     match world.position(operation) {
         Position::Down(filter) if filter < stack.len() => at_filter,
         Position::Down(_) => Refusal::IsBelow,
@@ -128,11 +149,17 @@ fn of_way_down(world: &World<'_>, stack: &Stack<'_>, serial: u32, at_filter: Ref
     }
 }
 
-fn of_post(world: &World<'_>, serial: u32) -> Refusal {
+fn of_way_down(world: &World<'_>, stack: &Stack<'_>, serial: u32, at_filter: Refusal) -> Refusal
+    ensures { result ≡ reasons.of_way_down stack.now world.now.store serial at_filter }
+{
     let operation = serial as usize;
-    if operation >= world.routes.len() {
-        return Refusal::NoOperation;
-    }
+    let why = of_position(world, stack, operation, at_filter);
+    of_operation(world, operation, why)
+}
+
+fn of_way_up(world: &World<'_>, operation: usize) -> Refusal
+    ensures { result ≡ reasons.of_way_up (route_at world.now.store operation).position }
+{
     match world.position(operation) {
         Position::Down(_) => Refusal::GoesDown,
         Position::Visiting => Refusal::IsVisited,
@@ -140,42 +167,34 @@ fn of_post(world: &World<'_>, serial: u32) -> Refusal {
     }
 }
 
-fn of_cancel(world: &World<'_>, serial: u32) -> Refusal {
-    let operation = serial as usize;
-    if operation >= world.routes.len() {
-        Refusal::NoOperation
-    } else if world.is_cancelled(operation) {
+fn of_cancel(world: &World<'_>, operation: usize) -> Refusal
+    ensures { result ≡ reasons.of_cancel world.now.store operation }
+{
+    let why = if world.is_cancelled(operation) {
         Refusal::IsCancelled
     } else {
         Refusal::IsDone
-    }
+    };
+    of_operation(world, operation, why)
 }
 
 // ---- filters
 
-fn of_canceled(world: &World<'_>, filter: usize, serial: u32) -> Refusal {
-    let operation = serial as usize;
-    if operation >= world.routes.len() {
-        Refusal::NoOperation
-    } else if world.is_cancelled(operation) || world.is_detaching(filter) {
+fn of_canceled(world: &World<'_>, filter: usize, operation: usize) -> Refusal
+    ensures { result ≡ reasons.of_canceled world.now.store filter operation }
+{
+    let why = if world.is_cancelled(operation) || world.is_detaching(filter) {
         Refusal::NoEntry
     } else {
         Refusal::NeedNotEnd
-    }
-}
-
-fn of_drain(world: &World<'_>, filter: usize, serial: u32) -> Refusal {
-    if !world.is_detaching(filter) {
-        Refusal::IsNotDetaching
-    } else if serial as usize >= world.routes.len() {
-        Refusal::NoOperation
-    } else {
-        Refusal::NoFrameOf
-    }
+    };
+    of_operation(world, operation, why)
 }
 
 /// A teardown doesn't go on: it hasn't begun or is over, or there is a reason of its own.
-fn of_teardown(world: &World<'_>, filter: usize, begun: Refusal) -> Refusal {
+fn of_teardown(world: &World<'_>, filter: usize, begun: Refusal) -> Refusal
+    ensures { result ≡ reasons.of_teardown world.now.store filter begun }
+{
     if world.is_detaching(filter) {
         begun
     } else {
@@ -183,31 +202,48 @@ fn of_teardown(world: &World<'_>, filter: usize, begun: Refusal) -> Refusal {
     }
 }
 
-fn of_work(world: &World<'_>, item: u32) -> Refusal {
-    if (item as usize) < world.items().len() {
-        Refusal::ItemIsTaken
-    } else {
-        Refusal::NoItem
-    }
-}
-
-/// A move of the filter of an altitude.
-fn of_filter(world: &World<'_>, stack: &Stack<'_>, altitude: u32, step: Move) -> Refusal {
-    let filter = stack.number_of(altitude);
-    if filter >= stack.len() {
-        return Refusal::NoFilter;
-    }
+/// A move of the filter of a number.
+fn of_filter(world: &World<'_>, filter: usize, step: Move) -> Refusal
+    ensures { result ≡ reasons.of_filter world.now.store filter step }
+{
     match step {
-        Move::Canceled { serial, .. } => of_canceled(world, filter, serial),
-        Move::Drain { serial, .. } => of_drain(world, filter, serial),
+        Move::Canceled { serial, .. } => of_canceled(world, filter, serial as usize),
+        Move::Drain { serial, .. } => {
+            let why = of_operation(world, serial as usize, Refusal::NoFrameOf);
+            of_teardown(world, filter, why)
+        }
         Move::Unlink { .. } => of_teardown(world, filter, Refusal::NoLink),
         Move::Detached { .. } => of_teardown(world, filter, Refusal::IsNotDrained),
         _ => Refusal::IsNotAttached,
     }
 }
 
+/// A move of the filter of an altitude.
+fn at_altitude(world: &World<'_>, stack: &Stack<'_>, altitude: u32, step: Move) -> Refusal
+    ensures { result ≡ reasons.at_altitude stack.now world.now.store altitude step }
+{
+    let filter = stack.number_of(altitude);
+    if filter < stack.len() {
+        of_filter(world, filter, step)
+    } else {
+        Refusal::NoFilter
+    }
+}
+
+fn of_work(world: &World<'_>, item: usize) -> Refusal
+    ensures { result ≡ reasons.of_work world.now.store item }
+{
+    if item < world.items().len() {
+        Refusal::ItemIsTaken
+    } else {
+        Refusal::NoItem
+    }
+}
+
 /// Why a move isn't enabled in this world.
-pub(crate) fn of_move(world: &World<'_>, stack: &Stack<'_>, step: Move) -> Refusal {
+pub(crate) fn of_move(world: &World<'_>, stack: &Stack<'_>, step: Move) -> Refusal
+    ensures { result ≡ reasons.of_move stack.now world.now.store step }
+{
     match step {
         Move::Arrive {
             operation,
@@ -217,21 +253,28 @@ pub(crate) fn of_move(world: &World<'_>, stack: &Stack<'_>, step: Move) -> Refus
         Move::Pre { serial } => of_way_down(world, stack, serial, Refusal::HasNoPre),
         Move::Skip { serial } => of_way_down(world, stack, serial, Refusal::HasPre),
         Move::Lower { serial } => of_way_down(world, stack, serial, Refusal::IsAbove),
-        Move::Post { serial } => of_post(world, serial),
-        Move::Cancel { serial } => of_cancel(world, serial),
-        Move::Work { item } => of_work(world, item),
+        Move::Post { serial } => {
+            let why = of_way_up(world, serial as usize);
+            of_operation(world, serial as usize, why)
+        }
+        Move::Cancel { serial } => of_cancel(world, serial as usize),
+        Move::Work { item } => of_work(world, item as usize),
         Move::Canceled { altitude, .. }
         | Move::Detach { altitude }
         | Move::Drain { altitude, .. }
         | Move::Unlink { altitude, .. }
-        | Move::Detached { altitude } => of_filter(world, stack, altitude, step),
+        | Move::Detached { altitude } => at_altitude(world, stack, altitude, step),
     }
 }
 
 // ---- steps
 
 /// Why the last step of an entry isn't enabled with this choice, by what comes next in the activation: nothing at the end of its body.
-pub(crate) fn of_step(next: Option<Upcoming<'_>>, grant: bool) -> Refusal {
+pub(crate) fn of_step(next: Option<Upcoming<'_>>, grant: bool) -> Refusal
+    ensures { (draining : Bool) (act : Acting) (statements rest : List Written) →
+        MatchOption next.entry (statements ≡ []) (λ u. statements ≡ statement_of u ∷ rest) →
+        result ≡ reasons.of_step (is_some (local_step draining act statements)) grant }
+{
     if is_local(next) {
         Refusal::IsUnseen
     } else if grant {

@@ -1,19 +1,24 @@
 //! A journal is run, and what each entry comes to is written down.
 
+ghost use Rattle.std.specs.Prelude.{◌≡◌, ◌-◌, ◌≤◌, IfOk, count_by, length, slice_get};
+ghost use Rattle.flt_world.specs.Filters.{filters_behind};
+ghost use Rattle.flt_timeline.specs.Course as spec;
+
+use crate::callbacks::{end_line, start_of};
 use crate::columns::Columns;
-use crate::outcome::{Sign, sign_of};
-use crate::refusal::{Refusal, of_move, of_step};
-use crate::telling::{Happening, Started, Telling, Who};
+use crate::going::{Stage, go};
+use crate::refusal::{Refusal, of_move};
+use crate::telling::{Column, Happening, Started, Telling, Who};
+use flt_course::make_move;
 use flt_model::{Journal, JournalEntry, Move};
-use flt_records::Upcoming;
-use flt_rules::{Operation, Place};
-use flt_tree::{Callback, Filter, Head, OperationVariable, Statement, Tree};
-use flt_world::{Stack, World};
-use std::alloc::{AllocError, Global};
+use flt_tree::OperationVariable;
+use flt_world::World;
+use sqlite_items::Items;
+use std::alloc::AllocError;
 
 /// An activation, as it is told.
 #[derive(Clone, Copy)]
-struct Run {
+pub(crate) struct Run {
     operation: Option<usize>,
     started: Started,
 }
@@ -25,89 +30,39 @@ pub(crate) struct Told {
     pub(crate) who: Who,
 }
 
-/// What tells the entries of a journal, one after the other.
+/// How far a journal was run.
 #[derive(Drop)]
-pub(crate) struct Teller<'b, 'a> {
-    alloc: Global,
-    stack: &'b Stack<'a>,
-    /// From the highest altitude to the lowest.
-    filters: &'b [&'a Filter],
+pub(crate) struct Scene<'a> {
     world: World<'a>,
     columns: Columns,
     /// By activation.
-    runs: Vec<Run>,
-    /// Why the last entry isn't enabled, if it isn't.
-    pub(crate) refusal: Option<Refusal>,
+    runs: Items<Run>,
 }
 
-/// The filters of some trees, from the highest altitude to the lowest.
-pub(crate) fn filters_of<'a>(
-    alloc: Global,
-    stack: &Stack<'a>,
-    trees: &'a [Tree],
-) -> Result<Vec<&'a Filter>, AllocError> {
-    let mut filters = Vec::new(alloc);
-    for number in 0..stack.len() {
-        for tree in trees {
-            if number_of(stack, &tree.filter) == Some(number) {
-                filters.push(&tree.filter)?;
-            }
-        }
-    }
-    Ok(filters)
+fn is_arrival(entry: &JournalEntry) -> bool
+    ensures { result ≡ spec.is_arrival entry.now }
+{
+    matches!(entry, JournalEntry::Move(Move::Arrive { .. }))
 }
 
-fn number_of(stack: &Stack<'_>, filter: &Filter) -> Option<usize> {
-    match u32::try_from(filter.altitude) {
-        Ok(altitude) => Some(stack.number_of(altitude)),
-        Err(_) => None,
-    }
-}
-
-/// How many operations arrive in a journal.
-fn arrivals(journal: &Journal) -> usize {
+/// How many operations arrive in some entries.
+fn arrivals(entries: &[JournalEntry]) -> usize
+    ensures exact { result ≡ count_by spec.is_arrival entries.now }
+    ensures within { result ≤ length entries.now }
+{
     let mut arrivals: usize = 0;
-    for entry in journal.entries() {
-        if matches!(entry, JournalEntry::Move(Move::Arrive { .. })) {
-            arrivals = arrivals.saturating_add(1);
+    for entry in entries {
+        if is_arrival(entry) {
+            arrivals += 1;
         }
     }
     arrivals
 }
 
-fn is_registered(head: &Head, place: Place) -> bool {
-    match (head, place) {
-        (Head::Pre(own), Place::Pre(kind)) => *own == kind,
-        (Head::Post(own), Place::Post(kind)) => *own == kind,
-        (Head::Canceled, Place::Canceled) => true,
-        _ => false,
-    }
-}
-
-/// The number of the callback that is registered for a place that is no routine's, from 0.
-fn callback_for(filter: &Filter, place: Place) -> usize {
-    let mut number: usize = 0;
-    for callback in filter.callbacks.as_slice() {
-        if is_registered(&callback.head, place) {
-            return number;
-        }
-        number = number.saturating_add(1);
-    }
-    number
-}
-
-fn line_of(statement: &Statement) -> usize {
-    match statement {
-        Statement::Act(span, _)
-        | Statement::Call(span, _)
-        | Statement::Return(span, _)
-        | Statement::If(span, _, _, _)
-        | Statement::Repeat(span, _, _) => span.line,
-    }
-}
-
 /// What a move comes to that starts no callback.
-fn happening_of(step: Move) -> Happening {
+fn happening_of(step: Move) -> Happening
+    ensures { result ≡ spec.happening_of step }
+{
     match step {
         Move::Arrive {
             operation,
@@ -128,25 +83,46 @@ fn happening_of(step: Move) -> Happening {
     }
 }
 
-impl<'b, 'a> Teller<'b, 'a> {
-    pub(crate) fn new(
-        alloc: Global,
-        stack: &'b Stack<'a>,
-        filters: &'b [&'a Filter],
-        journal: &Journal,
-    ) -> Result<Teller<'b, 'a>, AllocError> {
-        Ok(Teller {
-            alloc,
-            stack,
-            filters,
-            world: World::opening(alloc, stack.len())?,
-            columns: Columns::new(arrivals(journal)),
-            runs: Vec::new(alloc),
-            refusal: None,
+/// What is told of an entry that changes nothing; the columns are those of the last entry that was made.
+pub(crate) fn aside(alive: u32, happening: Happening) -> Told
+    ensures { result ≡ spec.aside alive happening }
+{
+    Told {
+        telling: Telling {
+            column: Column::Margin,
+            alive,
+            resumed: None,
+            happening,
+        },
+        who: Who {
+            operation: None,
+            activation: None,
+            ends: false,
+        },
+    }
+}
+
+fn resumed_if(on: bool, started: Started) -> Option<Started>
+    ensures { result ≡ spec.resumed_if on started }
+{
+    if on { None } else { Some(started) }
+}
+
+impl<'a> Scene<'a> {
+    /// Before the first entry.
+    pub(crate) fn new(stage: &Stage<'_, 'a>, journal: &Journal) -> Result<Scene<'a>, AllocError>
+        ensures { IfOk result (λ scene. scene ≡ spec.scene_before stage.now.stack.now journal.now) }
+    {
+        Ok(Scene {
+            world: World::opening(stage.alloc, stage.stack.len())?,
+            columns: Columns::new(arrivals(journal.entries())),
+            runs: Items::new(stage.alloc),
         })
     }
 
-    fn told(&self, who: Who, resumed: Option<Started>, happening: Happening) -> Told {
+    fn told(&self, who: Who, resumed: Option<Started>, happening: Happening) -> Told
+        ensures { result ≡ spec.told_in self.now.world self.now.columns who resumed happening }
+    {
         Told {
             telling: Telling {
                 column: self.columns.find(who.operation),
@@ -158,26 +134,12 @@ impl<'b, 'a> Teller<'b, 'a> {
         }
     }
 
-    /// What is told of an entry that concerns nobody.
-    pub(crate) fn aside(&self, happening: Happening) -> Told {
-        let nobody = Who {
-            operation: None,
-            activation: None,
-            ends: false,
-        };
-        self.told(nobody, None, happening)
-    }
-
-    /// What is told of an entry that isn't enabled.
-    fn refused(&mut self, entry: JournalEntry, refusal: Refusal) -> Told {
-        self.refusal = Some(refusal);
-        self.aside(Happening::IsRefused(entry))
-    }
-
     // ---- moves
 
     /// The routine of the work item that a move starts.
-    fn routine_of(&self, step: Move) -> Option<usize> {
+    fn routine_of(&self, step: Move) -> Option<usize>
+        ensures { result ≡ spec.routine_of self.now.world.store step }
+    {
         let Move::Work { item } = step else {
             return None;
         };
@@ -187,10 +149,19 @@ impl<'b, 'a> Teller<'b, 'a> {
         }
     }
 
+    /// The number of the last operation that has arrived.
+    fn last_operation(&self) -> usize
+        ensures { result ≡ length self.now.world.store.routes - 1 }
+    {
+        self.world.routes.len().saturating_sub(1)
+    }
+
     /// The operation that a move which starts nothing is about.
-    fn operation_of(&self, step: Move) -> Option<usize> {
+    fn operation_of(&self, step: Move) -> Option<usize>
+        ensures { result ≡ spec.operation_of self.now.world.store step }
+    {
         match step {
-            Move::Arrive { .. } => self.world.routes.len().checked_sub(1),
+            Move::Arrive { .. } => Some(self.last_operation()),
             Move::Skip { serial } | Move::Lower { serial } | Move::Cancel { serial } => {
                 Some(serial as usize)
             }
@@ -198,29 +169,10 @@ impl<'b, 'a> Teller<'b, 'a> {
         }
     }
 
-    /// The number of the callback that an activation runs; a routine is known by the work item that started it.
-    fn callback_of(&self, activation: usize, filter: usize, routine: Option<usize>) -> usize {
-        if let Some(routine) = routine {
-            return routine;
-        }
-        match self.filters.get(filter) {
-            Some(filter) => callback_for(filter, self.world.place(activation)),
-            None => 0,
-        }
-    }
-
-    /// The callback that an activation runs.
-    fn started(&self, activation: usize, routine: Option<usize>) -> Started {
-        let filter = self.world.filter(activation);
-        Started {
-            filter,
-            callback: self.callback_of(activation, filter, routine),
-            draining: self.world.has_flag(activation),
-        }
-    }
-
     /// The operation that an activation is about.
-    fn operation_on(&self, activation: usize) -> Option<usize> {
+    fn operation_on(&self, activation: usize) -> Option<usize>
+        ensures { result ≡ spec.operation_on self.now.world activation }
+    {
         match self.world.operation_in(activation, OperationVariable::Data) {
             Some(visit) => Some(self.world.operation_of(visit)),
             None => None,
@@ -230,15 +182,18 @@ impl<'b, 'a> Teller<'b, 'a> {
     /// A callback has started: the activation of a number.
     fn tell_start(
         &mut self,
+        stage: &Stage<'_, 'a>,
         activation: usize,
         routine: Option<usize>,
-    ) -> Result<Told, AllocError> {
-        let started = self.started(activation, routine);
+    ) -> Result<Told, AllocError>
+        ensures { IfOk result (λ here. spec.GoesTo here self.new
+            (spec.after_start (filters_behind stage.now.filters.now) self.old.world self.old.columns self.old.runs activation routine)) }
+    {
+        let started = start_of(stage.filters, &self.world, activation, routine);
         let operation = self.operation_on(activation);
         self.runs.push(Run { operation, started })?;
         let column = self.columns.find(operation);
-        self.columns.start(column);
-        self.columns.put_on(column, activation);
+        self.columns.start(column, activation);
         let who = Who {
             operation,
             activation: Some(activation),
@@ -247,146 +202,59 @@ impl<'b, 'a> Teller<'b, 'a> {
         Ok(self.told(who, None, Happening::Starts(started)))
     }
 
-    /// Makes a move. False where it isn't enabled.
-    fn make(&mut self, step: Move) -> Result<bool, AllocError> {
-        flt_course::make_move(&mut self.world, self.alloc, self.stack, step)
+    /// An operation that arrives takes a column.
+    fn add_column(&mut self, step: Move)
+        ensures { self.new ≡ record self.old { columns = spec.columns_after self.old.world.store self.old.columns step } }
+    {
+        if let Move::Arrive { .. } = step {
+            let operation = self.last_operation();
+            self.columns.add(&self.world, operation);
+        }
     }
 
     /// A move was made that started nothing.
-    fn tell_moved(&mut self, step: Move) -> Told {
-        let operation = self.operation_of(step);
-        if let (Move::Arrive { .. }, Some(operation)) = (step, operation) {
-            self.columns.add(&self.world, operation);
-        }
+    fn tell_system(&mut self, step: Move) -> Told
+        ensures { spec.GoesTo result self.new (spec.after_system self.old step self.old.world) }
+    {
+        self.add_column(step);
         let who = Who {
-            operation,
+            operation: self.operation_of(step),
             activation: None,
             ends: false,
         };
         self.told(who, None, happening_of(step))
     }
 
-    fn tell_move(&mut self, step: Move) -> Result<Told, AllocError> {
+    fn tell_move(
+        &mut self,
+        stage: &Stage<'_, 'a>,
+        step: Move,
+    ) -> Result<Result<Told, Refusal>, AllocError>
+        requires { filters_behind stage.now.filters.now ≡ stage.now.stack.now }
+        ensures { IfOk result (λ entered. spec.IsEntered entered self.new (spec.move_entry stage.now.stack.now self.old step)) }
+    {
+        let why = of_move(&self.world, stage.stack, step);
         let routine = self.routine_of(step);
         let before = self.world.activations.len();
-        if !self.make(step)? {
-            let refusal = of_move(&self.world, self.stack, step);
-            return Ok(self.refused(JournalEntry::Move(step), refusal));
+        if !make_move(&mut self.world, stage.alloc, stage.stack, step)? {
+            return Ok(Err(why));
         }
         if self.world.activations.len() > before {
-            return self.tell_start(before, routine);
+            return Ok(Ok(self.tell_start(stage, before, routine)?));
         }
-        Ok(self.tell_moved(step))
+        Ok(Ok(self.tell_system(step)))
     }
 
     // ---- steps
 
-    /// What comes next in an activation; nothing at the end of its body.
-    fn upcoming(&mut self, activation: usize) -> Result<Option<Upcoming<'a>>, AllocError> {
-        flt_course::upcoming(&mut self.world, activation)
-    }
-
-    fn callback(&self, started: Started) -> Option<&'a Callback> {
-        self.filters
-            .get(started.filter)?
-            .callbacks
-            .get(started.callback)
-    }
-
-    /// The line of the closing brace of a callback.
-    fn end_line(&self, run: Run) -> usize {
-        match self.callback(run.started) {
-            Some(callback) => callback.end.line,
-            None => 0,
-        }
-    }
-
-    /// Makes a step that others see. False where it isn't enabled.
-    fn step_seen(&mut self, activation: usize, grant: bool) -> Result<bool, AllocError> {
-        flt_course::step_seen(&mut self.world, self.alloc, self.stack, activation, grant)
-    }
-
-    /// Makes the step of a line; none where it isn't enabled.
-    fn run_line(
-        &mut self,
-        activation: usize,
-        grant: bool,
-        line: usize,
-        sign: Option<Sign>,
-    ) -> Result<Option<Happening>, AllocError> {
-        if !self.step_seen(activation, grant)? {
-            return Ok(None);
-        }
-        let outcome = match sign {
-            Some(sign) => Some(sign.shows(&self.world, activation)),
-            None => None,
-        };
-        Ok(Some(Happening::Runs(line, outcome)))
-    }
-
-    /// Makes the step that others see; none where it isn't enabled.
-    fn run_seen(
-        &mut self,
-        activation: usize,
-        grant: bool,
-        run: Run,
-    ) -> Result<Option<Happening>, AllocError> {
-        match self.upcoming(activation)? {
-            Some(Upcoming::Statement(statement)) => {
-                let sign = sign_of(&self.world, activation, grant, statement);
-                self.run_line(activation, grant, line_of(statement), sign)
-            }
-            _ => self.run_line(activation, grant, self.end_line(run), None),
-        }
-    }
-
-    /// Makes the step that others see; or why it isn't enabled.
-    fn go_seen(
-        &mut self,
-        activation: usize,
-        grant: bool,
-        run: Run,
-    ) -> Result<Result<Happening, Refusal>, AllocError> {
-        if let Some(happening) = self.run_seen(activation, grant, run)? {
-            return Ok(Ok(happening));
-        }
-        let next = self.upcoming(activation)?;
-        Ok(Err(of_step(next, grant)))
-    }
-
-    /// Goes on by so many steps, of which the last is seen; or why one of them isn't enabled.
-    fn go(
-        &mut self,
-        activation: usize,
-        steps: u32,
-        grant: bool,
-        run: Run,
-    ) -> Result<Result<Happening, Refusal>, AllocError> {
-        if self.world.has_ended(activation) {
-            return Ok(Err(Refusal::HasEnded));
-        }
-        if steps == 0 {
-            return Ok(Err(Refusal::NoStep));
-        }
-        let made = flt_course::go_locally(&mut self.world, activation, steps - 1)?;
-        if made < steps - 1 {
-            return Ok(Err(Refusal::IsSeen(made.saturating_add(1))));
-        }
-        self.go_seen(activation, grant, run)
-    }
-
-    /// An activation has gone on.
-    fn tell_run(&mut self, activation: usize, run: Run, happening: Happening) -> Told {
+    /// An activation has gone on, in a world of which this was told.
+    fn tell_run(&mut self, activation: usize, run: Run, happening: Happening) -> Told
+        ensures { spec.GoesTo result self.new (spec.after_run self.old activation run (spec.Comes self.old.world happening)) }
+    {
         let column = self.columns.find(run.operation);
         let ends = self.world.has_ended(activation);
-        if ends {
-            self.columns.end(column);
-        }
-        let resumed = if self.columns.put_on(column, activation) {
-            Some(run.started)
-        } else {
-            None
-        };
+        let resumed = resumed_if(self.columns.was_on(column, activation), run.started);
+        self.columns.go_on(column, activation, ends);
         let who = Who {
             operation: run.operation,
             activation: Some(activation),
@@ -397,31 +265,43 @@ impl<'b, 'a> Teller<'b, 'a> {
 
     fn tell_go(
         &mut self,
-        entry: JournalEntry,
+        stage: &Stage<'_, 'a>,
         activation: usize,
         steps: u32,
         grant: bool,
-    ) -> Result<Told, AllocError> {
+    ) -> Result<Result<Told, Refusal>, AllocError>
+        requires { filters_behind stage.now.filters.now ≡ stage.now.stack.now }
+        ensures { IfOk result (λ entered. spec.IsEntered entered self.new
+            (spec.go_entry stage.now.stack.now self.old activation steps grant (slice_get self.old.runs activation))) }
+    {
         let Some(run) = self.runs.get(activation).copied() else {
-            return Ok(self.refused(entry, Refusal::NoActivation));
+            return Ok(Err(Refusal::NoActivation));
         };
-        match self.go(activation, steps, grant, run)? {
-            Ok(happening) => Ok(self.tell_run(activation, run, happening)),
-            Err(refusal) => Ok(self.refused(entry, refusal)),
+        let end = end_line(stage.filters, run.started);
+        match go(&mut self.world, stage, activation, steps, grant, end)? {
+            Ok(happening) => Ok(Ok(self.tell_run(activation, run, happening))),
+            Err(why) => Ok(Err(why)),
         }
     }
 
     // ---- all
 
-    /// Makes an entry, and says what it came to.
-    pub(crate) fn tell(&mut self, entry: JournalEntry) -> Result<Told, AllocError> {
+    /// Makes an entry, and says what it came to; or why it isn't enabled.
+    pub(crate) fn tell(
+        &mut self,
+        stage: &Stage<'_, 'a>,
+        entry: JournalEntry,
+    ) -> Result<Result<Told, Refusal>, AllocError>
+        requires { filters_behind stage.now.filters.now ≡ stage.now.stack.now }
+        ensures { IfOk result (λ entered. spec.IsEntered entered self.new (spec.entry_of stage.now.stack.now self.old entry)) }
+    {
         match entry {
-            JournalEntry::Move(step) => self.tell_move(step),
+            JournalEntry::Move(step) => self.tell_move(stage, step),
             JournalEntry::Go {
                 activation,
                 steps,
                 grant,
-            } => self.tell_go(entry, activation as usize, steps, grant),
+            } => self.tell_go(stage, activation as usize, steps, grant),
         }
     }
 }

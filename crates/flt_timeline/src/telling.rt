@@ -4,7 +4,7 @@ use flt_model::{JournalEntry, Key};
 use flt_rules::{Mode, Operation};
 
 /// Where an entry is drawn.
-#[derive(Clone, Copy, PartialEq, Eq)]
+#[derive(Clone, Copy)]
 pub(crate) enum Column {
     /// It is about no operation.
     Margin,
@@ -15,7 +15,7 @@ pub(crate) enum Column {
 }
 
 /// A callback that starts: the number of its filter, from the highest altitude, and its own in the text, both from 0.
-#[derive(Clone, Copy, PartialEq, Eq)]
+#[derive(Clone, Copy)]
 pub(crate) struct Started {
     pub(crate) filter: usize,
     pub(crate) callback: usize,
@@ -23,7 +23,7 @@ pub(crate) struct Started {
 }
 
 /// What an entry comes to. The operation's own number isn't in it, so that two operations that go the same way are told alike.
-#[derive(Clone, Copy, PartialEq, Eq)]
+#[derive(Clone, Copy)]
 pub(crate) enum Happening {
     /// An operation arrives, of a kind and a mode, on a file.
     Arrives(Operation, Mode, u32),
@@ -44,7 +44,7 @@ pub(crate) enum Happening {
 }
 
 /// What is told of an entry.
-#[derive(Clone, Copy, PartialEq, Eq)]
+#[derive(Clone, Copy)]
 pub(crate) struct Telling {
     pub(crate) column: Column,
     /// The columns in which an operation isn't done, column 0 as the lowest bit.

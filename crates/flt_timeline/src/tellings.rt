@@ -1,7 +1,9 @@
 //! What is told of entries, each once, so that it goes by its number.
 
-ghost use Rattle.std.specs.Prelude.{◌≡◌};
+ghost use Rattle.std.specs.Prelude.{◌≡◌, ℕ, Some, IfOk, IfSome, OnOk};
+ghost use Rattle.flt_timeline.specs.declared.telling.Telling.{Telling as Saying};
 
+use crate::likeness::is_same;
 use crate::telling::{Happening, Telling};
 use std::alloc::{AllocError, Global};
 
@@ -53,12 +55,14 @@ impl Tellings {
     }
 
     /// The number that it has in a chain.
-    fn find(&self, chain: usize, telling: &Telling) -> Option<usize> {
+    fn find(&self, chain: usize, telling: &Telling) -> Option<usize>
+        ensures { IfSome result (λ number. spec.told_by self.now number ≡ Some telling.now) }
+    {
         let mut next = self.last(chain);
         for _ in 0..MOST {
             let number = next?;
             let link = self.all.get(number)?;
-            if link.telling == *telling {
+            if is_same(link.telling, *telling) {
                 return Some(number);
             }
             next = link.before;
@@ -67,7 +71,10 @@ impl Tellings {
     }
 
     /// The number of what is told.
-    pub(crate) fn number(&mut self, telling: Telling) -> Result<usize, AllocError> {
+    pub(crate) fn number(&mut self, telling: Telling) -> Result<usize, AllocError>
+        ensures told { IfOk result (λ number. spec.told_by self.new number ≡ Some telling) }
+        ensures kept { OnOk result ((number : ℕ) (t : Saying) → spec.told_by self.old number ≡ Some t → spec.told_by self.new number ≡ Some t) }
+    {
         let chain = chain_of(&telling);
         if let Some(number) = self.find(chain, &telling) {
             return Ok(number);

@@ -1,12 +1,18 @@
 //! The timeline of a journal.
 
-ghost use Rattle.std.specs.Prelude.{◌≡◌, ◌+◌, length, IfOk, OnOk};
+ghost use Rattle.std.specs.Prelude.{◌≡◌, length, IfOk};
+ghost use Rattle.flt_world.specs.Filters.{filters_behind};
+ghost use Rattle.flt_timeline.specs.Course as courses;
+ghost use Rattle.flt_timeline.specs.Tellings.{AreToldBy};
 
+use crate::course::{Course, course_of};
+use crate::filters::filters_of;
 use crate::folds::{Fold, folds_of};
+use crate::going::Stage;
 use crate::refusal::Refusal;
 use crate::rows::{Row, rows_of};
-use crate::running::{Teller, filters_of};
-use crate::telling::{Happening, Telling, Who};
+use crate::running::Scene;
+use crate::telling::Who;
 use crate::tellings::Tellings;
 use flt_model::{Journal, Verdict};
 use flt_tree::{Filter, Tree};
@@ -32,93 +38,48 @@ pub struct Timeline<'a> {
     pub folds: Items<Fold>,
 }
 
-/// What is told of a journal.
-#[derive(Drop)]
-struct Course {
-    refusal: Option<Refusal>,
-    tellings: Tellings,
-    told: Items<usize>,
-    whos: Items<Who>,
-}
-
-/// Whether a run ends with the entry of a number.
-fn ends_at(verdict: Verdict, number: usize) -> bool {
-    match verdict {
-        Verdict::Legal => false,
-        Verdict::NotARun(last) | Verdict::Breaks(_, last) => last == number,
-    }
-}
-
-fn is_refused(happening: Happening) -> bool {
-    matches!(happening, Happening::IsRefused(_))
-}
-
-impl Course {
-    /// What is told of the next entry, and who was on.
-    fn add(&mut self, telling: Telling, who: Who) -> Result<(), AllocError>
-        ensures told { OnOk result (length self.new.told ≡ length self.old.told + 1) }
-        ensures whos { OnOk result (length self.new.whos ≡ length self.old.whos + 1) }
-    {
-        let number = self.tellings.number(telling)?;
-        self.told.push(number)?;
-        self.whos.push(who)
-    }
-}
-
-/// Tells a journal entry by entry, up to the one that ends the run.
-fn course_of(
-    alloc: Global,
-    teller: &mut Teller<'_, '_>,
-    journal: &Journal,
-    verdict: Verdict,
-) -> Result<Course, AllocError>
-    ensures told { IfOk result (λ c. length c.told ≡ length journal.now) }
-    ensures whos { IfOk result (λ c. length c.whos ≡ length journal.now) }
-{
-    let mut course = Course {
-        refusal: None,
-        tellings: Tellings::new(alloc),
-        told: Items::new(alloc),
-        whos: Items::new(alloc),
-    };
-    let mut is_over = false;
-    for entry in journal.entries() {
-        let here = if is_over {
-            teller.aside(Happening::IsLeftOut)
-        } else {
-            teller.tell(*entry)?
-        };
-        let is_last = !is_over
-            && (ends_at(verdict, course.told.len()) || is_refused(here.telling.happening));
-        is_over = is_over || is_last;
-        let who = Who {
-            ends: here.who.ends || is_last,
-            ..here.who
-        };
-        course.add(here.telling, who)?;
-    }
-    course.refusal = teller.refusal;
-    Ok(course)
-}
-
 /// Tells a journal on some filters, from the highest altitude to the lowest.
-fn course_on(
-    alloc: Global,
-    stack: &Stack<'_>,
-    filters: &[&Filter],
+fn course_on<'a>(
+    stage: &Stage<'_, 'a>,
     journal: &Journal,
     verdict: Verdict,
 ) -> Result<Course, AllocError>
-    ensures told { IfOk result (λ c. length c.told ≡ length journal.now) }
-    ensures whos { IfOk result (λ c. length c.whos ≡ length journal.now) }
+    requires { filters_behind stage.now.filters.now ≡ stage.now.stack.now }
+    ensures told { IfOk result (λ c. AreToldBy c.tellings c.told c.whos (courses.told_of stage.now.stack.now verdict journal.now)) }
+    ensures refused { IfOk result (λ c. c.progress.refusal ≡ courses.refused_of stage.now.stack.now verdict journal.now) }
+    ensures each { IfOk result (λ c. length c.told ≡ length journal.now) }
+    ensures on { IfOk result (λ c. length c.whos ≡ length journal.now) }
 {
-    let mut teller = Teller::new(alloc, stack, filters, journal)?;
-    let course = course_of(alloc, &mut teller, journal, verdict);
-    drop(teller);
+    let mut scene = Scene::new(stage, journal)?;
+    let course = course_of(stage, &mut scene, journal, verdict);
+    drop(scene);
     course
 }
 
+/// The same of a stack and the filters in it.
+fn course_by<'a>(
+    alloc: Global,
+    stack: &Stack<'a>,
+    filters: &[&'a Filter],
+    journal: &Journal,
+    verdict: Verdict,
+) -> Result<Course, AllocError>
+    requires { filters_behind filters.now ≡ stack.now }
+    ensures told { IfOk result (λ c. AreToldBy c.tellings c.told c.whos (courses.told_of stack.now verdict journal.now)) }
+    ensures refused { IfOk result (λ c. c.progress.refusal ≡ courses.refused_of stack.now verdict journal.now) }
+    ensures each { IfOk result (λ c. length c.told ≡ length journal.now) }
+    ensures on { IfOk result (λ c. length c.whos ≡ length journal.now) }
+{
+    let stage = Stage {
+        alloc,
+        stack,
+        filters,
+    };
+    course_on(&stage, journal, verdict)
+}
+
 impl<'a> Timeline<'a> {
+    ghost use Rattle.flt_model.specs.Program.{filters_of};
     ghost use Rattle.flt_timeline.specs.Timelines as spec;
 
     /// The timeline of a journal on some filters, in any order, of which the monitor says this. What stands behind the entry that ends
@@ -133,18 +94,17 @@ impl<'a> Timeline<'a> {
         journal: &Journal,
         verdict: Verdict,
     ) -> Result<Timeline<'a>, AllocError>
-        ensures told { IfOk result (spec.IsTimeline (length journal.now)) }
-        ensures verdict { IfOk result (λ t. t.verdict ≡ verdict) }
+        ensures { IfOk result (spec.IsTimeline (filters_of trees.now) journal.now verdict) }
     {
         let stack = Stack::of(alloc, trees)?;
-        let filters = filters_of(alloc, &stack, trees)?;
-        let course = course_on(alloc, &stack, filters.as_slice(), journal, verdict)?;
+        let filters = filters_of(alloc, trees)?;
+        let course = course_by(alloc, &stack, filters.as_slice(), journal, verdict)?;
         let rows = rows_of(alloc, course.whos.as_slice())?;
         let folds = folds_of(alloc, course.told.as_slice(), rows.as_slice())?;
         Ok(Timeline {
             filters,
             verdict,
-            refusal: course.refusal,
+            refusal: course.progress.refusal,
             tellings: course.tellings,
             told: course.told,
             whos: course.whos,
