@@ -1,7 +1,6 @@
 //! What is said of a text that doesn't parse, as JSON.
 
-ghost use Rattle.std.specs.Prelude.{◌≡◌, ◌==◌, ◌++◌, ◌+◌, ◌<◌, ◌≤◌, IfOk, codes, drop, length, map, option_copied, position, take};
-ghost use Rattle.std.specs.List.{position_or_len, slice_split};
+ghost use Rattle.std.specs.Prelude.{◌≡◌, ◌++◌, IfOk, codes, map, option_copied};
 ghost use Rattle.flt_forms.specs.Fault as spec;
 ghost use Rattle.flt_forms.specs.Members.{Adds, line_of, array_member, text_items};
 
@@ -10,6 +9,7 @@ use crate::members::{
 };
 use flt_details::fault_name;
 use flt_hints::{Choices, Expected, Told, Trouble};
+use flt_places::lines_of;
 use flt_syntax::SyntaxFault;
 use json::Writer;
 use sqlite_items::Items;
@@ -17,51 +17,6 @@ use std::alloc::{AllocError, Global};
 
 /// What begins the line that says how to fix a fault.
 const HELP: &[u8] = b"   = help: ";
-
-/// Where the first line feed is, if there is one.
-fn line_feed(text: &[u8]) -> Option<usize>
-    ensures { result ≡ position (λ b. b == 10) text.now }
-{
-    text.iter().position(|byte| *byte == b'\n')
-}
-
-/// How many bytes the first line has, without its end.
-fn line_length(text: &[u8]) -> usize
-    ensures value { result ≡ position_or_len (λ b. b == 10) text.now }
-    ensures within { result ≤ length text.now }
-{
-    line_feed(text).unwrap_or(text.len())
-}
-
-fn line_up_to(text: &[u8], end: usize) -> &[u8]
-    requires { end < length text.now }
-    ensures { result.now ≡ take end text.now }
-{
-    &text[..end]
-}
-
-fn after_line(text: &[u8], end: usize) -> &[u8]
-    requires { end < length text.now }
-    ensures { result.now ≡ drop (end + 1) text.now }
-{
-    &text[end + 1..]
-}
-
-/// The lines of some notes, without their ends.
-fn lines_of<'a>(alloc: Global, text: &'a [u8]) -> Result<Vec<&'a [u8]>, AllocError>
-    ensures { IfOk result (λ lines. map (λ l. l.now) lines.items ≡ slice_split (λ b. b == 10) text.now) }
-{
-    let mut lines = Vec::new(alloc);
-    let mut rest = text;
-    let mut end = line_length(rest);
-    while end < rest.len() {
-        lines.push(line_up_to(rest, end))?;
-        rest = after_line(rest, end);
-        end = line_length(rest);
-    }
-    lines.push(rest)?;
-    Ok(lines)
-}
 
 /// What stands behind the word for help with which a line begins.
 fn help_on(line: &[u8]) -> Option<&[u8]>

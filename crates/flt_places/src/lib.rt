@@ -2,5 +2,7 @@
 #![tactic(auto)]
 
 mod places;
+mod split;
 
 pub use places::{Lines, Region, Site};
+pub use split::lines_of;

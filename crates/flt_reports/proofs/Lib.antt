@@ -1,6 +1,5 @@
 pub mod Codes
 pub mod Covering
-pub mod Lines
 pub mod MoreReports
 pub mod Placing
 pub mod Promise

@@ -1,7 +1,6 @@
 //! The report of findings that are put together.
 
-ghost use Rattle.std.specs.Prelude.{◌≡◌, ◌==◌, ◌+◌, ◌<◌, ◌≤◌, drop, length, map, option_copied, position, take, IfOk};
-ghost use Rattle.std.specs.List.{position_or_len, slice_split};
+ghost use Rattle.std.specs.Prelude.{◌≡◌, map, option_copied};
 ghost use Rattle.flt_details.specs.Closing.{rule_name};
 ghost use Rattle.flt_details.specs.Page.{Writes};
 ghost use Rattle.flt_reports.specs.Finding as spec;
@@ -14,6 +13,7 @@ use crate::way_lines::tell_way;
 use flt_details::{Page, Scene, Shown, Words};
 use flt_explain::Finding;
 use flt_origins::Traced;
+use flt_places::lines_of;
 use flt_rules::Rule;
 use flt_ways::Answer;
 use std::alloc::{AllocError, Global};
@@ -170,51 +170,6 @@ fn tell_others(page: &mut Page, others: &[Traced]) -> Result<(), AllocError>
 }
 
 // ---- how to fix it
-
-/// Where the first line feed is, if there is one.
-fn line_feed(text: &[u8]) -> Option<usize>
-    ensures { result ≡ position (λ b. b == 10) text.now }
-{
-    text.iter().position(|byte| *byte == b'\n')
-}
-
-/// How many bytes the first line has, without its end.
-fn line_length(text: &[u8]) -> usize
-    ensures value { result ≡ position_or_len (λ b. b == 10) text.now }
-    ensures within { result ≤ length text.now }
-{
-    line_feed(text).unwrap_or(text.len())
-}
-
-fn line_up_to(text: &[u8], end: usize) -> &[u8]
-    requires { end < length text.now }
-    ensures { result.now ≡ take end text.now }
-{
-    &text[..end]
-}
-
-fn after_line(text: &[u8], end: usize) -> &[u8]
-    requires { end < length text.now }
-    ensures { result.now ≡ drop (end + 1) text.now }
-{
-    &text[end + 1..]
-}
-
-/// The lines of a text, without their ends.
-fn lines_of<'a>(alloc: Global, text: &'a [u8]) -> Result<Vec<&'a [u8]>, AllocError>
-    ensures { IfOk result (λ lines. map (λ l. l.now) lines.items ≡ slice_split (λ b. b == 10) text.now) }
-{
-    let mut lines = Vec::new(alloc);
-    let mut rest = text;
-    let mut end = line_length(rest);
-    while end < rest.len() {
-        lines.push(line_up_to(rest, end))?;
-        rest = after_line(rest, end);
-        end = line_length(rest);
-    }
-    lines.push(rest)?;
-    Ok(lines)
-}
 
 /// Writes lines behind a word that stands before the first of them alone.
 fn tell_lines(page: &mut Page, word: &str, lines: &[&[u8]]) -> Result<(), AllocError>

@@ -1,7 +1,7 @@
 use Rattle.std.proofs.Common.{length, ap, ◌∙◌, ◌==◌}
 use Rattle.std.specs.Option.{unwrap_or}
-use Rattle.flt_reports.proofs.Placing.{first_or_end}
-use Rattle.flt_reports.proofs.finding_report.line_length.Goals as goal
+use Rattle.flt_places.proofs.Cuts.{first_or_end}
+use Rattle.flt_places.proofs.split.line_length.Goals as goal
 
 pub returns-clause-value : goal.returns-clause-value
 returns-clause-value c =

@@ -1,6 +1,6 @@
 use Rattle.std.proofs.Common.{◌≡◌, ◌≤◌, ◌==◌, ◌++◌, ◌-◌, length, map}
 use Rattle.std.specs.List.{position_or_len, slice_split}
-use Rattle.flt_reports.proofs.finding_report.lines_of.Given as goal
+use Rattle.flt_places.proofs.split.lines_of.Given as goal
 
 abbrev pub invariant-loop-end : goal.invariant-loop-end
 invariant-loop-end l = record {

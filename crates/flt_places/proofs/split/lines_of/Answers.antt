@@ -1,6 +1,6 @@
 use Rattle.std.proofs.Common.{arith}
-use Rattle.flt_forms.proofs.FirstLines.{last_line_more, one_line_more}
-use Rattle.flt_forms.proofs.fault.lines_of.Goals as goal
+use Rattle.flt_places.proofs.Cuts.{last_line_more, one_line_more}
+use Rattle.flt_places.proofs.split.lines_of.Goals as goal
 
 pub loop-end-preserved : goal.loop-end-preserved
 loop-end-preserved c = record {
