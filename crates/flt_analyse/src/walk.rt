@@ -173,6 +173,42 @@ impl Walk {
         self.reach(leads.first())?;
         self.reach(leads.second())
     }
+
+    /// Looks at the least pending point until none is pending, from where the callback is entered.
+    ///
+    /// # Errors
+    ///
+    /// Where a look stops, and at which rule.
+    fn go_on<L: Ledger, const CALLBACK: usize, const POINT: usize>(
+        &mut self,
+        graph: &Graph,
+        callback: usize,
+        ticks: &mut Ticks<L, CALLBACK, POINT>,
+        leads: &mut Leads,
+    ) -> Result<(), Refusal>
+        requires callback { callback < length graph.now.callbacks }
+        requires some { 0 < points_at graph.now callback }
+        requires few { points_at graph.now callback < 513 }
+        requires opening { self.old ≡ spec.opening graph.now callback }
+        ensures column { OnOk result (Column graph.now callback self.new.points) }
+        ensures stop { IfErr result (answer.IsStop graph.now callback) }
+        ensures count { ticks.new ≤ ticks.old + 31 }
+        ensures other { CALLBACK ≢ callback → ticks.new ≤ ticks.old }
+    {
+        joins_are_least();
+        transfer_is_monotone();
+        'looks: while let Some(point) = self.take() {
+            if let Err(rule) = self.look(graph, callback, point, ticks, leads) {
+                return Err(Refusal {
+                    callback,
+                    point,
+                    line: graph.line(callback, point),
+                    rule,
+                });
+            }
+        }
+        Ok(())
+    }
 }
 
 /// The least that covers the points of a callback.
@@ -190,19 +226,12 @@ pub(crate) fn walk_callback<L: Ledger, const CALLBACK: usize, const POINT: usize
     ensures count { ticks.new ≤ ticks.old + 31 }
     ensures other { CALLBACK ≢ callback → ticks.new ≤ ticks.old }
 {
-    joins_are_least();
-    transfer_is_monotone();
     let mut walk = Walk::open(alloc, graph, callback)?;
     let mut leads = Leads::none(&entry_state(alloc, graph.place(callback)));
-    'looks: while let Some(point) = walk.take() {
-        if let Err(rule) = walk.look(graph, callback, point, ticks, &mut leads) {
-            return Err(AnalyseFault::Refused(Refusal {
-                callback,
-                point,
-                line: graph.line(callback, point),
-                rule,
-            }));
-        }
+    let walked = walk.go_on(graph, callback, ticks, &mut leads);
+    drop(leads);
+    if let Err(refusal) = walked {
+        return Err(AnalyseFault::Refused(refusal));
     }
     Ok(walk.points)
 }

@@ -215,6 +215,28 @@ fn nothing_waits() -> [Option<Abs>; MAX_POINTS]
     array::from_fn(|_| None)
 }
 
+/// The first point of a callback at which a rule is broken, and the least such rule, over states of which none waits yet.
+fn first_broken(
+    graph: &Graph,
+    slots: &[Slot],
+    states: &mut [Option<Abs>],
+    callback: usize,
+    kept: &mut Option<Leads>,
+) -> Option<(usize, Rule)>
+    requires given { spec.AreGiven graph.now callback slots.now }
+    requires few { length slots.now ≤ 512 }
+    requires ready { spec.IsReady graph.now callback slots.now 0 states.old }
+    ensures none { IfNone result (spec.FaultlessBefore graph.now callback slots.now (length slots.now)) }
+    ensures some { IfSome result (λ q. spec.IsFirstBroken graph.now callback slots.now q.0 q.1) }
+{
+    for point in 0..slots.len() {
+        if let Some(rule) = point_fault(graph, slots, states, callback, point, kept) {
+            return Some((point, rule));
+        }
+    }
+    None
+}
+
 /// The first point of a callback at which a rule is broken, and the least such rule.
 pub(crate) fn callback_fault(
     graph: &Graph,
@@ -227,13 +249,7 @@ pub(crate) fn callback_fault(
     ensures some { IfSome result (λ q. spec.IsFirstBroken graph.now callback slots.now q.0 q.1) }
 {
     let mut states = nothing_waits();
-    let mut kept = None;
-    for point in 0..slots.len() {
-        if let Some(rule) = point_fault(graph, slots, &mut states, callback, point, &mut kept) {
-            return Some((point, rule));
-        }
-    }
-    None
+    first_broken(graph, slots, &mut states, callback, &mut None)
 }
 
 /// Whether a slot is given and not kept, or kept and not given.

@@ -1,5 +1,5 @@
 use Rattle.flt_check.specs.Ready.{IsReady, FaultlessBefore}
-use Rattle.flt_check.proofs.thin_points.callback_fault.Given as goal
+use Rattle.flt_check.proofs.thin_points.first_broken.Given as goal
 
 abbrev pub invariant-loop-point : goal.invariant-loop-point
 invariant-loop-point l = record {

@@ -7,7 +7,7 @@ use Rattle.flt_analyse.proofs.Turns.{proper_at, look_at, stop_of, column_of_end,
 use Rattle.flt_analyse.proofs.Walks.{Stage, begins, goes_on, taken_within, room_falls, opening_due}
 use Rattle.flt_analyse.proofs.Stages.{due}
 use Rattle.std.proofs.Math.Path.{subst}
-use Rattle.flt_analyse.proofs.walk.walk_callback.Goals as goal
+use Rattle.flt_analyse.proofs.walk.Walk.go_on.Goals as goal
 
 pub looks-init : goal.looks-init
 looks-init g c =
@@ -21,7 +21,7 @@ looks-init g c =
       monotone = c.transfer_is_monotone.ensures;
     } in
     let few = c.requires.few in
-    let same = c.in_ok-walk.ensures in
+    let same = c.requires.opening in
     record {
       stage = subst (λ w. Stage c.args.graph.now c.args.callback w) (sym same)
           (begins laws c.args.graph.now c.args.callback c.requires.some (omega arith));
@@ -42,7 +42,7 @@ look-requires g c =
       (
         c.requires.callback,
         (
-          taken_within c.args.graph.now c.args.callback c.looks.walk c.in-Some.point stage (sym c.in-Some.ensures.value),
+          taken_within c.args.graph.now c.args.callback c.looks.self c.in-Some.point stage (sym c.in-Some.ensures.value),
           (long, omega arith),
         ),
       ),
@@ -59,13 +59,13 @@ returns-in-Err-clause-stop g c =
       proper = c.joins_are_least.ensures.proper;
       monotone = c.transfer_is_monotone.ensures;
     } in
-    stop_of laws c.args.graph.now c.args.callback c.looks.walk c.take.new.self c.in-Some.point c.line.result c.in-Err.rule
+    stop_of laws c.args.graph.now c.args.callback c.looks.self c.take.new.self c.in-Some.point c.line.result c.in-Err.rule
     c.looks.invariant.stage c.looks.invariant.led c.in-Some.ensures.value c.in-Some.ensures.some
     c.look.ensures.proper c.in-Err.ensures.err c.line.ensures
 
 pub returns-in-Err-clause-count : goal.returns-in-Err-clause-count
 returns-in-Err-clause-count g c =
-    stopped c.args.graph.now c.args.callback c.looks.walk c.in-Some.point c.looks.invariant.stage
+    stopped c.args.graph.now c.args.callback c.looks.self c.in-Some.point c.looks.invariant.stage
     (sym c.in-Some.ensures.value) g.row.CALLBACK g.row.POINT c.looks.ticks c.look.new.ticks c.args.ticks.now
     c.look.ensures.count c.looks.invariant.own
 
@@ -80,10 +80,10 @@ looks-smaller g c =
       proper = c.joins_are_least.ensures.proper;
       monotone = c.transfer_is_monotone.ensures;
     } in
-    room_falls laws c.args.graph.now c.args.callback c.looks.walk c.look.new.self c.in-Some.point c.looks.invariant.stage
+    room_falls laws c.args.graph.now c.args.callback c.looks.self c.look.new.self c.in-Some.point c.looks.invariant.stage
     (sym c.in-Some.ensures.value)
-    (proper_at c.args.graph.now c.args.callback c.in-Some.point c.looks.walk c.take.new.self c.in-Some.ensures.some c.look.ensures.proper)
-    (look_at c.args.graph.now c.args.callback c.in-Some.point c.looks.walk c.take.new.self _ c.in-Some.ensures.some
+    (proper_at c.args.graph.now c.args.callback c.in-Some.point c.looks.self c.take.new.self c.in-Some.ensures.some c.look.ensures.proper)
+    (look_at c.args.graph.now c.args.callback c.in-Some.point c.looks.self c.take.new.self _ c.in-Some.ensures.some
     c.in_default-look.ensures.ok)
 
 pub looks-preserved : goal.looks-preserved
@@ -98,16 +98,16 @@ looks-preserved g c =
       monotone = c.transfer_is_monotone.ensures;
     } in
     let e = sym c.in-Some.ensures.value in
-    let ok = proper_at c.args.graph.now c.args.callback c.in-Some.point c.looks.walk c.take.new.self c.in-Some.ensures.some
+    let ok = proper_at c.args.graph.now c.args.callback c.in-Some.point c.looks.self c.take.new.self c.in-Some.ensures.some
     c.look.ensures.proper in
-    let looked = look_at c.args.graph.now c.args.callback c.in-Some.point c.looks.walk c.take.new.self _ c.in-Some.ensures.some
+    let looked = look_at c.args.graph.now c.args.callback c.in-Some.point c.looks.self c.take.new.self _ c.in-Some.ensures.some
     c.in_default-look.ensures.ok in
     record {
-      stage = goes_on laws c.args.graph.now c.args.callback c.looks.walk c.look.new.self c.in-Some.point c.looks.invariant.stage e
+      stage = goes_on laws c.args.graph.now c.args.callback c.looks.self c.look.new.self c.in-Some.point c.looks.invariant.stage e
           ok looked;
-      led = led_on c.args.graph.now c.args.callback c.looks.walk c.take.new.self c.look.new.self c.in-Some.point
+      led = led_on c.args.graph.now c.args.callback c.looks.self c.take.new.self c.look.new.self c.in-Some.point
           c.looks.invariant.led c.in-Some.ensures.value c.in-Some.ensures.some c.in_default-look.ensures.ok;
-      own = counted laws c.args.graph.now c.args.callback c.looks.walk c.look.new.self c.in-Some.point c.looks.invariant.stage e
+      own = counted laws c.args.graph.now c.args.callback c.looks.self c.look.new.self c.in-Some.point c.looks.invariant.stage e
           ok looked g.row.CALLBACK g.row.POINT c.looks.ticks c.look.new.ticks c.args.ticks.now
           c.look.ensures.count c.looks.invariant.own;
       other = λ d.
@@ -118,5 +118,5 @@ looks-preserved g c =
 
 pub returns-clause-column : goal.returns-clause-column
 returns-clause-column g c =
-    column_of_end c.args.graph.now c.args.callback c.looks.walk c.take.new.self c.looks.invariant.stage c.looks.invariant.led
+    column_of_end c.args.graph.now c.args.callback c.looks.self c.take.new.self c.looks.invariant.stage c.looks.invariant.led
     c.in_default.ensures.value c.in_default.ensures.none
