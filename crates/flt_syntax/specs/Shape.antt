@@ -15,12 +15,12 @@ use Rattle.flt_tree.specs.declared.filter.PlainCall.TheVariants as plain
 use Rattle.flt_tree.specs.declared.variable.ContextVariable.{ContextVariable}
 pub use Rattle.flt_syntax.specs.Tables.{fallible_shape_of, plain_shape_of}
 
--- the call that has the context of a variable from there
+-- the call by which a variable receives a context from there
 abbrev pub obtaining : ContextSource → ContextVariable → FallibleCall
 obtaining sources.Allocate c = fallible.AllocateContext c
 obtaining (sources.Get anchor) c = fallible.GetContext anchor c
 
--- the call that gives up the context of a variable so
+-- the call that does this with the context of a variable
 abbrev pub ending : ContextEnd → ContextVariable → PlainCall
 ending ends.Delete c = plain.DeleteContext c
 ending ends.Release c = plain.ReleaseContext c

@@ -7,7 +7,7 @@ use crate::token::Kind;
 use flt_rules::{Anchor, LockKind, LockNumber};
 use flt_tree::{ContextVariable, FallibleCall, PlainCall};
 
-/// Where a call has the context from that its variable receives.
+/// Where a call gets the context that its variable receives.
 #[derive(Clone, Copy)]
 pub enum ContextSource {
     Allocate,
@@ -18,7 +18,7 @@ impl ContextSource {
     ghost use Rattle.std.specs.Prelude.{◌≡◌};
     ghost use Rattle.flt_syntax.specs.Shape.{obtaining};
 
-    /// The call that has the context of a variable from there.
+    /// The call by which a variable receives a context from there.
     pub fn call(self, variable: ContextVariable) -> FallibleCall
         ensures { result ≡ obtaining self variable }
     {
@@ -40,7 +40,7 @@ impl ContextEnd {
     ghost use Rattle.std.specs.Prelude.{◌≡◌};
     ghost use Rattle.flt_syntax.specs.Shape.{ending};
 
-    /// The call that gives up the context of a variable so.
+    /// The call that does this with the context of a variable.
     pub fn call(self, variable: ContextVariable) -> PlainCall
         ensures { result ≡ ending self variable }
     {
@@ -104,7 +104,7 @@ pub enum FallibleShape {
     Set(Anchor),
     /// [ "old" C ]
     Delete(Anchor),
-    /// Without `queue` its word is unknown.
+    /// A call of the queue. Without `queue` its word is unknown.
     Queue(QueueCall),
     /// "data" NAME [ "context" C ]
     QueueDeferred,
