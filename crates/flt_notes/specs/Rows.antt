@@ -1,9 +1,10 @@
 -- What stands below the lines of a note. This project's own program.
-use Rattle.std.specs.Prelude.{◌≡◌, List, [], ◌∷◌, ◌++◌, ℕ, ◌+◌, ◌-◌, ◌^◌, ◌==◌, Bool, false, true, min, Option, Some, None, codes, length, string_bytes}
+use Rattle.std.specs.Prelude.{◌≡◌, List, [], ◌∷◌, ◌++◌, ℕ, ◌+◌, ◌-◌, ◌^◌, ◌==◌, Bool, false, true, min, Option, Some, None, codes, string_bytes}
 use Rattle.std.specs.Fmt.{format_spec, styled_decimal}
 use Rattle.flt_tree.specs.Names.{Text}
 use Rattle.flt_tree.specs.declared.tree.Tree.{Tree}
 use Rattle.flt_search.specs.declared.judging.Broken.{Broken}
+use Rattle.flt_model.specs.Program.{filters_of}
 use Rattle.flt_model.specs.declared.verdict.Verdict.TheVariants as verdicts
 use Rattle.flt_timeline.specs.Text as timelines
 use Rattle.flt_timeline.specs.Timelines.{IsTimeline}
@@ -32,11 +33,11 @@ stricter =
     codes "   = note: stricter than the driver kit: this rule takes `arg` as possibly held in each callback that has one"
     ++ 10 ∷ []
 
--- a run of these filters as rows, four blanks in, below a line that says how they are read
+-- a run of these filters as rows, four blanks in, below a line that says how they are read: the timeline of its own journal, with what it
+-- breaks
 pub record AreRunRows (own : List Tree) (run : Broken) (rows : List ℕ) : Type 0 where
   pub timeline : Timeline
-  pub is : IsTimeline (length run.journal) timeline
-  pub verdict : timeline.verdict ≡ verdicts.Breaks run.violation run.entry
+  pub is : IsTimeline (filters_of own) run.journal (verdicts.Breaks run.violation run.entry) timeline
   pub whole : rows ≡ legend ++ timelines.text timeline 4
 
 -- what comes of a finding as rows: its run; that the rule is stricter than the driver kit; or nothing

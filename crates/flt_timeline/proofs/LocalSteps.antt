@@ -1,12 +1,11 @@
 -- Local steps of an entry, one after another.
-use Rattle.std.proofs.Common.{◌≡◌, ◌<◌, ◌+◌, ℕ, zero, suc, Bool, true, List, [], Option, Some, None, add-one, ap, arith, sym, ◌∙◌}
+use Rattle.std.proofs.Common.{◌≡◌, ◌<◌, ◌+◌, ℕ, zero, suc, Bool, true, List, [], Some, None, add-one, ap, arith, sym, ◌∙◌}
 use Rattle.std.specs.Prelude.{is_some, option_and_then}
 use Rattle.flt_tree.specs.declared.filter.Filter.{Filter}
-use Rattle.flt_model.specs.Effects.{Step}
 use Rattle.flt_model.specs.Steps.{local}
 use Rattle.flt_model.specs.World.{World}
 use Rattle.flt_steps.specs.Unseen.{unseen}
-use Rattle.flt_timeline.specs.Course.{Gone, Stays, go_from, seen, unless_seen}
+use Rattle.flt_timeline.specs.Course.{Stays, go_from, seen, unless_seen}
 use Rattle.flt_timeline.specs.declared.refusal.Refusal.TheVariants.{IsSeen}
 
 some_same : {A : Type 0} (x y : A) → Some x ≡ Some y → x ≡ y

@@ -6,7 +6,7 @@ use Rattle.flt_course.specs.Leading.{LeadsTo, after_step}
 use Rattle.flt_model.specs.declared.moves.Move.{Move}
 use Rattle.flt_model.specs.Steps.{Make}
 use Rattle.flt_model.specs.World.{World}
-use Rattle.flt_timeline.specs.Course.{Entered, Stops, after_move, after_start, after_system, entered_by, move_entry, routine_of}
+use Rattle.flt_timeline.specs.Course.{Stops, after_move, after_start, after_system, entered_by, move_entry, routine_of}
 use Rattle.flt_timeline.specs.Refusals.{of_move}
 use Rattle.flt_timeline.specs.declared.refusal.Refusal.{Refusal}
 use Rattle.flt_timeline.specs.declared.running.Scene.{Scene}

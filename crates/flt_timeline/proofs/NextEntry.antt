@@ -1,12 +1,12 @@
 -- One more entry is told.
 use Rattle.std.proofs.Common.{◌≡◌, ◌<◌, ◌≤◌, ◌+◌, ℕ, Bool, true, false, List, [], ◌∷◌, ◌++◌, Option, Some, None, add-one, append-nil, append_assoc, ap, drop, get_or, length, map, refl, subst, sym, ◌∙◌}
 use Rattle.std.proofs.Math.Seq.{drop-cons}
-use Rattle.std.specs.Prelude.{if◌then◌else◌, Err, Ok, OnOk, Result}
+use Rattle.std.specs.Prelude.{Err, Ok, OnOk, Result}
 use Rattle.std.proofs.lemmas.List.{drop_all, map-append}
 use Rattle.flt_tree.specs.declared.filter.Filter.{Filter}
 use Rattle.flt_model.specs.declared.moves.JournalEntry.{JournalEntry}
 use Rattle.flt_model.specs.declared.verdict.Verdict.{Verdict}
-use Rattle.flt_timeline.specs.Course.{Entered, Goes, Stops, aside, ending, ending_if, ends_at, entry_of, followed, left_out, next_refused, next_told, not_enabled, refused_by, refused_from, told_from}
+use Rattle.flt_timeline.specs.Course.{Entered, Goes, Stops, aside, ending, ending_if, ends_at, entry_of, followed, next_refused, next_told, not_enabled, refused_by, refused_from, told_from}
 use Rattle.flt_timeline.specs.Tellings.{AreToldBy, told_by}
 use Rattle.flt_timeline.specs.declared.course.Progress.{Progress}
 use Rattle.flt_timeline.specs.declared.refusal.Refusal.{Refusal}

@@ -7,7 +7,7 @@ use Rattle.flt_model.specs.LocalSteps.{local_step}
 use Rattle.flt_model.specs.Steps.{Board}
 use Rattle.flt_model.specs.World.{World, activation_at, actor_at}
 use Rattle.flt_timeline.specs.Callbacks.{next_line}
-use Rattle.flt_timeline.specs.Course.{Comes, Gone, Stays, go, go_from, gone_by, ran, seen}
+use Rattle.flt_timeline.specs.Course.{Comes, Stays, go, go_from, gone_by, seen}
 use Rattle.flt_timeline.specs.Outcomes.{shows, sign_of}
 use Rattle.flt_timeline.specs.Refusals.{of_step}
 use Rattle.flt_timeline.specs.declared.outcome.Sign.{Sign}

@@ -1,7 +1,6 @@
 -- Whether a call succeeded or a test held: what is looked at before the step, and what it shows after it. This project's own definitions.
-use Rattle.std.specs.Prelude.{ℕ, ◌+◌, Bool, true, false, not, nat_lt, if◌then◌else◌, List, [], ◌∷◌, length, Option, Some, None, is_some, option_map, sum_by}
+use Rattle.std.specs.Prelude.{ℕ, ◌+◌, Bool, false, nat_lt, if◌then◌else◌, List, [], ◌∷◌, length, Option, Some, None, is_some, sum_by}
 use Rattle.flt_rules.specs.Place.{is_irp}
-use Rattle.flt_rules.specs.declared.call.Anchor.{Anchor}
 use Rattle.flt_tree.specs.declared.filter.Condition.{Condition}
 use Rattle.flt_tree.specs.declared.filter.Condition.TheVariants as condition
 use Rattle.flt_tree.specs.declared.filter.FallibleCall.{FallibleCall}
@@ -10,7 +9,6 @@ use Rattle.flt_tree.specs.declared.filter.Statement.{Statement, out-Statement}
 use Rattle.flt_tree.specs.declared.filter.Statement.TheOpen.{Statement-F}
 use Rattle.flt_tree.specs.declared.filter.Test.{Test}
 use Rattle.flt_tree.specs.declared.filter.Test.TheVariants as test
-use Rattle.flt_tree.specs.declared.variable.ContextVariable.{ContextVariable}
 use Rattle.flt_tree.specs.declared.variable.OperationVariable.TheVariants.{Data, Removed}
 use Rattle.flt_model.specs.Calls.{link_of}
 use Rattle.flt_model.specs.Variables.{context_in, operation_in}

@@ -1,5 +1,5 @@
 -- Timelines. This project's own definitions.
-use Rattle.std.specs.Prelude.{◌≡◌, ℕ, List, length}
+use Rattle.std.specs.Prelude.{◌≡◌, List, length}
 use Rattle.flt_tree.specs.declared.filter.Filter.{Filter}
 use Rattle.flt_model.specs.Program.{by_altitude}
 use Rattle.flt_model.specs.declared.moves.JournalEntry.{JournalEntry}

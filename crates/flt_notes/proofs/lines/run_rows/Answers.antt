@@ -5,8 +5,7 @@ use Rattle.flt_notes.proofs.lines.run_rows.Goals as goal
 pub returns : goal.returns
 returns c = record {
   timeline = c.in_ok-timeline.timeline;
-  is = c.in_ok-timeline.ensures.told;
-  verdict = c.in_ok-timeline.ensures.verdict;
+  is = c.in_ok-timeline.ensures;
   whole = c.in_ok-push_str.ensures.bytes ∙ ap (λ z. z ++ c.as_str.result.now) c.in_ok-out.ensures.ok
       ∙ ap (λ z. legend ++ z) (c.as_str.ensures.value ∙ c.in_ok-rows.ensures);
 }

@@ -1,4 +1,4 @@
-use Rattle.std.proofs.Common.{Bool, None, Ok, Err, Result, ap, subst, ◌∙◌}
+use Rattle.std.proofs.Common.{Bool, None, Result, ap, subst, ◌∙◌}
 use Rattle.flt_timeline.specs.Course.{IsEntered, entry_of}
 use Rattle.flt_timeline.specs.declared.course.Progress.{Progress}
 use Rattle.flt_timeline.specs.declared.refusal.Refusal.{Refusal}
