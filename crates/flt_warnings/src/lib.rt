@@ -1,0 +1,18 @@
+//! What is checked beside the rules: what an accepted text may still do wrong, by its least certificate and its graph. It exports
+//! `warnings`, which lists all of them, and `Warning`, which says of each where it is and what it is about.
+#![tactic(auto)]
+
+mod called;
+mod flow;
+mod lost;
+mod never;
+mod pended;
+mod reading;
+mod trail;
+mod unreached;
+mod unused;
+mod warning;
+mod warnings;
+
+pub use warning::{Kind, Site, Warning};
+pub use warnings::warnings;
