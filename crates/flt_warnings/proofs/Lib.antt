@@ -1,3 +1,3 @@
 pub mod Marks
-pub mod Reading
+pub mod Places
 pub mod Sweeps

@@ -15,7 +15,7 @@ unfolding warned_from
 one_point g k kind callback i end ws more h e =
     let less : end - i ≡ suc (end - (i + 1)) = omega arith in
     ap (λ xs. xs ++ warned_from g k kind callback (i + 1) (end - (i + 1))) e
-    ∙ append_assoc {x = ws} {y = warned_at g k kind (site callback i)} {z = warned_from g k kind callback (i + 1) (end - (i + 1))}
+    ∙ append_assoc ws (warned_at g k kind (site callback i)) (warned_from g k kind callback (i + 1) (end - (i + 1)))
     ∙ ap (λ n. ws ++ warned_from g k kind callback i n) (sym less)
 
 -- where no point is left nothing comes
@@ -23,7 +23,7 @@ pub no_point : (g : Graph) (k : Certificate) (kind : Kind) (callback i end : ℕ
     ws ++ warned_from g k kind callback i (end - i) ≡ ws
 unfolding warned_from
 no_point g k kind callback i end ws h =
-    let none : end - i ≡ 0 = omega arith in ap (λ n. ws ++ warned_from g k kind callback i n) none ∙ search rules
+    let none : end - i ≡ 0 = omega arith in ap (λ n. ws ++ warned_from g k kind callback i n) none ∙ append-nil ws
 
 -- the warnings of a callback go before those of the callbacks behind it
 pub one_callback : (g : Graph) (k : Certificate) (kind : Kind) (i end : ℕ) (ws more : List Warning) → i < end →
@@ -33,7 +33,7 @@ unfolding warned_in_from
 one_callback g k kind i end ws more h e =
     let less : end - i ≡ suc (end - (i + 1)) = omega arith in
     ap (λ xs. xs ++ warned_in_from g k kind (i + 1) (end - (i + 1))) e
-    ∙ append_assoc {x = ws} {y = warned_in g k kind i} {z = warned_in_from g k kind (i + 1) (end - (i + 1))}
+    ∙ append_assoc ws (warned_in g k kind i) (warned_in_from g k kind (i + 1) (end - (i + 1)))
     ∙ ap (λ n. ws ++ warned_in_from g k kind i n) (sym less)
 
 -- where no callback is left nothing comes
@@ -41,4 +41,4 @@ pub no_callback : (g : Graph) (k : Certificate) (kind : Kind) (i end : ℕ) (ws 
     ws ++ warned_in_from g k kind i (end - i) ≡ ws
 unfolding warned_in_from
 no_callback g k kind i end ws h =
-    let none : end - i ≡ 0 = omega arith in ap (λ n. ws ++ warned_in_from g k kind i n) none ∙ search rules
+    let none : end - i ≡ 0 = omega arith in ap (λ n. ws ++ warned_in_from g k kind i n) none ∙ append-nil ws

@@ -32,13 +32,13 @@ loss_of refused there c = record { start = refused; trail = Lost c there }
 abbrev pub loss_by : Invocation → ℕ → Option Loss
 loss_by c refused = if keeps c.call then option_map (loss_of refused c.output) c.context else None
 
-abbrev pub loss : Instruction → Option Loss
-loss (instruction.Call c granted refused) = loss_by c refused
-loss _ = None
+abbrev pub loss_in : Instruction → Option Loss
+loss_in (instruction.Call c granted refused) = loss_by c refused
+loss_in _ = None
 
 -- the same of a point that is reached
 abbrev pub loss_at : Graph → Certificate → Site → Option Loss
-loss_at g k s = if is_reached k s then loss (instruction_at g s.callback s.point) else None
+loss_at g k s = if is_reached k s then loss_in (instruction_at g s.callback s.point) else None
 
 -- the first point that uses the context
 abbrev pub used_from : Graph → Site → Loss → Option ℕ

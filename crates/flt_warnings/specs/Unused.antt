@@ -32,9 +32,17 @@ names_lock l _ = false
 abbrev pub names_lock_in : LockNumber → CallbackGraph → Bool
 names_lock_in l c = list_any (λ (p : Point). names_lock l p.instruction) c.points
 
--- the lock is declared, and no call of the text names it
+-- the lock is declared
+abbrev pub is_declared : Graph → LockNumber → Bool
+is_declared g l = nat_lt (place_of l) (length g.locks)
+
+-- some call of the text names the lock
+abbrev pub is_called : Graph → LockNumber → Bool
+is_called g l = list_any (names_lock_in l) g.callbacks
+
+-- the lock is declared, and no call names it
 abbrev pub is_unused : Graph → LockNumber → Bool
-is_unused g l = nat_lt (place_of l) (length g.locks) && not (list_any (names_lock_in l) g.callbacks)
+is_unused g l = is_declared g l && not (is_called g l)
 
 -- the warnings of those of some locks that no call names
 abbrev pub unused_among : Graph → List LockNumber → List Warning

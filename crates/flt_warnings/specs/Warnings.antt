@@ -82,11 +82,11 @@ circle_warned None = []
 
 -- a circle is shown exactly where locks aren't taken in an order; no lock is taken twice in it, and where the certificate covers the text
 -- it has two acquisitions or more
-pub record IsShown (g : Graph) (k : Certificate) (circle : Option (List Acquisition)) : Type 0 where
-  pub ordered : IsNone circle ↔ TakesInOrder g k
-  pub circle : IfSome circle (IsCircle g k)
-  pub once : IfSome circle TakesOnce
-  pub two : Covers g k → IfSome circle (λ c. 2 ≤ length c)
+pub record IsShown (g : Graph) (k : Certificate) (shown : Option (List Acquisition)) : Type 0 where
+  pub ordered : IsNone shown ↔ TakesInOrder g k
+  pub circle : IfSome shown (IsCircle g k)
+  pub once : IfSome shown TakesOnce
+  pub two : Covers g k → IfSome shown (λ c. 2 ≤ length c)
 
 -- ---- all
 

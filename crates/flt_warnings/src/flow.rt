@@ -10,7 +10,7 @@ use sqlite_items::Items;
 use std::alloc::{AllocError, Global};
 
 /// Whether a point is marked.
-#[tactic(auto, using(crate::proofs::Reading::found, crate::proofs::Reading::missing))]
+#[tactic(auto, using(crate::proofs::Places::found, crate::proofs::Places::missing))]
 fn is_marked(marks: &[bool], point: usize) -> bool
     ensures { result ≡ spec.is_marked marks.now point }
 {

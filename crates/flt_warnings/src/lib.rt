@@ -6,13 +6,13 @@ mod called;
 mod flow;
 mod lost;
 mod never;
+mod of_text;
 mod pended;
 mod reading;
 mod trail;
 mod unreached;
 mod unused;
 mod warning;
-mod warnings;
 
+pub use of_text::warnings;
 pub use warning::{Kind, Site, Warning};
-pub use warnings::warnings;

@@ -41,8 +41,8 @@ fn loss_by(call: &Invocation, refused: usize) -> Option<Loss>
 }
 
 /// The loss where an instruction fails.
-fn loss(instruction: &Instruction) -> Option<Loss>
-    ensures { result ≡ spec.loss instruction.now }
+fn loss_in(instruction: &Instruction) -> Option<Loss>
+    ensures { result ≡ spec.loss_in instruction.now }
 {
     match instruction {
         Instruction::Call(call, _, refused) => loss_by(call, *refused),
@@ -55,7 +55,7 @@ fn loss_at(graph: &Graph, cert: &FullCert, site: Site) -> Option<Loss>
     ensures { result ≡ spec.loss_at graph.now cert.now site }
 {
     if is_reached(cert, site) {
-        loss(graph.instruction_ref(site.callback, site.point))
+        loss_in(graph.instruction_ref(site.callback, site.point))
     } else {
         None
     }

@@ -10,7 +10,7 @@ use flt_cert::FullCert;
 use flt_graph::{Call, CallbackGraph, Graph, Instruction, Place, Point};
 
 /// The points of a callback; none where it isn't there.
-#[tactic(auto, using(crate::proofs::Reading::found, crate::proofs::Reading::missing))]
+#[tactic(auto, using(crate::proofs::Places::found, crate::proofs::Places::missing))]
 pub(crate) fn points(graph: &Graph, callback: usize) -> &[Point]
     ensures { result.now ≡ (callback_at graph.now callback).points }
 {

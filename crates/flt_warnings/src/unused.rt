@@ -1,7 +1,6 @@
 //! W06: locks and routines that no call names.
 
-ghost use Rattle.std.specs.Prelude.{◌≡◌, ◌++◌, OnOk, length};
-ghost use Rattle.std.specs.List.{list_any};
+ghost use Rattle.std.specs.Prelude.{◌≡◌, ◌++◌, OnOk};
 ghost use Rattle.flt_warnings.specs.Unused as spec;
 
 use crate::reading::is_routine;
@@ -53,17 +52,28 @@ fn names_lock_in(callback: &CallbackGraph, lock: LockNumber) -> bool
         .any(|point| names_lock(&point.instruction, lock))
 }
 
+fn is_declared(graph: &Graph, lock: LockNumber) -> bool
+    ensures { result ≡ spec.is_declared graph.now lock }
+{
+    usize::from(lock.place()) < graph.locks.len()
+}
+
+/// Whether some call names a lock.
+fn is_called(graph: &Graph, lock: LockNumber) -> bool
+    ensures { result ≡ spec.is_called graph.now lock }
+{
+    graph
+        .callbacks
+        .as_slice()
+        .iter()
+        .any(|callback| names_lock_in(callback, lock))
+}
+
 /// Whether a lock is declared and no call names it.
 fn is_unused(graph: &Graph, lock: LockNumber) -> bool
     ensures { result ≡ spec.is_unused graph.now lock }
 {
-    let is_declared = usize::from(lock.place()) < graph.locks.len();
-    let is_named = graph
-        .callbacks
-        .as_slice()
-        .iter()
-        .any(|callback| names_lock_in(callback, lock));
-    is_declared && !is_named
+    is_declared(graph, lock) && !is_called(graph, lock)
 }
 
 /// Adds a warning for each of these locks that no call names.

@@ -1,6 +1,6 @@
 use Rattle.std.proofs.Common.{◌≡◌, ◌++◌, ◌-◌}
 use Rattle.flt_warnings.specs.Warnings.{warned_from, warned_in}
-use Rattle.flt_warnings.proofs.warnings.add_in.Given as goal
+use Rattle.flt_warnings.proofs.of_text.add_in.Given as goal
 
 -- what was found, with what the points that are left have, is what all points have
 abbrev pub invariant-loop-point : goal.invariant-loop-point
