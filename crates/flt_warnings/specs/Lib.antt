@@ -2,6 +2,7 @@ pub mod Called
 pub mod Flow
 pub mod Lost
 pub mod Never
+pub mod Paths
 pub mod Pended
 pub mod Reading
 pub mod Trail

@@ -1,7 +1,7 @@
 -- W05: the context that lost. Where FltSetStreamContext or FltSetInstanceContext with KEEP_IF_EXISTS fails since there is another context,
 -- the caller's own is set on nothing: what is written there no other callback sees. This project's own check, by the graph: it is a sign,
 -- and no proof that the context is the wrong one.
-use Rattle.std.specs.Prelude.{ℕ, Bool, true, false, if◌then◌else◌, Option, Some, None, option_map, option_and_then}
+use Rattle.std.specs.Prelude.{ℕ, Bool, true, false, if◌then◌else◌, Option, None, option_map, option_and_then}
 use Rattle.flt_rules.specs.declared.call.Call.{Call}
 use Rattle.flt_rules.specs.declared.call.Call.TheVariants as call
 use Rattle.flt_rules.specs.declared.call.Existing.TheVariants.{Keep}
@@ -29,9 +29,11 @@ keeps _ = false
 abbrev pub loss_of : ℕ → Option ContextVariable → ContextVariable → Loss
 loss_of refused there c = record { start = refused; trail = Lost c there }
 
+-- the search of a call that keeps what is there
 abbrev pub loss_by : Invocation → ℕ → Option Loss
 loss_by c refused = if keeps c.call then option_map (loss_of refused c.output) c.context else None
 
+-- the same of an instruction
 abbrev pub loss_in : Instruction → Option Loss
 loss_in (instruction.Call c granted refused) = loss_by c refused
 loss_in _ = None

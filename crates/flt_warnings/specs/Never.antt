@@ -1,5 +1,5 @@
 -- W06: a test that no run passes. A variable of numbers is 0 where a callback is entered. This project's own check.
-use Rattle.std.specs.Prelude.{ℕ, Bool, true, false, not, ◌==◌, ◌&&◌, if◌then◌else◌, List, Option, Some, None}
+use Rattle.std.specs.Prelude.{ℕ, Bool, false, not, ◌==◌, ◌&&◌, if◌then◌else◌, List, Option, Some, None}
 use Rattle.std.specs.List.{list_any}
 use Rattle.flt_tree.specs.Variable.{number_place}
 use Rattle.flt_tree.specs.declared.filter.Action.TheVariants as action
@@ -19,6 +19,7 @@ use Rattle.flt_warnings.specs.declared.warning.Site.{Site}
 use Rattle.flt_warnings.specs.declared.warning.Warning.{Warning}
 use Rattle.flt_warnings.specs.declared.warning.Warning.TheVariants.{NeverHolds}
 
+-- both are one variable
 abbrev pub is_same : NumberVariable → NumberVariable → Bool
 is_same a b = number_place a == number_place b
 
@@ -29,10 +30,12 @@ written (instruction.Act (action.ReadValue n c) next) = Some n
 written (instruction.Act (action.ReadFile n d) next) = Some n
 written _ = None
 
+-- the variable that is written is this one
 abbrev pub is_this : NumberVariable → Option NumberVariable → Bool
 is_this n (Some own) = is_same own n
 is_this n None = false
 
+-- the instruction writes the variable
 abbrev pub writes : NumberVariable → Instruction → Bool
 writes n i = is_this n (written i)
 
@@ -61,6 +64,7 @@ never_passes points (test.Equal n a) = not (is_written points n) && never_equals
 never_passes points (test.Less n a) = not (is_written points n) && never_less (fixed points a)
 never_passes points _ = false
 
+-- the instruction is such a test
 abbrev pub is_never : List Point → Instruction → Bool
 is_never points (instruction.Test t granted refused) = never_passes points t
 is_never points _ = false

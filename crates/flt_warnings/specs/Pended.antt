@@ -15,6 +15,7 @@ use Rattle.flt_warnings.specs.declared.warning.Site.{Site}
 use Rattle.flt_warnings.specs.declared.warning.Warning.{Warning}
 use Rattle.flt_warnings.specs.declared.warning.Warning.TheVariants.{NeverRemoved, LeftPended}
 
+-- the call puts an operation into the queue
 abbrev pub is_insert : Call → Bool
 is_insert call.InsertIo = true
 is_insert _ = false
@@ -32,6 +33,7 @@ inserted_at g k s = if is_reached k s then inserted (instruction_at g s.callback
 abbrev pub never_removed_from : Graph → Site → ℕ → Option Warning
 never_removed_from g s granted = if removes_somewhere g then None else Some (NeverRemoved s)
 
+-- the same of a point
 abbrev pub never_removed : Graph → Certificate → Site → Option Warning
 never_removed g k s = option_and_then (never_removed_from g s) (inserted_at g k s)
 
@@ -39,6 +41,7 @@ never_removed g k s = option_and_then (never_removed_from g s) (inserted_at g k 
 abbrev pub awaiting_from : Graph → ℕ → Option ℕ
 awaiting_from g granted = if removes_somewhere g && not (removes_outside g) then Some granted else None
 
+-- the same of a point
 abbrev pub awaiting : Graph → Certificate → Site → Option ℕ
 awaiting g k s = option_and_then (awaiting_from g) (inserted_at g k s)
 

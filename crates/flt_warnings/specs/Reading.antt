@@ -1,5 +1,5 @@
 -- What a text has somewhere. This project's own definitions.
-use Rattle.std.specs.Prelude.{ℕ, Bool, true, false, not, ◌&&◌, is_some, Option, Some, None}
+use Rattle.std.specs.Prelude.{Bool, true, false, not, ◌&&◌, is_some}
 use Rattle.std.specs.List.{list_any}
 use Rattle.flt_rules.specs.declared.call.Call.{Call}
 use Rattle.flt_rules.specs.declared.call.Call.TheVariants as call
@@ -30,10 +30,12 @@ abbrev pub is_removal : Call → Bool
 is_removal call.RemoveNextIo = true
 is_removal _ = false
 
+-- the instruction takes an operation out of the queue
 abbrev pub removes : Instruction → Bool
 removes (instruction.Call c granted refused) = is_removal c.call
 removes _ = false
 
+-- the same of a point
 abbrev pub removes_at : Point → Bool
 removes_at p = removes p.instruction
 

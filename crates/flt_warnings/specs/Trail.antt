@@ -8,7 +8,6 @@ use Rattle.flt_tree.specs.declared.filter.Action.{Action}
 use Rattle.flt_tree.specs.declared.filter.Action.TheVariants as action
 use Rattle.flt_tree.specs.declared.filter.Status.{Status}
 use Rattle.flt_tree.specs.declared.filter.Status.TheVariants as status
-use Rattle.flt_tree.specs.declared.filter.Test.{Test}
 use Rattle.flt_tree.specs.declared.filter.Test.TheVariants as test
 use Rattle.flt_tree.specs.declared.variable.ContextVariable.{ContextVariable}
 use Rattle.flt_graph.specs.Graph.{callback_at}
@@ -38,20 +37,24 @@ abbrev pub queues_removal : Graph → Instruction → Bool
 queues_removal g (instruction.Call c granted refused) = routine_removes g c.routine
 queues_removal g _ = false
 
+-- the status is PENDING
 abbrev pub is_pending : Option Status → Bool
 is_pending (Some status.Pending) = true
 is_pending _ = false
 
+-- the instruction returns PENDING
 abbrev pub returns_pending : Instruction → Bool
 returns_pending (instruction.Return st) = is_pending st
 returns_pending _ = false
 
 -- ---- a context that wasn't set
 
+-- the call sets a context, whether or not one may be there
 abbrev pub is_set : Call → Bool
 is_set (call.SetContext a e) = true
 is_set _ = false
 
+-- the call releases its context
 abbrev pub is_release : Call → Bool
 is_release call.ReleaseContext = true
 is_release _ = false
@@ -79,6 +82,7 @@ hands_on call.QueueGenericWorkItem = true
 hands_on (call.CompletePendedPreOperation whose) = true
 hands_on _ = false
 
+-- the action reads or writes the value of the variable's context
 abbrev pub action_uses : Action → ContextVariable → Bool
 action_uses (action.ReadValue n c) v = is_named (Some c) v
 action_uses (action.WriteValue c a) v = is_named (Some c) v

@@ -1,6 +1,6 @@
 -- W06: locks and routines that no call names. Callbacks that are registered may always start, so only routines are asked for. This
 -- project's own check.
-use Rattle.std.specs.Prelude.{ℕ, Bool, true, false, not, ◌==◌, ◌&&◌, nat_lt, if◌then◌else◌, List, [], ◌∷◌, length, Option, Some, None}
+use Rattle.std.specs.Prelude.{ℕ, Bool, false, not, ◌==◌, ◌&&◌, nat_lt, if◌then◌else◌, List, [], ◌∷◌, length, Option, Some, None}
 use Rattle.std.specs.List.{list_any}
 use Rattle.flt_rules.specs.Call.{place_of}
 use Rattle.flt_rules.specs.Held.{same_lock}
@@ -29,6 +29,7 @@ abbrev pub names_lock : LockNumber → Instruction → Bool
 names_lock l (instruction.Call c granted refused) = is_lock c.lock l
 names_lock l _ = false
 
+-- some instruction of the callback does
 abbrev pub names_lock_in : LockNumber → CallbackGraph → Bool
 names_lock_in l c = list_any (λ (p : Point). names_lock l p.instruction) c.points
 
@@ -65,6 +66,7 @@ abbrev pub names_routine : ℕ → Instruction → Bool
 names_routine n (instruction.Call c granted refused) = is_callback c.routine n
 names_routine n _ = false
 
+-- some instruction of the callback does
 abbrev pub names_routine_in : ℕ → CallbackGraph → Bool
 names_routine_in n c = list_any (λ (p : Point). names_routine n p.instruction) c.points
 

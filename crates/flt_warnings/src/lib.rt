@@ -4,6 +4,7 @@
 
 mod called;
 mod flow;
+mod laws;
 mod lost;
 mod never;
 mod of_text;
@@ -14,5 +15,6 @@ mod unreached;
 mod unused;
 mod warning;
 
+pub use laws::ends_are_on_paths;
 pub use of_text::warnings;
 pub use warning::{Kind, Site, Warning};
