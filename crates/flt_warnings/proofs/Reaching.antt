@@ -105,7 +105,8 @@ module _ (g : Graph) (callback : ℕ) (t : Trail) where
   followed_length marks p = by (is_marked marks p)
     where
       by : (b : Bool) → length (if b then marked_behind g callback t p marks else marks) ≡ length marks
-      by true = marked_length (marked marks (onward g t (instruction_at g callback p) true)) (onward g t (instruction_at g callback p) false)
+      by true =
+          marked_length (marked marks (onward g t (instruction_at g callback p) true)) (onward g t (instruction_at g callback p) false)
           ∙ marked_length marks (onward g t (instruction_at g callback p) true)
       by false = refl
 
@@ -113,7 +114,8 @@ module _ (g : Graph) (callback : ℕ) (t : Trail) where
   followed_keeps marks p q e = by (is_marked marks p)
     where
       by : (b : Bool) → get_or (if b then marked_behind g callback t p marks else marks) q false ≡ true
-      by true = marked_keeps (marked marks (onward g t (instruction_at g callback p) true)) (onward g t (instruction_at g callback p) false) q
+      by true =
+          marked_keeps (marked marks (onward g t (instruction_at g callback p) true)) (onward g t (instruction_at g callback p) false) q
           (marked_keeps marks (onward g t (instruction_at g callback p) true) q e)
       by false = e
 
@@ -194,7 +196,8 @@ module _ (g : Graph) (callback : ℕ) (t : Trail) where
     marked_on marks None old new = old
     marked_on marks (Some q) old new = all_set {P = λ x. Path g callback t start x} marks q old (λ h. new q refl h)
 
-    followed_on : (marks : List Bool) (p : ℕ) → length marks ≡ points_at g callback → OnPaths marks → OnPaths (followed g callback t p marks)
+    followed_on : (marks : List Bool) (p : ℕ) → length marks ≡ points_at g callback → OnPaths marks →
+        OnPaths (followed g callback t p marks)
     followed_on marks p l old = by (is_marked marks p) refl
       where
         by : (b : Bool) → is_marked marks p ≡ b → OnPaths (if b then marked_behind g callback t p marks else marks)
@@ -217,7 +220,8 @@ module _ (g : Graph) (callback : ℕ) (t : Trail) where
     unfolding settled
     settled_on zero marks l old = old
     settled_on (suc n) marks l old =
-        settled_on n (passed g callback t marks) (from_length (points_at g callback) 0 marks ∙ l) (from_on (points_at g callback) 0 marks l old)
+        settled_on n (passed g callback t marks) (from_length (points_at g callback) 0 marks ∙ l)
+        (from_on (points_at g callback) 0 marks l old)
 
     begun_length : length (marked (blank (points_at g callback)) (Some start)) ≡ points_at g callback
     begun_length = length-set (blank (points_at g callback)) start true ∙ length-replicate (points_at g callback) false
@@ -243,7 +247,8 @@ module _ (g : Graph) (callback : ℕ) (t : Trail) where
     one_more_changes_nothing : passed g callback t (reached g callback t start) ≡ reached g callback t start
     one_more_changes_nothing =
         let few = few_unmarked (marked (blank (points_at g callback)) (Some start)) in
-        settles (points_at g callback) (marked (blank (points_at g callback)) (Some start)) (subst (λ n. unmarked (marked (blank (points_at g callback)) (Some start)) ≤ n) begun_length few)
+        settles (points_at g callback) (marked (blank (points_at g callback)) (Some start))
+        (subst (λ n. unmarked (marked (blank (points_at g callback)) (Some start)) ≤ n) begun_length few)
 
     set_there : (marks : List Bool) (o : Option ℕ) (q : ℕ) → marked marks o ≡ marks → o ≡ Some q → q < length marks →
         get_or marks q false ≡ true
@@ -258,11 +263,13 @@ module _ (g : Graph) (callback : ℕ) (t : Trail) where
         set_there marks (onward g t (instruction_at g callback p) true) q
         (still marks (marked marks (onward g t (instruction_at g callback p) true)) (marked_behind g callback t p marks)
         (marked_grows marks (onward g t (instruction_at g callback p) true))
-        (marked_grows (marked marks (onward g t (instruction_at g callback p) true)) (onward g t (instruction_at g callback p) false)) same) e h
+        (marked_grows (marked marks (onward g t (instruction_at g callback p) true)) (onward g t (instruction_at g callback p) false))
+        same) e h
     behind_marked marks p q false same e h =
         let first_same = still marks (marked marks (onward g t (instruction_at g callback p) true)) (marked_behind g callback t p marks)
         (marked_grows marks (onward g t (instruction_at g callback p) true))
-        (marked_grows (marked marks (onward g t (instruction_at g callback p) true)) (onward g t (instruction_at g callback p) false)) same in
+        (marked_grows (marked marks (onward g t (instruction_at g callback p) true)) (onward g t (instruction_at g callback p) false))
+        same in
         set_there marks (onward g t (instruction_at g callback p) false) q
         (sym (ap (λ x. marked x (onward g t (instruction_at g callback p) false)) first_same) ∙ same) e h
 
