@@ -1,0 +1,12 @@
+pub mod Called
+pub mod Flow
+pub mod Lost
+pub mod Never
+pub mod Paths
+pub mod Pended
+pub mod Reading
+pub mod Trail
+pub mod Unreached
+pub mod Unused
+pub mod Warning
+pub mod Warnings

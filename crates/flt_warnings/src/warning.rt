@@ -1,0 +1,96 @@
+//! What a warning says.
+
+ghost use Rattle.std.specs.Prelude.{◌≡◌};
+ghost use Rattle.flt_warnings.specs.Warning as spec;
+
+use flt_order::Circle;
+use flt_rules::LockNumber;
+
+/// What is checked beside the rules, by number.
+#[derive(Clone, Copy)]
+pub enum Kind {
+    W01,
+    W02,
+    W03,
+    W05,
+    W06,
+}
+
+/// A point of a callback. Both count from 0.
+#[derive(Clone, Copy)]
+pub struct Site {
+    pub callback: usize,
+    pub point: usize,
+}
+
+/// A warning, with what it is about. A text that has some is accepted all the same.
+#[derive(Drop)]
+pub enum Warning {
+    /// W01: no order of the locks allows all that the text does. Each acquisition of the circle takes the lock that the one before it
+    /// holds, and the first takes the one that the last holds.
+    LockCircle(Circle),
+    /// W02: a call after which the system may run other code of the filter, and the latest of the locks that are held there.
+    CalledLocked(Site, LockNumber),
+    /// W03: an insert, in a text that removes nothing from its queue.
+    NeverRemoved(Site),
+    /// W03: an insert, and the point of the same callback that returns PENDING after it, where no work item was queued that removes.
+    LeftPended(Site, usize),
+    /// W05: a call that sets a context unless there is one, and the first point of the same callback where that context is used behind
+    /// the failing side.
+    LostContext(Site, usize),
+    /// W06: a lock that no call names.
+    UnusedLock(LockNumber),
+    /// W06: a routine, by its callback from 0, that no call names.
+    UnusedRoutine(usize),
+    /// W06: the first of some statements that follow one another and that no path reaches.
+    Unreached(Site),
+    /// W06: a test that no run passes, since it compares a variable of numbers that nothing writes.
+    NeverHolds(Site),
+}
+
+impl Warning {
+    pub fn kind(&self) -> Kind
+        ensures { result ≡ spec.kind_of self.now }
+    {
+        match self {
+            Warning::LockCircle(_) => Kind::W01,
+            Warning::CalledLocked(_, _) => Kind::W02,
+            Warning::NeverRemoved(_) | Warning::LeftPended(_, _) => Kind::W03,
+            Warning::LostContext(_, _) => Kind::W05,
+            Warning::UnusedLock(_)
+            | Warning::UnusedRoutine(_)
+            | Warning::Unreached(_)
+            | Warning::NeverHolds(_) => Kind::W06,
+        }
+    }
+
+    /// The point that the warning is about: of a circle its first acquisition. None where it is about a declaration, of a lock or of a
+    /// routine.
+    pub fn site(&self) -> Option<Site>
+        ensures { result ≡ spec.site_of self.now }
+    {
+        match self {
+            Warning::LockCircle(circle) => first_site(circle),
+            Warning::CalledLocked(site, _)
+            | Warning::NeverRemoved(site)
+            | Warning::LeftPended(site, _)
+            | Warning::LostContext(site, _)
+            | Warning::Unreached(site)
+            | Warning::NeverHolds(site) => Some(*site),
+            Warning::UnusedLock(_) | Warning::UnusedRoutine(_) => None,
+        }
+    }
+}
+
+/// Where the first acquisition of a circle is.
+fn first_site(circle: &Circle) -> Option<Site>
+    ensures { result ≡ spec.first_site circle.now }
+{
+    match circle.acquisitions() {
+        [first, ..] => Some(Site {
+            callback: first.callback,
+            point: first.point,
+        }),
+        [] => None,
+    }
+}
