@@ -1,3 +1,4 @@
+pub mod Formatted
 pub mod Items
 pub mod Laws
 pub mod Layout
