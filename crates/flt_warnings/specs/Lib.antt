@@ -1,5 +1,6 @@
 pub mod Called
 pub mod Flow
+pub mod Kinds
 pub mod Lost
 pub mod Never
 pub mod Paths

@@ -16,7 +16,7 @@ use Rattle.flt_warnings.specs.Unreached.{unreached}
 use Rattle.flt_warnings.specs.Unused.{unused_locks, unused_routine}
 use Rattle.flt_warnings.specs.Warning.{site}
 use Rattle.flt_warnings.specs.declared.warning.Kind.{Kind}
-use Rattle.flt_warnings.specs.declared.warning.Kind.TheVariants.{W01, W02, W03, W05, W06}
+use Rattle.flt_warnings.specs.declared.warning.Kind.TheVariants.{W00, W01, W02, W03, W04, W05, W06}
 use Rattle.flt_warnings.specs.declared.warning.Site.{Site}
 use Rattle.flt_warnings.specs.declared.warning.Warning.{Warning}
 use Rattle.flt_warnings.specs.declared.warning.Warning.TheVariants.{LockCircle}
@@ -31,11 +31,13 @@ pended_at g k s = option_to_list (never_removed g k s) ++ option_to_list (left_p
 abbrev pub unreached_at : Graph → Certificate → Site → List Warning
 unreached_at g k s = option_to_list (unused_routine g s) ++ (option_to_list (unreached g k s) ++ option_to_list (never_holds g k s))
 
--- the warnings of a kind
+-- the warnings of a kind; no finder makes W00, and W01 isn't about a point
 abbrev pub warned_at : Graph → Certificate → Kind → Site → List Warning
+warned_at g k W00 s = []
 warned_at g k W01 s = []
 warned_at g k W02 s = option_to_list (called_locked g k s)
 warned_at g k W03 s = pended_at g k s
+warned_at g k W04 s = []
 warned_at g k W05 s = option_to_list (lost_context g k s)
 warned_at g k W06 s = unreached_at g k s
 

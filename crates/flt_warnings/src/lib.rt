@@ -4,6 +4,7 @@
 
 mod called;
 mod flow;
+mod kinds;
 mod laws;
 mod lost;
 mod never;
@@ -15,6 +16,7 @@ mod unreached;
 mod unused;
 mod warning;
 
+pub use kinds::{AllowedKinds, kind_named};
 pub use laws::ends_are_on_paths;
 pub use of_text::warnings;
 pub use warning::{Kind, Site, Warning};

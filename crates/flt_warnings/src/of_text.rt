@@ -84,7 +84,7 @@ fn add_at(
     ensures { OnOk result (warnings.new ≡ warnings.old ++ spec.warned_at graph.now cert.now kind site) }
 {
     match kind {
-        Kind::W01 => {}
+        Kind::W00 | Kind::W01 | Kind::W04 => {}
         Kind::W02 => push(warnings, called_locked(graph, cert, site))?,
         Kind::W03 => add_pended(alloc, warnings, graph, cert, site)?,
         Kind::W05 => {
