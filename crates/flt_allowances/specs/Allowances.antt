@@ -24,13 +24,13 @@ abbrev pub known_or : Option ℕ → ℕ → ℕ
 known_or (Some n) other = n
 known_or None other = other
 
-abbrev pub allowance : Region → ℕ → Option Kind → Text → Allowance
-allowance region statement kind reason = record { region = region; kind = kind; reason = reason; statement = statement }
+abbrev pub allowance_with : Region → ℕ → Option Kind → Text → Allowance
+allowance_with region statement kind reason = record { region = region; kind = kind; reason = reason; statement = statement }
 
 -- what a line allows that has a number, for a line after it; nothing where it says nothing
 abbrev pub allowed_by : ℕ → Text → ℕ → Option (Option Kind × Text) → List Allowance
 allowed_by number line statement None = []
-allowed_by number line statement (Some c) = allowance (region_in number line) statement c.0 c.1 ∷ []
+allowed_by number line statement (Some c) = allowance_with (region_in number line) statement c.0 c.1 ∷ []
 
 -- the comments among some lines, of which the first has a number
 abbrev pub allowances_in : ℕ → List Text → List Allowance

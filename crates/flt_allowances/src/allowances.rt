@@ -3,7 +3,7 @@
 ghost use Rattle.std.specs.Prelude.{◌≡◌, ◌<◌, ◌+◌, ◌^◌, length, map, IfOk};
 ghost use Rattle.flt_allowances.specs.Allowances as spec;
 
-use crate::comment::{Comment, after_blanks, comment, end_of};
+use crate::comment::{Comment, after_blanks, end_of, read_comment};
 use flt_places::{Region, lines_of};
 use flt_tree::Position;
 use flt_warnings::Kind;
@@ -47,7 +47,7 @@ fn statement_from(number: usize, lines: &[&[u8]]) -> usize
 {
     let mut at = number;
     for line in lines {
-        if comment(line).is_none() {
+        if read_comment(line).is_none() {
             break;
         }
         at += 1;
@@ -66,13 +66,13 @@ fn statement_of(known: Option<usize>, number: usize, rest: &[&[u8]]) -> usize
     }
 }
 
-fn allowance(
+fn allowance_with(
     alloc: Global,
     region: Region,
     statement: usize,
     comment: Comment<'_>,
 ) -> Result<Allowance, AllocError>
-    ensures { IfOk result (λ a. a ≡ spec.allowance region statement comment.entry.kind comment.entry.reason.now) }
+    ensures { IfOk result (λ a. a ≡ spec.allowance_with region statement comment.entry.kind comment.entry.reason.now) }
 {
     Ok(Allowance {
         region,
@@ -91,10 +91,10 @@ fn in_lines(alloc: Global, lines: &[&[u8]]) -> Result<Items<Allowance>, AllocErr
     let mut number: usize = 0;
     for line in lines {
         number += 1;
-        match comment(line) {
+        match read_comment(line) {
             Some(comment) => {
                 let statement = statement_of(known, number + 1, &lines[number..]);
-                found.push(allowance(alloc, region_in(number, line), statement, comment)?)?;
+                found.push(allowance_with(alloc, region_in(number, line), statement, comment)?)?;
                 known = Some(statement);
             }
             None => known = None,

@@ -143,7 +143,7 @@ fn said(text: &[u8]) -> Option<Comment<'_>>
 }
 
 /// What a line says that is such a comment.
-pub(crate) fn comment(line: &[u8]) -> Option<Comment<'_>>
+pub(crate) fn read_comment(line: &[u8]) -> Option<Comment<'_>>
     ensures { option_map (λ c. (c.kind, c.reason.now)) result ≡ spec.comment_of line.now }
 {
     said(after_allow(&line[..end_of(line)])?)
