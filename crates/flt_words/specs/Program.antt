@@ -85,6 +85,14 @@ picture_rule = record (new_rule (codes "svg")) { long = Some (codes "svg"); valu
 abbrev pub map_rule : Rule
 map_rule = record (new_rule (codes "map")) { long = Some (codes "map"); action = Some SetTrue }
 
+-- `--check`
+abbrev pub check_rule : Rule
+check_rule = record (new_rule (codes "check")) { long = Some (codes "check"); action = Some SetTrue }
+
+-- `--write`
+abbrev pub write_rule : Rule
+write_rule = record (new_rule (codes "write")) { long = Some (codes "write"); action = Some SetTrue }
+
 -- ---- commands
 
 abbrev pub bare_check_app : App
@@ -135,6 +143,13 @@ bare_extract_app = new_app (codes "extract")
 abbrev pub extract_app : App
 extract_app = with_rule (with_rule bare_extract_app map_rule) texts_rule
 
+abbrev pub bare_format_app : App
+bare_format_app = new_app (codes "format")
+
+-- `format [--check] [--write] FILE..`
+abbrev pub format_app : App
+format_app = with_rule (with_rule (with_rule bare_format_app check_rule) write_rule) texts_rule
+
 -- the program without its commands: one is asked for, the program's own name is left out, and `--version` answers
 abbrev pub bare_app : App
 bare_app = let a = new_app (codes "fltstack") in
@@ -143,8 +158,8 @@ bare_app = let a = new_app (codes "fltstack") in
 -- the program
 abbrev pub program_app : App
 program_app =
-    with_subcommand (with_subcommand (with_subcommand (with_subcommand (with_subcommand (with_subcommand (with_subcommand bare_app check_app.top)
-    analyse_app.top) thin_app.top) explain_app.top) run_app.top) replay_app.top) extract_app.top
+    with_subcommand (with_subcommand (with_subcommand (with_subcommand (with_subcommand (with_subcommand (with_subcommand (with_subcommand bare_app
+    check_app.top) analyse_app.top) thin_app.top) explain_app.top) run_app.top) replay_app.top) extract_app.top) format_app.top
 
 -- ---- what of it words need
 
@@ -161,4 +176,5 @@ app_for word =
     else (if bytes_eq word (codes "explain") then program_with explain_app
     else (if bytes_eq word (codes "run") then program_with run_app
     else (if bytes_eq word (codes "replay") then program_with replay_app
-    else (if bytes_eq word (codes "extract") then program_with extract_app else program_app))))))
+    else (if bytes_eq word (codes "extract") then program_with extract_app
+    else (if bytes_eq word (codes "format") then program_with format_app else program_app)))))))

@@ -3,6 +3,7 @@ use Rattle.std.specs.Prelude.{ℕ, List, Bool, Option, Some, None, option_map, m
 use Rattle.clap.specs.Walk.{Text}
 use Rattle.flt_words.specs.declared.request.Colour.{Colour}
 use Rattle.flt_words.specs.declared.request.Form.{Form}
+use Rattle.flt_words.specs.declared.request.FormatMode.{FormatMode}
 use Rattle.flt_words.specs.declared.request.Request.{Request}
 use Rattle.flt_words.specs.declared.request.Request.TheVariants as request
 use Rattle.flt_words.specs.declared.request.WarningChoice.{WarningChoice}
@@ -25,6 +26,7 @@ pub data Asked : Type 0 where
   Show : (timeline : Bool) (picture : Option Text) (journal : Text) (files : List Text) → Asked
   Explain : (form : Form) (colour : Colour) (states : ℕ) (journal : Option Text) (warnings : Choice) (files : List Text) → Asked
   Extract : (map : Bool) (files : List Text) → Asked
+  Format : (mode : FormatMode) (files : List Text) → Asked
   Pages : (names : List Text) → Asked
 
 -- what a request asks for, none where it is for a text of the program's own: its use, or its version
@@ -39,5 +41,6 @@ asked_of (request.Show timeline picture journal files) =
 asked_of (request.Explain form colour states journal warnings files) =
     Some (Explain form colour states (option_map (λ name. name.now) journal) (choice_of warnings) (map (λ name. name.now) files.items))
 asked_of (request.Extract of_map files) = Some (Extract of_map (map (λ name. name.now) files.items))
+asked_of (request.Format mode files) = Some (Format mode (map (λ name. name.now) files.items))
 asked_of (request.Pages names) = Some (Pages (map (λ name. name.now) names.items))
 asked_of (request.Usage text) = None

@@ -1,6 +1,6 @@
 -- What the words of a command line ask for. This project's own program.
 use Rattle.std.specs.Char.{digit_value}
-use Rattle.std.specs.List.{list_all}
+use Rattle.std.specs.List.{list_all, list_any}
 use Rattle.std.specs.Prelude.{ℕ, ◌≡◌, ◌&&◌, ◌||◌, List, [], ◌∷◌, Bool, true, false, Option, Some, None, codes, if◌then◌else◌, length, nat_lt, unwrap_or, option_and_then, option_map}
 use Rattle.std.specs.Option.{option_map_or}
 use Rattle.std.specs.Str.{bytes_eq}
@@ -15,10 +15,11 @@ use Rattle.flt_words.specs.Program.{program_app}
 use Rattle.flt_pages.specs.Pages.{has_page}
 use Rattle.flt_words.specs.declared.request.Form.{Form}
 use Rattle.flt_words.specs.declared.request.Form.TheVariants.{Human, Lines, Sarif, Short}
+use Rattle.flt_words.specs.declared.request.FormatMode.TheVariants.{Print, Check as CheckOnly, Write}
 use Rattle.flt_words.specs.declared.request.Colour.{Colour}
 use Rattle.flt_words.specs.declared.request.Colour.TheVariants.{Auto, Always, Never}
 use Rattle.flt_words.specs.Workers.{within}
-use Rattle.flt_words.specs.Request.{Asked, Choice, Check, Analyse, Thin, Run, Replay, Show, Explain, Extract, Pages}
+use Rattle.flt_words.specs.Request.{Asked, Choice, Check, Analyse, Thin, Run, Replay, Show, Explain, Extract, Format, Pages}
 
 -- ---- values
 
@@ -113,6 +114,22 @@ thin_of rows = Thin (text_of (codes "FILE") rows) (first_of (codes "CERT") rows)
 abbrev pub extract_of : List Row → Asked
 extract_of rows = Extract (is_set (codes "map") rows) (files_of rows)
 
+-- the name of the standard input
+abbrev pub is_input : Text → Bool
+is_input name = bytes_eq name (codes "-")
+
+-- by whether `--check` and `--write` are there: without both one layout is printed, and where files are written, none is the standard input;
+-- all else asks for nothing
+abbrev pub format_by : Bool → Bool → List Text → Option Asked
+format_by true true files = None
+format_by true false files = Some (Format CheckOnly files)
+format_by false true files = if list_any is_input files then None else Some (Format Write files)
+format_by false false (file ∷ []) = Some (Format Print (file ∷ []))
+format_by false false files = None
+
+abbrev pub format_of : List Row → Option Asked
+format_of rows = format_by (is_set (codes "check") rows) (is_set (codes "write") rows) (files_of rows)
+
 -- another number of workers than 1 to 16 asks for nothing
 abbrev pub run_of : List Row → Option Asked
 run_of rows =
@@ -168,7 +185,8 @@ asked_by (name, rows) =
     else (if bytes_eq name (codes "explain") then explain_by rows
     else (if bytes_eq name (codes "run") then run_of rows
     else (if bytes_eq name (codes "replay") then replay_of rows
-    else (if bytes_eq name (codes "extract") then Some (extract_of rows) else None))))))
+    else (if bytes_eq name (codes "extract") then Some (extract_of rows)
+    else (if bytes_eq name (codes "format") then format_of rows else None)))))))
 
 -- ---- all of it
 

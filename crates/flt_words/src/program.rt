@@ -194,6 +194,28 @@ fn map_argument<'a>(alloc: Global) -> Arg<'a>
         .help("Print where each line of the text begins in its file, as `driver.c:12:8: line 3`")
 }
 
+/// The flag `--check`.
+fn check_argument<'a>(alloc: Global) -> Arg<'a>
+    ensures rule { rule_of result ≡ spec.check_rule }
+    ensures own { result.global ≡ false }
+{
+    Arg::new(alloc, "check")
+        .long("check")
+        .action(ArgAction::SetTrue)
+        .help("Say which files differ from their layout, and change none")
+}
+
+/// The flag `--write`.
+fn write_argument<'a>(alloc: Global) -> Arg<'a>
+    ensures rule { rule_of result ≡ spec.write_rule }
+    ensures own { result.global ≡ false }
+{
+    Arg::new(alloc, "write")
+        .long("write")
+        .action(ArgAction::SetTrue)
+        .help("Write the layouts into the files that differ from them")
+}
+
 // ---- commands
 
 /// A command with an argument more, if memory was there for both.
@@ -359,6 +381,31 @@ fn extract_command<'a>(alloc: Global) -> Result<Command<'a>, AllocError>
     )
 }
 
+/// The command `format` without its arguments.
+fn bare_format<'a>(alloc: Global) -> Command<'a>
+    ensures { spec.IsCommand result spec.bare_format_app }
+{
+    Command::new(alloc, "format")
+        .about("Lays out filters' texts, with their comments and blank lines")
+        .override_usage(
+            "fltstack format <FILE>\n       fltstack format --check <FILE>...\n       fltstack format --write <FILE>...",
+        )
+        .after_help(
+            "Prints the layout of one FILE, with the certificate behind its text (exit 0). `--check` prints `not formatted`\nand the name of each file that differs from its layout (exit 1 if there is one). `--write` changes these files,\nand leaves a symbolic link as it is. Errors go to the standard error with exit 2; `--check` and `--write` go on\nwith the other files.\n\nExample: fltstack format examples/pending_reads.flt",
+        )
+}
+
+fn format_command<'a>(alloc: Global) -> Result<Command<'a>, AllocError>
+    ensures { IfOk result (λ c. spec.IsCommand c spec.format_app) }
+{
+    let command = with_argument(Ok(bare_format(alloc)), check_argument(alloc));
+    let command = with_argument(command, write_argument(alloc));
+    with_argument(
+        command,
+        texts_argument(alloc, "The filters' texts; `-` is the standard input"),
+    )
+}
+
 // ---- the program
 
 /// The program without its commands.
@@ -399,7 +446,8 @@ pub(crate) fn program<'a>(alloc: Global) -> Result<Command<'a>, AllocError>
     let program = with_command(program, explain_command(alloc));
     let program = with_command(program, run_command(alloc));
     let program = with_command(program, replay_command(alloc));
-    with_command(program, extract_command(alloc))
+    let program = with_command(program, extract_command(alloc));
+    with_command(program, format_command(alloc))
 }
 
 /// The program with one of its commands alone.
@@ -427,6 +475,7 @@ pub(crate) fn program_for<'a>(alloc: Global, word: &str) -> Result<Command<'a>, 
         "run" => program_with(alloc, run_command(alloc)),
         "replay" => program_with(alloc, replay_command(alloc)),
         "extract" => program_with(alloc, extract_command(alloc)),
+        "format" => program_with(alloc, format_command(alloc)),
         _ => program(alloc),
     }
 }

@@ -33,6 +33,17 @@ pub struct WarningChoice<'a> {
     pub allowed: Vec<&'a str>,
 }
 
+/// Where the layouts of texts go.
+#[derive(Clone, Copy, Debug)]
+pub enum FormatMode {
+    /// To the standard output.
+    Print,
+    /// Nowhere: it is said which files differ from theirs.
+    Check,
+    /// Into the files.
+    Write,
+}
+
 /// What the words ask for.
 #[derive(Debug, Drop)]
 pub enum Request<'a> {
@@ -87,6 +98,12 @@ pub enum Request<'a> {
     Extract {
         /// Whether the place of each line of it is printed in its place.
         map: bool,
+        files: Vec<&'a str>,
+    },
+    /// Lay out the texts of some files.
+    Format {
+        mode: FormatMode,
+        /// One, where the layout is printed.
         files: Vec<&'a str>,
     },
     /// Print the pages of some names: of rules, violations, faults of a text, calls or statuses.

@@ -1,7 +1,7 @@
 //! What the words of a command line ask for.
 
-ghost use Rattle.std.specs.Prelude.{◌≡◌, Some, IfOk, map, option_and_then, option_map, string_bytes};
-ghost use Rattle.std.specs.List.{list_all};
+ghost use Rattle.std.specs.Prelude.{◌≡◌, false, true, Some, IfOk, map, option_and_then, option_map, string_bytes};
+ghost use Rattle.std.specs.List.{list_all, list_any};
 ghost use Rattle.clap.specs.Matches.{found_of};
 ghost use Rattle.clap.specs.Simple.{subcommand_rows_of};
 ghost use Rattle.clap.specs.Walk.{rows_of};
@@ -10,7 +10,7 @@ ghost use Rattle.flt_words.specs.Request.{asked_of, choice_of};
 ghost use Rattle.flt_words.specs.Words as spec;
 
 use crate::program::{program, program_for};
-use crate::request::{Colour, Form, Request, WarningChoice};
+use crate::request::{Colour, Form, FormatMode, Request, WarningChoice};
 use crate::shown::visible;
 use crate::workers::Workers;
 use clap::ArgMatches;
@@ -44,6 +44,18 @@ const NO_JOURNAL: &str =
 /// The same of a picture.
 const NO_PICTURE: &str =
     "error: `--svg` takes the name of a file\n\nUsage: fltstack replay [--timeline] [--svg <PICTURE>] <JOURNAL> <FILE>...\n\nFor more information, try '--help'.\n";
+
+/// What is said where files are to be both checked and written.
+const BOTH_MODES: &str =
+    "error: `format` takes `--check` or `--write`, not both\n\nUsage: fltstack format <FILE>\n       fltstack format --check <FILE>...\n       fltstack format --write <FILE>...\n\nFor more information, try '--help'.\n";
+
+/// The same where several layouts are to be printed.
+const FEW_LAYOUTS: &str =
+    "error: `format` prints the layout of one FILE; several take `--check` or `--write`\n\nUsage: fltstack format <FILE>\n       fltstack format --check <FILE>...\n       fltstack format --write <FILE>...\n\nFor more information, try '--help'.\n";
+
+/// The same where the standard input is to be written.
+const NO_INPUT: &str =
+    "error: `--write` takes the names of files\n\nUsage: fltstack format <FILE>\n       fltstack format --check <FILE>...\n       fltstack format --write <FILE>...\n\nFor more information, try '--help'.\n";
 
 /// What is said of words that can't be taken, where nothing else is.
 const NO_WORDS: &str = "error: these words can't be taken\n\nFor more information, try '--help'.\n";
@@ -396,6 +408,73 @@ fn asked_extract<'a>(alloc: Global, extract: &ArgMatches<'a>) -> Result<Request<
     })
 }
 
+/// Whether a name is that of the standard input.
+fn is_input(name: &str) -> bool
+    ensures { result ≡ spec.is_input name.now }
+{
+    name == "-"
+}
+
+/// Whether the standard input is among some names.
+fn names_input(names: &[&str]) -> bool
+    ensures { result ≡ list_any (λ name. spec.is_input name.now) names.now }
+{
+    names.iter().any(|name| is_input(name))
+}
+
+/// What `format` of some files asks for that are written.
+fn written_format<'a>(alloc: Global, files: Vec<&'a str>) -> Result<Request<'a>, AllocError>
+    ensures { IfOk result (λ r. asked_of r ≡ spec.format_by false true (map (λ name. name.now) files.entry.items)) }
+{
+    if names_input(files.as_slice()) {
+        return Ok(Request::Usage(String::from_str(alloc, NO_INPUT)?));
+    }
+    let mode = FormatMode::Write;
+    Ok(Request::Format { mode, files })
+}
+
+/// What `format` of some files asks for without an option.
+fn printed_format<'a>(alloc: Global, files: Vec<&'a str>) -> Result<Request<'a>, AllocError>
+    ensures { IfOk result (λ r. asked_of r ≡ spec.format_by false false (map (λ name. name.now) files.entry.items)) }
+{
+    if files.len() != 1 {
+        return Ok(Request::Usage(String::from_str(alloc, FEW_LAYOUTS)?));
+    }
+    let mode = FormatMode::Print;
+    Ok(Request::Format { mode, files })
+}
+
+/// What `format` of some files asks for, by its options.
+fn format_by<'a>(
+    alloc: Global,
+    is_check: bool,
+    is_write: bool,
+    files: Vec<&'a str>,
+) -> Result<Request<'a>, AllocError>
+    ensures { IfOk result (λ r. asked_of r ≡ spec.format_by is_check is_write (map (λ name. name.now) files.entry.items)) }
+{
+    let mode = FormatMode::Check;
+    match (is_check, is_write) {
+        (true, true) => Ok(Request::Usage(String::from_str(alloc, BOTH_MODES)?)),
+        (true, false) => Ok(Request::Format { mode, files }),
+        (false, true) => written_format(alloc, files),
+        (false, false) => printed_format(alloc, files),
+    }
+}
+
+/// What the matches of `format` ask for.
+fn asked_format<'a>(alloc: Global, format: &ArgMatches<'a>) -> Result<Request<'a>, AllocError>
+    ensures { IfOk result (λ r. asked_of r ≡ spec.format_of (rows_of (found_of format.now))) }
+{
+    let files = files_of(alloc, format)?;
+    format_by(
+        alloc,
+        is_set(format, "check"),
+        is_set(format, "write"),
+        files,
+    )
+}
+
 /// What the matches of a command line ask for.
 fn matched<'a>(alloc: Global, matches: &ArgMatches<'a>) -> Result<Request<'a>, AllocError>
     ensures { IfOk result (λ r. asked_of r ≡ option_and_then spec.asked_by (subcommand_rows_of matches.now)) }
@@ -418,8 +497,11 @@ fn matched<'a>(alloc: Global, matches: &ArgMatches<'a>) -> Result<Request<'a>, A
     if let Some(replay) = matches.subcommand_matches("replay") {
         return asked_replay(alloc, replay);
     }
-    match matches.subcommand_matches("extract") {
-        Some(extract) => asked_extract(alloc, extract),
+    if let Some(extract) = matches.subcommand_matches("extract") {
+        return asked_extract(alloc, extract);
+    }
+    match matches.subcommand_matches("format") {
+        Some(format) => asked_format(alloc, format),
         None => Ok(Request::Usage(String::new(alloc))),
     }
 }
