@@ -23,6 +23,7 @@ mod readings;
 mod setters;
 mod together;
 mod totals;
+mod warnings;
 
 pub use explaining::{Asking, Told, explain};
 pub use fault::ExplainFault;

@@ -9,11 +9,14 @@ mod finding_report;
 mod heading;
 mod indents;
 mod line_report;
+mod mark_order;
 mod mark_words;
 mod marks;
 mod reports;
 mod shown_lines;
+mod warning_report;
 mod way_lines;
 
 pub use line_report::{MarkedLine, report_line};
 pub use reports::{Report, report_findings, report_nothing, report_unread};
+pub use warning_report::report_warning;
