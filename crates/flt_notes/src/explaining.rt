@@ -65,11 +65,11 @@ fn finished(printed: Printed) -> Told
 /// a journal that breaks what its rule prevents, if one is found. Journals are looked for by one search for all findings of a text, up to
 /// so many states: where several texts parse and the text's filter meets another one on an operation, half of them on all that parse, and
 /// for what isn't found there on the filter alone. The last line of each text is what `analyse` says of it, or `nothing found`; behind
-/// those of several texts a line says how many findings there are, and in how many of the texts. Of a text in which nothing is found its
-/// warnings are reported before that, and how many there are, without those that a comment allows. A text that doesn't parse and begins as a
-/// certificate, a journal or a script is taken for one: what is said of it is why a line of it is malformed, and its last line is what
-/// `check`, `replay` or `run` say of it, or `nothing found`. A script is taken for one for the filters of the texts that parse, or, where
-/// none does, for whichever filters it detaches.
+/// those of several texts a line says how many findings there are, and in how many of the texts. Before `nothing found` a text has its
+/// warnings that no comment of it allows, and how many they are. A text that doesn't parse and begins as a certificate, a journal or a
+/// script is taken for one: what is said of it is why a line of it is malformed, and its last line is what `check`, `replay` or `run` say
+/// of it, or `nothing found`. A script is taken for one for the filters of the texts that parse, or, where none does, for whichever
+/// filters it detaches.
 ///
 /// Unless it is held back, the report of each text but the last is put out before the next one's findings are looked for.
 ///

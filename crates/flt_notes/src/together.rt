@@ -166,7 +166,8 @@ impl Stage<'_> {
     ) -> Result<Printed, ExplainFault>
         requires texts { AreStudied self.now.trees.now 0 each.now }
         requires parsed { AreParsed (texts_read each.now) (filters_of self.now.trees.now) }
-        ensures reports { IfOk result (λ p. spec.AreSummed self.now.options (filters_of self.now.trees.now) (texts_read each.now) p.output.bytes.items p.total.status) }
+        ensures reports { IfOk result (λ p. spec.AreSummed self.now.options (filters_of self.now.trees.now) (texts_read each.now)
+            p.output.bytes.items p.total.status) }
         ensures notes { IfOk result (λ p. AreNotesIn self.now.trees.now (known_in each.now) (texts_read each.now) p.output.noted) }
         ensures said { IfOk result (λ p. IsSaid self.now.trees.now self.now.states p.output) }
         ensures print { IfOk result (λ p. AreSeveralPrinted (look_of self.now) self.now.trees.now (sources_read each.now) p.output.noted
@@ -224,7 +225,8 @@ impl Stage<'_> {
     ) -> Result<Printed, ExplainFault>
         requires texts { AreStudied self.now.trees.now 0 each.now }
         requires parsed { AreParsed (texts_read each.now) (filters_of self.now.trees.now) }
-        ensures reports { IfOk result (λ p. spec.AreAllReports self.now.options (filters_of self.now.trees.now) (texts_read each.now) p.output.bytes.items p.total.status) }
+        ensures reports { IfOk result (λ p. spec.AreAllReports self.now.options (filters_of self.now.trees.now) (texts_read each.now)
+            p.output.bytes.items p.total.status) }
         ensures notes { IfOk result (λ p. AreNotesIn self.now.trees.now (known_in each.now) (texts_read each.now) p.output.noted) }
         ensures said { IfOk result (λ p. IsSaid self.now.trees.now self.now.states p.output) }
         ensures print { IfOk result (λ p. IsPrintOfAll (look_of self.now) self.now.trees.now (sources_read each.now) p.output.noted
