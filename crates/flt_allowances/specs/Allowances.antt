@@ -5,7 +5,7 @@ use Rattle.flt_places.specs.declared.places.Region.{Region}
 use Rattle.flt_tree.specs.Names.{Text}
 use Rattle.flt_warnings.specs.declared.warning.Kind.{Kind}
 use Rattle.flt_allowances.specs.Comment.{after_blanks, end_of, comment_of, is_comment}
-use Rattle.flt_allowances.specs.declared.allowances.Allowance.{Allowance}
+use Rattle.flt_allowances.specs.declared.of_text.Allowance.{Allowance}
 
 -- where a comment is in a line of a text: from its `#` to the end of the line without the blanks there
 abbrev pub region_in : ℕ → Text → Region

@@ -143,8 +143,15 @@ fn said(text: &[u8]) -> Option<Comment<'_>>
 }
 
 /// What a line says that is such a comment.
+#[tactic(auto, unfolding(crate::specs::Comment::comment_of))]
 pub(crate) fn read_comment(line: &[u8]) -> Option<Comment<'_>>
     ensures { option_map (λ c. (c.kind, c.reason.now)) result ≡ spec.comment_of line.now }
 {
     said(after_allow(&line[..end_of(line)])?)
+}
+
+pub(crate) fn is_comment(line: &[u8]) -> bool
+    ensures { result ≡ spec.is_comment line.now }
+{
+    read_comment(line).is_some()
 }

@@ -2,7 +2,7 @@
 //! beside its tokens.
 #![tactic(auto)]
 
-mod allowances;
 mod comment;
+mod of_text;
 
-pub use allowances::{Allowance, allowances};
+pub use of_text::{Allowance, allowances};

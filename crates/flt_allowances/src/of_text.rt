@@ -3,7 +3,7 @@
 ghost use Rattle.std.specs.Prelude.{◌≡◌, ◌<◌, ◌+◌, ◌^◌, length, map, IfOk};
 ghost use Rattle.flt_allowances.specs.Allowances as spec;
 
-use crate::comment::{Comment, after_blanks, end_of, read_comment};
+use crate::comment::{Comment, after_blanks, end_of, is_comment, read_comment};
 use flt_places::{Region, lines_of};
 use flt_tree::Position;
 use flt_warnings::Kind;
@@ -47,7 +47,7 @@ fn statement_from(number: usize, lines: &[&[u8]]) -> usize
 {
     let mut at = number;
     for line in lines {
-        if read_comment(line).is_none() {
+        if !is_comment(line) {
             break;
         }
         at += 1;
@@ -108,6 +108,7 @@ fn in_lines(alloc: Global, lines: &[&[u8]]) -> Result<Items<Allowance>, AllocErr
 /// # Errors
 ///
 /// Where a growth was refused.
+#[tactic(auto, unfolding(crate::specs::Allowances::allowances_of))]
 pub fn allowances(alloc: Global, text: &[u8]) -> Result<Items<Allowance>, AllocError>
     ensures { IfOk result (λ all. all ≡ spec.allowances_of text.now) }
 {
