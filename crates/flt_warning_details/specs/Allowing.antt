@@ -27,11 +27,11 @@ serves x w a = names a.kind (kind_of w) && (is_reason a.reason && a.statement ==
 
 -- the reason of the first comment that allows a warning
 abbrev pub reason_for : Parsed → List Allowance → Warning → Option Text
-reason_for x as w = option_map (λ (a : Allowance). a.reason) (find (serves x w) as)
+reason_for x comments w = option_map (λ (a : Allowance). a.reason) (find (serves x w) comments)
 
 -- one of some comments allows it
 abbrev pub is_served : Parsed → List Allowance → Warning → Bool
-is_served x as w = list_any (serves x w) as
+is_served x comments w = list_any (serves x w) comments
 
 -- a comment is the first that allows it, after some others
 abbrev pub is_first : Parsed → List Allowance → Allowance → Warning → Bool

@@ -40,7 +40,9 @@ fn tell_named_help(page: &mut Page, kind: Kind, reason: &[u8]) -> Result<(), All
 {
     match reason {
         [] => page.texts(&["write why after a colon: `# allow ", kind.name(), ": ..`"]),
-        [_, ..] => page.texts(&["remove the comment, or put it on the line before the statement of the warning"]),
+        [_, ..] => page.texts(&[
+            "remove the comment, or put it on the line before the statement of the warning",
+        ]),
     }
 }
 
@@ -86,10 +88,7 @@ fn help_of(alloc: Global, allowance: &Allowance) -> Result<Items<u8>, AllocError
 }
 
 /// What is said of a comment that allows nothing.
-pub(crate) fn idle_detail(
-    alloc: Global,
-    allowance: &Allowance,
-) -> Result<WarningDetail, AllocError>
+pub(crate) fn idle_detail(alloc: Global, allowance: &Allowance) -> Result<WarningDetail, AllocError>
     ensures { IfOk result (λ d. d ≡ spec.idle_detail allowance.now) }
 {
     let title = title_of(alloc, allowance)?;

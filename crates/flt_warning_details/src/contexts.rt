@@ -188,7 +188,9 @@ pub(crate) fn tell_lost_note(
     ensures { Writes result page.old page.new (spec.lost_note (of_parsed text.now) site) }
 {
     page.say(&[
-        Part::Text("where another context is set already, no other callback sees what is written in "),
+        Part::Text(
+            "where another context is set already, no other callback sees what is written in ",
+        ),
         context_part(text, worked_on(&text.instruction(site))),
     ])
 }

@@ -83,7 +83,9 @@ pub(crate) fn tell_circle_help(
 pub(crate) fn tell_circle_note(page: &mut Page) -> Result<(), AllocError>
     ensures { Writes result page.old page.new spec.circle_note }
 {
-    page.texts(&["callbacks that each hold one of these locks and ask for the next might wait for one another forever"])
+    page.texts(&[
+        "callbacks that each hold one of these locks and ask for the next might wait for one another forever",
+    ])
 }
 
 /// Writes what an acquisition of a circle does.
@@ -241,7 +243,9 @@ pub(crate) fn tell_called_note(
     ensures { Writes result page.old page.new (spec.called_note (of_parsed text.now) lock) }
 {
     page.say(&[
-        Part::Text("the system might run other callbacks before the call returns, and these might wait for "),
+        Part::Text(
+            "the system might run other callbacks before the call returns, and these might wait for ",
+        ),
         Part::Quoted(text.lock(lock)),
     ])
 }

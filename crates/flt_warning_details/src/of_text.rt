@@ -207,7 +207,13 @@ fn certified(
     };
     let comments = allowances(alloc, text)?;
     let found = warnings(alloc, graph, cert)?;
-    details(alloc, &parsed, allowed, comments.as_slice(), found.as_slice())
+    details(
+        alloc,
+        &parsed,
+        allowed,
+        comments.as_slice(),
+        found.as_slice(),
+    )
 }
 
 /// What is said of the warnings of a text in which nothing is found, by its least certificate: in the order of `flt_warnings::warnings`,

@@ -25,7 +25,9 @@ pub(crate) fn tell_kept_title(page: &mut Page) -> Result<(), AllocError>
 pub(crate) fn tell_kept_help(page: &mut Page) -> Result<(), AllocError>
     ensures { Writes result page.old page.new spec.kept_help }
 {
-    page.texts(&["call `FltCbdqRemoveNextIo` in the routine of a work item, and complete there what it gives"])
+    page.texts(&[
+        "call `FltCbdqRemoveNextIo` in the routine of a work item, and complete there what it gives",
+    ])
 }
 
 /// Writes what may come of it.
@@ -46,23 +48,24 @@ pub(crate) fn tell_left_title(page: &mut Page) -> Result<(), AllocError>
 pub(crate) fn tell_left_help(page: &mut Page) -> Result<(), AllocError>
     ensures { Writes result page.old page.new spec.left_help }
 {
-    page.texts(&["queue a work item whose routine calls `FltCbdqRemoveNextIo` on each path from here to that `return PENDING`"])
+    page.texts(&[
+        "queue a work item whose routine calls `FltCbdqRemoveNextIo` on each path from here to that `return PENDING`",
+    ])
 }
 
 /// Writes what may come of it.
 pub(crate) fn tell_left_note(page: &mut Page) -> Result<(), AllocError>
     ensures { Writes result page.old page.new spec.left_note }
 {
-    page.texts(&["the operation waits until a work item is queued for another one, it is cancelled or the filter is unloaded"])
+    page.texts(&[
+        "the operation waits until a work item is queued for another one, it is cancelled or the filter is unloaded",
+    ])
 }
 
 fn left_words(alloc: Global) -> Result<Items<u8>, AllocError>
     ensures { IfOk result (λ z. z ≡ spec.left_words) }
 {
-    Items::from_slice(
-        alloc,
-        b"returns with the operation in the queue",
-    )
+    Items::from_slice(alloc, b"returns with the operation in the queue")
 }
 
 /// The place where an operation is left.
