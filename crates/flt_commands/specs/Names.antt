@@ -13,6 +13,6 @@ names_of (Thin file (Some cert)) = file ∷ cert ∷ []
 names_of (Run workers quiet script files) = script ∷ files
 names_of (Replay journal files) = journal ∷ files
 names_of (Show timeline picture journal files) = journal ∷ files
-names_of (Explain form colour states journal files) = files
+names_of (Explain form colour states journal warnings files) = files
 names_of (Extract of_map files) = files
 names_of (Pages names) = []
