@@ -83,17 +83,17 @@ impl Kind {
 }
 
 /// The kind of a name, `W00` to `W06`.
-pub fn kind_named(name: &str) -> Option<Kind>
+pub fn kind_named(name: &[u8]) -> Option<Kind>
     ensures { result ≡ spec.kind_named name.now }
 {
     match name {
-        "W00" => Some(Kind::W00),
-        "W01" => Some(Kind::W01),
-        "W02" => Some(Kind::W02),
-        "W03" => Some(Kind::W03),
-        "W04" => Some(Kind::W04),
-        "W05" => Some(Kind::W05),
-        "W06" => Some(Kind::W06),
+        b"W00" => Some(Kind::W00),
+        b"W01" => Some(Kind::W01),
+        b"W02" => Some(Kind::W02),
+        b"W03" => Some(Kind::W03),
+        b"W04" => Some(Kind::W04),
+        b"W05" => Some(Kind::W05),
+        b"W06" => Some(Kind::W06),
         _ => None,
     }
 }
