@@ -1,5 +1,5 @@
 use Rattle.flt_forms.proofs.Adding.{behind}
-use Rattle.flt_forms.proofs.results.put_finding_locations.Goals as goal
+use Rattle.flt_forms.proofs.results.put_marked_locations.Goals as goal
 
 pub returns : goal.returns
 returns c =
