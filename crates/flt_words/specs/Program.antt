@@ -4,7 +4,7 @@ use Rattle.std.specs.Str.{bytes_eq}
 use Rattle.clap.specs.Lexer.{usize_max}
 use Rattle.clap.specs.Simple.{App, app_of, new_app, new_rule, with_rule, with_subcommand}
 use Rattle.clap.specs.Walk.{Rule, Text}
-use Rattle.clap.specs.declared.builder.action.ArgAction.TheVariants.{SetTrue}
+use Rattle.clap.specs.declared.builder.action.ArgAction.TheVariants.{Append, SetTrue}
 use Rattle.clap.specs.declared.builder.command.Command.{Command}
 use Rattle.clap.specs.declared.builder.command.Command.TheViews.{out-Command as fields_of}
 use Rattle.clap.specs.declared.builder.value_parser.ValueParser.TheVariants.{Signed}
@@ -65,6 +65,14 @@ states_rule = record (new_rule (codes "states")) {
 abbrev pub written_rule : Rule
 written_rule = record (new_rule (codes "journal")) { long = Some (codes "journal"); value_names = 1 }
 
+-- `--strict`
+abbrev pub strict_rule : Rule
+strict_rule = record (new_rule (codes "strict")) { long = Some (codes "strict"); action = Some SetTrue }
+
+-- `--allow KIND`, any number of times
+abbrev pub allow_rule : Rule
+allow_rule = record (new_rule (codes "allow")) { long = Some (codes "allow"); value_names = 1; action = Some Append }
+
 -- `--timeline`
 abbrev pub timeline_rule : Rule
 timeline_rule = record (new_rule (codes "timeline")) { long = Some (codes "timeline"); action = Some SetTrue }
@@ -76,6 +84,14 @@ picture_rule = record (new_rule (codes "svg")) { long = Some (codes "svg"); valu
 -- `--map`
 abbrev pub map_rule : Rule
 map_rule = record (new_rule (codes "map")) { long = Some (codes "map"); action = Some SetTrue }
+
+-- `--check`
+abbrev pub check_rule : Rule
+check_rule = record (new_rule (codes "check")) { long = Some (codes "check"); action = Some SetTrue }
+
+-- `--write`
+abbrev pub write_rule : Rule
+write_rule = record (new_rule (codes "write")) { long = Some (codes "write"); action = Some SetTrue }
 
 -- ---- commands
 
@@ -114,10 +130,11 @@ replay_app = with_rule (with_rule (with_rule (with_rule bare_replay_app timeline
 abbrev pub bare_explain_app : App
 bare_explain_app = new_app (codes "explain")
 
--- `explain [--form FORM] [--color WHEN] [--states N] [--journal FILE] FILE..`
+-- `explain [--form FORM] [--color WHEN] [--states N] [--journal FILE] [--strict] [--allow KIND].. FILE..`
 abbrev pub explain_app : App
 explain_app =
-    with_rule (with_rule (with_rule (with_rule (with_rule bare_explain_app form_rule) colour_rule) states_rule) written_rule) texts_rule
+    with_rule (with_rule (with_rule (with_rule (with_rule (with_rule (with_rule bare_explain_app form_rule) colour_rule) states_rule)
+    written_rule) strict_rule) allow_rule) texts_rule
 
 abbrev pub bare_extract_app : App
 bare_extract_app = new_app (codes "extract")
@@ -125,6 +142,13 @@ bare_extract_app = new_app (codes "extract")
 -- `extract [--map] FILE..`
 abbrev pub extract_app : App
 extract_app = with_rule (with_rule bare_extract_app map_rule) texts_rule
+
+abbrev pub bare_format_app : App
+bare_format_app = new_app (codes "format")
+
+-- `format [--check] [--write] FILE..`
+abbrev pub format_app : App
+format_app = with_rule (with_rule (with_rule bare_format_app check_rule) write_rule) texts_rule
 
 -- the program without its commands: one is asked for, the program's own name is left out, and `--version` answers
 abbrev pub bare_app : App
@@ -134,8 +158,8 @@ bare_app = let a = new_app (codes "fltstack") in
 -- the program
 abbrev pub program_app : App
 program_app =
-    with_subcommand (with_subcommand (with_subcommand (with_subcommand (with_subcommand (with_subcommand (with_subcommand bare_app check_app.top)
-    analyse_app.top) thin_app.top) explain_app.top) run_app.top) replay_app.top) extract_app.top
+    with_subcommand (with_subcommand (with_subcommand (with_subcommand (with_subcommand (with_subcommand (with_subcommand (with_subcommand bare_app
+    check_app.top) analyse_app.top) thin_app.top) explain_app.top) run_app.top) replay_app.top) extract_app.top) format_app.top
 
 -- ---- what of it words need
 
@@ -152,4 +176,5 @@ app_for word =
     else (if bytes_eq word (codes "explain") then program_with explain_app
     else (if bytes_eq word (codes "run") then program_with run_app
     else (if bytes_eq word (codes "replay") then program_with replay_app
-    else (if bytes_eq word (codes "extract") then program_with extract_app else program_app))))))
+    else (if bytes_eq word (codes "extract") then program_with extract_app
+    else (if bytes_eq word (codes "format") then program_with format_app else program_app)))))))

@@ -138,6 +138,29 @@ fn written_argument<'a>(alloc: Global) -> Arg<'a>
         .help("Write the journal of the first finding that has one into this file")
 }
 
+/// The flag `--strict`.
+fn strict_argument<'a>(alloc: Global) -> Arg<'a>
+    ensures rule { rule_of result ≡ spec.strict_rule }
+    ensures own { result.global ≡ false }
+{
+    Arg::new(alloc, "strict")
+        .long("strict")
+        .action(ArgAction::SetTrue)
+        .help("Exit with 1 where warnings are shown, as where something is found")
+}
+
+/// The option `--allow`.
+fn allow_argument<'a>(alloc: Global) -> Arg<'a>
+    ensures rule { rule_of result ≡ spec.allow_rule }
+    ensures own { result.global ≡ false }
+{
+    Arg::new(alloc, "allow")
+        .long("allow")
+        .value_name("KIND")
+        .action(ArgAction::Append)
+        .help("Leave a kind of warning out, as `W03`; it may be given several times")
+}
+
 /// The flag `--timeline`.
 fn timeline_argument<'a>(alloc: Global) -> Arg<'a>
     ensures rule { rule_of result ≡ spec.timeline_rule }
@@ -169,6 +192,28 @@ fn map_argument<'a>(alloc: Global) -> Arg<'a>
         .long("map")
         .action(ArgAction::SetTrue)
         .help("Print where each line of the text begins in its file, as `driver.c:12:8: line 3`")
+}
+
+/// The flag `--check`.
+fn check_argument<'a>(alloc: Global) -> Arg<'a>
+    ensures rule { rule_of result ≡ spec.check_rule }
+    ensures own { result.global ≡ false }
+{
+    Arg::new(alloc, "check")
+        .long("check")
+        .action(ArgAction::SetTrue)
+        .help("Say which files differ from their layout, and change none")
+}
+
+/// The flag `--write`.
+fn write_argument<'a>(alloc: Global) -> Arg<'a>
+    ensures rule { rule_of result ≡ spec.write_rule }
+    ensures own { result.global ≡ false }
+{
+    Arg::new(alloc, "write")
+        .long("write")
+        .action(ArgAction::SetTrue)
+        .help("Write the layouts into the files that differ from them")
 }
 
 // ---- commands
@@ -289,10 +334,10 @@ fn bare_explain<'a>(alloc: Global) -> Command<'a>
             "Says all that is wrong with filters' texts, where it comes from, how to get there and how to mend it",
         )
         .override_usage(
-            "fltstack explain [--form <FORM>] [--color <WHEN>] [--states <N>] [--journal <JOURNAL>] <FILE>...\n       fltstack explain <R01 to R15, V1 to V8, E01 to E08, a call or a status>...",
+            "fltstack explain [--form <FORM>] [--color <WHEN>] [--states <N>] [--journal <JOURNAL>] [--strict] [--allow <KIND>]... <FILE>...\n       fltstack explain <R01 to R15, W00 to W06, V1 to V8, E01 to E08, a call or a status>...",
         )
         .after_help(
-            "Prints a report for each finding, with a run that breaks something because of it, and last what `analyse`\nsays (exit 1), or `nothing found` (exit 0). Where a text doesn't parse, it says where and why (exit 2).\n`--form short` prints a line for each finding, `--form lines` a JSON object, `--form sarif` a SARIF document. Of\nrules, violations, faults of a text, calls or statuses it prints the pages (exit 0); `./R02` is a file of that\nname. Errors go to the standard error with exit 2.\n\nExample: fltstack explain examples/leaked_context.flt",
+            "Prints a report for each finding, with a run that breaks something because of it, and last what `analyse`\nsays (exit 1), or a report for each warning and `nothing found` (exit 0; with `--strict` warnings make it 1).\nWhere a text doesn't parse, it says where and why (exit 2). `--form short` prints a line for each of them,\n`--form lines` a JSON object, `--form sarif` a SARIF document. A comment `# allow W03: why`, alone on the line\nbefore a statement, leaves a warning out there. Of rules, warnings, violations, faults of a text, calls or\nstatuses it prints the pages (exit 0); `./R02` is a file of that name. Errors go to the standard error with exit 2.\n\nExample: fltstack explain examples/leaked_context.flt",
         )
 }
 
@@ -303,6 +348,8 @@ fn explain_command<'a>(alloc: Global) -> Result<Command<'a>, AllocError>
     let command = with_argument(command, colour_argument(alloc));
     let command = with_argument(command, states_argument(alloc));
     let command = with_argument(command, written_argument(alloc));
+    let command = with_argument(command, strict_argument(alloc));
+    let command = with_argument(command, allow_argument(alloc));
     with_argument(
         command,
         texts_argument(
@@ -331,6 +378,31 @@ fn extract_command<'a>(alloc: Global) -> Result<Command<'a>, AllocError>
     with_argument(
         command,
         texts_argument(alloc, "The C files; `-` is the standard input"),
+    )
+}
+
+/// The command `format` without its arguments.
+fn bare_format<'a>(alloc: Global) -> Command<'a>
+    ensures { spec.IsCommand result spec.bare_format_app }
+{
+    Command::new(alloc, "format")
+        .about("Lays out filters' texts, with their comments and blank lines")
+        .override_usage(
+            "fltstack format <FILE>\n       fltstack format --check <FILE>...\n       fltstack format --write <FILE>...",
+        )
+        .after_help(
+            "Prints the layout of one FILE, with the certificate behind its text (exit 0). `--check` prints `not formatted`\nand the name of each file that differs from its layout (exit 1 if there is one). `--write` changes these files,\nand leaves a symbolic link as it is. Errors go to the standard error with exit 2; `--check` and `--write` go on\nwith the other files.\n\nExample: fltstack format examples/pending_reads.flt",
+        )
+}
+
+fn format_command<'a>(alloc: Global) -> Result<Command<'a>, AllocError>
+    ensures { IfOk result (λ c. spec.IsCommand c spec.format_app) }
+{
+    let command = with_argument(Ok(bare_format(alloc)), check_argument(alloc));
+    let command = with_argument(command, write_argument(alloc));
+    with_argument(
+        command,
+        texts_argument(alloc, "The filters' texts; `-` is the standard input"),
     )
 }
 
@@ -374,7 +446,8 @@ pub(crate) fn program<'a>(alloc: Global) -> Result<Command<'a>, AllocError>
     let program = with_command(program, explain_command(alloc));
     let program = with_command(program, run_command(alloc));
     let program = with_command(program, replay_command(alloc));
-    with_command(program, extract_command(alloc))
+    let program = with_command(program, extract_command(alloc));
+    with_command(program, format_command(alloc))
 }
 
 /// The program with one of its commands alone.
@@ -402,6 +475,7 @@ pub(crate) fn program_for<'a>(alloc: Global, word: &str) -> Result<Command<'a>, 
         "run" => program_with(alloc, run_command(alloc)),
         "replay" => program_with(alloc, replay_command(alloc)),
         "extract" => program_with(alloc, extract_command(alloc)),
+        "format" => program_with(alloc, format_command(alloc)),
         _ => program(alloc),
     }
 }

@@ -24,6 +24,26 @@ pub enum Colour {
     Never,
 }
 
+/// What `explain` is asked of warnings.
+#[derive(Debug, Drop)]
+pub struct WarningChoice<'a> {
+    /// Whether a warning that is shown counts as a finding does for the exit status.
+    pub is_strict: bool,
+    /// The kinds that are left out, by name: each is one of `W00` to `W06`.
+    pub allowed: Vec<&'a str>,
+}
+
+/// Where the layouts of texts go.
+#[derive(Clone, Copy, Debug)]
+pub enum FormatMode {
+    /// To the standard output.
+    Print,
+    /// Nowhere: it is said which files differ from theirs.
+    Check,
+    /// Into the files.
+    Write,
+}
+
 /// What the words ask for.
 #[derive(Debug, Drop)]
 pub enum Request<'a> {
@@ -71,12 +91,19 @@ pub enum Request<'a> {
         states: u32,
         /// The file into which the journal of the first finding that has one is written.
         journal: Option<&'a str>,
+        warnings: WarningChoice<'a>,
         files: Vec<&'a str>,
     },
     /// Print the text of the annotations of some C files.
     Extract {
         /// Whether the place of each line of it is printed in its place.
         map: bool,
+        files: Vec<&'a str>,
+    },
+    /// Lay out the texts of some files.
+    Format {
+        mode: FormatMode,
+        /// One, where the layout is printed.
         files: Vec<&'a str>,
     },
     /// Print the pages of some names: of rules, violations, faults of a text, calls or statuses.

@@ -1,16 +1,16 @@
 //! What the words of a command line ask for.
 
-ghost use Rattle.std.specs.Prelude.{◌≡◌, Some, IfOk, map, option_and_then, option_map, string_bytes};
-ghost use Rattle.std.specs.List.{list_all};
+ghost use Rattle.std.specs.Prelude.{◌≡◌, false, true, Some, IfOk, map, option_and_then, option_map, string_bytes};
+ghost use Rattle.std.specs.List.{list_all, list_any};
 ghost use Rattle.clap.specs.Matches.{found_of};
 ghost use Rattle.clap.specs.Simple.{subcommand_rows_of};
 ghost use Rattle.clap.specs.Walk.{rows_of};
 ghost use Rattle.flt_pages.specs.Pages.{has_page};
-ghost use Rattle.flt_words.specs.Request.{asked_of};
+ghost use Rattle.flt_words.specs.Request.{asked_of, choice_of};
 ghost use Rattle.flt_words.specs.Words as spec;
 
 use crate::program::{program, program_for};
-use crate::request::{Colour, Form, Request};
+use crate::request::{Colour, Form, FormatMode, Request, WarningChoice};
 use crate::shown::visible;
 use crate::workers::Workers;
 use clap::ArgMatches;
@@ -27,19 +27,35 @@ pub const DEFAULT_STATES: u32 = 40_000;
 
 /// What is said where a form is asked for that there isn't.
 const NO_FORM: &str =
-    "error: `--form` takes `human`, `short`, `lines` or `sarif`\n\nUsage: fltstack explain [--form <FORM>] [--color <WHEN>] [--states <N>] [--journal <JOURNAL>] <FILE>...\n\nFor more information, try '--help'.\n";
+    "error: `--form` takes `human`, `short`, `lines` or `sarif`\n\nUsage: fltstack explain [--form <FORM>] [--color <WHEN>] [--states <N>] [--journal <JOURNAL>] [--strict] [--allow <KIND>]... <FILE>...\n\nFor more information, try '--help'.\n";
 
 /// The same of when there are colours.
 const NO_COLOUR: &str =
-    "error: `--color` takes `auto`, `always` or `never`\n\nUsage: fltstack explain [--form <FORM>] [--color <WHEN>] [--states <N>] [--journal <JOURNAL>] <FILE>...\n\nFor more information, try '--help'.\n";
+    "error: `--color` takes `auto`, `always` or `never`\n\nUsage: fltstack explain [--form <FORM>] [--color <WHEN>] [--states <N>] [--journal <JOURNAL>] [--strict] [--allow <KIND>]... <FILE>...\n\nFor more information, try '--help'.\n";
+
+/// The same of a kind of warning.
+const NO_KIND: &str =
+    "error: `--allow` takes `W00` to `W06`\n\nUsage: fltstack explain [--form <FORM>] [--color <WHEN>] [--states <N>] [--journal <JOURNAL>] [--strict] [--allow <KIND>]... <FILE>...\n\nFor more information, try '--help'.\n";
 
 /// What is said where the standard input is named for a journal that is written.
 const NO_JOURNAL: &str =
-    "error: `--journal` takes the name of a file\n\nUsage: fltstack explain [--form <FORM>] [--color <WHEN>] [--states <N>] [--journal <JOURNAL>] <FILE>...\n\nFor more information, try '--help'.\n";
+    "error: `--journal` takes the name of a file\n\nUsage: fltstack explain [--form <FORM>] [--color <WHEN>] [--states <N>] [--journal <JOURNAL>] [--strict] [--allow <KIND>]... <FILE>...\n\nFor more information, try '--help'.\n";
 
 /// The same of a picture.
 const NO_PICTURE: &str =
     "error: `--svg` takes the name of a file\n\nUsage: fltstack replay [--timeline] [--svg <PICTURE>] <JOURNAL> <FILE>...\n\nFor more information, try '--help'.\n";
+
+/// What is said where files are to be both checked and written.
+const BOTH_MODES: &str =
+    "error: `format` takes `--check` or `--write`, not both\n\nUsage: fltstack format <FILE>\n       fltstack format --check <FILE>...\n       fltstack format --write <FILE>...\n\nFor more information, try '--help'.\n";
+
+/// The same where several layouts are to be printed.
+const FEW_LAYOUTS: &str =
+    "error: `format` prints the layout of one FILE; several take `--check` or `--write`\n\nUsage: fltstack format <FILE>\n       fltstack format --check <FILE>...\n       fltstack format --write <FILE>...\n\nFor more information, try '--help'.\n";
+
+/// The same where the standard input is to be written.
+const NO_INPUT: &str =
+    "error: `--write` takes the names of files\n\nUsage: fltstack format <FILE>\n       fltstack format --check <FILE>...\n       fltstack format --write <FILE>...\n\nFor more information, try '--help'.\n";
 
 /// What is said of words that can't be taken, where nothing else is.
 const NO_WORDS: &str = "error: these words can't be taken\n\nFor more information, try '--help'.\n";
@@ -53,14 +69,25 @@ fn text_of<'a>(matches: &ArgMatches<'a>, id: &str) -> &'a str
     matches.get_str(id).unwrap_or("-")
 }
 
+/// All values of an argument.
+fn texts_of<'a>(
+    alloc: Global,
+    matches: &ArgMatches<'a>,
+    id: &str,
+) -> Result<Vec<&'a str>, AllocError>
+    ensures { IfOk result (λ texts. map (λ text. text.now) texts.items ≡ spec.texts_of id.now (rows_of (found_of matches.now))) }
+{
+    match matches.get_strs(id) {
+        Some(texts) => Vec::from_slice(alloc, texts),
+        None => Ok(Vec::new(alloc)),
+    }
+}
+
 /// The values of FILE.
 fn files_of<'a>(alloc: Global, matches: &ArgMatches<'a>) -> Result<Vec<&'a str>, AllocError>
     ensures { IfOk result (λ files. map (λ name. name.now) files.items ≡ spec.files_of (rows_of (found_of matches.now))) }
 {
-    match matches.get_strs("FILE") {
-        Some(files) => Vec::from_slice(alloc, files),
-        None => Ok(Vec::new(alloc)),
-    }
+    texts_of(alloc, matches, "FILE")
 }
 
 /// The number behind `--workers`; 1 where nothing is said.
@@ -138,6 +165,33 @@ fn colour_of(matches: &ArgMatches) -> Option<Colour>
     }
 }
 
+fn is_kind(name: &str) -> bool
+    ensures { result ≡ spec.is_kind name.now }
+{
+    matches!(name, "W00" | "W01" | "W02" | "W03" | "W04" | "W05" | "W06")
+}
+
+/// Some names of kinds of warnings; none at all where one isn't the name of a kind.
+fn kinds_in<'a>(names: Vec<&'a str>) -> Option<Vec<&'a str>>
+    ensures { option_map (λ kinds. map (λ name. name.now) kinds.items) result ≡ spec.kinds_in (map (λ name. name.now) names.entry.items) }
+{
+    if names.as_slice().iter().all(|name| is_kind(name)) {
+        Some(names)
+    } else {
+        None
+    }
+}
+
+/// The kinds of warnings that are left out, by name, if there are such kinds.
+fn allowed_of<'a>(
+    alloc: Global,
+    matches: &ArgMatches<'a>,
+) -> Result<Option<Vec<&'a str>>, AllocError>
+    ensures { IfOk result (λ o. option_map (λ kinds. map (λ name. name.now) kinds.items) o ≡ spec.allowed_of (rows_of (found_of matches.now))) }
+{
+    Ok(kinds_in(texts_of(alloc, matches, "allow")?))
+}
+
 /// The file that is written, if one is named for it; none at all where `-` is.
 fn written_by<'a>(name: Option<&'a str>) -> Option<Option<&'a str>>
     ensures { option_map (λ file. option_map (λ name. name.now) file) result ≡ spec.written_by (option_map (λ name. name.now) name.entry) }
@@ -209,10 +263,11 @@ fn explain_of<'a>(
     colour: Colour,
     states: u32,
     journal: Option<&'a str>,
+    warnings: WarningChoice<'a>,
     files: Vec<&'a str>,
 ) -> Request<'a>
     ensures { asked_of result ≡ Some (spec.explain_of form colour states (option_map (λ name. name.now) journal.entry)
-        (map (λ name. name.now) files.entry.items)) }
+        (choice_of warnings.entry) (map (λ name. name.now) files.entry.items)) }
 {
     match form {
         Form::Human if have_pages(files.as_slice()) => Request::Pages { names: files },
@@ -221,12 +276,37 @@ fn explain_of<'a>(
             colour,
             states,
             journal,
+            warnings,
             files,
         },
     }
 }
 
+/// What the matches of `explain` ask for, in a form, with colours at some time, and with the file into which a journal is written.
+#[tactic(auto, unfolding(crate::specs::Words::explain_with))]
+fn explain_with<'a>(
+    alloc: Global,
+    explain: &ArgMatches<'a>,
+    form: Form,
+    colour: Colour,
+    journal: Option<&'a str>,
+) -> Result<Request<'a>, AllocError>
+    ensures { IfOk result (λ r. asked_of r ≡
+        spec.explain_with (rows_of (found_of explain.now)) form colour (option_map (λ name. name.now) journal.entry)) }
+{
+    let Some(allowed) = allowed_of(alloc, explain)? else {
+        return Ok(Request::Usage(String::from_str(alloc, NO_KIND)?));
+    };
+    let warnings = WarningChoice {
+        is_strict: is_set(explain, "strict"),
+        allowed,
+    };
+    let files = files_of(alloc, explain)?;
+    Ok(explain_of(form, colour, states_of(explain), journal, warnings, files))
+}
+
 /// What the matches of `explain` ask for, in a form, with colours at some time.
+#[tactic(auto, unfolding(crate::specs::Words::explain_in))]
 fn explain_in<'a>(
     alloc: Global,
     explain: &ArgMatches<'a>,
@@ -238,8 +318,7 @@ fn explain_in<'a>(
     let Some(journal) = written_of(explain, "journal") else {
         return Ok(Request::Usage(String::from_str(alloc, NO_JOURNAL)?));
     };
-    let files = files_of(alloc, explain)?;
-    Ok(explain_of(form, colour, states_of(explain), journal, files))
+    explain_with(alloc, explain, form, colour, journal)
 }
 
 /// What the matches of `explain` ask for, in a form.
@@ -329,6 +408,73 @@ fn asked_extract<'a>(alloc: Global, extract: &ArgMatches<'a>) -> Result<Request<
     })
 }
 
+/// Whether a name is that of the standard input.
+fn is_input(name: &str) -> bool
+    ensures { result ≡ spec.is_input name.now }
+{
+    name == "-"
+}
+
+/// Whether the standard input is among some names.
+fn names_input(names: &[&str]) -> bool
+    ensures { result ≡ list_any (λ name. spec.is_input name.now) names.now }
+{
+    names.iter().any(|name| is_input(name))
+}
+
+/// What `format` of some files asks for that are written.
+fn written_format<'a>(alloc: Global, files: Vec<&'a str>) -> Result<Request<'a>, AllocError>
+    ensures { IfOk result (λ r. asked_of r ≡ spec.format_by false true (map (λ name. name.now) files.entry.items)) }
+{
+    if names_input(files.as_slice()) {
+        return Ok(Request::Usage(String::from_str(alloc, NO_INPUT)?));
+    }
+    let mode = FormatMode::Write;
+    Ok(Request::Format { mode, files })
+}
+
+/// What `format` of some files asks for without an option.
+fn printed_format<'a>(alloc: Global, files: Vec<&'a str>) -> Result<Request<'a>, AllocError>
+    ensures { IfOk result (λ r. asked_of r ≡ spec.format_by false false (map (λ name. name.now) files.entry.items)) }
+{
+    if files.len() != 1 {
+        return Ok(Request::Usage(String::from_str(alloc, FEW_LAYOUTS)?));
+    }
+    let mode = FormatMode::Print;
+    Ok(Request::Format { mode, files })
+}
+
+/// What `format` of some files asks for, by its options.
+fn format_by<'a>(
+    alloc: Global,
+    is_check: bool,
+    is_write: bool,
+    files: Vec<&'a str>,
+) -> Result<Request<'a>, AllocError>
+    ensures { IfOk result (λ r. asked_of r ≡ spec.format_by is_check is_write (map (λ name. name.now) files.entry.items)) }
+{
+    let mode = FormatMode::Check;
+    match (is_check, is_write) {
+        (true, true) => Ok(Request::Usage(String::from_str(alloc, BOTH_MODES)?)),
+        (true, false) => Ok(Request::Format { mode, files }),
+        (false, true) => written_format(alloc, files),
+        (false, false) => printed_format(alloc, files),
+    }
+}
+
+/// What the matches of `format` ask for.
+fn asked_format<'a>(alloc: Global, format: &ArgMatches<'a>) -> Result<Request<'a>, AllocError>
+    ensures { IfOk result (λ r. asked_of r ≡ spec.format_of (rows_of (found_of format.now))) }
+{
+    let files = files_of(alloc, format)?;
+    format_by(
+        alloc,
+        is_set(format, "check"),
+        is_set(format, "write"),
+        files,
+    )
+}
+
 /// What the matches of a command line ask for.
 fn matched<'a>(alloc: Global, matches: &ArgMatches<'a>) -> Result<Request<'a>, AllocError>
     ensures { IfOk result (λ r. asked_of r ≡ option_and_then spec.asked_by (subcommand_rows_of matches.now)) }
@@ -351,8 +497,11 @@ fn matched<'a>(alloc: Global, matches: &ArgMatches<'a>) -> Result<Request<'a>, A
     if let Some(replay) = matches.subcommand_matches("replay") {
         return asked_replay(alloc, replay);
     }
-    match matches.subcommand_matches("extract") {
-        Some(extract) => asked_extract(alloc, extract),
+    if let Some(extract) = matches.subcommand_matches("extract") {
+        return asked_extract(alloc, extract);
+    }
+    match matches.subcommand_matches("format") {
+        Some(format) => asked_format(alloc, format),
         None => Ok(Request::Usage(String::new(alloc))),
     }
 }

@@ -20,3 +20,6 @@ returns-in-replay c = rw c.in-replay.is (c.program_with-in-replay.ensures _ c.re
 
 pub returns-in-extract : goal.returns-in-extract
 returns-in-extract c = rw c.in-extract.is (c.program_with-in-extract.ensures _ c.extract_command.ensures)
+
+pub returns-in-format : goal.returns-in-format
+returns-in-format c = rw c.in-format.is (c.program_with-in-format.ensures _ c.format_command.ensures)
