@@ -171,6 +171,8 @@ runs=(
     "thin two_locks.flt two_locks.cert"
     "extract c/counts_opens.c"
     "extract --map c/counts_opens.c"
+    "format two_locks.flt"
+    "format --check stream_context_broken.flt pending_reads.script gone.flt"
     "analyse reads_wait_for_a_write.flt"
     "analyse stream_context_broken.flt"
     "run pending_reads_detached.script pending_reads.flt"

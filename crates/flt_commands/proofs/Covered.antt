@@ -49,9 +49,9 @@ use Rattle.flt_commands.specs.Explain.{IsExplained, IsTold, look_in}
 use Rattle.flt_commands.specs.Inputs.{Giving, given, Says, Text, unread}
 use Rattle.flt_commands.specs.Running.{IsRan}
 use Rattle.flt_commands.specs.Thin.{IsThinned, Decides as DecidesThin}
-use Rattle.flt_words.specs.Request.{Asked, Choice, Check, Analyse, Thin, Run, Replay, Show, Explain, Extract, Pages}
+use Rattle.flt_words.specs.Request.{Asked, Choice, Check, Analyse, Thin, Run, Replay, Show, Explain, Extract, Format, Pages}
 use Rattle.flt_commands.specs.declared.answer.Answer.{Answer}
-use Rattle.flt_commands.specs.declared.answer.Answer.TheVariants.{Accepted, Refused, Certificate as Written, Judged, Ran as has_run, FileRefused, Explained, Extracted as has_text, Pages as has_pages, Shown}
+use Rattle.flt_commands.specs.declared.answer.Answer.TheVariants.{Accepted, Refused, Certificate as Written, Judged, Ran as has_run, FileRefused, Explained, Extracted as has_text, Formatted as has_layouts, Pages as has_pages, Shown}
 use Rattle.flt_commands.specs.declared.failure.Failure.{Failure}
 
 -- the laws' clauses
@@ -99,6 +99,7 @@ module _ (law : Law) (runs : LawOfRuns) (nowhere : SpelledFailsNowhere) where
   judged text certificate (Explained r missed) said good = absurd said.decided
   judged text certificate (Shown rows v) said good = absurd said.decided
   judged text certificate (has_text b) said good = absurd said.decided
+  judged text certificate (has_layouts mode outcomes others) said good = absurd said.decided
   judged text certificate (has_pages t) said good = absurd said.decided
 
   checked : (texts : List Text) (answer : Answer) (file : Text) (cert : Option Text) → IsChecked texts (Ok answer) →
@@ -119,6 +120,7 @@ module _ (law : Law) (runs : LawOfRuns) (nowhere : SpelledFailsNowhere) where
   left text certificate (Explained r missed) said good = absurd said.decided
   left text certificate (Shown rows v) said good = absurd said.decided
   left text certificate (has_text b) said good = absurd said.decided
+  left text certificate (has_layouts mode outcomes others) said good = absurd said.decided
   left text certificate (has_pages t) said good = absurd said.decided
 
   thinned : (texts : List Text) (answer : Answer) (file : Text) (cert : Option Text) → IsThinned texts (Ok answer) →
@@ -140,6 +142,7 @@ module _ (law : Law) (runs : LawOfRuns) (nowhere : SpelledFailsNowhere) where
   analysed (text ∷ []) (Explained r missed) file said good = absurd said
   analysed (text ∷ []) (Shown rows v) file said good = absurd said
   analysed (text ∷ []) (has_text b) file said good = absurd said
+  analysed (text ∷ []) (has_layouts mode outcomes others) file said good = absurd said
   analysed (text ∷ []) (has_pages t) file said good = absurd said
   analysed (text ∷ more ∷ texts) answer file said good = said
 
@@ -152,6 +155,7 @@ module _ (law : Law) (runs : LawOfRuns) (nowhere : SpelledFailsNowhere) where
   driven (bytes ∷ texts) (Explained r missed) workers quiet script files said good = absurd said
   driven (bytes ∷ texts) (Shown rows v) workers quiet script files said good = absurd said
   driven (bytes ∷ texts) (has_text b) workers quiet script files said good = absurd said
+  driven (bytes ∷ texts) (has_layouts mode outcomes others) workers quiet script files said good = absurd said
   driven (bytes ∷ texts) (has_pages t) workers quiet script files said good = absurd said
   driven (bytes ∷ texts) (Refused f) workers quiet script files said good = absurd said
   driven (bytes ∷ texts) (Written c) workers quiet script files said good = absurd said
@@ -254,6 +258,7 @@ module _ (law : Law) (runs : LawOfRuns) (nowhere : SpelledFailsNowhere) where
       (told_well form look.options said.told.sources missed.items e.explained said.told.told (own_zero e.explained.status missed.items good))
   explained gives form colour states look journal warnings files texts (Shown rows v) said good = absurd said
   explained gives form colour states look journal warnings files texts (has_text b) said good = absurd said
+  explained gives form colour states look journal warnings files texts (has_layouts mode outcomes others) said good = absurd said
   explained gives form colour states look journal warnings files texts (has_pages t) said good = absurd said
   explained gives form colour states look journal warnings files texts (has_run ran) said good = absurd said
   explained gives form colour states look journal warnings files texts (FileRefused n f) said good = absurd said
@@ -297,4 +302,5 @@ module _ (law : Law) (runs : LawOfRuns) (nowhere : SpelledFailsNowhere) where
   clean_of shown gives (Explain form colour states journal warnings files) texts said bytes status is reported good =
       explains_clean gives form colour states (look_in colour shown states warnings) journal warnings files texts said bytes status is reported good
   clean_of shown gives (Extract of_map files) texts said bytes status is reported good = tt
+  clean_of shown gives (Format mode files) texts said bytes status is reported good = tt
   clean_of shown gives (Pages names) texts said bytes status is reported good = tt

@@ -4,6 +4,7 @@ pub mod Ended
 pub mod Explaining
 pub mod Faults
 pub mod Firsts
+pub mod Formatting
 pub mod InTurn
 pub mod Lengths
 pub mod OneAnalysis

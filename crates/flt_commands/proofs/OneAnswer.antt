@@ -13,7 +13,7 @@ use Rattle.flt_commands.specs.Names.{names_of}
 use Rattle.flt_commands.specs.Replay.{IsReplayed}
 use Rattle.flt_commands.specs.Single.{AreSame, AskForOne, GivesOne, HasOneAnswer, SaysOne, seen, told}
 use Rattle.flt_commands.specs.Thin.{IsThinned}
-use Rattle.flt_words.specs.Request.{Asked, Check, Analyse, Thin, Run, Replay, Show, Explain, Extract, Pages}
+use Rattle.flt_words.specs.Request.{Asked, Check, Analyse, Thin, Run, Replay, Show, Explain, Extract, Format, Pages}
 use Rattle.flt_commands.specs.declared.answer.Answer.{Answer}
 use Rattle.flt_commands.specs.declared.failure.Failure.{Failure}
 use Rattle.flt_commands.specs.declared.failure.Failure.TheVariants.{OutOfMemory}
@@ -81,6 +81,7 @@ module _ (gives : Giving) (one : GivesOne gives) where
   gives_one (Show timeline picture journal files) = but_once (Some journal)
   gives_one (Explain form colour states journal warnings files) = one
   gives_one (Extract of_map files) = one
+  gives_one (Format mode files) = one
   gives_one (Pages names) = one
 
 module _ (checked : SaysOne IsChecked) (analysed : SaysOne IsAnalysed) (thinned : SaysOne IsThinned) (replayed : SaysOne IsReplayed) where
@@ -100,6 +101,7 @@ module _ (checked : SaysOne IsChecked) (analysed : SaysOne IsAnalysed) (thinned 
   said_once gives shown showing (Explain form colour states journal warnings files) texts more a b has one x y = absurd has
   said_once gives shown showing (Extract of_map files) texts more a b has one x y =
       says_once gives one (names_of (Extract of_map files)) (IsExtracted of_map files) (extracts_once of_map files) texts more a b x y
+  said_once gives shown showing (Format mode files) texts more a b has one x y = absurd has
   said_once gives shown showing (Pages names) texts more a b has one x y = absurd has
 
   -- one thing is printed at most, with one exit status

@@ -5,6 +5,7 @@ use Rattle.flt_syntax.specs.TextFails.{SpelledFailsNowhere}
 use Rattle.flt_commands.proofs.Covered.{Law, LawOfRuns, clean_of}
 use Rattle.flt_commands.specs.Commands.{Answers, AnswersFor, AnswersSomehow, AreThose, HoldsBack, IsAnswered, IsBefore, IsCutShort, IsKept, IsKeptAs, IsRemarked, NamesNoJournal, IsRemarkedAfter, IsReported, IsSaid, giving_for, texts_in}
 use Rattle.flt_commands.specs.Explain.{ArePaged, IsSpelledAs, IsWritten}
+use Rattle.flt_commands.specs.Format.{AreChanged}
 use Rattle.flt_notes.specs.Noted.{first_journal}
 use Rattle.std.specs.Prelude.{⊤}
 use Rattle.flt_commands.specs.Inputs.{Giving, Says, Text, given}
@@ -12,12 +13,13 @@ use Rattle.flt_commands.specs.Remarks.{IsFound, unread_in, unread_lines}
 use Rattle.flt_commands.specs.Answer.{status_of, told_status}
 use Rattle.flt_forms.specs.declared.unread.UnreadFile.{UnreadFile}
 use Rattle.flt_model.specs.JournalText.{Entries}
-use Rattle.flt_words.specs.Request.{Asked, Choice, Explain, Show}
+use Rattle.flt_words.specs.Request.{Asked, Choice, Explain, Format, Show}
 use Rattle.flt_words.specs.Words.{asked}
 use Rattle.flt_words.specs.declared.request.Colour.{Colour}
 use Rattle.flt_words.specs.declared.request.Form.{Form}
+use Rattle.flt_words.specs.declared.request.FormatMode.TheVariants.{Write}
 use Rattle.flt_commands.specs.declared.answer.Answer.{Answer}
-use Rattle.flt_commands.specs.declared.answer.Answer.TheVariants.{Accepted, Refused, Certificate, Judged, Explained, Extracted, Pages, Ran, FileRefused, Shown}
+use Rattle.flt_commands.specs.declared.answer.Answer.TheVariants.{Accepted, Refused, Certificate, Judged, Explained, Extracted, Formatted, Pages, Ran, FileRefused, Shown}
 use Rattle.flt_commands.specs.declared.failure.Failure.{Failure}
 use Rattle.flt_commands.specs.declared.fault.CommandFault.{CommandFault}
 use Rattle.flt_commands.specs.declared.fault.CommandFault.TheVariants.{OutOfMemory}
@@ -87,6 +89,7 @@ unread_none (Refused f) good = refl
 unread_none (Certificate bytes) good = refl
 unread_none (Judged v) good = refl
 unread_none (Extracted bytes) good = refl
+unread_none (Formatted mode files others) good = refl
 unread_none (Pages pages) good = refl
 unread_none (Ran ran) good = refl
 unread_none (Shown rows v) good = refl
@@ -139,11 +142,18 @@ written_anyway written untouched None answer is = tt
 written_anyway written untouched (Some name) (Explained e unread) is = spelled_anyway written untouched name (first_journal e.noted) is
 written_anyway written untouched (Some name) _ is = tt
 
+changed_anyway : (written : Text → Text → Type 0) (untouched : Type 0) (answer : Answer) → AreChanged written untouched answer →
+    AreChanged written ⊤ answer
+changed_anyway written untouched (Formatted mode files others) is = (is.0, λ none. tt)
+changed_anyway written untouched _ is = tt
+
 kept_anyway : (written : Text → Text → Type 0) (untouched : Type 0) (request : Asked) (said : Result Answer Failure) →
     IsKept written untouched request said → IsKept written ⊤ request said
 kept_anyway written untouched (Explain form colour states journal warnings files) (Ok answer) is = written_anyway written untouched journal answer is
 kept_anyway written untouched (Explain form colour states journal warnings files) (Err f) is = tt
 kept_anyway written untouched (Show timeline (Some picture) journal files) said is = tt
+kept_anyway written untouched (Format Write files) (Ok answer) is = changed_anyway written untouched answer is
+kept_anyway written untouched (Format Write files) (Err f) is = tt
 kept_anyway written untouched _ said is = tt
 
 answered_anyway : (shown : Bool) (gives : Giving) (written : Text → Text → Type 0) (untouched : Type 0) (request : Option Asked) (report : Report) →

@@ -1,5 +1,5 @@
 -- How the answers of commands are written. This project's own program.
-use Rattle.std.specs.Prelude.{ℕ, List, [], ◌∷◌, ◌++◌, codes, nat_lt, if◌then◌else◌, Result, Ok, Err}
+use Rattle.std.specs.Prelude.{ℕ, List, [], ◌∷◌, ◌++◌, codes, flat_map, nat_lt, if◌then◌else◌, Result, Ok, Err}
 use Rattle.std.specs.Fmt.{decimal}
 use Rattle.std.specs.List.{join_by}
 use Rattle.flt_rules.specs.Rule.{number, text}
@@ -12,9 +12,10 @@ use Rattle.flt_model.specs.declared.verdict.Verdict.{Verdict}
 use Rattle.flt_model.specs.declared.verdict.Verdict.TheVariants.{Legal, NotARun, Breaks}
 use Rattle.flt_model.specs.declared.verdict.Violation.{Violation}
 use Rattle.flt_model.specs.declared.verdict.Violation.TheVariants.{V1, V2, V3, V4, V5, V6, V7, V8}
+use Rattle.flt_commands.specs.Outcomes.{files_status, printed}
 use Rattle.flt_commands.specs.declared.failure.Failure.{Failure}
 use Rattle.flt_commands.specs.declared.answer.Answer.{Answer}
-use Rattle.flt_commands.specs.declared.answer.Answer.TheVariants.{Accepted, Refused, Certificate, Judged, Explained, Extracted, Pages, Ran, FileRefused, Shown}
+use Rattle.flt_commands.specs.declared.answer.Answer.TheVariants.{Accepted, Refused, Certificate, Judged, Explained, Extracted, Formatted, Pages, Ran, FileRefused, Shown}
 
 -- `R01` to `R15`
 abbrev pub rule_name : Rule → List ℕ
@@ -53,7 +54,7 @@ verdict_line Legal = codes "legal"
 verdict_line (NotARun n) = codes "not a run at " ++ decimal n
 verdict_line (Breaks v n) = codes "breaks V" ++ decimal (violation_number v) ++ codes " at " ++ decimal n
 
--- what stands on the standard output: the certificate, a text or its map, reports, pages with an empty line between them, the journal, or a line and a line
+-- what stands on the standard output: the certificate, a text or its map, a layout or which files differ from theirs, reports, pages with an empty line between them, the journal, or a line and a line
 -- feed; of a journal that is shown, rows before that line
 abbrev pub output : Answer → List ℕ
 output Accepted = codes "accepted" ++ 10 ∷ []
@@ -62,6 +63,7 @@ output (Certificate bytes) = bytes.items
 output (Judged v) = verdict_line v ++ 10 ∷ []
 output (Explained e unread) = e.explained.output.items
 output (Extracted bytes) = bytes.items
+output (Formatted mode files unread) = flat_map (printed mode) files.items
 output (Pages pages) = join_by (λ page. page.now) (10 ∷ []) pages.items
 output (Ran ran) = ran.journal.items
 output (Shown rows v) = rows.items ++ (verdict_line v ++ 10 ∷ [])
@@ -83,13 +85,13 @@ abbrev pub ended_status : Ending → ℕ
 ended_status Whole = 0
 ended_status _ = 2
 
--- the exit status of reports: their own, or 2 where a file isn't read
+-- the exit status of reports, or of what files come to: their own, or 2 where a file isn't read
 abbrev pub told_status : ℕ → List UnreadFile → ℕ
 told_status status [] = status
 told_status status (file ∷ files) = 2
 
 -- the exit status: 0 where the certificate covers or is found, or nothing is broken, and of a page; of a journal, by how its run ended; of
--- reports, their own, where each file is read; 1 for any other answer
+-- reports and of layouts, their own, where each file is read; 1 for any other answer
 abbrev pub status_of : Answer → ℕ
 status_of Accepted = 0
 status_of (Refused f) = 1
@@ -98,6 +100,7 @@ status_of (Judged Legal) = 0
 status_of (Judged _) = 1
 status_of (Explained e unread) = told_status e.explained.status unread.items
 status_of (Extracted bytes) = 0
+status_of (Formatted mode files unread) = told_status (files_status mode files.items) unread.items
 status_of (Pages pages) = 0
 status_of (Ran ran) = ended_status ran.ending
 status_of (FileRefused file f) = 1

@@ -8,7 +8,7 @@ use Rattle.flt_model.specs.Steps.{Transition}
 use Rattle.flt_commands.specs.Inputs.{Text}
 use Rattle.flt_driven.specs.Texts.{AreSpelled}
 use Rattle.flt_commands.specs.Split.{IsCertificateStart}
-use Rattle.flt_words.specs.Request.{Asked, Check, Analyse, Thin, Run, Replay, Show, Explain, Extract, Pages}
+use Rattle.flt_words.specs.Request.{Asked, Check, Analyse, Thin, Run, Replay, Show, Explain, Extract, Format, Pages}
 
 -- the filter that the text spells breaks nothing: whatever transitions are tried on it, in whatever order and however many
 abbrev pub BreaksNothing : Text → Type 0
@@ -26,7 +26,7 @@ EachBreaksNothing (text ∷ texts) = BreaksNothing text × EachBreaksNothing tex
 
 -- so does the text in what was read: the bytes of FILE up to its certificate, or FILE with CERT beside it, or FILE that was analysed; or
 -- each FILE behind a script, all in one stack; or each FILE that was explained. Of a journal nothing is said: its own verdict says it;
--- nor is there of a page, or of C files
+-- nor is there of a page, of C files, or of a text that is laid out
 abbrev pub IsClean : Asked → List Text → Type 0
 IsClean (Check file cert) (bytes ∷ []) = (start : ℕ) × IsCertificateStart bytes start × BreaksNothing (take start bytes)
 IsClean (Check file cert) (text ∷ certificate ∷ []) = BreaksNothing text
@@ -38,5 +38,6 @@ IsClean (Replay journal files) texts = Unit {0}
 IsClean (Show timeline picture journal files) texts = Unit {0}
 IsClean (Explain form colour states journal warnings files) texts = EachBreaksNothing texts
 IsClean (Extract of_map files) texts = Unit {0}
+IsClean (Format mode files) texts = Unit {0}
 IsClean (Pages names) texts = Unit {0}
 IsClean _ _ = ⊥

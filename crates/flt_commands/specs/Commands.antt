@@ -11,6 +11,7 @@ use Rattle.flt_commands.specs.Explain as explain
 use Rattle.flt_commands.specs.Explain.{ArePaged, IsExplained, IsWritten, look_in}
 use Rattle.flt_commands.specs.Extract.{IsExtracted}
 use Rattle.flt_commands.specs.Failure.{failure_line}
+use Rattle.flt_commands.specs.Format.{AreChanged, IsFormatSaid, remarks_in}
 use Rattle.flt_commands.specs.Inputs.{Giving, Says, Text, gives_but}
 use Rattle.flt_commands.specs.Names.{names_of}
 use Rattle.flt_commands.specs.Remarks.{IsFound}
@@ -18,8 +19,9 @@ use Rattle.flt_commands.specs.Replay.{IsReplayed, IsShown}
 use Rattle.flt_commands.specs.Running.{IsRan}
 use Rattle.flt_commands.specs.Thin.{IsThinned}
 use Rattle.flt_model.specs.JournalText.{Entries, spelling}
-use Rattle.flt_words.specs.Request.{Asked, Check, Analyse, Thin, Run, Replay, Show, Explain, Extract, Pages}
+use Rattle.flt_words.specs.Request.{Asked, Check, Analyse, Thin, Run, Replay, Show, Explain, Extract, Format, Pages}
 use Rattle.flt_words.specs.Words.{asked}
+use Rattle.flt_words.specs.declared.request.FormatMode.TheVariants.{Write}
 use Rattle.flt_commands.specs.declared.answer.Answer.{Answer}
 use Rattle.flt_commands.specs.declared.failure.Failure.{Failure}
 use Rattle.flt_commands.specs.declared.failure.Failure.TheVariants.{OutOfMemory}
@@ -50,6 +52,7 @@ IsSaid shown gives (Show timeline picture journal files) =
     Says gives (names_of (Show timeline picture journal files)) (IsShown timeline picture)
 IsSaid shown gives (Explain form colour states journal warnings files) = IsExplained gives form (look_in colour shown states warnings) journal files
 IsSaid shown gives (Extract of_map files) = Says gives (names_of (Extract of_map files)) (IsExtracted of_map files)
+IsSaid shown gives (Format mode files) = IsFormatSaid gives mode files
 IsSaid shown gives (Pages names) = Says gives (names_of (Pages names)) (λ texts. ArePaged names)
 
 -- ---- how that is printed
@@ -69,10 +72,12 @@ abbrev pub IsRemarkedAfter : List ℕ → Result Answer Failure → List ℕ →
 IsRemarkedAfter before (Ok answer) bytes = bytes ≡ before ++ remark (ending_of answer)
 IsRemarkedAfter before (Err f) bytes = bytes ≡ before ++ (failure_line f ++ 10 ∷ [])
 
--- what may stand before it: which files of `explain` aren't read; why a file isn't written; and that no run is found
+-- what may stand before it: which files of `explain` and `format` aren't read; why a file isn't written or has no layout; and that no run is
+-- found
 abbrev pub IsBefore : Asked → Result Answer Failure → List ℕ → Type 0
 IsBefore (Explain form colour states journal warnings files) said bytes = IsFound journal said bytes
 IsBefore (Show timeline picture journal files) said bytes = OnOk said (bytes ≡ [])
+IsBefore (Format mode files) said bytes = IfOk said (λ answer. bytes ≡ remarks_in answer)
 IsBefore request said bytes = bytes ≡ []
 
 -- all that stands on the standard error
@@ -117,11 +122,12 @@ AreThose (Show timeline picture journal files) report texts said =
     (bytes : Text) × (texts ≡ bytes ∷ texts_in report) × IsKeptAs report.journal bytes said
 AreThose request report texts said = texts ≡ texts_in report
 
--- where a file is named for it, the journal of the first finding that has one is written there; where none is named for a picture or a
--- journal, all that is written stays as it was
+-- where a file is named for it, the journal of the first finding that has one is written there; where layouts are written, each goes into
+-- its file; where no file is named for a picture or a journal, and no layout is written, all that is written stays as it was
 abbrev pub IsKept : (Text → Text → Type 0) → Type 0 → Asked → Result Answer Failure → Type 0
 IsKept written untouched (Explain form colour states journal warnings files) said = IfOk said (IsWritten written untouched journal)
 IsKept written untouched (Show timeline (Some picture) journal files) said = Unit {0}
+IsKept written untouched (Format Write files) said = IfOk said (AreChanged written untouched)
 IsKept written untouched request said = untouched
 
 -- the report on what is asked for. All of it speaks of the same texts, which are the report's: they are what the names give; this is said of

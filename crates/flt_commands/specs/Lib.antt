@@ -9,9 +9,11 @@ pub mod Extract
 pub mod Failure
 pub mod Fault
 pub mod Flaws
+pub mod Format
 pub mod InTurn
 pub mod Inputs
 pub mod Names
+pub mod Outcomes
 pub mod Remarks
 pub mod Replay
 pub mod Running

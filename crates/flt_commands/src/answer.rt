@@ -3,12 +3,14 @@
 ghost use Rattle.std.specs.Prelude.{◌≡◌, ◌≢◌, [], ◌∷◌, ◌++◌, Some, IfOk};
 ghost use Rattle.flt_commands.specs.Answer as spec;
 
+use crate::outcomes::{FileOutcome, files_status, printed_files};
 use flt_check::Refusal;
 use flt_crew::{Ending, Ran};
 use flt_forms::UnreadFile;
 use flt_model::{Verdict, Violation};
 use flt_notes::Told;
 use flt_rules::{Rule, number, text};
+use flt_words::FormatMode;
 use std::alloc::{AllocError, Global};
 use std::fmt;
 
@@ -27,6 +29,8 @@ pub enum Answer {
     Explained(Told, Vec<UnreadFile>),
     /// The text of the annotations of C files, or where its lines begin.
     Extracted(Vec<u8>),
+    /// What the texts of files come to that are laid out, where their layouts go; and the files that aren't read.
+    Formatted(FormatMode, Vec<FileOutcome>, Vec<UnreadFile>),
     /// The pages of rules, violations, faults of a text, calls or statuses.
     Pages(Vec<&'static str>),
     /// What a script came to.
@@ -39,7 +43,7 @@ pub enum Answer {
 
 impl Answer {
     /// The exit status: 0 for yes, 1 for no, and 2 for a journal that is full before its script has ended, or that the receipts contradict,
-    /// and where a file isn't read.
+    /// and where a file isn't read, has no layout or isn't written.
     pub fn status(&self) -> u8
         ensures { result ≡ spec.status_of self.now }
     {
@@ -48,6 +52,9 @@ impl Answer {
             Answer::Extracted(_) | Answer::Pages(_) | Answer::Shown(_, Verdict::Legal) => 0,
             Answer::Explained(told, unread) => {
                 told_status(told.explained.status, unread.as_slice())
+            }
+            Answer::Formatted(mode, files, unread) => {
+                told_status(files_status(*mode, files.as_slice()), unread.as_slice())
             }
             Answer::Refused(_) | Answer::FileRefused(_, _) | Answer::Judged(_) => 1,
             Answer::Shown(_, _) => 1,
@@ -65,7 +72,7 @@ impl Answer {
             Answer::Accepted | Answer::Refused(_) | Answer::Certificate(_) => Ending::Whole,
             Answer::Judged(_) | Answer::Explained(_, _) | Answer::Pages(_) => Ending::Whole,
             Answer::FileRefused(_, _) | Answer::Shown(_, _) => Ending::Whole,
-            Answer::Extracted(_) => Ending::Whole,
+            Answer::Extracted(_) | Answer::Formatted(_, _, _) => Ending::Whole,
         }
     }
 
@@ -76,6 +83,9 @@ impl Answer {
         let line = match self {
             Answer::Certificate(bytes) => return Ok(bytes),
             Answer::Extracted(bytes) => return Ok(bytes),
+            Answer::Formatted(mode, files, _) => {
+                return printed_files(alloc, mode, files.as_slice());
+            }
             Answer::Explained(told, _) => return Ok(told.explained.output),
             Answer::Ran(ran) => return Ok(ran.journal),
             Answer::Shown(rows, verdict) => return shown(alloc, rows, verdict),
@@ -98,7 +108,7 @@ impl Answer {
     }
 }
 
-/// The exit status of reports, beside which these files aren't read.
+/// The exit status of reports or outcomes, beside which these files aren't read.
 pub(crate) fn told_status(status: u8, unread: &[UnreadFile]) -> u8
     ensures { result ≡ spec.told_status status unread.now }
 {

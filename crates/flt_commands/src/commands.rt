@@ -15,6 +15,7 @@ use crate::explain::{Asked, pages_of};
 use crate::explained::report_on_files;
 use crate::extract::extract_files;
 use crate::fault::CommandFault;
+use crate::format::report_on_layouts;
 use crate::inputs::{Inputs, Pictures};
 use crate::remarks::show_remark;
 use crate::replay::replay_files;
@@ -191,6 +192,10 @@ fn report_of<'a, R: Threads + Wait + Sync, I: Inputs, P: Pictures, O: Sink, W: W
             let said = extract_files(alloc, inputs, map, files.as_slice(), &mut contents);
             report_on(alloc, Vec::new(alloc), said, contents)
         }
+        Request::Format { mode, files } => {
+            let files = files.as_slice();
+            report_on_layouts(alloc, mode, inputs, files, pictures)
+        }
         Request::Pages { names } => {
             let said = pages_of(alloc, names.as_slice());
             report_on(alloc, Vec::new(alloc), said, contents)
@@ -221,7 +226,7 @@ fn write_report<O: Sink, E: Sink>(
 
 /// Runs the command of a program's words, its own name left out, and hands out the report on it once it is written: what answers goes to
 /// `out`, why there is no answer, `full` or `receipts differ` to `err`, and that no run is found for a journal that is asked for; a
-/// picture or a journal goes to `pictures`. What `explain` tells of a file goes out as soon as it is made, unless it is told in one document or a
+/// picture, a journal or a layout that is written into its file goes to `pictures`. What `explain` tells of a file goes out as soon as it is made, unless it is told in one document or a
 /// file is named for a journal. Reports of `explain` have the colours of a terminal where it is `coloured`, unless the words say when. Where it
 /// drives filters, `watch` hears of each line of the script, unless the words ask for quiet; and where it looks for runs, of how far the search
 /// has come, where the words ask for more states than there are without them. Threads are started by `run` alone, where it has more than one

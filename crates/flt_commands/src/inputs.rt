@@ -49,7 +49,7 @@ pub trait Inputs {
     }
 }
 
-/// Where pictures and journals are written.
+/// Where pictures, journals and layouts are written.
 pub trait Pictures {
     // What holds once these bytes are written under a name.
     ghost written: { Self → List ℕ → List ℕ → Type 0 };
@@ -63,7 +63,9 @@ pub trait Pictures {
         name: &str,
         bytes: &[u8],
     ) -> Result<Result<(), Unwritten>, AllocError>
-        ensures { IfOk result (λ done. OnOk done (written self.new name.now bytes.now)) };
+        ensures done { IfOk result (λ done. OnOk done (written self.new name.now bytes.now)) }
+        // What was written before is written still.
+        ensures kept { (other held : List ℕ) → written self.old other held → written self.new other held };
 }
 
 /// How many bytes an input has at most.

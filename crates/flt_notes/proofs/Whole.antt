@@ -156,6 +156,7 @@ known_print look trees k first before p known none unnoted body notes added same
       details = k.details.now;
       warned = known.warned;
       above = body.printed;
+      order = known.order;
       body = subst (λ ns. IsBody look trees k.source k.tree.now k.graph.now k.found.now k.details.now ns body.printed) (sym all) body.is;
       whole = added ∙ ap (λ z. before.bytes.items ++ z) (quieted_same last (quiet_findings k.found.now)) ∙ ap (λ z. z ++ last) above;
       worth = status;

@@ -16,6 +16,7 @@ use Rattle.flt_reports.specs.Fault.{IsFaultReport}
 use Rattle.flt_reports.specs.Reports.{AreReports}
 use Rattle.flt_reports.specs.declared.reports.Report.{Report}
 use Rattle.flt_warning_details.specs.Details.{AreWarningDetails}
+use Rattle.flt_warning_details.specs.Orderly.{PromisesOrder}
 use Rattle.flt_warning_details.specs.Options.{warned_status}
 use Rattle.flt_warning_details.specs.declared.detail.WarningDetail.{WarningDetail}
 use Rattle.flt_warning_details.specs.declared.options.WarningOptions.{WarningOptions}
@@ -80,6 +81,7 @@ IsBody look trees s tree graph (f ∷ fs) details notes printed = AreReportsWith
 
 -- what is printed of a text that parses, whose tree is that of this place, with its status and how many findings it has: what is printed
 -- and the status are of the same warnings
+-- (`order`: where nothing is found and no circle of locks is warned of, its filter takes its locks in an order)
 pub record IsKnownPrint (look : Look) (trees : List Tree) (place : ℕ) (s : Source) (notes : List Noted) (printed : List ℕ)
     (status count : ℕ) : Type 0 where
   pub tree : Tree
@@ -90,6 +92,7 @@ pub record IsKnownPrint (look : Look) (trees : List Tree) (place : ℕ) (s : Sou
   pub noted : AreNoted trees s.text.now place graph found notes
   pub details : List WarningDetail
   pub warned : AreWarningDetails s.text.now tree.filter graph found look.options.allowed details
+  pub order : PromisesOrder found look.options.allowed details tree.filter
   pub above : List ℕ
   pub body : IsBody look trees s tree graph found details notes above
   pub whole : printed ≡ above ++ findings_closing found

@@ -33,7 +33,10 @@ use flt_schedules::{Outcome, Outlook, Schedule, Scheduled, Suspect, Suspects, ou
 use flt_search::SearchWatch;
 use flt_syntax::SyntaxFault;
 use flt_tree::Tree;
-use flt_warning_details::{WarningDetail, WarningOptions, warned_status, warning_details};
+use flt_warning_details::{
+    WarningDetail, WarningOptions, texts_without_circles_are_orderly, warned_status,
+    warning_details,
+};
 use sqlite_items::Items;
 use std::alloc::{AllocError, Global};
 
@@ -420,6 +423,7 @@ impl Stage<'_> {
         let found = found.as_slice();
         let allowed = self.options.allowed;
         let details = warning_details(self.alloc, source.text, tree, &graph, found, allowed)?;
+        texts_without_circles_are_orderly();
         let known = Known {
             source,
             place,

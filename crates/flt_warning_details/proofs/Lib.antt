@@ -1,1 +1,2 @@
 pub mod Comments
+mod Orderly

@@ -56,7 +56,7 @@ changed_help = codes "hold one lock wherever this value is read or written"
 
 -- what may come of it
 abbrev pub changed_note : Text
-changed_note = codes "where both run at once, one of two changes might be lost"
+changed_note = codes "callbacks that run at the same time might lose one of two changes"
 
 -- what an instruction does with a value
 abbrev pub access : Instruction → Text

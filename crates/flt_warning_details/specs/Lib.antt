@@ -4,6 +4,7 @@ pub mod Contexts
 pub mod Details
 pub mod Locks
 pub mod Options
+pub mod Orderly
 pub mod Parsed
 pub mod Places
 pub mod Queue

@@ -88,7 +88,7 @@ pub(crate) fn tell_changed_help(page: &mut Page) -> Result<(), AllocError>
 pub(crate) fn tell_changed_note(page: &mut Page) -> Result<(), AllocError>
     ensures { Writes result page.old page.new spec.changed_note }
 {
-    page.texts(&["where both run at once, one of two changes might be lost"])
+    page.texts(&["callbacks that run at the same time might lose one of two changes"])
 }
 
 /// What an instruction does with a value.

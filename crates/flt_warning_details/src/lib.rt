@@ -6,6 +6,7 @@ mod allowing;
 mod comments;
 mod contexts;
 mod detail;
+mod laws;
 mod locks;
 mod of_text;
 mod options;
@@ -16,5 +17,6 @@ mod saying;
 mod unused;
 
 pub use detail::{RelatedPlace, WarningDetail};
+pub use laws::texts_without_circles_are_orderly;
 pub use of_text::warning_details;
 pub use options::{WarningOptions, shown_count, warned_status};

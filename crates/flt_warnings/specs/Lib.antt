@@ -1,4 +1,5 @@
 pub mod Called
+pub mod Changed
 pub mod Flow
 pub mod Kinds
 pub mod Lost
@@ -6,6 +7,7 @@ pub mod Never
 pub mod Paths
 pub mod Pended
 pub mod Reading
+pub mod Shared
 pub mod Trail
 pub mod Unreached
 pub mod Unused

@@ -3,6 +3,7 @@
 #![tactic(auto)]
 
 mod called;
+mod changed;
 mod flow;
 mod kinds;
 mod laws;
@@ -11,6 +12,7 @@ mod never;
 mod of_text;
 mod pended;
 mod reading;
+mod shared;
 mod trail;
 mod unreached;
 mod unused;

@@ -38,8 +38,8 @@ pub enum Warning {
     NeverRemoved(Site),
     /// W03: an insert, and the point of the same callback that returns PENDING after it, where no work item was queued that removes.
     LeftPended(Site, usize),
-    /// W04: a write of the value of a context that others may have, and the first other access of such a value with which it has no lock
-    /// in common: a write of another callback, or a read of a callback that writes it.
+    /// W04: a write of the value of a context that others may have, and the first use of such a value with which it has no lock in
+    /// common: a read of the same callback, or a write of another one.
     ChangedUnlocked(Site, Site),
     /// W05: a call that sets a context unless there is one, and the first point of the same callback where that context is used behind
     /// the failing side.

@@ -101,3 +101,8 @@ returns-in-Explain-clause-memory g c =
 
 pub returns-in-Explain-clause-held : goal.returns-in-Explain-clause-held
 returns-in-Explain-clause-held g c = held_asked _ _ (rw c.in-Explain.is at c.in_ok-text.ensures) _ _ c.report_on_files.ensures.held
+
+pub returns-in-Format-clause-answers : goal.returns-in-Format-clause-answers
+returns-in-Format-clause-answers g c =
+    answers_asked _ _ (rw c.in-Format.is at c.in_ok-text.ensures) c.args.coloured _ _ _ _
+    (rw c.as_slice-files-in-Format.ensures.value at (c.report_on_layouts.ensures.answered c.args.coloured))

@@ -1,0 +1,15 @@
+use Rattle.flt_commands.proofs.Formatting.{formatted_said, kept_formatted}
+use Rattle.flt_commands.proofs.SomeRead.{read_many}
+use Rattle.flt_commands.proofs.format.format_files.Goals as goal
+
+pub file_outcomes-requires : goal.file_outcomes-requires
+file_outcomes-requires g c =
+    rw (c.as_slice-2.ensures.value, c.as_slice.ensures.value) (read_many _ _ c.in_ok-read.read c.in_ok-read.ensures)
+
+pub returns-clause-said : goal.returns-clause-said
+returns-clause-said g c =
+    formatted_said _ c.args.mode _ c.in_ok-read.read c.in_ok-outcomes.outcomes c.in_ok-read.ensures
+    (rw (c.as_slice.ensures.value, c.as_slice-2.ensures.value) at c.in_ok-outcomes.ensures.are)
+
+pub returns-clause-kept : goal.returns-clause-kept
+returns-clause-kept g c = kept_formatted _ _ c.args.mode _ c.in_ok-outcomes.outcomes _ c.in_ok-outcomes.ensures.done c.in_ok-outcomes.ensures.still

@@ -1,0 +1,16 @@
+use Rattle.std.proofs.Common.{map}
+use Rattle.flt_commands.proofs.Formatting.{quiet_formatted}
+use Rattle.flt_commands.proofs.Reported.{answered_of, remarked_after, those_of}
+use Rattle.flt_words.specs.Request.{Format}
+use Rattle.flt_commands.proofs.format.report_on_layouts.Goals as goal
+
+pub returns-clause-answered : goal.returns-clause-answered
+returns-clause-answered g c =
+    λ shown. let request = Format c.args.mode (map (λ name. name.now) c.args.files.now) in
+    answered_of c.covered_texts_break_nothing.ensures c.driven_texts_break_nothing.ensures
+    c.fails_exactly_where_nothing_is_spelled.ensures.nowhere shown _ _ _ request _ _ _ c.in_ok-answer.ensures.said c.in_ok-answer.ensures.kept
+    (those_of _ _ c.report_on.ensures.texts) c.report_on.ensures.reported
+    (remarked_after request _ _ _ c.in_ok-before.ensures c.report_on.ensures.remarked)
+
+pub returns-clause-quiet : goal.returns-clause-quiet
+returns-clause-quiet g c = quiet_formatted _ _ _ c.in_ok-before.ensures c.report_on.ensures.reported c.report_on.ensures.quiet

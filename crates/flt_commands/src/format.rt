@@ -1,0 +1,203 @@
+//! What `format` says of the names that it is given, and what it writes.
+
+ghost use Rattle.std.specs.List.{All, list_any};
+ghost use Rattle.std.specs.Prelude.{◌≡◌, ◌≢◌, ℕ, [], Bool, List, IfErr, IfOk, Ok, length, map, string_bytes, true, false};
+ghost use Rattle.flt_commands.specs.Commands.{IsAnswered, IsKept};
+ghost use Rattle.flt_commands.specs.Format as spec;
+ghost use Rattle.flt_words.specs.Request.{Format};
+
+use crate::answer::Answer;
+use crate::clean::{covered_texts_break_nothing, driven_texts_break_nothing};
+use crate::fault::CommandFault;
+use crate::inputs::{Inputs, Pictures, read_each};
+use crate::outcomes::{FileOutcome, Outcome, remarks, unread_lines};
+use crate::report::{Contents, Report, report_on};
+use crate::split::certificate_start;
+use crate::unwritten::unwritten_lines;
+use flt_layout::{FormatError, format};
+use flt_syntax::fails_exactly_where_nothing_is_spelled;
+use flt_words::FormatMode;
+use std::alloc::{AllocError, Global};
+
+/// What a layout of an input comes to: whether it is the input.
+fn compared(input: &[u8], layout: Vec<u8>) -> Outcome
+    ensures comes { spec.IsLayout input.now layout.items → spec.ComesTo input.now result }
+    ensures read { spec.is_unwritten result ≡ false }
+{
+    if layout.as_slice() == input {
+        Outcome::Same(layout)
+    } else {
+        Outcome::Other(layout)
+    }
+}
+
+/// What an input comes to, where its text has a layout and this certificate is behind it.
+fn joined(input: &[u8], layout: Vec<u8>, certificate: &[u8]) -> Result<Outcome, AllocError>
+    ensures comes { IfOk result (λ outcome. spec.IsLayout input.now (layout.entry.items ++ certificate.now) → spec.ComesTo input.now outcome) }
+    ensures read { IfOk result (λ outcome. spec.is_unwritten outcome ≡ false) }
+{
+    let mut whole = layout;
+    whole.extend_from_slice(certificate)?;
+    Ok(compared(input, whole))
+}
+
+/// What an input comes to that holds a text and maybe its certificate.
+fn outcome_of(alloc: Global, input: &[u8]) -> Result<Outcome, AllocError>
+    ensures comes { IfOk result (spec.ComesTo input.now) }
+    ensures read { IfOk result (λ outcome. spec.is_unwritten outcome ≡ false) }
+{
+    let (text, certificate) = input.split_at(certificate_start(input));
+    match format(alloc, text) {
+        Ok(layout) => joined(input, layout, certificate),
+        Err(FormatError::Syntax(fault)) => Ok(Outcome::Fault(fault)),
+        Err(FormatError::Long) => Ok(Outcome::Long),
+        Err(FormatError::OutOfMemory) => Err(AllocError),
+    }
+}
+
+/// Writes a layout into the file of a name. What the file comes to then.
+fn put_layout<P: Pictures>(
+    alloc: Global,
+    name: &str,
+    layout: Vec<u8>,
+    pictures: &mut P,
+) -> Result<Outcome, AllocError>
+    ensures comes { (input : List ℕ) → spec.IsLayout input layout.entry.items → layout.entry.items ≢ input → IfOk result (spec.ComesTo input) }
+    ensures done { IfOk result (spec.IsDone (P.written pictures.new) FormatMode.Write name.now) }
+    ensures wanted { IfOk result (λ outcome. spec.is_wanted FormatMode.Write outcome ≡ true) }
+    ensures kept { (other bytes : List ℕ) → P.written pictures.old other bytes → P.written pictures.new other bytes }
+{
+    match pictures.write(alloc, &[], name, layout.as_slice())? {
+        Ok(()) => Ok(Outcome::Other(layout)),
+        Err(why) => {
+            let lines = unwritten_lines(alloc, name, why)?;
+            Ok(Outcome::Unwritten(layout, lines))
+        }
+    }
+}
+
+/// What the file of a name comes to, once its layout is written where it differs from it, if files are written.
+fn written<P: Pictures>(
+    alloc: Global,
+    mode: FormatMode,
+    name: &str,
+    outcome: Outcome,
+    pictures: &mut P,
+) -> Result<Outcome, AllocError>
+    requires read { spec.is_unwritten outcome ≡ false }
+    ensures comes { (input : List ℕ) → spec.ComesTo input outcome.entry → IfOk result (spec.ComesTo input) }
+    ensures fits { IfOk result (spec.MayBe mode) }
+    ensures done { IfOk result (spec.IsDone (P.written pictures.new) mode name.now) }
+    ensures still { IfOk result (λ outcome. spec.is_wanted mode outcome ≡ false → pictures.new ≡ pictures.old) }
+    ensures kept { (other bytes : List ℕ) → P.written pictures.old other bytes → P.written pictures.new other bytes }
+{
+    match (mode, outcome) {
+        (FormatMode::Write, Outcome::Other(layout)) => put_layout(alloc, name, layout, pictures),
+        (_, outcome) => Ok(outcome),
+    }
+}
+
+/// What the file of a name comes to, which gives this input.
+fn file_outcome<P: Pictures>(
+    alloc: Global,
+    mode: FormatMode,
+    name: &str,
+    input: &[u8],
+    pictures: &mut P,
+) -> Result<FileOutcome, AllocError>
+    ensures named { IfOk result (λ file. string_bytes file.name ≡ name.now) }
+    ensures is { IfOk result (spec.IsOutcome mode input.now) }
+    ensures done { IfOk result (spec.IsFileDone (P.written pictures.new) mode) }
+    ensures still { IfOk result (λ file. spec.is_wanted mode file.outcome ≡ false → pictures.new ≡ pictures.old) }
+    ensures kept { (other bytes : List ℕ) → P.written pictures.old other bytes → P.written pictures.new other bytes }
+{
+    let outcome = outcome_of(alloc, input)?;
+    let outcome = written(alloc, mode, name, outcome, pictures)?;
+    let name = String::from_str(alloc, name)?;
+    Ok(FileOutcome { name, outcome })
+}
+
+/// What each of some files comes to, one after the other. A layout is written before the next file is looked at.
+fn file_outcomes<P: Pictures>(
+    alloc: Global,
+    mode: FormatMode,
+    names: &[&str],
+    texts: &[Vec<u8>],
+    pictures: &mut P,
+) -> Result<Vec<FileOutcome>, AllocError>
+    requires { length texts.now ≡ length names.now }
+    ensures are { IfOk result (λ files. spec.AreOutcomes mode (map (λ name. name.now) names.now) (map (λ text. text.items) texts.now)
+        files.items) }
+    ensures done { IfOk result (λ files. All (spec.IsFileDone (P.written pictures.new) mode) files.items) }
+    ensures still { IfOk result (λ files. list_any (λ file. spec.is_wanted mode file.outcome) files.items ≡ false →
+        pictures.new ≡ pictures.old) }
+{
+    let mut files = Vec::new(alloc);
+    for (number, text) in texts.iter().enumerate() {
+        let file = file_outcome(alloc, mode, names[number], text.as_slice(), pictures)?;
+        files.push(file)?;
+    }
+    Ok(files)
+}
+
+/// What `format` says of those of the names that it is given which can be read, and what these give.
+fn format_files<I: Inputs, P: Pictures>(
+    alloc: Global,
+    mode: FormatMode,
+    inputs: &I,
+    files: &[&str],
+    pictures: &mut P,
+    contents: &mut Contents,
+) -> Result<Answer, AllocError>
+    ensures said { IfOk result (λ answer. spec.IsFormatSaid (I.gives inputs.now) mode (map (λ name. name.now) files.now)
+        (map (λ text. text.items) contents.new.texts.items) (Ok answer)) }
+    ensures kept { IfOk result (λ answer. IsKept (P.written pictures.new) (pictures.new ≡ pictures.old)
+        (Format mode (map (λ name. name.now) files.now)) (Ok answer)) }
+{
+    let read = read_each(alloc, inputs, files)?;
+    contents.texts = read.texts;
+    let outcomes = file_outcomes(
+        alloc,
+        mode,
+        read.names.as_slice(),
+        contents.texts.as_slice(),
+        pictures,
+    )?;
+    Ok(Answer::Formatted(mode, outcomes, read.unread))
+}
+
+/// Whole lines on the files that aren't read, have no layout or aren't written.
+fn format_remark(alloc: Global, answer: &Answer) -> Result<Vec<u8>, AllocError>
+    ensures { IfOk result (λ lines. lines.items ≡ spec.remarks_in answer.now) }
+{
+    let Answer::Formatted(mode, files, unread) = answer else {
+        return Ok(Vec::new(alloc));
+    };
+    let mut lines = unread_lines(alloc, unread.as_slice())?;
+    let others = remarks(alloc, *mode, files.as_slice())?;
+    lines.extend_from_slice(others.as_slice())?;
+    Ok(lines)
+}
+
+/// The report on `format` of some files. Each file that is written is written by then.
+pub(crate) fn report_on_layouts<I: Inputs, P: Pictures>(
+    alloc: Global,
+    mode: FormatMode,
+    inputs: &I,
+    files: &[&str],
+    pictures: &mut P,
+) -> Result<Report, CommandFault>
+    ensures answered { (shown : Bool) → IfOk result (IsAnswered shown (I.gives inputs.now) (P.written pictures.new) (pictures.new ≡ pictures.old)
+        (Format mode (map (λ name. name.now) files.now))) }
+    ensures quiet { IfOk result (λ report. report.status ≢ 2 → report.remark.items ≡ []) }
+    ensures sent { IfOk result (λ report. report.sent ≡ 0) }
+    ensures err { IfErr result (λ e. e ≡ CommandFault.OutOfMemory) }
+{
+    covered_texts_break_nothing();
+    driven_texts_break_nothing();
+    fails_exactly_where_nothing_is_spelled();
+    let mut contents = Contents::new(alloc);
+    let answer = format_files(alloc, mode, inputs, files, pictures, &mut contents)?;
+    let before = format_remark(alloc, &answer)?;
+    report_on(alloc, before, Ok(answer), contents)
+}

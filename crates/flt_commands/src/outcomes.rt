@@ -1,0 +1,237 @@
+//! What the texts of files come to that are laid out, and how that is printed.
+
+ghost use Rattle.std.specs.List.{list_any};
+ghost use Rattle.std.specs.Prelude.{◌≡◌, ◌++◌, IfOk, flat_map, string_bytes};
+ghost use Rattle.flt_commands.specs.Outcomes as spec;
+
+use flt_details::SyntaxLine;
+use flt_forms::UnreadFile;
+use flt_syntax::SyntaxFault;
+use flt_words::{FormatMode, visible};
+use std::alloc::{AllocError, Global};
+
+/// What the text of a file comes to, where it is laid out with the certificate behind it.
+#[derive(Drop)]
+pub enum Outcome {
+    /// The file is as its layout, which has these bytes.
+    Same(Vec<u8>),
+    /// It differs from its layout, which has these bytes.
+    Other(Vec<u8>),
+    /// The same, and the layout isn't written into the file: whole lines that say why.
+    Unwritten(Vec<u8>, Vec<u8>),
+    /// The first fault of the text.
+    Fault(SyntaxFault),
+    /// The layout of the text has more bytes than a text may have.
+    Long,
+}
+
+/// A file, and what its text comes to.
+#[derive(Drop)]
+pub struct FileOutcome {
+    pub name: String,
+    pub outcome: Outcome,
+}
+
+// ---- the exit status
+
+/// Whether there is no layout, or it isn't written.
+fn is_failed(outcome: &Outcome) -> bool
+    ensures { result ≡ spec.is_failed outcome.now }
+{
+    match outcome {
+        Outcome::Same(_) | Outcome::Other(_) => false,
+        Outcome::Unwritten(_, _) | Outcome::Fault(_) | Outcome::Long => true,
+    }
+}
+
+/// Whether the file differs from its layout.
+fn is_other(outcome: &Outcome) -> bool
+    ensures { result ≡ spec.is_other outcome.now }
+{
+    match outcome {
+        Outcome::Other(_) => true,
+        Outcome::Same(_) | Outcome::Unwritten(_, _) | Outcome::Fault(_) | Outcome::Long => false,
+    }
+}
+
+fn is_check(mode: FormatMode) -> bool
+    ensures { result ≡ spec.is_check mode }
+{
+    match mode {
+        FormatMode::Check => true,
+        FormatMode::Print | FormatMode::Write => false,
+    }
+}
+
+fn has_failed(files: &[FileOutcome]) -> bool
+    ensures { result ≡ list_any (λ file. spec.is_failed file.outcome) files.now }
+{
+    files.iter().any(|file| is_failed(&file.outcome))
+}
+
+fn has_other(files: &[FileOutcome]) -> bool
+    ensures { result ≡ list_any (λ file. spec.is_other file.outcome) files.now }
+{
+    files.iter().any(|file| is_other(&file.outcome))
+}
+
+/// The exit status of what some files come to.
+pub(crate) fn files_status(mode: FormatMode, files: &[FileOutcome]) -> u8
+    ensures { result ≡ spec.files_status mode files.now }
+{
+    if has_failed(files) {
+        return 2;
+    }
+    if is_check(mode) && has_other(files) {
+        return 1;
+    }
+    0
+}
+
+// ---- the standard output
+
+/// The layout of a file, if it has one.
+fn layout_in(outcome: &Outcome) -> &[u8]
+    ensures { result.now ≡ spec.layout_in outcome.now }
+{
+    match outcome {
+        Outcome::Same(layout) | Outcome::Other(layout) => layout.as_slice(),
+        Outcome::Unwritten(_, _) | Outcome::Fault(_) | Outcome::Long => &[],
+    }
+}
+
+/// The line that says that the file of a name differs from its layout, where it does.
+fn unformatted_line(alloc: Global, name: &str, outcome: &Outcome) -> Result<Vec<u8>, AllocError>
+    ensures { IfOk result (λ line. line.items ≡ spec.unformatted_line name.now outcome.now) }
+{
+    if !is_other(outcome) {
+        return Ok(Vec::new(alloc));
+    }
+    let name = visible(alloc, name)?;
+    let line = format!(in alloc; "not formatted {name}\n")?;
+    Ok(line.into_bytes())
+}
+
+/// What is printed of a file.
+fn printed(alloc: Global, mode: FormatMode, file: &FileOutcome) -> Result<Vec<u8>, AllocError>
+    ensures { IfOk result (λ bytes. bytes.items ≡ spec.printed mode file.now) }
+{
+    match mode {
+        FormatMode::Print => Vec::from_slice(alloc, layout_in(&file.outcome)),
+        FormatMode::Check => unformatted_line(alloc, file.name.as_str(), &file.outcome),
+        FormatMode::Write => Ok(Vec::new(alloc)),
+    }
+}
+
+/// What is printed of some files.
+pub(crate) fn printed_files(
+    alloc: Global,
+    mode: FormatMode,
+    files: &[FileOutcome],
+) -> Result<Vec<u8>, AllocError>
+    ensures { IfOk result (λ bytes. bytes.items ≡ flat_map (spec.printed mode) files.now) }
+{
+    let mut bytes = Vec::new(alloc);
+    for file in files {
+        bytes.extend_from_slice(printed(alloc, mode, file)?.as_slice())?;
+    }
+    Ok(bytes)
+}
+
+// ---- the standard error
+
+/// That a file isn't read, in a line.
+fn unread_line(alloc: Global, file: &UnreadFile) -> Result<String, AllocError>
+    ensures { IfOk result (λ line. string_bytes line ≡ spec.unread_line file.now) }
+{
+    let name = visible(alloc, file.name.as_str())?;
+    format!(in alloc; "cannot read {name}\n")
+}
+
+/// The same of some files.
+pub(crate) fn unread_lines(alloc: Global, files: &[UnreadFile]) -> Result<Vec<u8>, AllocError>
+    ensures { IfOk result (λ lines. lines.items ≡ flat_map spec.unread_line files.now) }
+{
+    let mut lines = Vec::new(alloc);
+    for file in files {
+        lines.extend_from_slice(unread_line(alloc, file)?.as_bytes())?;
+    }
+    Ok(lines)
+}
+
+/// Why a file has no layout, in a line: of one that is printed as `check` says it, of others behind their names.
+fn reason_line(
+    alloc: Global,
+    mode: FormatMode,
+    name: &str,
+    why: &str,
+) -> Result<Vec<u8>, AllocError>
+    ensures { IfOk result (λ line. line.items ≡ spec.reason_line mode name.now why.now) }
+{
+    let line = match mode {
+        FormatMode::Print => format!(in alloc; "{why}\n")?,
+        FormatMode::Check | FormatMode::Write => {
+            let name = visible(alloc, name)?;
+            format!(in alloc; "{name}: {why}\n")?
+        }
+    };
+    Ok(line.into_bytes())
+}
+
+/// The same of a fault of its text.
+fn fault_line(
+    alloc: Global,
+    mode: FormatMode,
+    name: &str,
+    fault: SyntaxFault,
+) -> Result<Vec<u8>, AllocError>
+    ensures { IfOk result (λ line. line.items ≡ spec.fault_line mode name.now fault) }
+{
+    let line = SyntaxLine(fault);
+    let why = format!(in alloc; "{line}")?;
+    reason_line(alloc, mode, name, why.as_str())
+}
+
+/// That a file isn't written, in a line behind those that say why.
+fn unwritten_line(alloc: Global, name: &str, why: &[u8]) -> Result<Vec<u8>, AllocError>
+    ensures { IfOk result (λ lines. lines.items ≡ why.now ++ spec.unwritten_line name.now) }
+{
+    let name = visible(alloc, name)?;
+    let line = format!(in alloc; "cannot write {name}\n")?;
+    let mut lines = Vec::from_slice(alloc, why)?;
+    lines.extend_from_slice(line.as_bytes())?;
+    Ok(lines)
+}
+
+/// What stands on the standard error of the file of a name.
+fn remark(
+    alloc: Global,
+    mode: FormatMode,
+    name: &str,
+    outcome: &Outcome,
+) -> Result<Vec<u8>, AllocError>
+    ensures { IfOk result (λ lines. lines.items ≡ spec.remark mode name.now outcome.now) }
+{
+    match outcome {
+        Outcome::Same(_) | Outcome::Other(_) => Ok(Vec::new(alloc)),
+        Outcome::Unwritten(_, why) => unwritten_line(alloc, name, why.as_slice()),
+        Outcome::Fault(fault) => fault_line(alloc, mode, name, *fault),
+        Outcome::Long => reason_line(alloc, mode, name, "layout too long"),
+    }
+}
+
+/// What stands on the standard error of some files.
+pub(crate) fn remarks(
+    alloc: Global,
+    mode: FormatMode,
+    files: &[FileOutcome],
+) -> Result<Vec<u8>, AllocError>
+    ensures { IfOk result (λ lines. lines.items ≡ flat_map (spec.remarked mode) files.now) }
+{
+    let mut lines = Vec::new(alloc);
+    for file in files {
+        let name = file.name.as_str();
+        lines.extend_from_slice(remark(alloc, mode, name, &file.outcome)?.as_slice())?;
+    }
+    Ok(lines)
+}
