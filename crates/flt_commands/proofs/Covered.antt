@@ -15,15 +15,19 @@ use Rattle.flt_crew.specs.declared.running.Ran.{Ran}
 use Rattle.flt_explain.specs.declared.finding.Finding.{Finding}
 use Rattle.flt_forms.specs.Lines.{AreLines}
 use Rattle.flt_forms.specs.Sarif.{AreResults}
+use Rattle.flt_forms.specs.Warned.{status_of as status_of_warned}
 use Rattle.flt_forms.specs.declared.as_lines.Style.{Style}
 use Rattle.flt_forms.specs.declared.unread.UnreadFile.{UnreadFile}
 use Rattle.flt_forms.specs.declared.as_lines.Style.TheVariants.{Object, Sentence}
-use Rattle.flt_notes.specs.Reported.{AreAllReports, AreParts, IsNoticeReport, IsText, IsTextReport}
+use Rattle.flt_notes.specs.Reported.{AreAllReports, AreParts, IsNoticeReport, IsStatus, IsText, IsTextReport}
 use Rattle.flt_notes.specs.Reported as reports
 use Rattle.flt_notes.specs.Whole.{Look}
-use Rattle.flt_details.specs.Reports.{IsJudged, IsKnown, findings_status, status_of as status_of_judged, texts_of}
+use Rattle.flt_details.specs.Reports.{IsJudged, IsKnown, texts_of}
 use Rattle.flt_details.specs.declared.sources.Explained.{Explained as Told}
 use Rattle.flt_details.specs.declared.sources.Source.{Source}
+use Rattle.flt_warning_details.specs.Options.{warned_status}
+use Rattle.flt_warning_details.specs.declared.detail.WarningDetail.{WarningDetail}
+use Rattle.flt_warning_details.specs.declared.options.WarningOptions.{WarningOptions}
 use Rattle.flt_words.specs.declared.request.Colour.{Colour}
 use Rattle.flt_words.specs.declared.request.Form.{Form}
 use Rattle.flt_words.specs.declared.request.Form.TheVariants.{Human, Lines, Sarif, Short}
@@ -45,7 +49,7 @@ use Rattle.flt_commands.specs.Explain.{IsExplained, IsTold, look_in}
 use Rattle.flt_commands.specs.Inputs.{Giving, given, Says, Text, unread}
 use Rattle.flt_commands.specs.Running.{IsRan}
 use Rattle.flt_commands.specs.Thin.{IsThinned, Decides as DecidesThin}
-use Rattle.flt_words.specs.Request.{Asked, Check, Analyse, Thin, Run, Replay, Show, Explain, Extract, Format, Pages}
+use Rattle.flt_words.specs.Request.{Asked, Choice, Check, Analyse, Thin, Run, Replay, Show, Explain, Extract, Format, Pages}
 use Rattle.flt_commands.specs.declared.answer.Answer.{Answer}
 use Rattle.flt_commands.specs.declared.answer.Answer.TheVariants.{Accepted, Refused, Certificate as Written, Judged, Ran as has_run, FileRefused, Explained, Extracted as has_text, Formatted as has_layouts, Pages as has_pages, Shown}
 use Rattle.flt_commands.specs.declared.failure.Failure.{Failure}
@@ -158,30 +162,33 @@ module _ (law : Law) (runs : LawOfRuns) (nowhere : SpelledFailsNowhere) where
   driven (bytes ∷ texts) (Judged v) workers quiet script files said good = absurd said
 
   -- a text of which nothing is found is covered
-  unfound : (text : Text) (tree : Tree) (graph : Graph) (found : List Finding) → IsKnown text tree graph found →
-      findings_status found ≡ 0 → BreaksNothing text
-  unfound text tree graph [] is good =
+  unfound : (text : Text) (tree : Tree) (graph : Graph) (found : List Finding) (strict : Bool) (warned : List WarningDetail) →
+      IsKnown text tree graph found → warned_status strict found warned ≡ 0 → BreaksNothing text
+  unfound text tree graph [] strict warned is good =
       law text graph (Full is.findings.certificate)
       (record { filter = tree.filter; spelled = is.spelled; lowered = is.lowered })
       is.findings.covers
-  unfound text tree graph (f ∷ fs) is good = absurd (omega (arith, good))
+  unfound text tree graph (f ∷ fs) strict warned is good = absurd (omega (arith, good))
 
-  found_well : (text : Text) (j : Found) → IsJudged text j → status_of_judged j ≡ 0 → BreaksNothing text
-  found_well text (Unread f) is good = absurd (omega (arith, good))
-  found_well text (Known tree graph found) is good = unfound text tree graph found is good
+  found_well : (text : Text) (j : Found) (strict : Bool) (warned : List WarningDetail) → IsJudged text j →
+      status_of_warned strict j warned ≡ 0 → BreaksNothing text
+  found_well text (Unread f) strict warned is good = absurd (omega (arith, good))
+  found_well text (Known tree graph found) strict warned is good = unfound text tree graph found strict warned is good
 
   -- a text that doesn't parse spells no filter
   unspelled : (text : Text) (f : SyntaxFault) → Fails text f → BreaksNothing text
   unspelled text f fault filter transitions spelled = absurd (nowhere text filter f spelled fault)
 
-  text_well : (text : Text) (j : Found) → IsText text j → status_of_judged j ≡ 0 → BreaksNothing text
-  text_well text (Unread f) is good = absurd (omega (arith, good))
-  text_well text (Known tree graph found) is good = unfound text tree graph found is good
+  text_well : (options : WarningOptions) (text : Text) (j : Found) (status : ℕ) → IsText text j → IsStatus options text j status →
+      status ≡ 0 → BreaksNothing text
+  text_well options text (Unread f) status is own good = absurd (omega (arith, own, good))
+  text_well options text (Known tree graph found) status is own good =
+      unfound text tree graph found options.is_strict own.details is (sym own.worth ∙ good)
 
-  report_well : (filters : List Filter) (text : Text) (report : List ℕ) (status count : ℕ) →
-      IsTextReport text report status count ⊎ IsNoticeReport filters text report status count → status ≡ 0 → BreaksNothing text
-  report_well filters text report status count (inl is) good = text_well text is.judged is.is (sym is.own ∙ good)
-  report_well filters text report status count (inr is) good = unspelled text is.other.fault is.other.unread
+  report_well : (options : WarningOptions) (filters : List Filter) (text : Text) (report : List ℕ) (status count : ℕ) →
+      IsTextReport options text report status count ⊎ IsNoticeReport filters text report status count → status ≡ 0 → BreaksNothing text
+  report_well options filters text report status count (inl is) good = text_well options text is.judged status is.is is.own good
+  report_well options filters text report status count (inr is) good = unspelled text is.other.fault is.other.unread
 
   -- the greatest of two statuses is 0 only where both are
   both_zero : (m n : ℕ) → max m n ≡ 0 → (m ≡ 0) × (n ≡ 0)
@@ -195,63 +202,70 @@ module _ (law : Law) (runs : LawOfRuns) (nowhere : SpelledFailsNowhere) where
   one_more_breaks_nothing [] text each own = (own, tt)
   one_more_breaks_nothing (t ∷ ts) text each own = (each.0, one_more_breaks_nothing ts text each.1 own)
 
-  reported : (filters : List Filter) (texts : List Text) (printed : List ℕ) (status findings files : ℕ) →
-      AreParts filters texts printed status findings files → status ≡ 0 → EachBreaksNothing texts
-  reported filters _ _ _ _ _ reports.none good = tt
-  reported filters _ _ _ _ _ (reports.one_more {texts = texts} {printed = printed} {greatest = greatest} {findings = findings} {files = files}
+  reported : (options : WarningOptions) (filters : List Filter) (texts : List Text) (printed : List ℕ) (status findings files : ℕ) →
+      AreParts options filters texts printed status findings files → status ≡ 0 → EachBreaksNothing texts
+  reported options filters _ _ _ _ _ reports.none good = tt
+  reported options filters _ _ _ _ _ (reports.one_more {texts = texts} {printed = printed} {greatest = greatest} {findings = findings} {files = files}
       {text = text} {report = report} {status = status} {count = count} are is) good =
       let zeros = both_zero greatest status good in
-      one_more_breaks_nothing texts text (reported filters texts printed greatest findings files are zeros.0)
-      (report_well filters text report status count is.is zeros.1)
+      one_more_breaks_nothing texts text (reported options filters texts printed greatest findings files are zeros.0)
+      (report_well options filters text report status count is.is zeros.1)
 
-  in_lines : (style : Style) (sources : List Source) (before printed : List ℕ) (status : ℕ) → AreLines style sources before printed status → status ≡ 0 →
+  in_lines : (style : Style) (options : WarningOptions) (sources : List Source) (before printed : List ℕ) (status : ℕ) → AreLines style options sources before printed status → status ≡ 0 →
       EachBreaksNothing (texts_of sources)
-  in_lines style [] before printed status said good = tt
-  in_lines style (s ∷ ss) before printed status (part, first, others, own, rest, greatest) good =
-      let zeros = both_zero first others (sym greatest ∙ good) in
-      (found_well s.text.now own.judged own.is (sym own.own ∙ zeros.0), in_lines style ss (before ++ part) printed others rest zeros.1)
+  in_lines style options [] before printed status said good = tt
+  in_lines style options (s ∷ ss) before printed status (part, first, others, own, rest, greatest) good =
+      let zeros = both_zero first others (sym greatest ∙ good) in (
+        found_well s.text.now own.judged options.is_strict own.warned own.is (sym own.own ∙ zeros.0),
+        in_lines style options ss (before ++ part) printed others rest zeros.1,
+      )
 
-  in_results : (sources : List Source) (tokens : List Token) (status : ℕ) → AreResults sources tokens status → status ≡ 0 →
+  in_results : (options : WarningOptions) (sources : List Source) (tokens : List Token) (status : ℕ) → AreResults options sources tokens status → status ≡ 0 →
       EachBreaksNothing (texts_of sources)
-  in_results [] tokens status said good = tt
-  in_results (s ∷ ss) tokens status (part, others_tokens, first, others, own, rest, joined, greatest) good =
-      let zeros = both_zero first others (sym greatest ∙ good) in
-      (found_well s.text.now own.judged own.is (sym own.own ∙ zeros.0), in_results ss others_tokens others rest zeros.1)
+  in_results options [] tokens status said good = tt
+  in_results options (s ∷ ss) tokens status (part, others_tokens, first, others, own, rest, joined, greatest) good =
+      let zeros = both_zero first others (sym greatest ∙ good) in (
+        found_well s.text.now own.judged options.is_strict own.warned own.is (sym own.own ∙ zeros.0),
+        in_results options ss others_tokens others rest zeros.1,
+      )
 
   -- of all files
-  all_reported : (filters : List Filter) (texts : List Text) (printed : List ℕ) (status : ℕ) → AreAllReports filters texts printed status →
+  all_reported : (options : WarningOptions) (filters : List Filter) (texts : List Text) (printed : List ℕ) (status : ℕ) →
+      AreAllReports options filters texts printed status →
       status ≡ 0 → EachBreaksNothing texts
-  all_reported filters [] printed status said good = tt
-  all_reported filters (t ∷ []) printed status is good = (report_well filters t printed status is.count is.is.is good, tt)
-  all_reported filters (t ∷ u ∷ ts) printed status is good = reported filters (t ∷ u ∷ ts) is.reports status is.findings is.files is.are good
+  all_reported options filters [] printed status said good = tt
+  all_reported options filters (t ∷ []) printed status is good = (report_well options filters t printed status is.count is.is.is good, tt)
+  all_reported options filters (t ∷ u ∷ ts) printed status is good = reported options filters (t ∷ u ∷ ts) is.reports status is.findings is.files is.are good
 
-  told_well : (form : Form) (sources : List Source) (missed : List UnreadFile) (e : Told) → IsTold form sources missed e → e.status ≡ 0 →
+  told_well : (form : Form) (options : WarningOptions) (sources : List Source) (missed : List UnreadFile) (e : Told) →
+      IsTold form options sources missed e → e.status ≡ 0 →
       EachBreaksNothing (texts_of sources)
-  told_well Human sources missed e told good = all_reported told.filters (texts_of sources) e.output.items e.status told.are good
-  told_well Short sources missed e told good = in_lines Sentence sources [] e.output.items e.status told good
-  told_well Lines sources missed e told good = in_lines Object sources [] e.output.items e.status told good
-  told_well Sarif sources missed e told good = in_results sources told.0 e.status told.1 good
+  told_well Human options sources missed e told good = all_reported options told.filters (texts_of sources) e.output.items e.status told.are good
+  told_well Short options sources missed e told good = in_lines Sentence options sources [] e.output.items e.status told good
+  told_well Lines options sources missed e told good = in_lines Object options sources [] e.output.items e.status told good
+  told_well Sarif options sources missed e told good = in_results options sources told.0 e.status told.1 good
 
   -- where a file isn't read, the status isn't 0
   own_zero : (status : ℕ) (missed : List UnreadFile) → told_status status missed ≡ 0 → status ≡ 0
   own_zero status [] good = good
   own_zero status (file ∷ files) good = absurd (omega (arith, good))
 
-  explained : (gives : Giving) (form : Form) (colour : Colour) (states : ℕ) (look : Look) (journal : Option Text) (files texts : List Text) (answer : Answer) →
-      IsExplained gives form look journal files texts (Ok answer) → status_of answer ≡ 0 → IsClean (Explain form colour states journal files) texts
-  explained gives form colour states look journal files texts (Explained e missed) said good =
+  explained : (gives : Giving) (form : Form) (colour : Colour) (states : ℕ) (look : Look) (journal : Option Text) (warnings : Choice)
+      (files texts : List Text) (answer : Answer) →
+      IsExplained gives form look journal files texts (Ok answer) → status_of answer ≡ 0 → IsClean (Explain form colour states journal warnings files) texts
+  explained gives form colour states look journal warnings files texts (Explained e missed) said good =
       subst EachBreaksNothing said.told.given
-      (told_well form said.told.sources missed.items e.explained said.told.told (own_zero e.explained.status missed.items good))
-  explained gives form colour states look journal files texts (Shown rows v) said good = absurd said
-  explained gives form colour states look journal files texts (has_text b) said good = absurd said
-  explained gives form colour states look journal files texts (has_layouts mode outcomes) said good = absurd said
-  explained gives form colour states look journal files texts (has_pages t) said good = absurd said
-  explained gives form colour states look journal files texts (has_run ran) said good = absurd said
-  explained gives form colour states look journal files texts (FileRefused n f) said good = absurd said
-  explained gives form colour states look journal files texts Accepted said good = absurd said
-  explained gives form colour states look journal files texts (Refused f) said good = absurd said
-  explained gives form colour states look journal files texts (Written c) said good = absurd said
-  explained gives form colour states look journal files texts (Judged v) said good = absurd said
+      (told_well form look.options said.told.sources missed.items e.explained said.told.told (own_zero e.explained.status missed.items good))
+  explained gives form colour states look journal warnings files texts (Shown rows v) said good = absurd said
+  explained gives form colour states look journal warnings files texts (has_text b) said good = absurd said
+  explained gives form colour states look journal warnings files texts (has_layouts mode outcomes) said good = absurd said
+  explained gives form colour states look journal warnings files texts (has_pages t) said good = absurd said
+  explained gives form colour states look journal warnings files texts (has_run ran) said good = absurd said
+  explained gives form colour states look journal warnings files texts (FileRefused n f) said good = absurd said
+  explained gives form colour states look journal warnings files texts Accepted said good = absurd said
+  explained gives form colour states look journal warnings files texts (Refused f) said good = absurd said
+  explained gives form colour states look journal warnings files texts (Written c) said good = absurd said
+  explained gives form colour states look journal warnings files texts (Judged v) said good = absurd said
 
   -- where this is said of what the names give, and reported with the status 0, that holds which it says of an answer with that status
   says_clean : (gives : Giving) (names texts : List Text) (IsSaidOf : List Text → Result Answer Failure → Type 0) (P : Type 0)
@@ -264,12 +278,12 @@ module _ (law : Law) (runs : LawOfRuns) (nowhere : SpelledFailsNowhere) where
   says_clean gives names texts IsSaidOf P (Ok answer) bytes status holds (given result there said) reported good =
       holds answer said (sym reported.1 ∙ good)
 
-  explains_clean : (gives : Giving) (form : Form) (colour : Colour) (states : ℕ) (look : Look) (journal : Option Text) (files texts : List Text)
-      (said : Result Answer Failure) (bytes : List ℕ) (status : ℕ) → IsExplained gives form look journal files texts said → IsReported said bytes status →
-      status ≡ 0 → IsClean (Explain form colour states journal files) texts
-  explains_clean gives form colour states look journal files texts (Ok answer) bytes status said reported good =
-      explained gives form colour states look journal files texts answer said (sym reported.1 ∙ good)
-  explains_clean gives form colour states look journal files texts (Err f) bytes status said reported good =
+  explains_clean : (gives : Giving) (form : Form) (colour : Colour) (states : ℕ) (look : Look) (journal : Option Text) (warnings : Choice)
+      (files texts : List Text) (said : Result Answer Failure) (bytes : List ℕ) (status : ℕ) → IsExplained gives form look journal files texts said → IsReported said bytes status →
+      status ≡ 0 → IsClean (Explain form colour states journal warnings files) texts
+  explains_clean gives form colour states look journal warnings files texts (Ok answer) bytes status said reported good =
+      explained gives form colour states look journal warnings files texts answer said (sym reported.1 ∙ good)
+  explains_clean gives form colour states look journal warnings files texts (Err f) bytes status said reported good =
       absurd (omega (arith, reported.1.1, good))
 
   -- where this is said of what is asked for, and reported with the status 0, the text breaks nothing
@@ -285,8 +299,8 @@ module _ (law : Law) (runs : LawOfRuns) (nowhere : SpelledFailsNowhere) where
       says_clean gives _ texts IsRan _ said bytes status (λ answer is well. driven texts answer workers quiet script files is well) is reported good
   clean_of shown gives (Replay journal files) texts said bytes status is reported good = tt
   clean_of shown gives (Show timeline picture journal files) texts said bytes status is reported good = tt
-  clean_of shown gives (Explain form colour states journal files) texts said bytes status is reported good =
-      explains_clean gives form colour states (look_in colour shown states) journal files texts said bytes status is reported good
+  clean_of shown gives (Explain form colour states journal warnings files) texts said bytes status is reported good =
+      explains_clean gives form colour states (look_in colour shown states warnings) journal warnings files texts said bytes status is reported good
   clean_of shown gives (Extract of_map files) texts said bytes status is reported good = tt
   clean_of shown gives (Format mode files) texts said bytes status is reported good = tt
   clean_of shown gives (Pages names) texts said bytes status is reported good = tt

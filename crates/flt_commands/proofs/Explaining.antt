@@ -8,6 +8,7 @@ use Rattle.flt_details.specs.declared.sources.Source.{Source}
 use Rattle.flt_forms.specs.declared.unread.UnreadFile.{UnreadFile}
 use Rattle.flt_notes.specs.Whole.{Look}
 use Rattle.flt_notes.specs.declared.explaining.Told.{Told}
+use Rattle.flt_warning_details.specs.declared.options.WarningOptions.{WarningOptions}
 use Rattle.flt_words.specs.declared.request.Form.{Form}
 use Rattle.flt_commands.proofs.Sent.{cut_short}
 use Rattle.flt_commands.specs.Answer.{sent_in}
@@ -39,7 +40,7 @@ holds_some form journal name same = rw same tt
 
 pub told_under : (form : Form) (look : Look) (journal : Option Text) (names texts : List Text) (unread : List UnreadFile) (sources : List Source)
     (result : Result Told CommandFault) → names_in sources ≡ map (told_name form) names → texts_of sources ≡ texts →
-    IfOk result (λ t. IsTold form sources unread t.explained) → IfOk result (λ t. AreNotedFor form journal (texts_of sources) t.noted) →
+    IfOk result (λ t. IsTold form look.options sources unread t.explained) → IfOk result (λ t. AreNotedFor form journal (texts_of sources) t.noted) →
     IfOk result (IsNoteTold form (texts_of sources) look.states) → IfOk result (IsPrintTold form look sources) →
     IfOk result (IsToldUnder form look journal names texts unread)
 told_under form look journal names texts unread sources (Ok t) named given told noted notes print = record {
@@ -53,42 +54,42 @@ told_under form look journal names texts unread sources (Ok t) named given told 
 }
 told_under form look journal names texts unread sources (Err e) named given told noted notes print = tt
 
-pub cut_some : (form : Form) (states : ℕ) (names texts : List Text) (sources : List Source) (result : Result Told CommandFault)
+pub cut_some : (form : Form) (options : WarningOptions) (states : ℕ) (names texts : List Text) (sources : List Source) (result : Result Told CommandFault)
     (old new : Option Text) → names_in sources ≡ map (told_name form) names → texts_of sources ≡ texts →
-    IfErr result (λ e. e ≡ OutOfMemory → IsCutIn form states sources old new) →
-    IfErr result (λ e. e ≡ OutOfMemory → IsCutUnder form states names texts old new)
-cut_some form states names texts sources (Ok t) old new named given cut = tt
-cut_some form states names texts sources (Err e) old new named given cut = λ short. explain.some_out sources named given (cut short)
+    IfErr result (λ e. e ≡ OutOfMemory → IsCutIn form options states sources old new) →
+    IfErr result (λ e. e ≡ OutOfMemory → IsCutUnder form options states names texts old new)
+cut_some form options states names texts sources (Ok t) old new named given cut = tt
+cut_some form options states names texts sources (Err e) old new named given cut = λ short. explain.some_out sources named given (cut short)
 
 -- ---- of files
 
-module _ (gives : Giving) (form : Form) (states : ℕ) (files : List Text) where
+module _ (gives : Giving) (form : Form) (options : WarningOptions) (states : ℕ) (files : List Text) where
   -- what is told of those that are read is cut short
   pub cut_read : (r : ReadFiles) (old new : Option Text) → AreReadIn gives files r →
-      IsCutUnder form states (map (λ name. name.now) r.names.items) (map (λ text. text.items) r.texts.items) old new →
-      IsCutShort gives form states files old new
+      IsCutUnder form options states (map (λ name. name.now) r.names.items) (map (λ text. text.items) r.texts.items) old new →
+      IsCutShort gives form options states files old new
   cut_read r old new are cut = explain.some_read _ _ _ are cut
 
   -- nothing went out where a file is named for a journal
   pub cut_named : {O : Type 0} (taken : O → Option Text) (old new : O) (journal : Option (Bor Text)) → journal ≢ None →
-      (HoldsBack form (option_map (λ name. name.now) journal) → new ≡ old) → IsCutShort gives form states files (taken old) (taken new)
+      (HoldsBack form (option_map (λ name. name.now) journal) → new ≡ old) → IsCutShort gives form options states files (taken old) (taken new)
   cut_named taken old new journal named held =
-      rw (held (holds_named form journal named)) (cut_short gives form states files (taken old))
+      rw (held (holds_named form journal named)) (cut_short gives form options states files (taken old))
 
   -- nor where its journal isn't written
   pub cut_unwritten : {O : Type 0} (taken : O → Option Text) (old new : O) (look : Look) (journal : Option Text) (texts : List Text)
       (said : Explanation) → IsErr (said_of said) → IsExplained gives form look journal files texts (said_of said) → (HoldsBack form journal → new ≡ old) →
-      IsCutShort gives form states files (taken old) (taken new)
+      IsCutShort gives form options states files (taken old) (taken new)
   cut_unwritten taken old new look journal texts (Said t unread) err is held =
       let e : false ≡ true = err in let no : ⊥ = cc in absurd no
   cut_unwritten taken old new look journal texts (Unwritten name why) err is held =
-      rw (held (holds_some form journal name.now is.0)) (cut_short gives form states files (taken old))
+      rw (held (holds_some form journal name.now is.0)) (cut_short gives form options states files (taken old))
 
   -- the same of a report
   pub cut_reported : {O : Type 0} (taken : O → Option Text) (old new : O) (look : Look) (journal : Option Text) (texts : List Text)
       (said : Explanation) (result : Result Report CommandFault) → IfErr result (λ e. (e ≡ OutOfMemory) × IsErr (said_of said)) →
       IsExplained gives form look journal files texts (said_of said) → (HoldsBack form journal → new ≡ old) →
-      IfErr result (λ e. e ≡ OutOfMemory → IsCutShort gives form states files (taken old) (taken new))
+      IfErr result (λ e. e ≡ OutOfMemory → IsCutShort gives form options states files (taken old) (taken new))
   cut_reported taken old new look journal texts said (Ok report) err is held = tt
   cut_reported taken old new look journal texts said (Err e) err is held =
       λ short. cut_unwritten taken old new look journal texts said err.1 is held

@@ -7,14 +7,15 @@ use Rattle.flt_details.specs.declared.sources.Explained.{Explained}
 use Rattle.flt_details.specs.declared.sources.Source.{Source}
 use Rattle.flt_forms.specs.Lines.{AreLines, IsPart}
 use Rattle.flt_forms.specs.declared.as_lines.Style.{Style}
+use Rattle.flt_warning_details.specs.declared.options.WarningOptions.{WarningOptions}
 use Rattle.flt_commands.specs.Inputs.{Text}
 use Rattle.flt_commands.specs.InTurn.{AreFirstLines, IsTextMore}
 
 -- what is told of a text by itself is one text more behind others
-pub text_more : (style : Style) (s : Source) (before after : Explained) (old new : Option Text) (printed : List ℕ) (status : ℕ) →
-    AreLines style (s ∷ []) [] printed status → after.output.items ≡ before.output.items ++ printed →
-    after.status ≡ max before.status status → Appends old new printed → IsTextMore style s before after old new
-text_more style s before after old new printed status (part, own, others, is, (same, none), greatest) output most sent = record {
+pub text_more : (style : Style) (options : WarningOptions) (s : Source) (before after : Explained) (old new : Option Text) (printed : List ℕ) (status : ℕ) →
+    AreLines style options (s ∷ []) [] printed status → after.output.items ≡ before.output.items ++ printed →
+    after.status ≡ max before.status status → Appends old new printed → IsTextMore style options s before after old new
+text_more style options s before after old new printed status (part, own, others, is, (same, none), greatest) output most sent = record {
   part = part;
   own = own;
   is = is;
@@ -31,16 +32,16 @@ none_or : (n a : ℕ) → a ≡ 0 → max a n ≡ max n 0
 none_or n a none = omega (arith, none)
 
 -- the lines of one text more
-lines_push : (style : Style) (ss : List Source) (s : Source) (before printed part : List ℕ) (status own : ℕ) → AreLines style ss before printed status →
-    IsPart style s part own → AreLines style (ss ++ s ∷ []) before (printed ++ part) (max status own)
-lines_push style [] s before printed part status own (same, none) is =
+lines_push : (style : Style) (options : WarningOptions) (ss : List Source) (s : Source) (before printed part : List ℕ) (status own : ℕ) → AreLines style options ss before printed status →
+    IsPart style options s part own → AreLines style options (ss ++ s ∷ []) before (printed ++ part) (max status own)
+lines_push style options [] s before printed part status own (same, none) is =
     (part, own, 0, is, (ap (λ bytes. bytes ++ part) same, refl), none_or own _ none)
-lines_push style (t ∷ ss) s before printed part status own (first, one, others, is_first, are, greatest) is = (
+lines_push style options (t ∷ ss) s before printed part status own (first, one, others, is_first, are, greatest) is = (
   first,
   one,
   max others own,
   is_first,
-  lines_push style ss s (before ++ first) printed part others own are is,
+  lines_push style options ss s (before ++ first) printed part others own are is,
   ap (λ n. max n own) greatest ∙ max_assoc one others own,
 )
 
@@ -52,24 +53,24 @@ module _ (all : List Source) (i : ℕ) (d : Source) (within : i < length all) wh
       rw (same, next) refl
 
   -- the lines of the texts so far and of the next one
-  pub one_more_told : (style : Style) (before after : Explained) (old new : Option Text) →
-      AreLines style (take i all) [] before.output.items before.status → IsTextMore style (get_or all i d) before after old new →
-      AreLines style (take (i + 1) all) [] after.output.items after.status
-  one_more_told style before after old new are more =
+  pub one_more_told : (style : Style) (options : WarningOptions) (before after : Explained) (old new : Option Text) →
+      AreLines style options (take i all) [] before.output.items before.status → IsTextMore style options (get_or all i d) before after old new →
+      AreLines style options (take (i + 1) all) [] after.output.items after.status
+  one_more_told style options before after old new are more =
       rw (one_source_more, more.output, more.status)
-      (lines_push style (take i all) (get_or all i d) [] before.output.items more.part before.status more.own are more.is)
+      (lines_push style options (take i all) (get_or all i d) [] before.output.items more.part before.status more.own are more.is)
 
 -- all that is told so far went out
-pub more_sent : (style : Style) (s : Source) (before after : Explained) (old between new : Option Text) →
-    Appends old between before.output.items → IsTextMore style s before after between new → Appends old new after.output.items
-more_sent style s before after old between new first more =
+pub more_sent : (style : Style) (options : WarningOptions) (s : Source) (before after : Explained) (old between new : Option Text) →
+    Appends old between before.output.items → IsTextMore style options s before after between new → Appends old new after.output.items
+more_sent style options s before after old between new first more =
     rw more.output (Appends-trans old between new before.output.items more.part first more.sent)
 
 -- what went out is what is told of the first texts
-pub first_lines : (style : Style) (sources : List Source) (count : ℕ) (told : Explained) (old new : Option Text) →
-    AreLines style (take count sources) [] told.output.items told.status → Appends old new told.output.items →
-    AreFirstLines style sources old new
-first_lines style sources count told old new are sent = record {
+pub first_lines : (style : Style) (options : WarningOptions) (sources : List Source) (count : ℕ) (told : Explained) (old new : Option Text) →
+    AreLines style options (take count sources) [] told.output.items told.status → Appends old new told.output.items →
+    AreFirstLines style options sources old new
+first_lines style options sources count told old new are sent = record {
   count = count;
   printed = told.output.items;
   status = told.status;
@@ -78,15 +79,15 @@ first_lines style sources count told old new are sent = record {
 }
 
 -- the same where nothing went out since
-pub lines_cut : {O : Type 0} (taken : O → Option Text) (style : Style) (sources : List Source) (count : ℕ) (told : Explained)
-    (old between new : O) → AreLines style (take count sources) [] told.output.items told.status →
-    Appends (taken old) (taken between) told.output.items → new ≡ between → AreFirstLines style sources (taken old) (taken new)
-lines_cut taken style sources count told old between new are sent same =
-    rw same (first_lines style sources count told (taken old) (taken between) are sent)
+pub lines_cut : {O : Type 0} (taken : O → Option Text) (style : Style) (options : WarningOptions) (sources : List Source) (count : ℕ) (told : Explained)
+    (old between new : O) → AreLines style options (take count sources) [] told.output.items told.status →
+    Appends (taken old) (taken between) told.output.items → new ≡ between → AreFirstLines style options sources (taken old) (taken new)
+lines_cut taken style options sources count told old between new are sent same =
+    rw same (first_lines style options sources count told (taken old) (taken between) are sent)
 
 -- nothing went out
-pub no_lines : (style : Style) (sources : List Source) (old : Option Text) → AreFirstLines style sources old old
-no_lines style sources old = record {
+pub no_lines : (style : Style) (options : WarningOptions) (sources : List Source) (old : Option Text) → AreFirstLines style options sources old old
+no_lines style options sources old = record {
   count = 0;
   printed = [];
   status = 0;

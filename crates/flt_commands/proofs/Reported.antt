@@ -13,7 +13,7 @@ use Rattle.flt_commands.specs.Remarks.{IsFound, unread_in, unread_lines}
 use Rattle.flt_commands.specs.Answer.{status_of, told_status}
 use Rattle.flt_forms.specs.declared.unread.UnreadFile.{UnreadFile}
 use Rattle.flt_model.specs.JournalText.{Entries}
-use Rattle.flt_words.specs.Request.{Asked, Explain, Format, Show}
+use Rattle.flt_words.specs.Request.{Asked, Choice, Explain, Format, Show}
 use Rattle.flt_words.specs.Words.{asked}
 use Rattle.flt_words.specs.declared.request.Colour.{Colour}
 use Rattle.flt_words.specs.declared.request.Form.{Form}
@@ -96,16 +96,16 @@ unread_none (Shown rows v) good = refl
 unread_none (FileRefused n f) good = refl
 
 -- of what `explain` says, where no file is named for a journal
-pub quiet_for : (form : Form) (colour : Colour) (states : ℕ) (journal : Option Text) (files : List Text) (before : List ℕ) (said : Result Answer Failure)
-    (result : Result Report CommandFault) → IsFound journal said before →
+pub quiet_for : (form : Form) (colour : Colour) (states : ℕ) (journal : Option Text) (warnings : Choice) (files : List Text) (before : List ℕ)
+    (said : Result Answer Failure) (result : Result Report CommandFault) → IsFound journal said before →
     IfOk result (λ report. IsReported said report.output.items report.status) →
     IfOk result (λ report. report.status ≢ 2 → report.remark.items ≡ before) →
-    IfOk result (λ report. report.status ≢ 2 → NamesNoJournal (Some (Explain form colour states journal files)) → report.remark.items ≡ [])
-quiet_for form colour states (Some name) files before said (Ok report) found reported same = λ good names. absurd names
-quiet_for form colour states None files before (Ok answer) (Ok report) found reported same =
+    IfOk result (λ report. report.status ≢ 2 → NamesNoJournal (Some (Explain form colour states journal warnings files)) → report.remark.items ≡ [])
+quiet_for form colour states (Some name) warnings files before said (Ok report) found reported same = λ good names. absurd names
+quiet_for form colour states None warnings files before (Ok answer) (Ok report) found reported same =
     λ good names. same good ∙ found ∙ ap (λ lines. lines ++ []) (unread_none answer (λ two. good (reported.1 ∙ two)))
-quiet_for form colour states None files before (Err f) (Ok report) found reported same = λ good names. absurd (good reported.1.1)
-quiet_for form colour states journal files before said (Err e) found reported same = tt
+quiet_for form colour states None warnings files before (Err f) (Ok report) found reported same = λ good names. absurd (good reported.1.1)
+quiet_for form colour states journal warnings files before said (Err e) found reported same = tt
 
 -- ---- of a request, and of the words that ask for it
 
@@ -149,8 +149,8 @@ changed_anyway written untouched _ is = tt
 
 kept_anyway : (written : Text → Text → Type 0) (untouched : Type 0) (request : Asked) (said : Result Answer Failure) →
     IsKept written untouched request said → IsKept written ⊤ request said
-kept_anyway written untouched (Explain form colour states journal files) (Ok answer) is = written_anyway written untouched journal answer is
-kept_anyway written untouched (Explain form colour states journal files) (Err f) is = tt
+kept_anyway written untouched (Explain form colour states journal warnings files) (Ok answer) is = written_anyway written untouched journal answer is
+kept_anyway written untouched (Explain form colour states journal warnings files) (Err f) is = tt
 kept_anyway written untouched (Show timeline (Some picture) journal files) said is = tt
 kept_anyway written untouched (Format Write files) (Ok answer) is = changed_anyway written untouched answer is
 kept_anyway written untouched (Format Write files) (Err f) is = tt

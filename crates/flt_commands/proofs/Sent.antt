@@ -4,12 +4,14 @@ use Rattle.std.proofs.Math.Path.{subst}
 use Rattle.std.proofs.KnownBytes.{Appends-nil, Appends-trans}
 use Rattle.std.specs.Io.KnownBytes.{Appends}
 use Rattle.flt_commands.proofs.InTurn.{no_lines}
+use Rattle.flt_commands.specs.Allowed.{options_of}
 use Rattle.flt_commands.specs.Explain.{IsCutIn, IsCutShort, IsCutUnder}
 use Rattle.flt_commands.specs.Commands.{IsCutShort as IsCutShortFor}
 use Rattle.flt_commands.specs.Explain as explain
 use Rattle.flt_commands.specs.Inputs.{Giving, Text}
 use Rattle.flt_details.specs.declared.sources.Source.{Source}
 use Rattle.flt_forms.specs.declared.as_lines.Style.TheVariants.{Object, Sentence}
+use Rattle.flt_warning_details.specs.declared.options.WarningOptions.{WarningOptions}
 use Rattle.flt_words.specs.Request.{Asked, Check, Analyse, Thin, Run, Replay, Show, Explain, Extract, Format, Pages}
 use Rattle.flt_words.specs.declared.request.Form.{Form}
 use Rattle.flt_words.specs.declared.request.Form.TheVariants.{Human, Lines, Sarif, Short}
@@ -26,18 +28,19 @@ rest_sent old between new sent bytes first rest =
     (Appends-trans old between new (take sent bytes) (drop sent bytes) first rest)
 
 -- where nothing went out, no text is told of
-pub cut_nowhere : (form : Form) (states : ℕ) (sources : List Source) (old : Option Text) → IsCutIn form states sources old old
-cut_nowhere Human states sources old = record { printed = []; added = Appends-nil old; are = inl refl }
-cut_nowhere Short states sources old = no_lines Sentence sources old
-cut_nowhere Lines states sources old = no_lines Object sources old
-cut_nowhere Sarif states sources old = Appends-nil old
+pub cut_nowhere : (form : Form) (options : WarningOptions) (states : ℕ) (sources : List Source) (old : Option Text) → IsCutIn form options states sources old old
+cut_nowhere Human options states sources old = record { printed = []; added = Appends-nil old; are = inl refl }
+cut_nowhere Short options states sources old = no_lines Sentence options sources old
+cut_nowhere Lines options states sources old = no_lines Object options sources old
+cut_nowhere Sarif options states sources old = Appends-nil old
 
 -- where nothing went out, nothing is cut short
-pub cut_under : (form : Form) (states : ℕ) (names texts : List Text) (old : Option Text) → IsCutUnder form states names texts old old
-cut_under form states names texts old = explain.none_out (Appends-nil old)
+pub cut_under : (form : Form) (options : WarningOptions) (states : ℕ) (names texts : List Text) (old : Option Text) → IsCutUnder form options states names texts old old
+cut_under form options states names texts old = explain.none_out (Appends-nil old)
 
-pub cut_short : (gives : Giving) (form : Form) (states : ℕ) (files : List Text) (old : Option Text) → IsCutShort gives form states files old old
-cut_short gives form states files old = explain.none_read (Appends-nil old)
+pub cut_short : (gives : Giving) (form : Form) (options : WarningOptions) (states : ℕ) (files : List Text) (old : Option Text) →
+    IsCutShort gives form options states files old old
+cut_short gives form options states files old = explain.none_read (Appends-nil old)
 
 -- the same of whatever is asked for
 pub cut_short_for : (gives : Giving) (request : Option Asked) (old : Option Text) → IsCutShortFor gives request old old
@@ -48,7 +51,7 @@ cut_short_for gives (Some (Thin file cert)) old = Appends-nil old
 cut_short_for gives (Some (Run workers quiet script files)) old = Appends-nil old
 cut_short_for gives (Some (Replay journal files)) old = Appends-nil old
 cut_short_for gives (Some (Show timeline picture journal files)) old = Appends-nil old
-cut_short_for gives (Some (Explain form colour states journal files)) old = cut_short gives form states files old
+cut_short_for gives (Some (Explain form colour states journal warnings files)) old = cut_short gives form (options_of warnings) states files old
 cut_short_for gives (Some (Extract of_map files)) old = Appends-nil old
 cut_short_for gives (Some (Format mode files)) old = Appends-nil old
 cut_short_for gives (Some (Pages names)) old = Appends-nil old

@@ -2,6 +2,7 @@
 -- program.
 use Rattle.std.specs.Io.KnownBytes.{Appends}
 use Rattle.std.specs.Prelude.{◌≡◌, ◌≢◌, ℕ, Bool, List, [], ◌∷◌, ◌++◌, Option, Some, None, Result, Ok, Err, IfOk, OnOk, map, unwrap_or, ⊤}
+use Rattle.flt_commands.specs.Allowed.{options_of}
 use Rattle.flt_commands.specs.Analyse.{IsAnalysed}
 use Rattle.flt_commands.specs.Answer.{ending_of, output, remark, status_of}
 use Rattle.flt_commands.specs.Check.{IsChecked}
@@ -49,7 +50,7 @@ IsSaid shown gives (Run workers quiet script files) = Says gives (names_of (Run 
 IsSaid shown gives (Replay journal files) = Says gives (names_of (Replay journal files)) IsReplayed
 IsSaid shown gives (Show timeline picture journal files) =
     Says gives (names_of (Show timeline picture journal files)) (IsShown timeline picture)
-IsSaid shown gives (Explain form colour states journal files) = IsExplained gives form (look_in colour shown states) journal files
+IsSaid shown gives (Explain form colour states journal warnings files) = IsExplained gives form (look_in colour shown states warnings) journal files
 IsSaid shown gives (Extract of_map files) = Says gives (names_of (Extract of_map files)) (IsExtracted of_map files)
 IsSaid shown gives (Format mode files) = IsFormatSaid gives mode files
 IsSaid shown gives (Pages names) = Says gives (names_of (Pages names)) (λ texts. ArePaged names)
@@ -74,7 +75,7 @@ IsRemarkedAfter before (Err f) bytes = bytes ≡ before ++ (failure_line f ++ 10
 -- what may stand before it: which files of `explain` and `format` aren't read; why a file isn't written or has no layout; and that no run is
 -- found
 abbrev pub IsBefore : Asked → Result Answer Failure → List ℕ → Type 0
-IsBefore (Explain form colour states journal files) said bytes = IsFound journal said bytes
+IsBefore (Explain form colour states journal warnings files) said bytes = IsFound journal said bytes
 IsBefore (Show timeline picture journal files) said bytes = OnOk said (bytes ≡ [])
 IsBefore (Format mode files) said bytes = IfOk said (λ answer. bytes ≡ remarks_in answer)
 IsBefore request said bytes = bytes ≡ []
@@ -88,17 +89,17 @@ IsRemarked request said bytes = (before : List ℕ) × IsBefore request said bef
 -- nothing goes out before all is known, but of `explain` of files, and there only where a form isn't one document and no file is named
 -- for a journal
 abbrev pub HoldsBack : Option Asked → Type 0
-HoldsBack (Some (Explain form colour states journal files)) = explain.HoldsBack form journal
+HoldsBack (Some (Explain form colour states journal warnings files)) = explain.HoldsBack form journal
 HoldsBack request = Unit {0}
 
 -- where memory runs out, nothing went out, or of `explain` what is told of the first files that are read
 abbrev pub IsCutShort : Giving → Option Asked → Option Text → Option Text → Type 0
-IsCutShort gives (Some (Explain form colour states journal files)) old new = explain.IsCutShort gives form states files old new
+IsCutShort gives (Some (Explain form colour states journal warnings files)) old new = explain.IsCutShort gives form (options_of warnings) states files old new
 IsCutShort gives request old new = Appends old new []
 
 -- no file is named for the journal of a finding
 abbrev pub NamesNoJournal : Option Asked → Type 0
-NamesNoJournal (Some (Explain form colour states (Some journal) files)) = ⊥
+NamesNoJournal (Some (Explain form colour states (Some journal) warnings files)) = ⊥
 NamesNoJournal request = Unit {0}
 
 -- ---- all of it
@@ -124,7 +125,7 @@ AreThose request report texts said = texts ≡ texts_in report
 -- where a file is named for it, the journal of the first finding that has one is written there; where layouts are written, each goes into
 -- its file; where no file is named for a picture or a journal, and no layout is written, all that is written stays as it was
 abbrev pub IsKept : (Text → Text → Type 0) → Type 0 → Asked → Result Answer Failure → Type 0
-IsKept written untouched (Explain form colour states journal files) said = IfOk said (IsWritten written untouched journal)
+IsKept written untouched (Explain form colour states journal warnings files) said = IfOk said (IsWritten written untouched journal)
 IsKept written untouched (Show timeline (Some picture) journal files) said = Unit {0}
 IsKept written untouched (Format Write files) said = IfOk said (AreChanged written untouched)
 IsKept written untouched request said = untouched

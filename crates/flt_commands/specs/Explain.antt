@@ -23,6 +23,9 @@ use Rattle.flt_words.specs.declared.request.Colour.TheVariants.{Auto, Always, Ne
 use Rattle.flt_words.specs.declared.request.Form.{Form}
 use Rattle.flt_words.specs.Shown.{visible}
 use Rattle.flt_words.specs.declared.request.Form.TheVariants.{Human, Lines, Sarif, Short}
+use Rattle.flt_warning_details.specs.declared.options.WarningOptions.{WarningOptions}
+use Rattle.flt_words.specs.Request.{Choice}
+use Rattle.flt_commands.specs.Allowed.{options_of}
 use Rattle.flt_commands.specs.InTurn.{AreFirstLines}
 use Rattle.flt_commands.specs.Inputs.{AreRead, Giving, Text, unread_names}
 use Rattle.flt_commands.specs.Answer.{output, sent_of}
@@ -45,11 +48,11 @@ told_name form name = name
 
 -- what is told in a form: reports, a sentence or a JSON object for each finding, or a SARIF document, which tells of these files that
 -- they aren't read
-abbrev pub IsTold : Form → List Source → List UnreadFile → Reported → Type 0
-IsTold Human sources unread e = AreReports (texts_of sources) e.output.items e.status
-IsTold Short sources unread e = AreLines Sentence sources [] e.output.items e.status
-IsTold Lines sources unread e = AreLines Object sources [] e.output.items e.status
-IsTold Sarif sources unread e = IsSarif sources unread e.output.items e.status
+abbrev pub IsTold : Form → WarningOptions → List Source → List UnreadFile → Reported → Type 0
+IsTold Human options sources unread e = AreReports options (texts_of sources) e.output.items e.status
+IsTold Short options sources unread e = AreLines Sentence options sources [] e.output.items e.status
+IsTold Lines options sources unread e = AreLines Object options sources [] e.output.items e.status
+IsTold Sarif options sources unread e = IsSarif options sources unread e.output.items e.status
 
 -- what came of the findings of these texts in runs, of each that is reported by itself; nothing is looked for where that is neither told
 -- nor written into a file
@@ -63,9 +66,9 @@ abbrev pub IsNoteTold : Form → List Text → ℕ → Told → Type 0
 IsNoteTold Human texts states e = Tells texts states e.noted e.explained.output.items
 IsNoteTold _ texts states e = Unit {0}
 
--- how it is printed: with colours or without, and after how many states the search for runs ends
+-- how it is printed: with colours or without, after how many states the search for runs ends, and which warnings are left out
 abbrev pub look_of : Asked → Look
-look_of asked = record { coloured = asked.coloured; states = asked.states }
+look_of asked = record { coloured = asked.coloured; states = asked.states; options = asked.options }
 
 -- for people all of what is printed is the reports with the notes, to the letter
 abbrev pub IsPrintTold : Form → Look → List Source → Told → Type 0
@@ -78,7 +81,7 @@ pub record IsToldUnder (form : Form) (look : Look) (journal : Option Text) (name
   pub sources : List Source
   pub named : names_in sources ≡ map (told_name form) names
   pub given : texts_of sources ≡ texts
-  pub told : IsTold form sources unread e.explained
+  pub told : IsTold form look.options sources unread e.explained
   pub noted : AreNotedFor form journal texts e.noted
   pub notes : IsNoteTold form texts look.states e
   pub print : IsPrintTold form look sources e
@@ -110,8 +113,9 @@ is_coloured Always shown = true
 is_coloured Never shown = false
 
 -- how it is printed then
-abbrev pub look_in : Colour → Bool → ℕ → Look
-look_in colour shown states = record { coloured = is_coloured colour shown; states = states }
+abbrev pub look_in : Colour → Bool → ℕ → Choice → Look
+look_in colour shown states warnings =
+    record { coloured = is_coloured colour shown; states = states; options = options_of warnings }
 
 -- what is said of it: an answer, or that a file can't be written
 abbrev pub said_of : Explanation → Result Answer Failure
@@ -144,11 +148,11 @@ HoldsBack Sarif None = Unit {0}
 HoldsBack form None = ⊥
 
 -- what goes out before the end where nothing is held back: for people the reports of all texts but the last, else all lines
-abbrev pub GoesOutEarly : Form → List Text → ℕ → Told → Type 0
-GoesOutEarly Human texts states e = IsAllButLast texts states (take e.sent e.explained.output.items)
-GoesOutEarly Short texts states e = e.sent ≡ length e.explained.output.items
-GoesOutEarly Lines texts states e = e.sent ≡ length e.explained.output.items
-GoesOutEarly Sarif texts states e = Unit {0}
+abbrev pub GoesOutEarly : Form → WarningOptions → List Text → ℕ → Told → Type 0
+GoesOutEarly Human options texts states e = IsAllButLast options texts states (take e.sent e.explained.output.items)
+GoesOutEarly Short options texts states e = e.sent ≡ length e.explained.output.items
+GoesOutEarly Lines options texts states e = e.sent ≡ length e.explained.output.items
+GoesOutEarly Sarif options texts states e = Unit {0}
 
 -- what went out of an answer; where there is none, nothing did
 abbrev pub IsSent : Option Text → Option Text → Result Answer Failure → Type 0
@@ -156,23 +160,24 @@ IsSent old new (Ok answer) = Appends old new (take (sent_of answer) (output answ
 IsSent old new (Err f) = Appends old new []
 
 -- where memory runs out, what went out is told of the first texts: whole reports, or whole lines of each
-abbrev pub IsCutIn : Form → ℕ → List Source → Option Text → Option Text → Type 0
-IsCutIn Human states sources old new = IsCut (texts_of sources) states old new
-IsCutIn Short states sources old new = AreFirstLines Sentence sources old new
-IsCutIn Lines states sources old new = AreFirstLines Object sources old new
-IsCutIn Sarif states sources old new = Appends old new []
+abbrev pub IsCutIn : Form → WarningOptions → ℕ → List Source → Option Text → Option Text → Type 0
+IsCutIn Human options states sources old new = IsCut options (texts_of sources) states old new
+IsCutIn Short options states sources old new = AreFirstLines Sentence options sources old new
+IsCutIn Lines options states sources old new = AreFirstLines Object options sources old new
+IsCutIn Sarif options states sources old new = Appends old new []
 
 -- the same of names and what they give; or nothing went out
-pub data IsCutUnder (form : Form) (states : ℕ) (names texts : List Text) (old new : Option Text) : Type 0 where
-  none_out : Appends old new [] → IsCutUnder form states names texts old new
+pub data IsCutUnder (form : Form) (options : WarningOptions) (states : ℕ) (names texts : List Text) (old new : Option Text) : Type 0 where
+  none_out : Appends old new [] → IsCutUnder form options states names texts old new
   some_out : (sources : List Source) → names_in sources ≡ map (told_name form) names → texts_of sources ≡ texts →
-      IsCutIn form states sources old new → IsCutUnder form states names texts old new
+      IsCutIn form options states sources old new → IsCutUnder form options states names texts old new
 
 -- the same of those of these files that are read
-pub data IsCutShort (gives : Giving) (form : Form) (states : ℕ) (files : List Text) (old new : Option Text) : Type 0 where
-  none_read : Appends old new [] → IsCutShort gives form states files old new
-  some_read : (names texts missing : List Text) → AreRead gives files names texts missing → IsCutUnder form states names texts old new →
-      IsCutShort gives form states files old new
+pub data IsCutShort (gives : Giving) (form : Form) (options : WarningOptions) (states : ℕ) (files : List Text) (old new : Option Text) :
+    Type 0 where
+  none_read : Appends old new [] → IsCutShort gives form options states files old new
+  some_read : (names texts missing : List Text) → AreRead gives files names texts missing → IsCutUnder form options states names texts old new →
+      IsCutShort gives form options states files old new
 
 -- ---- pages
 

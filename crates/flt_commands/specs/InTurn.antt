@@ -5,21 +5,23 @@ use Rattle.flt_details.specs.declared.sources.Explained.{Explained}
 use Rattle.flt_details.specs.declared.sources.Source.{Source}
 use Rattle.flt_forms.specs.Lines.{AreLines, IsPart}
 use Rattle.flt_forms.specs.declared.as_lines.Style.{Style}
+use Rattle.flt_warning_details.specs.declared.options.WarningOptions.{WarningOptions}
 use Rattle.flt_commands.specs.Inputs.{Text}
 
 -- the lines of one text more went out, and stand behind what was told before
-pub record IsTextMore (style : Style) (s : Source) (before after : Explained) (old new : Option Text) : Type 0 where
+pub record IsTextMore (style : Style) (options : WarningOptions) (s : Source) (before after : Explained) (old new : Option Text) :
+    Type 0 where
   pub part : List ℕ
   pub own : ℕ
-  pub is : IsPart style s part own
+  pub is : IsPart style options s part own
   pub output : after.output.items ≡ before.output.items ++ part
   pub status : after.status ≡ max before.status own
   pub sent : Appends old new part
 
 -- what went out is all that is told of the first so many texts
-pub record AreFirstLines (style : Style) (sources : List Source) (old new : Option Text) : Type 0 where
+pub record AreFirstLines (style : Style) (options : WarningOptions) (sources : List Source) (old new : Option Text) : Type 0 where
   pub count : ℕ
   pub printed : List ℕ
   pub status : ℕ
-  pub are : AreLines style (take count sources) [] printed status
+  pub are : AreLines style options (take count sources) [] printed status
   pub sent : Appends old new printed

@@ -1,3 +1,4 @@
+pub mod Allowed
 pub mod Analyse
 pub mod Answer
 pub mod Check

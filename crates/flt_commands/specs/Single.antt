@@ -33,7 +33,7 @@ AreSame a b = a ≢ Err OutOfMemory → b ≢ Err OutOfMemory → seen a ≡ see
 abbrev pub HasOneAnswer : Asked → Type 0
 HasOneAnswer (Run workers quiet script files) = ⊥
 HasOneAnswer (Show timeline picture journal files) = ⊥
-HasOneAnswer (Explain form colour states journal files) = ⊥
+HasOneAnswer (Explain form colour states journal warnings files) = ⊥
 HasOneAnswer (Format Write files) = ⊥
 HasOneAnswer (Pages names) = ⊥
 HasOneAnswer _ = Unit {0}

@@ -6,6 +6,7 @@ ghost use Rattle.flt_commands.specs.Commands as spec;
 ghost use Rattle.flt_commands.specs.Explain.{is_coloured as is_coloured_as};
 ghost use Rattle.flt_words.specs.Words.{asked};
 
+use crate::allowed::options_of;
 use crate::analyse::analyse_file;
 use crate::check::check_files;
 use crate::clean::{covered_texts_break_nothing, driven_texts_break_nothing};
@@ -170,6 +171,7 @@ fn report_of<'a, R: Threads + Wait + Sync, I: Inputs, P: Pictures, O: Sink, W: W
             colour,
             states,
             journal,
+            warnings,
             files,
         } => {
             let asked = Asked {
@@ -177,6 +179,7 @@ fn report_of<'a, R: Threads + Wait + Sync, I: Inputs, P: Pictures, O: Sink, W: W
                 coloured: is_coloured(colour, coloured),
                 states,
                 journal,
+                options: options_of(&warnings),
             };
             let mut search = Search {
                 watch,

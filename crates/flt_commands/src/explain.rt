@@ -21,6 +21,7 @@ use flt_forms::{Style, UnreadFile, lines, sarif};
 use flt_model::Sink;
 use flt_notes::{Asking, Noted, SearchWatch, Told, explain, first_journal};
 use flt_pages::page;
+use flt_warning_details::WarningOptions;
 use flt_words::{Form, visible};
 use sqlite_items::Items;
 use std::alloc::{AllocError, Global};
@@ -86,6 +87,8 @@ pub struct Asked<'a> {
     pub states: u32,
     /// The file into which the journal of the first finding that has one is written.
     pub journal: Option<&'a str>,
+    /// Which warnings are left out, and whether they count.
+    pub options: WarningOptions,
 }
 
 /// The same, as reports for people are asked for it.
@@ -93,11 +96,13 @@ fn asking(asked: Asked<'_>, is_held: bool) -> Asking
     ensures coloured { result.coloured ≡ asked.entry.coloured }
     ensures states { result.states ≡ asked.entry.states }
     ensures held { result.is_held ≡ is_held }
+    ensures options { result.options ≡ asked.entry.options }
 {
     Asking {
         coloured: asked.coloured,
         states: asked.states,
         is_held,
+        options: asked.options,
     }
 }
 
@@ -138,23 +143,30 @@ fn told_in_turn<O: Sink, W: SearchWatch>(
     out: &mut O,
     watch: &mut W,
 ) -> Result<Told, CommandFault>
-    ensures told { IfOk result (λ t. spec.IsTold asked.entry.form sources.now unread.now t.explained) }
+    ensures told { IfOk result (λ t. spec.IsTold asked.entry.form asked.entry.options sources.now unread.now t.explained) }
     ensures noted { IfOk result (λ t. spec.AreNotedFor asked.entry.form None (texts_of sources.now) t.noted) }
     ensures notes { IfOk result (spec.IsNoteTold asked.entry.form (texts_of sources.now) asked.entry.states) }
     ensures print { IfOk result (spec.IsPrintTold asked.entry.form (spec.look_of asked.entry) sources.now) }
     ensures sent { IfOk result (λ t. Appends (O.taken out.old) (O.taken out.new) (take t.sent t.explained.output.items)) }
-    ensures early { IfOk result (spec.GoesOutEarly asked.entry.form (texts_of sources.now) asked.entry.states) }
+    ensures early { IfOk result (spec.GoesOutEarly asked.entry.form asked.entry.options (texts_of sources.now) asked.entry.states) }
     ensures held { spec.HoldsBack asked.entry.form None → out.new ≡ out.old }
     ensures fine { OnOk result (O.failures out.new ≡ O.failures out.old) }
     ensures write { IfErr result (λ e. e ≡ CommandFault.Write → O.failures out.new ≢ O.failures out.old) }
     ensures memory { IfErr result (λ e. e ≡ CommandFault.OutOfMemory →
-        spec.IsCutIn asked.entry.form asked.entry.states sources.now (O.taken out.old) (O.taken out.new)) }
+        spec.IsCutIn asked.entry.form asked.entry.options asked.entry.states sources.now (O.taken out.old) (O.taken out.new)) }
 {
+    let options = asked.options;
     match asked.form {
         Form::Human => Ok(explain(alloc, asking(asked, false), sources, out, watch)?),
-        Form::Short => Ok(sent(alloc, lines_in_turn(alloc, Style::Sentence, sources, out)?)),
-        Form::Lines => Ok(sent(alloc, lines_in_turn(alloc, Style::Object, sources, out)?)),
-        Form::Sarif => Ok(unsent(sarif(alloc, sources, unread)?, Items::new(alloc))),
+        Form::Short => Ok(sent(
+            alloc,
+            lines_in_turn(alloc, Style::Sentence, options, sources, out)?,
+        )),
+        Form::Lines => Ok(sent(
+            alloc,
+            lines_in_turn(alloc, Style::Object, options, sources, out)?,
+        )),
+        Form::Sarif => Ok(unsent(sarif(alloc, options, sources, unread)?, Items::new(alloc))),
     }
 }
 
@@ -168,7 +180,7 @@ fn told_whole<O: Sink, W: SearchWatch>(
     out: &mut O,
     watch: &mut W,
 ) -> Result<Told, CommandFault>
-    ensures told { IfOk result (λ t. spec.IsTold asked.entry.form sources.now unread.now t.explained) }
+    ensures told { IfOk result (λ t. spec.IsTold asked.entry.form asked.entry.options sources.now unread.now t.explained) }
     ensures noted { IfOk result (λ t. AreNotes (texts_of sources.now) t.noted) }
     ensures notes { IfOk result (spec.IsNoteTold asked.entry.form (texts_of sources.now) asked.entry.states) }
     ensures print { IfOk result (spec.IsPrintTold asked.entry.form (spec.look_of asked.entry) sources.now) }
@@ -179,9 +191,9 @@ fn told_whole<O: Sink, W: SearchWatch>(
     let held = asking(asked, true);
     let explained = match asked.form {
         Form::Human => return Ok(explain(alloc, held, sources, out, watch)?),
-        Form::Short => lines(alloc, Style::Sentence, sources)?,
-        Form::Lines => lines(alloc, Style::Object, sources)?,
-        Form::Sarif => sarif(alloc, sources, unread)?,
+        Form::Short => lines(alloc, Style::Sentence, asked.options, sources)?,
+        Form::Lines => lines(alloc, Style::Object, asked.options, sources)?,
+        Form::Sarif => sarif(alloc, asked.options, sources, unread)?,
     };
     let told = explain(alloc, held, sources, out, watch)?;
     Ok(unsent(explained, told.noted))
@@ -198,7 +210,7 @@ fn told<O: Sink, W: SearchWatch>(
     out: &mut O,
     watch: &mut W,
 ) -> Result<Told, CommandFault>
-    ensures told { IfOk result (λ t. spec.IsTold asked.entry.form sources.now unread.now t.explained) }
+    ensures told { IfOk result (λ t. spec.IsTold asked.entry.form asked.entry.options sources.now unread.now t.explained) }
     ensures noted { IfOk result (λ t. spec.AreNotedFor asked.entry.form (option_map (λ name. name.now) asked.entry.journal)
         (texts_of sources.now) t.noted) }
     ensures notes { IfOk result (spec.IsNoteTold asked.entry.form (texts_of sources.now) asked.entry.states) }
@@ -208,7 +220,7 @@ fn told<O: Sink, W: SearchWatch>(
     ensures fine { OnOk result (O.failures out.new ≡ O.failures out.old) }
     ensures write { IfErr result (λ e. e ≡ CommandFault.Write → O.failures out.new ≢ O.failures out.old) }
     ensures memory { IfErr result (λ e. e ≡ CommandFault.OutOfMemory →
-        spec.IsCutIn asked.entry.form asked.entry.states sources.now (O.taken out.old) (O.taken out.new)) }
+        spec.IsCutIn asked.entry.form asked.entry.options asked.entry.states sources.now (O.taken out.old) (O.taken out.new)) }
 {
     match asked.journal {
         Some(_) => told_whole(alloc, asked, sources, unread, out, watch),
@@ -235,7 +247,7 @@ fn explain_read<O: Sink, W: SearchWatch>(
     ensures fine { OnOk result (O.failures out.new ≡ O.failures out.old) }
     ensures write { IfErr result (λ e. e ≡ CommandFault.Write → O.failures out.new ≢ O.failures out.old) }
     ensures memory { IfErr result (λ e. e ≡ CommandFault.OutOfMemory →
-        spec.IsCutUnder asked.entry.form asked.entry.states (map (λ name. name.now) names.now) (map (λ text. text.items) texts.now)
+        spec.IsCutUnder asked.entry.form asked.entry.options asked.entry.states (map (λ name. name.now) names.now) (map (λ text. text.items) texts.now)
         (O.taken out.old) (O.taken out.new)) }
 {
     let names = told_names(alloc, asked.form, names)?;
@@ -314,7 +326,7 @@ pub fn explain_files<'a, I: Inputs, P: Pictures, O: Sink, W: SearchWatch>(
     ensures fine { OnOk result (O.failures out.new ≡ O.failures out.old) }
     ensures write { IfErr result (λ e. e ≡ CommandFault.Write → O.failures out.new ≢ O.failures out.old) }
     ensures memory { IfErr result (λ e. e ≡ CommandFault.OutOfMemory →
-        spec.IsCutShort (I.gives inputs.now) asked.entry.form asked.entry.states (map (λ name. name.now) files.now)
+        spec.IsCutShort (I.gives inputs.now) asked.entry.form asked.entry.options asked.entry.states (map (λ name. name.now) files.now)
         (O.taken out.old) (O.taken out.new)) }
 {
     let read = read_each(alloc, inputs, files)?;

@@ -2,9 +2,10 @@
 
 ghost use Rattle.std.specs.Io.KnownBytes.{Appends};
 ghost use Rattle.std.specs.Prelude.{◌≡◌, ◌≢◌, [], Bool, IfErr, IfOk, OnOk, Some, map, option_map, take};
+ghost use Rattle.flt_commands.specs.Allowed.{options_of};
 ghost use Rattle.flt_commands.specs.Commands.{IsAnswered, NamesNoJournal};
 ghost use Rattle.flt_commands.specs.Explain as spec;
-ghost use Rattle.flt_words.specs.Request.{Explain};
+ghost use Rattle.flt_words.specs.Request.{Choice, Explain};
 ghost use Rattle.flt_words.specs.declared.request.Colour.{Colour};
 
 use crate::clean::{covered_texts_break_nothing, driven_texts_break_nothing};
@@ -28,16 +29,20 @@ pub(crate) fn report_on_files<'a, I: Inputs, P: Pictures, O: Sink, W: SearchWatc
     out: &mut O,
     watch: &mut W,
 ) -> Result<Report, CommandFault>
-    ensures answered { (colour : Colour) → (shown : Bool) → asked.entry.coloured ≡ spec.is_coloured colour shown → IfOk result (IsAnswered shown (I.gives inputs.now) (P.written pictures.new) (pictures.new ≡ pictures.old)
-        (Explain asked.entry.form colour asked.entry.states (option_map (λ name. name.now) asked.entry.journal) (map (λ name. name.now) files.now))) }
-    ensures quiet { (colour : Colour) → IfOk result (λ report. report.status ≢ 2 → NamesNoJournal (Some (Explain asked.entry.form colour
-        asked.entry.states (option_map (λ name. name.now) asked.entry.journal) (map (λ name. name.now) files.now))) → report.remark.items ≡ []) }
+    ensures answered { (colour : Colour) → (shown : Bool) → (warnings : Choice) → asked.entry.coloured ≡ spec.is_coloured colour shown →
+        asked.entry.options ≡ options_of warnings →
+        IfOk result (IsAnswered shown (I.gives inputs.now) (P.written pictures.new) (pictures.new ≡ pictures.old)
+        (Explain asked.entry.form colour asked.entry.states (option_map (λ name. name.now) asked.entry.journal) warnings
+        (map (λ name. name.now) files.now))) }
+    ensures quiet { (colour : Colour) → (warnings : Choice) → IfOk result (λ report. report.status ≢ 2 →
+        NamesNoJournal (Some (Explain asked.entry.form colour asked.entry.states (option_map (λ name. name.now) asked.entry.journal) warnings
+        (map (λ name. name.now) files.now))) → report.remark.items ≡ []) }
     ensures sent { IfOk result (λ report. Appends (O.taken out.old) (O.taken out.new) (take report.sent report.output.items)) }
     ensures held { spec.HoldsBack asked.entry.form (option_map (λ name. name.now) asked.entry.journal) → out.new ≡ out.old }
     ensures fine { OnOk result (O.failures out.new ≡ O.failures out.old) }
     ensures write { IfErr result (λ e. e ≡ CommandFault.Write → O.failures out.new ≢ O.failures out.old) }
     ensures memory { IfErr result (λ e. e ≡ CommandFault.OutOfMemory →
-        spec.IsCutShort (I.gives inputs.now) asked.entry.form asked.entry.states (map (λ name. name.now) files.now)
+        spec.IsCutShort (I.gives inputs.now) asked.entry.form asked.entry.options asked.entry.states (map (λ name. name.now) files.now)
         (O.taken out.old) (O.taken out.new)) }
 {
     covered_texts_break_nothing();

@@ -9,6 +9,7 @@ use crate::fault::CommandFault;
 use flt_details::{Explained, Source};
 use flt_forms::{Style, lines};
 use flt_model::{Sink, put_all};
+use flt_warning_details::WarningOptions;
 use std::alloc::Global;
 use std::cmp::max;
 
@@ -17,16 +18,17 @@ use std::cmp::max;
 fn put_text<O: Sink>(
     alloc: Global,
     style: Style,
+    options: WarningOptions,
     source: Source<'_>,
     told: &mut Explained,
     out: &mut O,
 ) -> Result<(), CommandFault>
-    ensures text { OnOk result (spec.IsTextMore style source.entry told.old told.new (O.taken out.old) (O.taken out.new)) }
+    ensures text { OnOk result (spec.IsTextMore style options source.entry told.old told.new (O.taken out.old) (O.taken out.new)) }
     ensures fine { OnOk result (O.failures out.new ≡ O.failures out.old) }
     ensures write { IfErr result (λ e. e ≡ CommandFault.Write → O.failures out.new ≢ O.failures out.old) }
     ensures memory { IfErr result (λ e. e ≡ CommandFault.OutOfMemory → out.new ≡ out.old) }
 {
-    let one = lines(alloc, style, &[source])?;
+    let one = lines(alloc, style, options, &[source])?;
     told.output.extend_from_slice(one.output.as_slice())?;
     told.status = max(told.status, one.status);
     put_all(out, one.output.as_slice())?;
@@ -38,22 +40,23 @@ fn put_text<O: Sink>(
 pub(crate) fn lines_in_turn<O: Sink>(
     alloc: Global,
     style: Style,
+    options: WarningOptions,
     sources: &[Source<'_>],
     out: &mut O,
 ) -> Result<Explained, CommandFault>
-    ensures told { IfOk result (λ e. AreLines style sources.now [] e.output.items e.status) }
+    ensures told { IfOk result (λ e. AreLines style options sources.now [] e.output.items e.status) }
     ensures sent { IfOk result (λ e. Appends (O.taken out.old) (O.taken out.new) e.output.items) }
     ensures fine { OnOk result (O.failures out.new ≡ O.failures out.old) }
     ensures write { IfErr result (λ e. e ≡ CommandFault.Write → O.failures out.new ≢ O.failures out.old) }
     ensures memory { IfErr result (λ e. e ≡ CommandFault.OutOfMemory →
-        spec.AreFirstLines style sources.now (O.taken out.old) (O.taken out.new)) }
+        spec.AreFirstLines style options sources.now (O.taken out.old) (O.taken out.new)) }
 {
     let mut told = Explained {
         output: Vec::new(alloc),
         status: 0,
     };
     for source in sources {
-        put_text(alloc, style, *source, &mut told, out)?;
+        put_text(alloc, style, options, *source, &mut told, out)?;
     }
     Ok(told)
 }

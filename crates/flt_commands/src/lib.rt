@@ -2,6 +2,7 @@
 //! the system.
 #![tactic(auto)]
 
+mod allowed;
 mod analyse;
 mod answer;
 mod check;

@@ -33,6 +33,8 @@ pub enum Unread {
 /// What is said of names that look like those of pages.
 const RULES: &str = "there is no such file, and rules are R01 to R15";
 
+const WARNINGS: &str = "there is no such file, and warnings are W00 to W06";
+
 const VIOLATIONS: &str = "there is no such file, and violations are V1 to V8";
 
 const FAULTS: &str = "there is no such file, and faults of a text are E01 to E08";
@@ -49,6 +51,7 @@ fn are_digits(bytes: &[u8]) -> bool {
 fn numbered_words(letter: u8) -> &'static str {
     match letter {
         b'R' | b'r' => RULES,
+        b'W' | b'w' => WARNINGS,
         b'V' | b'v' => VIOLATIONS,
         b'E' | b'e' => FAULTS,
         _ => "there is no such file",
@@ -100,7 +103,7 @@ impl Unread {
     fn help(self) -> &'static str {
         match self {
             Unread::Missing =>
-                "a name is a path from the current folder, or `-` for the standard input; R01 to R15, V1 to V8, E01 to E08, calls and statuses alone are pages",
+                "a name is a path from the current folder, or `-` for the standard input; R01 to R15, W00 to W06, V1 to V8, E01 to E08, calls and statuses alone are pages",
             Unread::Folder => "name a file in it, or a folder that has texts",
             Unread::Denied => "see who may read it",
             Unread::LongName => "a part of a path has at most 255 bytes",

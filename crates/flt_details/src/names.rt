@@ -39,7 +39,7 @@ fn release_name(kind: LockKind) -> &'static str
 
 /// The name of a call.
 #[tactic(auto, unfolding(crate::specs::Names::call_name))]
-pub(crate) fn call_name(call: Call) -> &'static str
+pub fn call_name(call: Call) -> &'static str
     ensures { result.now ≡ spec.call_name call }
 {
     match call {

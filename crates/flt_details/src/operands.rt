@@ -71,7 +71,7 @@ pub(crate) fn lock_word(tree: &Tree, lock: LockNumber) -> &[u8]
 }
 
 /// How a text spells what a finding is about; nothing where it doesn't.
-pub(crate) fn word_of(tree: &Tree, subject: Subject) -> &[u8]
+pub fn word_of(tree: &Tree, subject: Subject) -> &[u8]
     ensures { result.now ≡ spec.word_of tree.now.filter subject }
 {
     match subject {
@@ -173,8 +173,12 @@ fn has_operand(instruction: &Instruction, subject: Subject) -> bool
 
 // ---- tokens
 
-/// The tokens of a statement, none where it has more bytes than a text.
-fn tokens_of(alloc: Global, statement: &[u8]) -> Result<Items<Token>, AllocError>
+/// The tokens of a text or of a statement, none where it has more bytes than a text.
+///
+/// # Errors
+///
+/// Where a growth was refused.
+pub fn tokens_of(alloc: Global, statement: &[u8]) -> Result<Items<Token>, AllocError>
     ensures { IfOk result (λ ts. ts ≡ spec.tokens_of statement.now) }
 {
     if MAX_TEXT < statement.len() {
@@ -269,7 +273,11 @@ impl Scene<'_> {
     }
 
     /// Where the statement of a point stands, and in it what a finding is about.
-    pub(crate) fn marks(
+    ///
+    /// # Errors
+    ///
+    /// Where a growth was refused.
+    pub fn marks(
         &self,
         alloc: Global,
         callback: usize,

@@ -9,7 +9,7 @@ use std::alloc::{AllocError, Global};
 
 /// A part of a sentence.
 #[derive(Clone, Copy)]
-pub(crate) enum Part<'a> {
+pub enum Part<'a> {
     /// Words of the program.
     Text(&'a str),
     /// Words of a text, between marks.
@@ -115,7 +115,7 @@ impl Page {
     }
 
     /// The parts of a sentence, one behind the other.
-    pub(crate) fn say(&mut self, parts: &[Part<'_>]) -> Result<(), AllocError>
+    pub fn say(&mut self, parts: &[Part<'_>]) -> Result<(), AllocError>
         ensures { spec.Writes result self.old self.new (flat_map spec.said parts.now) }
     {
         for part in parts {

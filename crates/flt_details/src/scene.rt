@@ -42,7 +42,7 @@ impl<'a> Scene<'a> {
     }
 
     /// The head of a callback.
-    pub(crate) fn head(&self, callback: usize) -> &'a [u8]
+    pub fn head(&self, callback: usize) -> &'a [u8]
         ensures { result.now ≡ head_of self.now.lines.now self.now.tree.now.filter callback }
     {
         match self.tree.filter.callbacks.get(callback) {

@@ -2,7 +2,11 @@ pub mod Fault
 pub mod Finding
 pub mod Lines
 pub mod Members
+pub mod Results
 pub mod Sarif
 pub mod Short
 pub mod Steps
 pub mod Uri
+pub mod Warned
+pub mod Warning
+pub mod WarningResults

@@ -1,7 +1,7 @@
 -- What is found of texts, line by line. This project's own formats.
 use Rattle.std.specs.Prelude.{◌≡◌, ℕ, List, [], ◌∷◌, ◌++◌, flat_map, max}
 use Rattle.flt_explain.specs.declared.finding.Finding.{Finding}
-use Rattle.flt_details.specs.Reports.{IsJudged, status_of}
+use Rattle.flt_details.specs.Reports.{IsJudged}
 use Rattle.flt_details.specs.Stages.{AreDetails}
 use Rattle.flt_details.specs.declared.judged.Judged.{Judged}
 use Rattle.flt_details.specs.declared.judged.Judged.TheVariants.{Unread, Known}
@@ -10,9 +10,13 @@ use Rattle.flt_details.specs.declared.study.Detail.{Detail}
 use Rattle.flt_graph.specs.declared.graph.Graph.{Graph}
 use Rattle.flt_tree.specs.Names.{Text}
 use Rattle.flt_tree.specs.declared.filter.Filter.{Filter}
+use Rattle.flt_warning_details.specs.declared.detail.WarningDetail.{WarningDetail}
+use Rattle.flt_warning_details.specs.declared.options.WarningOptions.{WarningOptions}
 use Rattle.flt_forms.specs.Fault.{IsFaultLine}
 use Rattle.flt_forms.specs.Finding.{finding_line}
 use Rattle.flt_forms.specs.Short as short
+use Rattle.flt_forms.specs.Warned.{AreWarned, status_of}
+use Rattle.flt_forms.specs.Warning.{warning_line}
 use Rattle.flt_forms.specs.declared.as_lines.Style.{Style}
 use Rattle.flt_forms.specs.declared.as_lines.Style.TheVariants.{Object, Sentence}
 
@@ -35,16 +39,25 @@ IsPrinted Object s (Known tree graph found) printed = AreFindingLines s.name.now
 IsPrinted Sentence s (Unread f) printed = short.IsFaultLine s.name.now s.text.now printed
 IsPrinted Sentence s (Known tree graph found) printed = AreShortLines s.name.now s.text.now tree.filter graph found printed
 
--- the same, with the text's status
-pub record IsPart (style : Style) (s : Source) (printed : List ℕ) (status : ℕ) : Type 0 where
+-- one line for each of these warnings, in their order; no sentence where a comment allows one
+abbrev pub warning_lines : Style → List ℕ → List WarningDetail → List ℕ
+warning_lines Object name warned = flat_map (warning_line name) warned
+warning_lines Sentence name warned = flat_map (short.warning_line name) warned
+
+-- what is printed of a text with its warnings last, and its status, which comes of the same findings and warnings
+pub record IsPart (style : Style) (options : WarningOptions) (s : Source) (printed : List ℕ) (status : ℕ) : Type 0 where
   pub judged : Judged
   pub is : IsJudged s.text.now judged
-  pub own : status ≡ status_of judged
-  pub lines : IsPrinted style s judged printed
+  pub warned : List WarningDetail
+  pub are : AreWarned s options.allowed judged warned
+  pub own : status ≡ status_of options.is_strict judged warned
+  pub first : List ℕ
+  pub lines : IsPrinted style s judged first
+  pub all : printed ≡ first ++ warning_lines style s.name.now warned
 
 -- the lines of several texts behind what is there, one text's behind the other's; the status is the greatest of theirs
-abbrev pub AreLines : Style → List Source → List ℕ → List ℕ → ℕ → Type 0
-AreLines style [] before printed status = (printed ≡ before) × (status ≡ 0)
-AreLines style (s ∷ ss) before printed status =
-    (part : List ℕ) × (first : ℕ) × (others : ℕ) × IsPart style s part first × AreLines style ss (before ++ part) printed others
-    × (status ≡ max first others)
+abbrev pub AreLines : Style → WarningOptions → List Source → List ℕ → List ℕ → ℕ → Type 0
+AreLines style options [] before printed status = (printed ≡ before) × (status ≡ 0)
+AreLines style options (s ∷ ss) before printed status =
+    (part : List ℕ) × (first : ℕ) × (others : ℕ) × IsPart style options s part first
+    × AreLines style options ss (before ++ part) printed others × (status ≡ max first others)

@@ -9,12 +9,15 @@ ghost use Rattle.flt_syntax.specs.TextFails.{Fails};
 
 use crate::fault::{help_of, put_fault_line};
 use crate::finding::put_lines;
-use crate::short::{put_short_fault, put_short_lines};
+use crate::short::{put_short_fault, put_short_lines, put_short_warnings};
+use crate::warned::{status_of, warned_of};
+use crate::warning::put_warnings;
 use flt_details::{Explained, Judged, Source, details, judge};
 use flt_explain::Finding;
 use flt_graph::Graph;
 use flt_hints::{describe, tell};
 use flt_syntax::{SyntaxFault, Tree, fails_exactly_where_nothing_is_spelled};
+use flt_warning_details::{WarningDetail, WarningOptions};
 use std::alloc::{AllocError, Global};
 
 /// What a line is.
@@ -22,7 +25,7 @@ use std::alloc::{AllocError, Global};
 pub enum Style {
     /// A JSON object.
     Object,
-    /// A sentence behind the file's name, its line and its column, as compilers say it.
+    /// A sentence after the file's name, its line and its column, as compilers say it.
     Sentence,
 }
 
@@ -87,21 +90,40 @@ fn put_judged(
     }
 }
 
-/// The lines of a text, behind what is there, and its status.
+/// A line for each warning, after what is there.
+fn put_warned(
+    alloc: Global,
+    out: Vec<u8>,
+    style: Style,
+    name: &str,
+    warned: &[WarningDetail],
+) -> Result<Vec<u8>, AllocError>
+    ensures { IfOk result (λ v. v.items ≡ out.items ++ spec.warning_lines style name.now warned.now) }
+{
+    match style {
+        Style::Object => put_warnings(alloc, out, name, warned),
+        Style::Sentence => put_short_warnings(alloc, out, name, warned),
+    }
+}
+
+/// The lines of a text, after what is there, and its status.
 fn put_source(
     alloc: Global,
     out: Vec<u8>,
     style: Style,
+    options: WarningOptions,
     source: Source<'_>,
 ) -> Result<Explained, AllocError>
-    ensures { IfOk result (λ e. (printed : List ℕ) × spec.IsPart style source.entry printed e.status
+    ensures { IfOk result (λ e. (printed : List ℕ) × spec.IsPart style options source.entry printed e.status
         × (e.output.items ≡ out.items ++ printed)) }
 {
     let judged = judge(alloc, source.text)?;
-    let output = put_judged(alloc, out, style, source, &judged)?;
+    let warned = warned_of(alloc, options.allowed, source, &judged)?;
+    let first = put_judged(alloc, out, style, source, &judged)?;
+    let output = put_warned(alloc, first, style, source.name, warned.as_slice())?;
     Ok(Explained {
         output,
-        status: judged.status(),
+        status: status_of(options.is_strict, &judged, warned.as_slice()),
     })
 }
 
@@ -111,14 +133,15 @@ pub(crate) fn greater(a: u8, b: u8) -> u8
     if a < b { b } else { a }
 }
 
-/// The lines of several texts, behind what is there, and the greatest status.
+/// The lines of several texts, after what is there, and the greatest status.
 fn put_sources(
     alloc: Global,
     out: Vec<u8>,
     style: Style,
+    options: WarningOptions,
     sources: &[Source<'_>],
 ) -> Result<Explained, AllocError>
-    ensures { IfOk result (λ e. spec.AreLines style sources.now out.items e.output.items e.status) }
+    ensures { IfOk result (λ e. spec.AreLines style options sources.now out.items e.output.items e.status) }
 {
     let mut told = Explained {
         output: out,
@@ -126,7 +149,7 @@ fn put_sources(
     };
     for source in sources {
         let before = told.status;
-        let one = put_source(alloc, told.output, style, *source)?;
+        let one = put_source(alloc, told.output, style, options, *source)?;
         told = Explained {
             output: one.output,
             status: greater(before, one.status),
@@ -136,14 +159,19 @@ fn put_sources(
 }
 
 /// What is wrong with some texts, line by line: one for each finding of a text that parses, in their order, and one for a text
-/// that doesn't. docs/FORMATS.md says how they are written. The status is that of `explain`: 0 where nothing is found, 1 where something is, 2
-/// where a text doesn't parse.
+/// that doesn't; then one for each of its warnings. docs/FORMATS.md says how they are written. The status is that of `explain`: 0 where nothing
+/// is found, 1 where something is, or where warnings count and one is shown, 2 where a text doesn't parse.
 ///
 /// # Errors
 ///
 /// Where a growth was refused.
-pub fn lines(alloc: Global, style: Style, sources: &[Source<'_>]) -> Result<Explained, AllocError>
-    ensures { IfOk result (λ e. spec.AreLines style sources.now [] e.output.items e.status) }
+pub fn lines(
+    alloc: Global,
+    style: Style,
+    options: WarningOptions,
+    sources: &[Source<'_>],
+) -> Result<Explained, AllocError>
+    ensures { IfOk result (λ e. spec.AreLines style options sources.now [] e.output.items e.status) }
 {
-    put_sources(alloc, Vec::new(alloc), style, sources)
+    put_sources(alloc, Vec::new(alloc), style, options, sources)
 }

@@ -3,6 +3,8 @@
 ghost use Rattle.std.specs.Prelude.{◌≡◌, [], IfOk, List, codes, flat_map};
 ghost use Rattle.flt_forms.specs.Members.{Added, Adds, array_member, object_member, string_member};
 ghost use Rattle.flt_forms.specs.Sarif as spec;
+ghost use Rattle.flt_forms.specs.Uri.{uri_of};
+ghost use Rattle.flt_forms.specs.WarningResults as warning;
 ghost use Rattle.flt_details.specs.Closing.{fault_name as fault_words};
 ghost use Rattle.flt_details.specs.Reports.{IsJudged};
 ghost use Rattle.flt_syntax.specs.TextFails.{Fails};
@@ -15,12 +17,16 @@ use crate::members::{close_array, close_object, open_array, open_object, put_key
 use crate::results::{put_fault_result, put_results, put_rule_name};
 use crate::unread::{UnreadFile, put_invocations};
 use crate::uri::uri;
+use crate::warned::{status_of, warned_of};
+use crate::warning_results::put_warning_results;
+use crate::warning_rules::put_kinds;
 use flt_details::{Explained, Judged, Source, details, fault_name, judge};
 use flt_explain::Finding;
 use flt_graph::Graph;
 use flt_hints::{describe, tell};
 use flt_rules::Rule;
 use flt_syntax::{FaultKind, SyntaxFault, Tree, fails_exactly_where_nothing_is_spelled};
+use flt_warning_details::{WarningDetail, WarningOptions};
 use json::Writer;
 use std::alloc::{AllocError, Global};
 
@@ -122,7 +128,8 @@ fn put_all_rules(alloc: Global, writer: &mut Writer) -> Result<(), AllocError>
     ensures { Adds result writer.old writer.new spec.all_rules }
 {
     put_rules(alloc, writer)?;
-    put_fault_kinds(writer)
+    put_fault_kinds(writer)?;
+    put_kinds(writer)
 }
 
 fn put_rules_member(alloc: Global, writer: &mut Writer) -> Result<(), AllocError>
@@ -219,22 +226,47 @@ fn put_judged(
     }
 }
 
+/// The results of a text's warnings.
+fn put_warned(
+    alloc: Global,
+    writer: &mut Writer,
+    name: &str,
+    warned: &[WarningDetail],
+) -> Result<(), AllocError>
+    ensures { Adds result writer.old writer.new (flat_map (warning.result (uri_of name.now)) warned.now) }
+{
+    let uri = uri(alloc, name)?;
+    put_warning_results(alloc, writer, &uri, warned)
+}
+
 /// The results of a text; it gives the text's status.
-fn put_source(alloc: Global, writer: &mut Writer, source: Source<'_>) -> Result<u8, AllocError>
-    ensures { IfOk result (λ status. (ts : List Token) × spec.IsPart source.entry ts status × Added writer.old writer.new ts) }
+fn put_source(
+    alloc: Global,
+    writer: &mut Writer,
+    options: WarningOptions,
+    source: Source<'_>,
+) -> Result<u8, AllocError>
+    ensures { IfOk result (λ status. (ts : List Token) × spec.IsPart options source.entry ts status × Added writer.old writer.new ts) }
 {
     let judged = judge(alloc, source.text)?;
+    let warned = warned_of(alloc, options.allowed, source, &judged)?;
     put_judged(alloc, writer, source, &judged)?;
-    Ok(judged.status())
+    put_warned(alloc, writer, source.name, warned.as_slice())?;
+    Ok(status_of(options.is_strict, &judged, warned.as_slice()))
 }
 
 /// The results of several texts; it gives the greatest status.
-fn put_sources(alloc: Global, writer: &mut Writer, sources: &[Source<'_>]) -> Result<u8, AllocError>
-    ensures { IfOk result (λ status. (ts : List Token) × spec.AreResults sources.now ts status × Added writer.old writer.new ts) }
+fn put_sources(
+    alloc: Global,
+    writer: &mut Writer,
+    options: WarningOptions,
+    sources: &[Source<'_>],
+) -> Result<u8, AllocError>
+    ensures { IfOk result (λ status. (ts : List Token) × spec.AreResults options sources.now ts status × Added writer.old writer.new ts) }
 {
     let mut status = 0;
     for source in sources {
-        let own = put_source(alloc, writer, *source)?;
+        let own = put_source(alloc, writer, options, *source)?;
         status = greater(status, own);
     }
     Ok(status)
@@ -243,14 +275,15 @@ fn put_sources(alloc: Global, writer: &mut Writer, sources: &[Source<'_>]) -> Re
 fn put_results_member(
     alloc: Global,
     writer: &mut Writer,
+    options: WarningOptions,
     sources: &[Source<'_>],
 ) -> Result<u8, AllocError>
-    ensures { IfOk result (λ status. (ts : List Token) × spec.AreResults sources.now ts status
+    ensures { IfOk result (λ status. (ts : List Token) × spec.AreResults options sources.now ts status
         × Added writer.old writer.new (array_member (codes "results") ts)) }
 {
     put_key(writer, "results")?;
     open_array(writer)?;
-    let status = put_sources(alloc, writer, sources)?;
+    let status = put_sources(alloc, writer, options, sources)?;
     close_array(writer)?;
     Ok(status)
 }
@@ -260,16 +293,17 @@ fn put_results_member(
 fn put_run(
     alloc: Global,
     writer: &mut Writer,
+    options: WarningOptions,
     sources: &[Source<'_>],
     unread: &[UnreadFile],
 ) -> Result<u8, AllocError>
-    ensures { IfOk result (λ status. (ts : List Token) × spec.AreResults sources.now ts status
+    ensures { IfOk result (λ status. (ts : List Token) × spec.AreResults options sources.now ts status
         × Added writer.old writer.new (spec.run unread.now ts)) }
 {
     open_object(writer)?;
     put_tool(alloc, writer)?;
     put_invocations(alloc, writer, unread)?;
-    let status = put_results_member(alloc, writer, sources)?;
+    let status = put_results_member(alloc, writer, options, sources)?;
     close_object(writer)?;
     Ok(status)
 }
@@ -277,15 +311,16 @@ fn put_run(
 fn put_runs(
     alloc: Global,
     writer: &mut Writer,
+    options: WarningOptions,
     sources: &[Source<'_>],
     unread: &[UnreadFile],
 ) -> Result<u8, AllocError>
-    ensures { IfOk result (λ status. (ts : List Token) × spec.AreResults sources.now ts status
+    ensures { IfOk result (λ status. (ts : List Token) × spec.AreResults options sources.now ts status
         × Added writer.old writer.new (array_member (codes "runs") (spec.run unread.now ts))) }
 {
     put_key(writer, "runs")?;
     open_array(writer)?;
-    let status = put_run(alloc, writer, sources, unread)?;
+    let status = put_run(alloc, writer, options, sources, unread)?;
     close_array(writer)?;
     Ok(status)
 }
@@ -293,10 +328,11 @@ fn put_runs(
 fn put_document(
     alloc: Global,
     writer: &mut Writer,
+    options: WarningOptions,
     sources: &[Source<'_>],
     unread: &[UnreadFile],
 ) -> Result<u8, AllocError>
-    ensures { IfOk result (λ status. (ts : List Token) × spec.AreResults sources.now ts status
+    ensures { IfOk result (λ status. (ts : List Token) × spec.AreResults options sources.now ts status
         × Added writer.old writer.new (spec.document unread.now ts)) }
 {
     open_object(writer)?;
@@ -306,28 +342,29 @@ fn put_document(
         "https://json.schemastore.org/sarif-2.1.0.json",
     )?;
     put_string(writer, "version", "2.1.0")?;
-    let status = put_runs(alloc, writer, sources, unread)?;
+    let status = put_runs(alloc, writer, options, sources, unread)?;
     close_object(writer)?;
     Ok(status)
 }
 
 /// What is wrong with some texts, as one SARIF 2.1.0 document and a line feed: a result for each finding of a text that parses, in
-/// their order, and one for a text that doesn't; and where files aren't read, that the tool failed, with a notification for each of them.
-/// Names are made relative references. The status is that of the texts: 0 where nothing is found, 1 where something is, 2 where a text
-/// doesn't parse.
+/// their order, and one for a text that doesn't; then one for each of its warnings; and where files aren't read, that the tool failed, with a
+/// notification for each of them. Names are made relative references. The status is that of the texts: 0 where nothing is found, 1 where
+/// something is, or where warnings count and one is shown, 2 where a text doesn't parse.
 ///
 /// # Errors
 ///
 /// Where a growth was refused.
 pub fn sarif(
     alloc: Global,
+    options: WarningOptions,
     sources: &[Source<'_>],
     unread: &[UnreadFile],
 ) -> Result<Explained, AllocError>
-    ensures { IfOk result (λ e. spec.IsSarif sources.now unread.now e.output.items e.status) }
+    ensures { IfOk result (λ e. spec.IsSarif options sources.now unread.now e.output.items e.status) }
 {
     let mut writer = Writer::new(Vec::new(alloc));
-    let status = put_document(alloc, &mut writer, sources, unread)?;
+    let status = put_document(alloc, &mut writer, options, sources, unread)?;
     let mut output = writer.into_inner();
     output.push(b'\n')?;
     Ok(Explained { output, status })

@@ -12,6 +12,10 @@ mod short;
 mod steps;
 mod unread;
 mod uri;
+mod warned;
+mod warning;
+mod warning_results;
+mod warning_rules;
 
 pub use as_lines::{Style, lines};
 pub use as_sarif::sarif;

@@ -8,6 +8,7 @@ ghost use Rattle.flt_forms.specs.Members as spec;
 use flt_details::Marks;
 use flt_places::Region;
 use json::Writer;
+use sqlite_items::Items;
 use std::alloc::{AllocError, Global};
 
 pub(crate) fn open_object(writer: &mut Writer) -> Result<(), AllocError>
@@ -123,6 +124,34 @@ pub(crate) fn put_filled(
     match bytes.as_slice() {
         [] => put_null(writer, name),
         [_, ..] => put_text(alloc, writer, name, bytes),
+    }
+}
+
+/// A member whose value is a text; what isn't UTF-8 is U+FFFD.
+pub(crate) fn put_items(
+    alloc: Global,
+    writer: &mut Writer,
+    name: &str,
+    bytes: &Items<u8>,
+) -> Result<(), AllocError>
+    ensures { spec.Adds result writer.old writer.new (spec.text_member name.now bytes.now) }
+{
+    let text = String::from_utf8_lossy(alloc, bytes.as_slice())?;
+    put_string(writer, name, text.as_str())
+}
+
+/// Null where there is no text.
+pub(crate) fn put_filled_items(
+    alloc: Global,
+    writer: &mut Writer,
+    name: &str,
+    bytes: &Items<u8>,
+) -> Result<(), AllocError>
+    ensures { spec.Adds result writer.old writer.new (spec.filled_member name.now bytes.now) }
+{
+    match bytes.as_slice() {
+        [] => put_null(writer, name),
+        [_, ..] => put_items(alloc, writer, name, bytes),
     }
 }
 

@@ -2,7 +2,7 @@
 
 ghost use Rattle.std.specs.Prelude.{◌≡◌, ◌++◌, codes, flat_map};
 ghost use Rattle.flt_forms.specs.Members.{Adds, array_member, object_member, string_member, text_member};
-ghost use Rattle.flt_forms.specs.Sarif as spec;
+ghost use Rattle.flt_forms.specs.Results as spec;
 ghost use Rattle.flt_details.specs.Closing.{fault_name as fault_words, rule_name};
 
 use crate::members::{
@@ -19,7 +19,11 @@ use std::alloc::{AllocError, Global};
 
 // ---- places
 
-fn put_message(alloc: Global, writer: &mut Writer, words: &Vec<u8>) -> Result<(), AllocError>
+pub(crate) fn put_message(
+    alloc: Global,
+    writer: &mut Writer,
+    words: &Vec<u8>,
+) -> Result<(), AllocError>
     ensures { Adds result writer.old writer.new (spec.message words.now.items) }
 {
     put_key(writer, "message")?;
@@ -150,7 +154,7 @@ fn put_marked_physical(
 }
 
 /// What is marked in a file, with words.
-fn put_marked_location(
+pub(crate) fn put_marked_location(
     alloc: Global,
     writer: &mut Writer,
     uri: &Vec<u8>,
@@ -163,6 +167,22 @@ fn put_marked_location(
     put_marked_physical(alloc, writer, uri, marks)?;
     put_message(alloc, writer, words)?;
     close_object(writer)
+}
+
+/// The places of a result: what is marked, with words.
+pub(crate) fn put_marked_locations(
+    alloc: Global,
+    writer: &mut Writer,
+    uri: &Vec<u8>,
+    marks: Marks,
+    words: &Vec<u8>,
+) -> Result<(), AllocError>
+    ensures { Adds result writer.old writer.new (spec.locations uri.now.items marks words.now.items) }
+{
+    put_key(writer, "locations")?;
+    open_array(writer)?;
+    put_marked_location(alloc, writer, uri, marks, words)?;
+    close_array(writer)
 }
 
 // ---- ways
@@ -394,6 +414,15 @@ pub(crate) fn put_level(writer: &mut Writer) -> Result<(), AllocError>
     put_string(writer, "level", "error")
 }
 
+/// That nothing in the text allows it.
+pub(crate) fn put_not_suppressed(writer: &mut Writer) -> Result<(), AllocError>
+    ensures { Adds result writer.old writer.new spec.not_suppressed }
+{
+    put_key(writer, "suppressions")?;
+    open_array(writer)?;
+    close_array(writer)
+}
+
 /// The rule's number under a name.
 pub(crate) fn put_rule_name(
     alloc: Global,
@@ -450,13 +479,19 @@ fn put_related(
     close_array(writer)
 }
 
-fn put_fingerprints(alloc: Global, writer: &mut Writer, detail: &Detail) -> Result<(), AllocError>
-    ensures { Adds result writer.old writer.new (spec.fingerprints detail.now) }
+/// The head of a callback, and what is said of it.
+pub(crate) fn put_fingerprints(
+    alloc: Global,
+    writer: &mut Writer,
+    head: &Vec<u8>,
+    subject: &Vec<u8>,
+) -> Result<(), AllocError>
+    ensures { Adds result writer.old writer.new (spec.fingerprints head.now.items subject.now.items) }
 {
     put_key(writer, "partialFingerprints")?;
     open_object(writer)?;
-    put_text(alloc, writer, "callback/v1", &detail.words.head)?;
-    put_text(alloc, writer, "subject/v1", &detail.words.subject)?;
+    put_text(alloc, writer, "callback/v1", head)?;
+    put_text(alloc, writer, "subject/v1", subject)?;
     close_object(writer)
 }
 
@@ -472,20 +507,6 @@ fn put_properties(alloc: Global, writer: &mut Writer, detail: &Detail) -> Result
     close_object(writer)
 }
 
-fn put_finding_locations(
-    alloc: Global,
-    writer: &mut Writer,
-    uri: &Vec<u8>,
-    detail: &Detail,
-) -> Result<(), AllocError>
-    ensures { Adds result writer.old writer.new (spec.locations uri.now.items detail.now) }
-{
-    put_key(writer, "locations")?;
-    open_array(writer)?;
-    put_marked_location(alloc, writer, uri, detail.marks, &detail.words.title)?;
-    close_array(writer)
-}
-
 fn put_result_members(
     alloc: Global,
     writer: &mut Writer,
@@ -497,11 +518,12 @@ fn put_result_members(
     put_rule_name(alloc, writer, "ruleId", detail.finding.rule)?;
     put_level(writer)?;
     put_message(alloc, writer, &detail.words.title)?;
-    put_finding_locations(alloc, writer, uri, detail)?;
+    put_marked_locations(alloc, writer, uri, detail.marks, &detail.words.title)?;
     put_related(alloc, writer, uri, &detail.route.origin)?;
     put_flows(alloc, writer, uri, detail)?;
-    put_fingerprints(alloc, writer, detail)?;
-    put_properties(alloc, writer, detail)
+    put_fingerprints(alloc, writer, &detail.words.head, &detail.words.subject)?;
+    put_properties(alloc, writer, detail)?;
+    put_not_suppressed(writer)
 }
 
 /// A finding.
@@ -569,7 +591,8 @@ fn put_fault_members(
     put_level(writer)?;
     put_message(alloc, writer, words)?;
     put_locations(alloc, writer, uri, fault.line, fault.column, words)?;
-    put_fault_properties(alloc, writer, help)
+    put_fault_properties(alloc, writer, help)?;
+    put_not_suppressed(writer)
 }
 
 /// A fault of a text.

@@ -11,33 +11,47 @@ use flt_graph::Graph;
 use flt_hints::{describe, tell};
 use flt_syntax::{SyntaxFault, Tree, fails_exactly_where_nothing_is_spelled};
 use flt_tree::Position;
+use flt_warning_details::WarningDetail;
 use std::alloc::{AllocError, Global};
 use std::fmt;
 
-/// What stands before the words: the file's name, the place and the rule.
+/// What a line begins with: the file's name, the place, how bad it is, and the rule.
 #[derive(Drop)]
 struct Head<'a> {
     name: &'a str,
     place: Position,
+    level: &'static str,
     rule: &'a str,
 }
 
 impl fmt::Display for Head<'_> {
-    ghost output = { λ h. Some (spec.head h.name.now h.place.line h.place.column h.rule.now) };
+    ghost output = { λ h. Some (spec.head h.name.now h.place.line h.place.column h.level.now h.rule.now) };
 
     fn fmt<W: fmt::Write>(&self, f: &mut fmt::Formatter<W>) -> fmt::Result {
         let name = self.name;
         let line = self.place.line;
         let column = self.place.column;
+        let level = self.level;
         let rule = self.rule;
-        write!(f, "{name}:{line}:{column}: error[{rule}]: ")
+        write!(f, "{name}:{line}:{column}: {level}[{rule}]: ")
     }
 }
 
-fn head_of(alloc: Global, name: &str, place: Position, rule: &str) -> Result<String, AllocError>
-    ensures { IfOk result (λ head. string_bytes head ≡ spec.head name.now place.line place.column rule.now) }
+fn head_of(
+    alloc: Global,
+    name: &str,
+    place: Position,
+    level: &'static str,
+    rule: &str,
+) -> Result<String, AllocError>
+    ensures { IfOk result (λ head. string_bytes head ≡ spec.head name.now place.line place.column level.now rule.now) }
 {
-    let head = Head { name, place, rule };
+    let head = Head {
+        name,
+        place,
+        level,
+        rule,
+    };
     format!(in alloc; "{head}")
 }
 
@@ -63,7 +77,8 @@ fn put_finding(
 {
     let rule = RuleName(detail.finding.rule);
     let rule = format!(in alloc; "{rule}")?;
-    let head = head_of(alloc, name, detail.marks.statement.first, rule.as_str())?;
+    let place = detail.marks.statement.first;
+    let head = head_of(alloc, name, place, "error", rule.as_str())?;
     put_sentence(out, head.as_str(), detail.words.title.as_slice())
 }
 
@@ -99,6 +114,51 @@ pub(crate) fn put_short_lines(
     put_findings(alloc, out, source.name, details.as_slice())
 }
 
+/// The line of a warning that is shown, after what is there.
+fn put_shown(
+    alloc: Global,
+    out: Vec<u8>,
+    name: &str,
+    detail: &WarningDetail,
+) -> Result<Vec<u8>, AllocError>
+    ensures { IfOk result (λ v. v.items ≡ out.items ++ spec.shown_line name.now detail.now) }
+{
+    let place = detail.marks.statement.first;
+    let head = head_of(alloc, name, place, "warning", detail.kind.name())?;
+    put_sentence(out, head.as_str(), detail.title.as_slice())
+}
+
+/// The line of a warning, after what is there; none where a comment allows it.
+fn put_warning(
+    alloc: Global,
+    out: Vec<u8>,
+    name: &str,
+    detail: &WarningDetail,
+) -> Result<Vec<u8>, AllocError>
+    ensures { IfOk result (λ v. v.items ≡ out.items ++ spec.warning_line name.now detail.now) }
+{
+    match &detail.reason {
+        None => put_shown(alloc, out, name, detail),
+        Some(_) => Ok(out),
+    }
+}
+
+/// A line for each warning that is shown, after what is there.
+pub(crate) fn put_short_warnings(
+    alloc: Global,
+    out: Vec<u8>,
+    name: &str,
+    warned: &[WarningDetail],
+) -> Result<Vec<u8>, AllocError>
+    ensures { IfOk result (λ v. v.items ≡ out.items ++ flat_map (spec.warning_line name.now) warned.now) }
+{
+    let mut out = out;
+    for detail in warned {
+        out = put_warning(alloc, out, name, detail)?;
+    }
+    Ok(out)
+}
+
 /// The line of a fault, behind what is there.
 fn put_fault(
     alloc: Global,
@@ -113,7 +173,7 @@ fn put_fault(
         line: fault.line,
         column: fault.column,
     };
-    let head = head_of(alloc, name, place, fault_name(fault.kind))?;
+    let head = head_of(alloc, name, place, "error", fault_name(fault.kind))?;
     put_sentence(out, head.as_str(), words)
 }
 

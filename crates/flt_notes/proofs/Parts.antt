@@ -10,10 +10,11 @@ use Rattle.flt_reasons.specs.Notice as notices
 use Rattle.flt_reasons.specs.declared.notice.Kind.{Kind}
 use Rattle.flt_reasons.specs.declared.notice.Notice.{Notice}
 use Rattle.flt_details.specs.Closing.{findings_closing, syntax_line}
-use Rattle.flt_details.specs.Reports.{findings_status}
 use Rattle.flt_details.specs.declared.sources.Source.{Source}
 use Rattle.flt_details.specs.declared.judged.Judged.TheVariants.{Unread, Known as Found}
 use Rattle.flt_reports.specs.Covering.{AreFirsts}
+use Rattle.flt_warning_details.specs.Options.{warned_status}
+use Rattle.flt_warning_details.specs.declared.options.WarningOptions.{WarningOptions}
 use Rattle.flt_notes.specs.Noted.{one_more, numbers_in}
 use Rattle.flt_notes.specs.Parsed.{IsOther, IsUnread}
 use Rattle.flt_notes.specs.Printing.{ClosesNotice, HasNotes, HasReport, IsKnownIn, IsKnownPart, IsNotedOf, IsNoticePart, IsSaid, PrintsNotice}
@@ -28,9 +29,10 @@ use Rattle.flt_notes.proofs.Closing.{quiet_fault, quiet_findings, quiet_notice}
 use Rattle.flt_notes.proofs.Said.{ends_quiet, said_more}
 
 -- of a text that doesn't parse
-pub report_fault : (filters : List Filter) (text : Text) (f : SyntaxFault) (before : List ℕ) (p : Part) → IsUnread text f → p.tally.status ≡ 2 →
-    p.tally.findings ≡ 1 → p.output.bytes.items ≡ before ++ quieted (syntax_line f ++ 10 ∷ []) → HasReport filters text p
-report_fault filters text f before p unread status count added = record {
+pub report_fault : (options : WarningOptions) (filters : List Filter) (text : Text) (f : SyntaxFault) (before : List ℕ) (p : Part) →
+    IsUnread text f → p.tally.status ≡ 2 → p.tally.findings ≡ 1 →
+    p.output.bytes.items ≡ before ++ quieted (syntax_line f ++ 10 ∷ []) → HasReport options filters text p
+report_fault options filters text f before p unread status count added = record {
   is = inl (record {
     judged = Unread f;
     is = unread;
@@ -46,9 +48,9 @@ pub closes_notice : (n : Notice) (before : List ℕ) (p : Part) → p.tally.stat
 closes_notice n before p status count added =
     record { status = status; count = count; ends = ends_quiet before p.output.bytes.items (notices.closing n) (quiet_notice n) added }
 
-pub report_notice : (filters : List Filter) (text : Text) (kind : Kind) (n : Notice) (p : Part) → IsOther text kind →
-    notices.IsNotice (stack_of filters) kind text n → ClosesNotice n p → HasReport filters text p
-report_notice filters text kind n p other is closes = record {
+pub report_notice : (options : WarningOptions) (filters : List Filter) (text : Text) (kind : Kind) (n : Notice) (p : Part) →
+    IsOther text kind → notices.IsNotice (stack_of filters) kind text n → ClosesNotice n p → HasReport options filters text p
+report_notice options filters text kind n p other is closes = record {
   is = inr (record {
     kind = kind;
     other = other;
@@ -82,17 +84,17 @@ notice_parts look trees s kind n (Ok p) other is closes prints = notice_part loo
 notice_parts look trees s kind n (Err e) other is closes prints = tt
 
 -- of a text that parses
-pub known_is : (look : Look) (trees : List Tree) (k : Known) (before : Output) (p : Part) → IsKnownIn trees k → IsSaid trees look.states before →
+pub known_is : (look : Look) (trees : List Tree) (k : Known) (before : Output) (p : Part) → IsKnownIn look trees k → IsSaid trees look.states before →
     HasNotes trees k before.noted → AreFirsts k.found.now (numbers_in before.noted) →
     p.output.bytes.items ≡ before.bytes.items ++ quieted (findings_closing k.found.now) → p.output.noted ≡ before.noted →
-    p.tally.status ≡ findings_status k.found.now → p.tally.findings ≡ length k.found.now →
+    p.tally.status ≡ warned_status look.options.is_strict k.found.now k.details.now → p.tally.findings ≡ length k.found.now →
     IsKnownPrint look trees k.place k.source p.output.noted p.output.bytes.items p.tally.status p.tally.findings → IsKnownPart look trees k p
 known_is look trees k before p known said notes firsts added same status count print = record {
   report = record {
     is = inl (record {
       judged = Found k.tree.now k.graph.now k.found.now;
       is = known.known;
-      own = status;
+      own = record { details = k.details.now; are = known.warned; worth = status };
       counted = count;
       ends = ends_quiet before.bytes.items p.output.bytes.items (findings_closing k.found.now) (quiet_findings k.found.now) added;
     });

@@ -6,6 +6,7 @@ use Rattle.flt_tree.specs.Names.{Text}
 use Rattle.flt_tree.specs.declared.tree.Tree.{Tree}
 use Rattle.flt_details.specs.declared.sources.Source.{Source}
 use Rattle.flt_model.specs.Program.{filters_of}
+use Rattle.flt_warning_details.specs.declared.options.WarningOptions.{WarningOptions}
 use Rattle.flt_notes.specs.Noted.{AreNotesIn, AreNotesOf, no_text as notes_none, fails as notes_fails, parses as notes_parses}
 use Rattle.flt_notes.specs.Parsed.{AreParsed}
 use Rattle.flt_notes.specs.Printing.{AreNotesFor, ArePrinted, HoldsBack, IsMore, IsPart, IsPrintOf, IsPutOut, part_of}
@@ -116,7 +117,7 @@ rest_out look trees s old new a b c more all first second =
 
 -- whole reports of the first of some texts
 pub first_of : (look : Look) (trees : List Tree) (each : List Studied) (further : List Text) (p : Printed) → ArePrinted look trees each p →
-    AreParsed (texts_read each ++ further) (filters_of trees) → AreFirst (texts_read each) further look.states p.output.bytes.items
+    AreParsed (texts_read each ++ further) (filters_of trees) → AreFirst look.options (texts_read each) further look.states p.output.bytes.items
 first_of look trees each further p are parsed = record {
   trees = trees;
   parsed = parsed;
@@ -131,13 +132,13 @@ first_of look trees each further p are parsed = record {
 }
 
 -- where it ends before all is known, so much is put out
-pub cut_none : (texts : List Text) (states : ℕ) (old : Option (List ℕ)) → IsCut texts states old old
-cut_none texts states old = record { printed = []; added = appends_none old; are = inl refl }
+pub cut_none : (options : WarningOptions) (texts : List Text) (states : ℕ) (old : Option (List ℕ)) → IsCut options texts states old old
+cut_none options texts states old = record { printed = []; added = appends_none old; are = inl refl }
 
 pub cut_at : (look : Look) (trees : List Tree) (all each rest : List Studied) (p : Printed) (held : Bool) (old new : Option (List ℕ)) →
     AreParsed (texts_read all) (filters_of trees) → all ≡ each ++ rest → ArePrinted look trees each p → (held ≡ true → new ≡ old) →
-    (held ≡ false → Appends old new p.output.bytes.items) → IsCut (texts_read all) look.states old new
-cut_at look trees all each rest p true old new parsed is are none some = rw (none refl) (cut_none (texts_read all) look.states old)
+    (held ≡ false → Appends old new p.output.bytes.items) → IsCut look.options (texts_read all) look.states old new
+cut_at look trees all each rest p true old new parsed is are none some = rw (none refl) (cut_none look.options (texts_read all) look.states old)
 cut_at look trees all each rest p false old new parsed is are none some =
     let whole : texts_read all ≡ texts_read each ++ texts_read rest = ap texts_read is ∙ texts_both each rest in
     record {
@@ -152,17 +153,17 @@ cut_at look trees all each rest p false old new parsed is are none some =
     }
 
 -- there is a last text
-all_but_last : (texts before : List Text) (last : Text) (states : ℕ) (printed : List ℕ) → texts ≡ before ++ last ∷ [] →
-    AreFirst before (last ∷ []) states printed → IsAllButLast texts states printed
-all_but_last [] [] last states printed is are = absurd (cc is)
-all_but_last [] (t ∷ before) last states printed is are = absurd (cc is)
-all_but_last (t ∷ texts) before last states printed is are = record { before = before; last = last; whole = is; are = are }
+all_but_last : (options : WarningOptions) (texts before : List Text) (last : Text) (states : ℕ) (printed : List ℕ) →
+    texts ≡ before ++ last ∷ [] → AreFirst options before (last ∷ []) states printed → IsAllButLast options texts states printed
+all_but_last options [] [] last states printed is are = absurd (cc is)
+all_but_last options [] (t ∷ before) last states printed is are = absurd (cc is)
+all_but_last options (t ∷ texts) before last states printed is are = record { before = before; last = last; whole = is; are = are }
 
 -- the reports of all texts but the last are put out, and the last one's stands behind them
 pub put_out : (look : Look) (trees : List Tree) (all each : List Studied) (s : Studied) (old new : Printed) (held : Bool) (a b : Option (List ℕ)) →
     AreParsed (texts_read all) (filters_of trees) → all ≡ each ++ s ∷ [] → ArePrinted look trees each old → IsMore look trees s old new →
     new.sent ≡ old.sent → HoldsBack held old → (held ≡ true → b ≡ a) → (held ≡ false → Appends a b old.output.bytes.items) →
-    IsPutOut (texts_read all) look.states held a b new
+    IsPutOut look.options (texts_read all) look.states held a b new
 put_out look trees all each s old new true a b parsed is are more kept holds none some =
     let sent : new.sent ≡ 0 = kept ∙ holds.none refl in
     record {
@@ -181,30 +182,30 @@ put_out look trees all each s old new false a b parsed is are more kept holds no
     record {
       within = rw (sent, whole) (omega (arith, length-append bytes rest));
       added = rw first (some refl);
-      early = λ h. rw first (all_but_last (texts_read all) (texts_read each) s.source.text.now look.states bytes texts
+      early = λ h. rw first (all_but_last look.options (texts_read all) (texts_read each) s.source.text.now look.states bytes texts
           (first_of look trees each (s.source.text.now ∷ []) old are (subst (λ ts. AreParsed ts (filters_of trees)) texts parsed)));
       late = λ h. absurd (cc h);
     }
 
 -- with more behind it
-pub put_out_more : (texts : List Text) (states : ℕ) (held : Bool) (a b : Option (List ℕ)) (old new : Printed) (more : List ℕ) →
-    IsPutOut texts states held a b old → new.sent ≡ old.sent → new.output.bytes.items ≡ old.output.bytes.items ++ more →
-    IsPutOut texts states held a b new
-put_out_more texts states held a b old new more is same added =
+pub put_out_more : (options : WarningOptions) (texts : List Text) (states : ℕ) (held : Bool) (a b : Option (List ℕ)) (old new : Printed)
+    (more : List ℕ) → IsPutOut options texts states held a b old → new.sent ≡ old.sent →
+    new.output.bytes.items ≡ old.output.bytes.items ++ more → IsPutOut options texts states held a b new
+put_out_more options texts states held a b old new more is same added =
     let bytes = old.output.bytes.items in
     let within = is.within in
     let first : take old.sent bytes ≡ take new.sent new.output.bytes.items = rw (same, added) (sym (take_within old.sent bytes more within)) in
     record {
       within = rw (same, added) (omega (arith, length-append bytes more, within));
       added = subst (λ z. Appends a b z) first is.added;
-      early = λ h. subst (λ z. IsAllButLast texts states z) first (is.early h);
+      early = λ h. subst (λ z. IsAllButLast options texts states z) first (is.early h);
       late = λ h. same ∙ is.late h;
     }
 
 -- nothing is put out of nothing
-pub put_out_none : (states : ℕ) (held : Bool) (a : Option (List ℕ)) (p : Printed) → p.output.bytes.items ≡ [] → p.sent ≡ 0 →
-    IsPutOut [] states held a a p
-put_out_none states held a p bytes sent = record {
+pub put_out_none : (options : WarningOptions) (states : ℕ) (held : Bool) (a : Option (List ℕ)) (p : Printed) → p.output.bytes.items ≡ [] → p.sent ≡ 0 →
+    IsPutOut options [] states held a a p
+put_out_none options states held a p bytes sent = record {
   within = rw (sent, bytes) (omega arith);
   added = rw sent (appends_none a);
   early = λ h. rw sent refl;
@@ -212,9 +213,9 @@ put_out_none states held a p bytes sent = record {
 }
 
 -- nor of the only text
-pub put_out_only : (trees : List Tree) (text : Text) (states : ℕ) (held : Bool) (a : Option (List ℕ)) (p : Printed) →
-    AreParsed (text ∷ []) (filters_of trees) → p.sent ≡ 0 → IsPutOut (text ∷ []) states held a a p
-put_out_only trees text states held a p parsed sent = record {
+pub put_out_only : (options : WarningOptions) (trees : List Tree) (text : Text) (states : ℕ) (held : Bool) (a : Option (List ℕ)) (p : Printed) →
+    AreParsed (text ∷ []) (filters_of trees) → p.sent ≡ 0 → IsPutOut options (text ∷ []) states held a a p
+put_out_only options trees text states held a p parsed sent = record {
   within = rw sent (omega arith);
   added = rw sent (appends_none a);
   early = λ h. rw sent (record {
@@ -277,11 +278,13 @@ only_noted look trees [] d p some few are part = absurd (omega (arith, some))
 only_noted look trees (s ∷ []) d p some few are part = only_notes trees s p.output.noted are.0 are.1 part.notes
 only_noted look trees (s ∷ (t ∷ each)) d p some few are part = absurd (omega (arith, few))
 
-pub only_sent : (trees : List Tree) (states : ℕ) (held : Bool) (a : Option (List ℕ)) (each : List Studied) (p : Printed) → 1 ≤ length each →
-    length each < 2 → AreParsed (texts_read each) (filters_of trees) → p.sent ≡ 0 → IsPutOut (texts_read each) states held a a p
-only_sent trees states held a [] p some few parsed sent = absurd (omega (arith, some))
-only_sent trees states held a (s ∷ []) p some few parsed sent = put_out_only trees s.source.text.now states held a p parsed sent
-only_sent trees states held a (s ∷ (t ∷ each)) p some few parsed sent = absurd (omega (arith, few))
+pub only_sent : (options : WarningOptions) (trees : List Tree) (states : ℕ) (held : Bool) (a : Option (List ℕ)) (each : List Studied)
+    (p : Printed) → 1 ≤ length each → length each < 2 → AreParsed (texts_read each) (filters_of trees) → p.sent ≡ 0 →
+    IsPutOut options (texts_read each) states held a a p
+only_sent options trees states held a [] p some few parsed sent = absurd (omega (arith, some))
+only_sent options trees states held a (s ∷ []) p some few parsed sent =
+    put_out_only options trees s.source.text.now states held a p parsed sent
+only_sent options trees states held a (s ∷ (t ∷ each)) p some few parsed sent = absurd (omega (arith, few))
 
 pub printed_empty : (look : Look) (trees : List Tree) (each : List Studied) (p : Printed) → length each < 1 → p.output.bytes.items ≡ [] →
     p.output.noted ≡ [] → p.total.status ≡ 0 → p.total.findings ≡ 0 → p.total.files ≡ 0 → ArePrinted look trees each p
@@ -306,7 +309,8 @@ module _ (look : Look) (trees : List Tree) (each : List Studied) (i : ℕ) (d : 
   pub whole_sent : (held : Bool) (a b : Option (List ℕ)) → 1 ≤ length each → AreParsed (texts_read each) (filters_of trees) →
       length (take (length each - 1) each) ≤ i → ArePrinted look trees (take i (take (length each - 1) each)) old →
       IsMore look trees (get_or each (length each - 1) d) old new → new.sent ≡ old.sent → HoldsBack held old → (held ≡ true → b ≡ a) →
-      (held ≡ false → Appends a b old.output.bytes.items) → IsPutOut (texts_read each) look.states held a b new
+      (held ≡ false → Appends a b old.output.bytes.items) →
+      IsPutOut look.options (texts_read each) look.states held a b new
   whole_sent held a b some parsed past printed more kept holds none out =
       let within : length each - 1 < length each = omega (arith, some) in
       let front : take i (take (length each - 1) each) ≡ take (length each - 1) each = take_all i (take (length each - 1) each) past in
@@ -317,7 +321,8 @@ module _ (look : Look) (trees : List Tree) (each : List Studied) (i : ℕ) (d : 
 -- where it ends before, the reports of the first are put out
 pub cut_here : (look : Look) (trees : List Tree) (each : List Studied) (n i : ℕ) (p : Printed) (held : Bool) (old new : Option (List ℕ)) →
     AreParsed (texts_read each) (filters_of trees) → ArePrinted look trees (take i (take n each)) p → (held ≡ true → new ≡ old) →
-    (held ≡ false → Appends old new p.output.bytes.items) → IsCut (texts_read each) look.states old new
+    (held ≡ false → Appends old new p.output.bytes.items) →
+    IsCut look.options (texts_read each) look.states old new
 cut_here look trees each n i p held old new parsed are none some =
     let before = take n each in
     let whole : each ≡ take i before ++ (drop i before ++ drop n each) =

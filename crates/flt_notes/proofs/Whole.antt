@@ -11,11 +11,11 @@ use Rattle.flt_explain.specs.declared.finding.Finding.{Finding}
 use Rattle.flt_reasons.specs.Notice as notices
 use Rattle.flt_reasons.specs.declared.notice.Notice.{Notice}
 use Rattle.flt_details.specs.Closing.{findings_closing, syntax_line}
-use Rattle.flt_details.specs.Reports.{findings_status}
 use Rattle.flt_details.specs.declared.sources.Source.{Source}
 use Rattle.flt_reports.specs.Fault.{IsFaultReport}
-use Rattle.flt_reports.specs.Reports.{nothing_report}
 use Rattle.flt_reports.specs.declared.reports.Report.{Report}
+use Rattle.flt_warning_details.specs.Options.{warned_status}
+use Rattle.flt_warning_details.specs.declared.detail.WarningDetail.{WarningDetail}
 use Rattle.flt_notes.specs.Again.{IsSetting}
 use Rattle.flt_notes.specs.Lines.{again_line, note_line}
 use Rattle.flt_notes.specs.Notices.{AreNoticeLines}
@@ -25,6 +25,7 @@ use Rattle.flt_notes.specs.Quiet.{quieted}
 use Rattle.flt_notes.specs.Readings.{IsPlaced, known}
 use Rattle.flt_notes.specs.Rows.{AreAgainRows, AreSettingRows}
 use Rattle.flt_notes.specs.Totals.{some}
+use Rattle.flt_notes.specs.Warnings.{promise_and_warnings}
 use Rattle.flt_notes.specs.Whole.{AreReported, AreReportsWithNotes, ArePrints, IsBody, IsKnownPrint, Look, fails, is_alone, no_block, one_block_more, parses}
 use Rattle.flt_notes.specs.declared.again.Setting.{Setting}
 use Rattle.flt_notes.specs.declared.noted.Again.{Again}
@@ -98,11 +99,11 @@ blocks_more trees states text reports i r first old new h is all one =
       noted = one.noted ∙ ap (λ z. z ++ one.note ∷ []) all.noted ∙ append_assoc first.noted all.notes (one.note ∷ []);
     })
 
-some_body : (look : Look) (trees : List Tree) (s : Source) (tree : Tree) (graph : Graph) (found : List Finding) (notes : List Noted)
-    (printed : List ℕ) → found ≢ [] → AreReportsWithNotes look trees s tree graph found notes printed →
-    IsBody look trees s tree graph found notes printed
-some_body look trees s tree graph [] notes printed some are = absurd (some refl)
-some_body look trees s tree graph (f ∷ fs) notes printed some are = are
+some_body : (look : Look) (trees : List Tree) (s : Source) (tree : Tree) (graph : Graph) (found : List Finding)
+    (details : List WarningDetail) (notes : List Noted) (printed : List ℕ) → found ≢ [] →
+    AreReportsWithNotes look trees s tree graph found notes printed → IsBody look trees s tree graph found details notes printed
+some_body look trees s tree graph [] details notes printed some are = absurd (some refl)
+some_body look trees s tree graph (f ∷ fs) details notes printed some are = are
 
 -- all reports of a text
 pub body_of_reports : (look : Look) (trees : List Tree) (k : Known) (reports : List Report) (old new : Output) → k.found.now ≢ [] →
@@ -111,7 +112,7 @@ pub body_of_reports : (look : Look) (trees : List Tree) (k : Known) (reports : L
 body_of_reports look trees k reports old new some are blocks = record {
   notes = blocks.notes;
   printed = blocks.printed;
-  is = some_body look trees k.source k.tree.now k.graph.now k.found.now blocks.notes blocks.printed some
+  is = some_body look trees k.source k.tree.now k.graph.now k.found.now k.details.now blocks.notes blocks.printed some
       (record { reports = reports; are = are; blocks = blocks.are });
   bytes = blocks.bytes;
   noted = blocks.noted;
@@ -121,14 +122,14 @@ pub empty_of : (found : List Finding) (b : Bool) → b ≡ (length found == 0) �
 empty_of [] b is some = refl
 empty_of (f ∷ found) b is some = absurd (some (is ∙ ne_eqb (length (f ∷ found)) 0 (λ h. omega arith)))
 
--- what is said where nothing is found
+-- what is said where nothing is found, with the warnings
 pub body_of_none : (look : Look) (trees : List Tree) (k : Known) (lines : List ℕ) (old new : Output) → k.found.now ≡ [] →
-    lines ≡ nothing_report k.source.name.now → new.bytes.items ≡ old.bytes.items ++ quieted lines → new.noted ≡ old.noted →
+    lines ≡ promise_and_warnings look.coloured k.source.name.now k.source.text.now k.details.now → new.bytes.items ≡ old.bytes.items ++ quieted lines → new.noted ≡ old.noted →
     AddsBody look trees k old new
 body_of_none look trees k lines old new none is added same = record {
   notes = [];
   printed = quieted lines;
-  is = subst (λ found. IsBody look trees k.source k.tree.now k.graph.now found [] (quieted lines)) (sym none)
+  is = subst (λ found. IsBody look trees k.source k.tree.now k.graph.now found k.details.now [] (quieted lines)) (sym none)
       (refl, ap quieted is);
   bytes = added;
   noted = same ∙ sym (append-nil old.noted);
@@ -136,10 +137,10 @@ body_of_none look trees k lines old new none is added same = record {
 
 -- ---- the whole of one text
 
-pub known_print : (look : Look) (trees : List Tree) (k : Known) (first before : Output) (p : Part) → IsKnownIn trees k →
+pub known_print : (look : Look) (trees : List Tree) (k : Known) (first before : Output) (p : Part) → IsKnownIn look trees k →
     first.bytes.items ≡ [] → first.noted ≡ [] → AddsBody look trees k first before → HasNotes trees k before.noted →
     p.output.bytes.items ≡ before.bytes.items ++ quieted (findings_closing k.found.now) → p.output.noted ≡ before.noted →
-    p.tally.status ≡ findings_status k.found.now → p.tally.findings ≡ length k.found.now →
+    p.tally.status ≡ warned_status look.options.is_strict k.found.now k.details.now → p.tally.findings ≡ length k.found.now →
     IsKnownPrint look trees k.place k.source p.output.noted p.output.bytes.items p.tally.status p.tally.findings
 known_print look trees k first before p known none unnoted body notes added same status count =
     let all : p.output.noted ≡ body.notes = same ∙ body.noted ∙ ap (λ z. z ++ body.notes) unnoted in
@@ -152,8 +153,11 @@ known_print look trees k first before p known none unnoted body notes added same
       found = k.found.now;
       known = known.known;
       noted = rw same notes;
+      details = k.details.now;
+      warned = known.warned;
       above = body.printed;
-      body = subst (λ ns. IsBody look trees k.source k.tree.now k.graph.now k.found.now ns body.printed) (sym all) body.is;
+      order = known.order;
+      body = subst (λ ns. IsBody look trees k.source k.tree.now k.graph.now k.found.now k.details.now ns body.printed) (sym all) body.is;
       whole = added ∙ ap (λ z. before.bytes.items ++ z) (quieted_same last (quiet_findings k.found.now)) ∙ ap (λ z. z ++ last) above;
       worth = status;
       many = count;

@@ -10,4 +10,5 @@ pub mod Reported
 pub mod Rows
 pub mod Told
 pub mod Totals
+pub mod Warnings
 pub mod Whole

@@ -14,6 +14,9 @@ use Rattle.flt_reports.specs.declared.reports.Report.{Report}
 use Rattle.flt_schedules.specs.Schedules.{IsScheduled}
 use Rattle.flt_schedules.specs.declared.schedules.Outcome.{Outcome}
 use Rattle.flt_schedules.specs.declared.schedules.Suspect.{Suspect}
+use Rattle.flt_warning_details.specs.Details.{AreWarningDetails}
+use Rattle.flt_warning_details.specs.Orderly.{PromisesOrder}
+use Rattle.flt_warning_details.specs.declared.options.WarningOptions.{WarningOptions}
 use Rattle.flt_notes.specs.Lines.{again_line, note_line}
 use Rattle.flt_notes.specs.Noted.{AreNoted, AreNotesIn, AreNotesOf, IsAgain, IsNoted}
 use Rattle.flt_notes.specs.Notices.{AreNoticeLines}
@@ -38,14 +41,16 @@ use Rattle.flt_notes.specs.declared.together.Printed.{Printed}
 
 -- how a stage prints
 abbrev pub look_of : Stage → Look
-look_of stage = record { coloured = stage.coloured; states = stage.states }
+look_of stage = record { coloured = stage.coloured; states = stage.states; options = stage.options }
 
 -- ---- one text
 
--- a text that parses has this tree, these points and findings
-pub record IsKnownIn (trees : List Tree) (k : Known) : Type 0 where
+-- a text that parses has this tree, these points, findings and warnings
+pub record IsKnownIn (look : Look) (trees : List Tree) (k : Known) : Type 0 where
   pub own : slice_get trees k.place ≡ Some k.tree.now
   pub known : IsKnown k.source.text.now k.tree.now k.graph.now k.found.now
+  pub warned : AreWarningDetails k.source.text.now k.tree.now.filter k.graph.now k.found.now look.options.allowed k.details.now
+  pub order : PromisesOrder k.found.now look.options.allowed k.details.now k.tree.now.filter
 
 -- the lines on runs are those of the notes
 abbrev pub IsSaid : List Tree → ℕ → Output → Type 0
@@ -81,8 +86,8 @@ abbrev pub IsNotedOf : List Tree → Known → List Noted → Noted → Type 0
 IsNotedOf trees k earlier n = IsNoted trees k.source.text.now k.place k.graph.now k.found.now earlier n
 
 -- the report of a text
-abbrev pub HasReport : List Filter → Text → Part → Type 0
-HasReport filters text p = IsReport filters text p.output.bytes.items p.tally.status p.tally.findings
+abbrev pub HasReport : WarningOptions → List Filter → Text → Part → Type 0
+HasReport options filters text p = IsReport options filters text p.output.bytes.items p.tally.status p.tally.findings
 
 -- what is said of a certificate, a journal or a script, where these are the trees of the texts that parse
 pub record PrintsNotice (look : Look) (trees : List Tree) (s : Source) (n : Notice) (p : Part) : Type 0 where
@@ -117,11 +122,11 @@ pub record AddBlocks (trees : List Tree) (states : ℕ) (text : Text) (reports :
   pub bytes : new.bytes.items ≡ old.bytes.items ++ printed
   pub noted : new.noted ≡ old.noted ++ notes
 
--- all reports of a text are added, each with its note, or what is said where nothing is found
+-- all reports of a text are added, each with its note, or what is said where nothing is found, with its warnings
 pub record AddsBody (look : Look) (trees : List Tree) (k : Known) (old new : Output) : Type 0 where
   pub notes : List Noted
   pub printed : List ℕ
-  pub is : IsBody look trees k.source k.tree.now k.graph.now k.found.now notes printed
+  pub is : IsBody look trees k.source k.tree.now k.graph.now k.found.now k.details.now notes printed
   pub bytes : new.bytes.items ≡ old.bytes.items ++ printed
   pub noted : new.noted ≡ old.noted ++ notes
 
@@ -135,7 +140,7 @@ pub record ClosesNotice (n : Notice) (p : Part) : Type 0 where
 
 -- the report of a text that parses, with its notes
 pub record IsParsedPart (look : Look) (trees : List Tree) (s : Source) (place : ℕ) (p : Part) : Type 0 where
-  pub report : HasReport (filters_of trees) s.text.now p
+  pub report : HasReport look.options (filters_of trees) s.text.now p
   pub notes : AreNotesOf trees s.text.now place p.output.noted
   pub said : IsSaid trees look.states p.output
   pub print : IsKnownPrint look trees place s p.output.noted p.output.bytes.items p.tally.status p.tally.findings
@@ -164,7 +169,7 @@ IsPrintOf look trees s (reading.Known place) p =
 
 -- the report of a text, with its notes
 pub record IsPart (look : Look) (trees : List Tree) (s : Studied) (p : Part) : Type 0 where
-  pub report : HasReport (filters_of trees) s.source.text.now p
+  pub report : HasReport look.options (filters_of trees) s.source.text.now p
   pub notes : AreNotesFor trees s.source.text.now s.reading p.output.noted
   pub said : IsSaid trees look.states p.output
   pub print : IsPrintOf look trees s.source s.reading p
@@ -173,7 +178,7 @@ pub record IsPart (look : Look) (trees : List Tree) (s : Studied) (p : Part) : T
 
 -- the reports of texts, each with an empty line behind it, and their notes
 pub record ArePrinted (look : Look) (trees : List Tree) (each : List Studied) (p : Printed) : Type 0 where
-  pub parts : AreParts (filters_of trees) (texts_read each) p.output.bytes.items p.total.status p.total.findings p.total.files
+  pub parts : AreParts look.options (filters_of trees) (texts_read each) p.output.bytes.items p.total.status p.total.findings p.total.files
   pub notes : AreNotesIn trees (known_in each) (texts_read each) p.output.noted
   pub said : IsSaid trees look.states p.output
   pub prints : ArePrints look trees (known_in each) (sources_read each) p.output.noted p.output.bytes.items p.total.status p.total.findings
@@ -195,10 +200,11 @@ pub record HoldsBack (is_held : Bool) (p : Printed) : Type 0 where
   pub all : is_held ≡ false → p.sent ≡ length p.output.bytes.items
 
 -- so much of what is printed is put out: the reports of all texts but the last, or nothing where that is held back
-pub record IsPutOut (texts : List Text) (states : ℕ) (is_held : Bool) (old new : Option (List ℕ)) (p : Printed) : Type 0 where
+pub record IsPutOut (options : WarningOptions) (texts : List Text) (states : ℕ) (is_held : Bool) (old new : Option (List ℕ)) (p : Printed) :
+    Type 0 where
   pub within : p.sent ≤ length p.output.bytes.items
   pub added : Appends old new (take p.sent p.output.bytes.items)
-  pub early : is_held ≡ false → IsAllButLast texts states (take p.sent p.output.bytes.items)
+  pub early : is_held ≡ false → IsAllButLast options texts states (take p.sent p.output.bytes.items)
   pub late : is_held ≡ true → p.sent ≡ 0
 
 -- the report of the only text

@@ -10,11 +10,16 @@ use Rattle.flt_reasons.specs.Notice as notices
 use Rattle.flt_reasons.specs.declared.notice.Kind.{Kind}
 use Rattle.flt_reasons.specs.declared.notice.Notice.{Notice}
 use Rattle.flt_details.specs.Closing.{findings_closing, syntax_line}
-use Rattle.flt_details.specs.Reports.{IsKnown, findings_status, texts_of}
+use Rattle.flt_details.specs.Reports.{IsKnown, texts_of}
 use Rattle.flt_details.specs.declared.sources.Source.{Source}
 use Rattle.flt_reports.specs.Fault.{IsFaultReport}
-use Rattle.flt_reports.specs.Reports.{AreReports, nothing_report}
+use Rattle.flt_reports.specs.Reports.{AreReports}
 use Rattle.flt_reports.specs.declared.reports.Report.{Report}
+use Rattle.flt_warning_details.specs.Details.{AreWarningDetails}
+use Rattle.flt_warning_details.specs.Orderly.{PromisesOrder}
+use Rattle.flt_warning_details.specs.Options.{warned_status}
+use Rattle.flt_warning_details.specs.declared.detail.WarningDetail.{WarningDetail}
+use Rattle.flt_warning_details.specs.declared.options.WarningOptions.{WarningOptions}
 use Rattle.flt_notes.specs.Lines.{again_line, note_line}
 use Rattle.flt_notes.specs.Noted.{AreNoted}
 use Rattle.flt_notes.specs.Notices.{AreNoticeLines, detaches}
@@ -23,17 +28,20 @@ use Rattle.flt_notes.specs.Quiet.{quieted}
 use Rattle.flt_notes.specs.Reported.{faults_in, stack_of}
 use Rattle.flt_notes.specs.Rows.{AreAgainRows, AreNoteRows}
 use Rattle.flt_notes.specs.Totals.{some, summary}
+use Rattle.flt_notes.specs.Warnings.{promise_and_warnings}
 use Rattle.flt_notes.specs.declared.explaining.Asking.{Asking}
 use Rattle.flt_notes.specs.declared.noted.Noted.{Noted}
 
--- with colours or without, and how many states the search for runs of a text goes on from at most
+-- with colours or without, how many states the search for runs of a text goes on from at most, and which warnings are left out and
+-- whether they count
 pub record Look : Type 0 where
   pub coloured : Bool
   pub states : ℕ
+  pub options : WarningOptions
 
 -- the same, as it is asked for
 abbrev pub look_for : Asking → Look
-look_for asking = record { coloured = asking.coloured; states = asking.states }
+look_for asking = record { coloured = asking.coloured; states = asking.states; options = asking.options }
 
 -- ---- a text that parses
 
@@ -65,12 +73,15 @@ pub record AreReportsWithNotes (look : Look) (trees : List Tree) (s : Source) (t
   pub are : AreReported look s tree graph found reports
   pub blocks : AreBlocks trees look.states s.text.now reports notes printed
 
--- what stands above the last line: what is said where nothing is found, or the reports with their notes
-abbrev pub IsBody : Look → List Tree → Source → Tree → Graph → List Finding → List Noted → List ℕ → Type 0
-IsBody look trees s tree graph [] notes printed = (notes ≡ []) × (printed ≡ quieted (nothing_report s.name.now))
-IsBody look trees s tree graph (f ∷ fs) notes printed = AreReportsWithNotes look trees s tree graph (f ∷ fs) notes printed
+-- what is above the last line: what is said where nothing is found, with the warnings, or the reports with their notes
+abbrev pub IsBody : Look → List Tree → Source → Tree → Graph → List Finding → List WarningDetail → List Noted → List ℕ → Type 0
+IsBody look trees s tree graph [] details notes printed =
+    (notes ≡ []) × (printed ≡ quieted (promise_and_warnings look.coloured s.name.now s.text.now details))
+IsBody look trees s tree graph (f ∷ fs) details notes printed = AreReportsWithNotes look trees s tree graph (f ∷ fs) notes printed
 
--- what is printed of a text that parses, whose tree is that of this place, with its status and how many findings it has
+-- what is printed of a text that parses, whose tree is that of this place, with its status and how many findings it has: what is printed
+-- and the status are of the same warnings
+-- (`order`: where nothing is found and no circle of locks is warned of, its filter takes its locks in an order)
 pub record IsKnownPrint (look : Look) (trees : List Tree) (place : ℕ) (s : Source) (notes : List Noted) (printed : List ℕ)
     (status count : ℕ) : Type 0 where
   pub tree : Tree
@@ -79,10 +90,13 @@ pub record IsKnownPrint (look : Look) (trees : List Tree) (place : ℕ) (s : Sou
   pub found : List Finding
   pub known : IsKnown s.text.now tree graph found
   pub noted : AreNoted trees s.text.now place graph found notes
+  pub details : List WarningDetail
+  pub warned : AreWarningDetails s.text.now tree.filter graph found look.options.allowed details
+  pub order : PromisesOrder found look.options.allowed details tree.filter
   pub above : List ℕ
-  pub body : IsBody look trees s tree graph found notes above
+  pub body : IsBody look trees s tree graph found details notes above
   pub whole : printed ≡ above ++ findings_closing found
-  pub worth : status ≡ findings_status found
+  pub worth : status ≡ warned_status look.options.is_strict found details
   pub many : count ≡ length found
 
 -- ---- one that doesn't

@@ -17,6 +17,7 @@ use crate::together::Printed;
 use flt_details::{Explained, Source};
 use flt_model::Sink;
 use flt_search::SearchWatch;
+use flt_warning_details::WarningOptions;
 use sqlite_items::Items;
 use std::alloc::Global;
 
@@ -29,6 +30,8 @@ pub struct Asking {
     pub states: u32,
     /// Nothing is put out before all is known.
     pub is_held: bool,
+    /// Which warnings are left out, and whether they count.
+    pub options: WarningOptions,
 }
 
 /// What is printed, and what came of the findings in it: for each that is reported by itself, in their order.
@@ -62,10 +65,11 @@ fn finished(printed: Printed) -> Told
 /// a journal that breaks what its rule prevents, if one is found. Journals are looked for by one search for all findings of a text, up to
 /// so many states: where several texts parse and the text's filter meets another one on an operation, half of them on all that parse, and
 /// for what isn't found there on the filter alone. The last line of each text is what `analyse` says of it, or `nothing found`; behind
-/// those of several texts a line says how many findings there are, and in how many of the texts. A text that doesn't parse and begins as a
-/// certificate, a journal or a script is taken for one: what is said of it is why a line of it is malformed, and its last line is what
-/// `check`, `replay` or `run` say of it, or `nothing found`. A script is taken for one for the filters of the texts that parse, or, where
-/// none does, for whichever filters it detaches.
+/// those of several texts a line says how many findings there are, and in how many of the texts. Before `nothing found` a text has its
+/// warnings that no comment of it allows, and how many they are. A text that doesn't parse and begins as a certificate, a journal or a
+/// script is taken for one: what is said of it is why a line of it is malformed, and its last line is what `check`, `replay` or `run` say
+/// of it, or `nothing found`. A script is taken for one for the filters of the texts that parse, or, where none does, for whichever
+/// filters it detaches.
 ///
 /// Unless it is held back, the report of each text but the last is put out before the next one's findings are looked for.
 ///
@@ -80,20 +84,20 @@ pub fn explain<O: Sink, W: SearchWatch>(
     out: &mut O,
     watch: &mut W,
 ) -> Result<Told, ExplainFault>
-    ensures reports { IfOk result (λ t. spec.AreReports (texts_of sources.now) t.explained.output.items t.explained.status) }
+    ensures reports { IfOk result (λ t. spec.AreReports asking.options (texts_of sources.now) t.explained.output.items t.explained.status) }
     ensures noted { IfOk result (λ t. AreNotes (texts_of sources.now) t.noted) }
     ensures said { IfOk result (λ t. Tells (texts_of sources.now) asking.states t.noted t.explained.output.items) }
     ensures print { IfOk result (λ t. IsPrint (look_for asking) sources.now t.noted t.explained.output.items t.explained.status) }
     ensures within { IfOk result (λ t. t.sent ≤ length t.explained.output.items) }
     ensures sent { IfOk result (λ t. Appends (O.taken out.old) (O.taken out.new) (take t.sent t.explained.output.items)) }
     ensures early { IfOk result (λ t. asking.is_held ≡ false →
-        spec.IsAllButLast (texts_of sources.now) asking.states (take t.sent t.explained.output.items)) }
+        spec.IsAllButLast asking.options (texts_of sources.now) asking.states (take t.sent t.explained.output.items)) }
     ensures late { IfOk result (λ t. asking.is_held ≡ true → t.sent ≡ 0) }
     ensures held { asking.is_held ≡ true → out.new ≡ out.old }
     ensures fine { OnOk result (O.failures out.new ≡ O.failures out.old) }
     ensures write { IfErr result (λ e. e ≡ ExplainFault.Write → O.failures out.new ≢ O.failures out.old) }
     ensures memory { IfErr result (λ e. e ≡ ExplainFault.OutOfMemory →
-        spec.IsCut (texts_of sources.now) asking.states (O.taken out.old) (O.taken out.new)) }
+        spec.IsCut asking.options (texts_of sources.now) asking.states (O.taken out.old) (O.taken out.new)) }
 {
     let readings = read_all(alloc, sources)?;
     let stage = Stage {
@@ -101,6 +105,7 @@ pub fn explain<O: Sink, W: SearchWatch>(
         coloured: asking.coloured,
         trees: readings.trees.as_slice(),
         states: asking.states,
+        options: asking.options,
     };
     let printed = stage.put_all(readings.each.as_slice(), asking.is_held, out, watch)?;
     Ok(finished(printed))

@@ -78,7 +78,7 @@ fn arrivals(entries: &[JournalEntry]) -> usize
 }
 
 /// The ending of a word for so many things.
-fn plural(count: usize) -> &'static str
+pub(crate) fn plural(count: usize) -> &'static str
     ensures { result.now ≡ spec.plural count }
 {
     if count == 1 { "" } else { "s" }

@@ -2,7 +2,6 @@
 
 ghost use Rattle.std.specs.Prelude.{◌≡◌, ◌≢◌, ◌<◌, ◌++◌, ◌∷◌, [], All, IfOk, IfSome, None, Some, length, map, option_map, reverse, slice_get, OnOk};
 ghost use Rattle.std.specs.List.{AllZip};
-ghost use Rattle.flt_details.specs.Reports.{findings_status};
 ghost use Rattle.flt_model.specs.Program.{filters_of};
 ghost use Rattle.flt_reports.specs.Covering.{AreFirsts};
 ghost use Rattle.flt_notes.specs.Again.{IsSetting};
@@ -23,16 +22,21 @@ use crate::output::Output;
 use crate::readings::{Reading, Studied};
 use crate::setters::Setter;
 use crate::totals::Tally;
+use crate::warnings::promise_and_warnings;
 use flt_details::{Source, fault_line, findings_line};
 use flt_explain::{Finding, findings};
 use flt_graph::{Graph, lower};
 use flt_model::Violation;
 use flt_reasons::{Kind, Notice, describe};
-use flt_reports::{Report, report_findings, report_nothing, report_unread};
+use flt_reports::{Report, report_findings, report_unread};
 use flt_schedules::{Outcome, Outlook, Schedule, Scheduled, Suspect, Suspects, outcomes_among};
 use flt_search::SearchWatch;
 use flt_syntax::SyntaxFault;
 use flt_tree::Tree;
+use flt_warning_details::{
+    WarningDetail, WarningOptions, texts_without_circles_are_orderly, warned_status,
+    warning_details,
+};
 use sqlite_items::Items;
 use std::alloc::{AllocError, Global};
 
@@ -52,9 +56,11 @@ pub(crate) struct Stage<'a> {
     pub(crate) trees: &'a [Tree],
     /// How many states the search for runs of a text goes on from at most.
     pub(crate) states: u32,
+    /// Which warnings are left out, and whether they count.
+    pub(crate) options: WarningOptions,
 }
 
-/// A text that parses: the number of its tree, its tree, its points and its findings.
+/// A text that parses: the number of its tree, its tree, its points, its findings and its warnings.
 #[derive(Clone, Copy)]
 pub(crate) struct Known<'a> {
     pub(crate) source: Source<'a>,
@@ -62,6 +68,7 @@ pub(crate) struct Known<'a> {
     pub(crate) tree: &'a Tree,
     pub(crate) graph: &'a Graph,
     pub(crate) found: &'a [Finding],
+    pub(crate) details: &'a [WarningDetail],
 }
 
 /// The finding of a number, from 0.
@@ -88,16 +95,6 @@ fn suspects_of(
         all.push(Suspect { number, finding })?;
     }
     Ok(all)
-}
-
-/// The status where these are found.
-fn status_of(found: &[Finding]) -> u8
-    ensures { result ≡ findings_status found.now }
-{
-    match found {
-        [] => 0,
-        [_, ..] => 1,
-    }
 }
 
 /// The last of what came of findings.
@@ -386,7 +383,8 @@ impl Stage<'_> {
         if !known.found.is_empty() {
             return self.put_found(output, known, watch);
         }
-        output.lines(report_nothing(self.alloc, known.source)?.as_slice())?;
+        let said = promise_and_warnings(self.alloc, self.coloured, known.source, known.details)?;
+        output.lines(said.as_slice())?;
         Ok(())
     }
 
@@ -396,20 +394,20 @@ impl Stage<'_> {
         known: Known<'_>,
         watch: &mut W,
     ) -> Result<Part, AllocError>
-        requires known { spec.IsKnownIn self.now.trees.now known }
+        requires known { spec.IsKnownIn (spec.look_of self.now) self.now.trees.now known }
         ensures { IfOk result (spec.IsKnownPart (spec.look_of self.now) self.now.trees.now known.entry) }
     {
         let mut output = Output::new(self.alloc);
         self.put_findings(&mut output, known, watch)?;
         output.lines(findings_line(self.alloc, known.found)?.as_bytes())?;
         let tally = Tally {
-            status: status_of(known.found),
+            status: warned_status(self.options.is_strict, known.found, known.details),
             findings: known.found.len(),
         };
         Ok(Part { output, tally })
     }
 
-    /// The report of a text that parses. Its points and its findings are looked for now.
+    /// The report of a text that parses. Its points, its findings and its warnings are looked for now.
     fn parsed_part<W: SearchWatch>(
         &self,
         source: Source<'_>,
@@ -422,12 +420,17 @@ impl Stage<'_> {
         let tree = &self.trees[place];
         let graph = lower(self.alloc, tree)?;
         let found = findings(self.alloc, &graph)?;
+        let found = found.as_slice();
+        let allowed = self.options.allowed;
+        let details = warning_details(self.alloc, source.text, tree, &graph, found, allowed)?;
+        texts_without_circles_are_orderly();
         let known = Known {
             source,
             place,
             tree,
             graph: &graph,
-            found: found.as_slice(),
+            found,
+            details: details.as_slice(),
         };
         self.known_part(known, watch)
     }
@@ -435,7 +438,7 @@ impl Stage<'_> {
     /// The report of a text that doesn't parse.
     fn unread_part(&self, source: Source<'_>, fault: SyntaxFault) -> Result<Part, AllocError>
         requires unread { IsUnread source.text.now fault }
-        ensures report { IfOk result (spec.HasReport (filters_of self.now.trees.now) source.entry.text.now) }
+        ensures report { IfOk result (spec.HasReport self.now.options (filters_of self.now.trees.now) source.entry.text.now) }
         ensures print { IfOk result (spec.IsUnreadPart (spec.look_of self.now) source.entry) }
         ensures silent { IfOk result (λ p. spec.IsSilent self.now.trees.now self.now.states p.output) }
     {
@@ -490,7 +493,7 @@ impl Stage<'_> {
     /// What is said of what is taken for a certificate, a journal or a script.
     fn other_part(&self, source: Source<'_>, kind: Kind) -> Result<Part, AllocError>
         requires other { IsOther source.text.now kind }
-        ensures report { IfOk result (spec.HasReport (filters_of self.now.trees.now) source.entry.text.now) }
+        ensures report { IfOk result (spec.HasReport self.now.options (filters_of self.now.trees.now) source.entry.text.now) }
         ensures print { IfOk result (spec.IsNoticePart (spec.look_of self.now) self.now.trees.now source.entry) }
         ensures silent { IfOk result (λ p. spec.IsSilent self.now.trees.now self.now.states p.output) }
     {

@@ -10,6 +10,11 @@ rules =
     codes "R01" ∷ codes "R02" ∷ codes "R03" ∷ codes "R04" ∷ codes "R05" ∷ codes "R06" ∷ codes "R07" ∷ codes "R08"
     ∷ codes "R09" ∷ codes "R10" ∷ codes "R11" ∷ codes "R12" ∷ codes "R13" ∷ codes "R14" ∷ codes "R15" ∷ []
 
+-- `W00` to `W06`
+abbrev pub warnings : List (List ℕ)
+warnings =
+    codes "W00" ∷ codes "W01" ∷ codes "W02" ∷ codes "W03" ∷ codes "W04" ∷ codes "W05" ∷ codes "W06" ∷ []
+
 -- `V1` to `V8`
 abbrev pub violations : List (List ℕ)
 violations =
@@ -44,9 +49,9 @@ statuses =
 abbrev pub is_among : List (List ℕ) → List ℕ → Bool
 is_among names name = list_any (λ n. bytes_eq name n) names
 
--- the name of a rule, a violation or a fault
+-- the name of a rule, a warning, a violation or a fault
 abbrev pub is_code : List ℕ → Bool
-is_code name = is_among rules name || (is_among violations name || is_among faults name)
+is_code name = is_among rules name || (is_among warnings name || (is_among violations name || is_among faults name))
 
 -- the name of a call or a status
 abbrev pub is_word : List ℕ → Bool
@@ -58,6 +63,10 @@ small_rules =
     codes "r01" ∷ codes "r02" ∷ codes "r03" ∷ codes "r04" ∷ codes "r05" ∷ codes "r06" ∷ codes "r07" ∷ codes "r08"
     ∷ codes "r09" ∷ codes "r10" ∷ codes "r11" ∷ codes "r12" ∷ codes "r13" ∷ codes "r14" ∷ codes "r15" ∷ []
 
+abbrev pub small_warnings : List (List ℕ)
+small_warnings =
+    codes "w00" ∷ codes "w01" ∷ codes "w02" ∷ codes "w03" ∷ codes "w04" ∷ codes "w05" ∷ codes "w06" ∷ []
+
 abbrev pub small_violations : List (List ℕ)
 small_violations =
     codes "v1" ∷ codes "v2" ∷ codes "v3" ∷ codes "v4" ∷ codes "v5" ∷ codes "v6" ∷ codes "v7" ∷ codes "v8" ∷ []
@@ -67,7 +76,8 @@ small_faults =
     codes "e01" ∷ codes "e02" ∷ codes "e03" ∷ codes "e04" ∷ codes "e05" ∷ codes "e06" ∷ codes "e07" ∷ codes "e08" ∷ []
 
 abbrev pub is_small_code : List ℕ → Bool
-is_small_code name = is_among small_rules name || (is_among small_violations name || is_among small_faults name)
+is_small_code name =
+    is_among small_rules name || (is_among small_warnings name || (is_among small_violations name || is_among small_faults name))
 
 -- a page has this name
 unfoldable pub has_page : List ℕ → Bool

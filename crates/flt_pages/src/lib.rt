@@ -1,4 +1,4 @@
-//! What `explain` prints of a rule, a violation, a fault of a text, a call or a status: its page. It exports `page`.
+//! What `explain` prints of a rule, a warning, a violation, a fault of a text, a call or a status: its page. It exports `page`.
 #![tactic(auto)]
 
 mod calls;
@@ -7,5 +7,6 @@ mod pages;
 mod rules;
 mod statuses;
 mod violations;
+mod warnings;
 
 pub use pages::page;

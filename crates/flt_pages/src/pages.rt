@@ -4,7 +4,7 @@ ghost use Rattle.std.specs.Io.{StartsWith};
 ghost use Rattle.std.specs.Prelude.{◌≡◌, ◌||◌, IfSome, is_some};
 ghost use Rattle.flt_pages.specs.Pages as spec;
 
-use crate::{calls, faults, rules, statuses, violations};
+use crate::{calls, faults, rules, statuses, violations, warnings};
 
 /// The page of a rule.
 fn rule_page(name: &str) -> Option<&'static str>
@@ -27,6 +27,23 @@ fn rule_page(name: &str) -> Option<&'static str>
         "R13" => Some(rules::R13),
         "R14" => Some(rules::R14),
         "R15" => Some(rules::R15),
+        _ => None,
+    }
+}
+
+/// The page of a warning.
+fn warning_page(name: &str) -> Option<&'static str>
+    ensures known { is_some result ≡ spec.is_among spec.warnings name.now }
+    ensures begins { IfSome result (λ found. StartsWith found.now name.now) }
+{
+    match name {
+        "W00" => Some(warnings::W00),
+        "W01" => Some(warnings::W01),
+        "W02" => Some(warnings::W02),
+        "W03" => Some(warnings::W03),
+        "W04" => Some(warnings::W04),
+        "W05" => Some(warnings::W05),
+        "W06" => Some(warnings::W06),
         _ => None,
     }
 }
@@ -142,12 +159,15 @@ fn word_page(name: &str) -> Option<&'static str>
     status_page(name)
 }
 
-/// The page of what is said of a text: of a rule, a violation or a fault.
+/// The page of what is said of a text: of a rule, a warning, a violation or a fault.
 fn code_page(name: &str) -> Option<&'static str>
     ensures known { is_some result ≡ spec.is_code name.now }
     ensures begins { IfSome result (λ found. StartsWith found.now name.now) }
 {
     if let Some(found) = rule_page(name) {
+        return Some(found);
+    }
+    if let Some(found) = warning_page(name) {
         return Some(found);
     }
     if let Some(found) = violation_page(name) {
@@ -177,6 +197,23 @@ fn small_rule_page(name: &str) -> Option<&'static str>
         "r13" => Some(rules::R13),
         "r14" => Some(rules::R14),
         "r15" => Some(rules::R15),
+        _ => None,
+    }
+}
+
+/// The page of a warning, with a small letter.
+fn small_warning_page(name: &str) -> Option<&'static str>
+    ensures known { is_some result ≡ spec.is_among spec.small_warnings name.now }
+    ensures begins { IfSome result (λ found. StartsWith found.now (spec.capital name.now)) }
+{
+    match name {
+        "w00" => Some(warnings::W00),
+        "w01" => Some(warnings::W01),
+        "w02" => Some(warnings::W02),
+        "w03" => Some(warnings::W03),
+        "w04" => Some(warnings::W04),
+        "w05" => Some(warnings::W05),
+        "w06" => Some(warnings::W06),
         _ => None,
     }
 }
@@ -217,12 +254,15 @@ fn small_fault_page(name: &str) -> Option<&'static str>
     }
 }
 
-/// The page of a rule, a violation or a fault, with a small letter.
+/// The page of a rule, a warning, a violation or a fault, with a small letter.
 fn small_page(name: &str) -> Option<&'static str>
     ensures known { is_some result ≡ spec.is_small_code name.now }
     ensures begins { IfSome result (λ found. StartsWith found.now (spec.capital name.now)) }
 {
     if let Some(found) = small_rule_page(name) {
+        return Some(found);
+    }
+    if let Some(found) = small_warning_page(name) {
         return Some(found);
     }
     if let Some(found) = small_violation_page(name) {
@@ -242,8 +282,8 @@ fn named_page(name: &str) -> Option<&'static str>
     }
 }
 
-/// The page of `R01` to `R15` (a rule), `V1` to `V8` (a violation), `E01` to `E08` (a fault of a text), a call or a status: lines of text
-/// for people, which begin with that name. The letter before a number may be a small one. No other name has a page.
+/// The page of `R01` to `R15` (a rule), `W00` to `W06` (a warning), `V1` to `V8` (a violation), `E01` to `E08` (a fault of a text), a call
+/// or a status: lines of text for people, which begin with that name. The letter before a number may be a small one. No other name has a page.
 #[tactic(auto, unfolding(crate::specs::Pages::has_page))]
 pub fn page(name: &str) -> Option<&'static str>
     ensures known { is_some result ≡ spec.has_page name.now }

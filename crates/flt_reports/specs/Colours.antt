@@ -9,6 +9,9 @@ coloured_by coloured code = if coloured then 27 ∷ code else []
 unfoldable pub red : Bool → Text
 red coloured = coloured_by coloured (codes "[1;31m")
 
+unfoldable pub yellow : Bool → Text
+yellow coloured = coloured_by coloured (codes "[1;33m")
+
 unfoldable pub blue : Bool → Text
 blue coloured = coloured_by coloured (codes "[1;34m")
 

@@ -13,6 +13,7 @@ use Rattle.flt_details.specs.Closing.{fault_name}
 use Rattle.flt_details.specs.Page.{shown}
 use Rattle.flt_reports.specs.Heading.{at_place, heading}
 use Rattle.flt_reports.specs.Marks.{drawn, width}
+use Rattle.flt_reports.specs.declared.marks.Stroke.TheVariants as strokes
 
 -- where a text is refused, and what stands there
 abbrev pub place_of : Spot → Position
@@ -28,7 +29,7 @@ meant_told meant = if length meant == 0 then [] else 32 ∷ shown meant
 -- the line in which a text is refused, with marks under what stands there, and which word is meant
 unfoldable pub spot_drawn : Bool → Text → Spot → Text → Text
 spot_drawn coloured text s meant =
-    drawn coloured (width s.fault.line) 0 (line_of text s.fault.line) (site_of s) 94 ++ (meant_told meant ++ 10 ∷ [])
+    drawn coloured (width s.fault.line) 0 (line_of text s.fault.line) (site_of s) strokes.Error ++ (meant_told meant ++ 10 ∷ [])
 
 -- the same; nothing where the text is so large that it isn't cut into tokens
 unfoldable pub picture : Bool → Text → Spot → Text → Option Token → Text

@@ -4,21 +4,29 @@ use Rattle.std.specs.Fmt.{decimal}
 use Rattle.flt_tree.specs.Names.{Text}
 use Rattle.flt_tree.specs.declared.filter.Position.{Position}
 use Rattle.flt_details.specs.Page.{shown}
-use Rattle.flt_reports.specs.Colours.{bold, plain, red}
+use Rattle.flt_reports.specs.Colours.{bold, plain, red, yellow}
 
 -- a code between brackets, if there is one
 unfoldable pub bracketed : Option Text → Text
 bracketed None = []
 bracketed (Some code) = codes "[" ++ (code ++ codes "]")
 
--- that there is an error, and its code
-abbrev pub error : Bool → Option Text → Text
-error coloured code = red coloured ++ (codes "error" ++ (bracketed code ++ (codes ": " ++ plain coloured)))
+-- a word for how serious it is, in a colour, and a code, if there is one
+unfoldable pub severity : Bool → Text → Text → Option Text → Text
+severity coloured colour word code = colour ++ (word ++ (bracketed code ++ (codes ": " ++ plain coloured)))
+
+-- a title, and a file's name on the next line
+unfoldable pub titled : Bool → Text → Text → Text
+titled coloured title name = bold coloured ++ (shown title ++ (plain coloured ++ (10 ∷ codes "  --> " ++ shown name)))
 
 -- what is wrong, and in which file
 unfoldable pub heading : Bool → Option Text → Text → Text → Text
-heading coloured code title name =
-    error coloured code ++ (bold coloured ++ (shown title ++ (plain coloured ++ (10 ∷ codes "  --> " ++ shown name))))
+heading coloured code title name = severity coloured (red coloured) (codes "error") code ++ titled coloured title name
+
+-- what a warning of a kind says, and in which file
+unfoldable pub warning_heading : Bool → Text → Text → Text → Text
+warning_heading coloured kind title name =
+    severity coloured (yellow coloured) (codes "warning") (Some kind) ++ titled coloured title name
 
 -- a line and a column behind a file's name
 unfoldable pub at_place : Position → Text

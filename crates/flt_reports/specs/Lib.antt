@@ -5,8 +5,10 @@ pub mod Finding
 pub mod Heading
 pub mod Indents
 pub mod Line
+pub mod MarkOrder
 pub mod MarkWords
 pub mod Marks
 pub mod Reports
 pub mod Shown
+pub mod WarningReport
 pub mod Ways

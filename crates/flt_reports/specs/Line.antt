@@ -6,6 +6,7 @@ use Rattle.flt_details.specs.Page.{shown}
 use Rattle.flt_places.specs.declared.places.Site.{Site}
 use Rattle.flt_reports.specs.Heading.{at_place, heading}
 use Rattle.flt_reports.specs.Marks.{drawn, width}
+use Rattle.flt_reports.specs.declared.marks.Stroke.TheVariants as strokes
 use Rattle.flt_reports.specs.declared.line_report.MarkedLine.{MarkedLine}
 
 -- which word is probably meant; nothing where there is none
@@ -24,7 +25,7 @@ site_of m = record { place = place_of m; length = m.marked }
 unfoldable pub picture : Bool → MarkedLine → Text
 picture coloured m =
     if length m.shown.now == 0 then []
-    else drawn coloured (width m.line) 0 m.shown.now (site_of m) 94 ++ meant m.meant.now ++ 10 ∷ []
+    else drawn coloured (width m.line) 0 m.shown.now (site_of m) strokes.Error ++ meant m.meant.now ++ 10 ∷ []
 
 -- a line of help; nothing where there is none
 unfoldable pub help_line : Text → Text

@@ -4,7 +4,9 @@ use Rattle.std.specs.Fmt.{decimal}
 use Rattle.flt_tree.specs.Names.{Text}
 use Rattle.flt_details.specs.Page.{shown}
 use Rattle.flt_places.specs.declared.places.Site.{Site}
-use Rattle.flt_reports.specs.Colours.{blue, plain, red}
+use Rattle.flt_reports.specs.Colours.{blue, plain, red, yellow}
+use Rattle.flt_reports.specs.declared.marks.Stroke.{Stroke}
+use Rattle.flt_reports.specs.declared.marks.Stroke.TheVariants as strokes
 
 -- ---- lines
 
@@ -36,19 +38,27 @@ numbered_line coloured margin number line =
 
 -- ---- marks
 
--- `^` is red, other signs are blue
-unfoldable pub colour_of : Bool → ℕ → Text
-colour_of coloured sign = if sign == 94 then red coloured else blue coloured
+-- `^` under what a report is about, `-` under what else it shows
+unfoldable pub sign_of : Stroke → ℕ
+sign_of strokes.Error = 94
+sign_of strokes.Warning = 94
+sign_of strokes.Aside = 45
+
+-- the colour of these signs
+unfoldable pub colour_of : Bool → Stroke → Text
+colour_of coloured strokes.Error = red coloured
+colour_of coloured strokes.Warning = yellow coloured
+colour_of coloured strokes.Aside = blue coloured
 
 -- how many signs mark a site: as many as it has bytes on its first line, at least one
 unfoldable pub signs : Text → Site → ℕ
 signs line site = max (min (length line - (site.place.column - 1)) site.length) 1
 
 -- signs under a site
-unfoldable pub marked : Bool → ℕ → Text → Site → ℕ → Text
-marked coloured margin line site sign =
+unfoldable pub marked : Bool → ℕ → Text → Site → Stroke → Text
+marked coloured margin line site stroke =
     replicate margin 32 ++ bar coloured ++ replicate (site.place.column - 1) 32
-    ++ colour_of coloured sign ++ replicate (signs line site) sign ++ plain coloured
+    ++ colour_of coloured stroke ++ replicate (signs line site) (sign_of stroke) ++ plain coloured
 
 -- the line of a site; nothing where it is the one that was drawn before
 unfoldable pub line_once : Bool → ℕ → ℕ → Text → ℕ → Text
@@ -56,6 +66,6 @@ line_once coloured margin before line number =
     if number == before then [] else gap before number ++ numbered_line coloured margin number line
 
 -- a site in its line with signs under it
-unfoldable pub drawn : Bool → ℕ → ℕ → Text → Site → ℕ → Text
-drawn coloured margin before line site sign =
-    line_once coloured margin before (without_return line) site.place.line ++ marked coloured margin (without_return line) site sign
+unfoldable pub drawn : Bool → ℕ → ℕ → Text → Site → Stroke → Text
+drawn coloured margin before line site stroke =
+    line_once coloured margin before (without_return line) site.place.line ++ marked coloured margin (without_return line) site stroke

@@ -1,6 +1,5 @@
 -- The lines of a text that show a finding, with marks. This project's own program.
-use Rattle.std.specs.Prelude.{ℕ, nat_lt, Bool, List, [], ◌∷◌, ◌++◌, Option, Some, None}
-use Rattle.std.specs.List.{insert, position_or_len}
+use Rattle.std.specs.Prelude.{ℕ, Bool, List, [], ◌∷◌, ◌++◌, Option, Some, None}
 use Rattle.flt_explain.specs.declared.finding.Finding.{Finding}
 use Rattle.flt_graph.specs.Graph.{span_at}
 use Rattle.flt_graph.specs.declared.graph.Graph.{Graph}
@@ -14,48 +13,38 @@ use Rattle.flt_ways.specs.declared.answer.Answer.{Answer}
 use Rattle.flt_ways.specs.declared.answer.Way.{Way}
 use Rattle.flt_details.specs.Tracing.{other_way, way_of}
 use Rattle.flt_details.specs.declared.tracing.Shown.{Shown}
+use Rattle.flt_reports.specs.MarkOrder.{all_placed, last_line}
 use Rattle.flt_reports.specs.MarkWords.{mark_told}
 use Rattle.flt_reports.specs.Marks.{drawn, width}
+use Rattle.flt_reports.specs.declared.mark_order.Mark.{Mark}
 use Rattle.flt_reports.specs.declared.mark_words.Sign.{Sign}
 use Rattle.flt_reports.specs.declared.mark_words.Sign.TheVariants as sign
-use Rattle.flt_reports.specs.declared.shown_lines.Mark.{Mark}
+use Rattle.flt_reports.specs.declared.marks.Stroke.{Stroke}
+use Rattle.flt_reports.specs.declared.marks.Stroke.TheVariants as strokes
 
 -- ---- which marks
 
 -- a mark at a point of a callback
-abbrev pub mark_at : Text → Graph → ℕ → ℕ → Sign → Mark
+abbrev pub mark_at : Text → Graph → ℕ → ℕ → Sign → Mark Sign
 mark_at text g callback point shows = record { sign = shows; site = site_of text (span_at g callback point) }
 
 -- the mark of the step that made a fact; none where the callback is entered with it
-abbrev pub made_marks : Text → Graph → ℕ → Fact → Cause → List Mark
+abbrev pub made_marks : Text → Graph → ℕ → Fact → Cause → List (Mark Sign)
 made_marks text g callback f Entry = []
 made_marks text g callback f (Made s) = mark_at text g callback s.point (sign.Origin f s) ∷ []
 
 -- the mark of an origin, if one is known
-abbrev pub origin_marks : Text → Graph → ℕ → Option Origin → List Mark
+abbrev pub origin_marks : Text → Graph → ℕ → Option Origin → List (Mark Sign)
 origin_marks text g callback None = []
 origin_marks text g callback (Some o) = made_marks text g callback o.fact o.cause
 
 -- the mark of the point where a path meets another, if there are two
-abbrev pub meeting_marks : Text → Graph → ℕ → Option Way → Option Way → List Mark
+abbrev pub meeting_marks : Text → Graph → ℕ → Option Way → Option Way → List (Mark Sign)
 meeting_marks text g callback (Some way) (Some other) = mark_at text g callback way.end.point sign.Meeting ∷ []
 meeting_marks text g callback _ _ = []
 
--- whether another mark stands on a later line than one
-abbrev pub is_later : Mark → Mark → Bool
-is_later m other = nat_lt m.site.place.line other.site.place.line
-
--- a mark among others, before the first that stands on a later line
-unfoldable pub placed : List Mark → Mark → List Mark
-placed marks m = insert marks (position_or_len (is_later m) marks) m
-
--- some more, one after the other
-abbrev pub all_placed : List Mark → List Mark → List Mark
-all_placed marks [] = marks
-all_placed marks (m ∷ more) = all_placed (placed marks m) more
-
 -- the marks of a finding in the order of their lines: where it comes from, its point, and where the paths meet
-unfoldable pub marks_of : Text → Graph → Finding → Shown → List Mark
+unfoldable pub marks_of : Text → Graph → Finding → Shown → List (Mark Sign)
 marks_of text g found s =
     all_placed (all_placed (all_placed [] (origin_marks text g found.callback s.origin))
     (mark_at text g found.callback found.point sign.Point ∷ []))
@@ -64,17 +53,12 @@ marks_of text g found s =
 -- ---- how they are drawn
 
 -- `^` under the point of a finding, `-` under what led there
-unfoldable pub stroke : Sign → ℕ
-stroke sign.Point = 94
-stroke _ = 45
-
--- the line of the last of some marks; another one where there is none
-unfoldable pub last_line : ℕ → List Mark → ℕ
-last_line line [] = line
-last_line line (m ∷ marks) = last_line m.site.place.line marks
+unfoldable pub stroke : Sign → Stroke
+stroke sign.Point = strokes.Error
+stroke _ = strokes.Aside
 
 -- the marks of a finding, each in its line, with what it says, where this line was drawn before
-unfoldable pub all_drawn : Bool → ℕ → Text → Graph → Finding → Text → Answer → ℕ → List Mark → Text
+unfoldable pub all_drawn : Bool → ℕ → Text → Graph → Finding → Text → Answer → ℕ → List (Mark Sign) → Text
 all_drawn coloured margin text g found subject a before [] = []
 all_drawn coloured margin text g found subject a before (m ∷ marks) =
     drawn coloured margin before (line_of text m.site.place.line) m.site (stroke m.sign) ++ (mark_told g found subject a m.sign

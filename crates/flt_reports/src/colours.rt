@@ -10,6 +10,13 @@ pub(crate) fn red(coloured: bool) -> &'static str
     if coloured { "\x1b[1;31m" } else { "" }
 }
 
+#[tactic(auto, unfolding(crate::specs::Colours::yellow))]
+pub(crate) fn yellow(coloured: bool) -> &'static str
+    ensures { result.now ≡ spec.yellow coloured }
+{
+    if coloured { "\x1b[1;33m" } else { "" }
+}
+
 #[tactic(auto, unfolding(crate::specs::Colours::blue))]
 pub(crate) fn blue(coloured: bool) -> &'static str
     ensures { result.now ≡ spec.blue coloured }

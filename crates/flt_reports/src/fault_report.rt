@@ -5,7 +5,7 @@ ghost use Rattle.flt_details.specs.Page.{Writes};
 ghost use Rattle.flt_reports.specs.Fault as spec;
 
 use crate::heading::{tell_heading, tell_place};
-use crate::marks::Drawing;
+use crate::marks::{Drawing, Stroke};
 use flt_details::{Page, Source, fault_name};
 use flt_hints::{Spot, Told, Trouble, describe, tell};
 use flt_places::{Lines, Site};
@@ -49,7 +49,7 @@ fn draw_spot(
         place: place_of(spot),
         length: spot.bytes.len(),
     };
-    Drawing::new(coloured, line).draw(page, lines.line(line), &site, b'^')?;
+    Drawing::new(coloured, line).draw(page, lines.line(line), &site, Stroke::Error)?;
     tell_meant(page, meant)
 }
 

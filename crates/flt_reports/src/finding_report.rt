@@ -46,7 +46,7 @@ fn code(rule: Rule) -> &'static str
 
 /// Writes the head of a callback between marks.
 #[tactic(auto, unfolding(crate::specs::Finding::head_told))]
-fn tell_callback(page: &mut Page, head: &[u8]) -> Result<(), AllocError>
+pub(crate) fn tell_callback(page: &mut Page, head: &[u8]) -> Result<(), AllocError>
     ensures { Writes result page.old page.new (spec.head_told head.now) }
 {
     page.words(&[b", `", head, b"`"])
@@ -54,7 +54,7 @@ fn tell_callback(page: &mut Page, head: &[u8]) -> Result<(), AllocError>
 
 /// Writes the numbers of a callback and a point.
 #[tactic(auto, unfolding(crate::specs::Finding::numbers_told))]
-fn tell_numbers(page: &mut Page, callback: usize, point: usize) -> Result<(), AllocError>
+pub(crate) fn tell_numbers(page: &mut Page, callback: usize, point: usize) -> Result<(), AllocError>
     ensures { Writes result page.old page.new (spec.numbers_told callback point) }
 {
     page.numbers(&[" (callback ", " point ", ")\n"], &[callback, point])
@@ -186,7 +186,7 @@ fn tell_lines(page: &mut Page, word: &str, lines: &[&[u8]]) -> Result<(), AllocE
 
 /// Writes how to fix it: further lines stand under the first.
 #[tactic(auto, unfolding(crate::specs::Finding::help_told))]
-fn tell_help(alloc: Global, page: &mut Page, help: &[u8]) -> Result<(), AllocError>
+pub(crate) fn tell_help(alloc: Global, page: &mut Page, help: &[u8]) -> Result<(), AllocError>
     ensures { Writes result page.old page.new (spec.help_told help.now) }
 {
     let lines = lines_of(alloc, help)?;
@@ -195,7 +195,7 @@ fn tell_help(alloc: Global, page: &mut Page, help: &[u8]) -> Result<(), AllocErr
 
 /// Writes what else is said of it, if there is more.
 #[tactic(auto, unfolding(crate::specs::Finding::note_told))]
-fn tell_note(page: &mut Page, note: &[u8]) -> Result<(), AllocError>
+pub(crate) fn tell_note(page: &mut Page, note: &[u8]) -> Result<(), AllocError>
     ensures { Writes result page.old page.new (spec.note_told note.now) }
 {
     if note.is_empty() {

@@ -4,12 +4,12 @@ ghost use Rattle.std.specs.Prelude.{option_copied};
 ghost use Rattle.flt_details.specs.Page.{Writes};
 ghost use Rattle.flt_reports.specs.Heading as spec;
 
-use crate::colours::{bold, plain, red};
+use crate::colours::{bold, plain, red, yellow};
 use flt_details::Page;
 use flt_tree::Position;
 use std::alloc::AllocError;
 
-/// Writes the code of an error, if it has one.
+/// Writes a code, if there is one.
 #[tactic(auto, unfolding(crate::specs::Heading::bracketed))]
 fn tell_code(page: &mut Page, code: Option<&str>) -> Result<(), AllocError>
     ensures { Writes result page.old page.new (spec.bracketed (option_copied code.entry)) }
@@ -18,6 +18,33 @@ fn tell_code(page: &mut Page, code: Option<&str>) -> Result<(), AllocError>
         Some(code) => page.texts(&["[", code, "]"]),
         None => Ok(()),
     }
+}
+
+/// Writes a word for how serious it is, in a colour, and a code, if there is one.
+#[tactic(auto, unfolding(crate::specs::Heading::severity))]
+fn tell_severity(
+    page: &mut Page,
+    coloured: bool,
+    colour: &str,
+    word: &str,
+    code: Option<&str>,
+) -> Result<(), AllocError>
+    ensures { Writes result page.old page.new (spec.severity coloured colour.now word.now (option_copied code.entry)) }
+{
+    page.texts(&[colour, word])?;
+    tell_code(page, code)?;
+    page.texts(&[": ", plain(coloured)])
+}
+
+/// Writes a title, and a file's name on the next line.
+#[tactic(auto, unfolding(crate::specs::Heading::titled))]
+fn tell_title(page: &mut Page, coloured: bool, title: &[u8], name: &str) -> Result<(), AllocError>
+    ensures { Writes result page.old page.new (spec.titled coloured title.now name.now) }
+{
+    page.texts(&[bold(coloured)])?;
+    page.words(&[title])?;
+    page.texts(&[plain(coloured), "\n  --> "])?;
+    page.words(&[name.as_bytes()])
 }
 
 /// Writes what is wrong, and in which file. Where in it follows on the page.
@@ -31,12 +58,23 @@ pub(crate) fn tell_heading(
 ) -> Result<(), AllocError>
     ensures { Writes result page.old page.new (spec.heading coloured (option_copied code.entry) title.now name.now) }
 {
-    page.texts(&[red(coloured), "error"])?;
-    tell_code(page, code)?;
-    page.texts(&[": ", plain(coloured), bold(coloured)])?;
-    page.words(&[title])?;
-    page.texts(&[plain(coloured), "\n  --> "])?;
-    page.words(&[name.as_bytes()])
+    tell_severity(page, coloured, red(coloured), "error", code)?;
+    tell_title(page, coloured, title, name)
+}
+
+/// Writes what a warning of a kind says, and in which file. Where in it follows on the page.
+#[tactic(auto, unfolding(crate::specs::Heading::warning_heading))]
+pub(crate) fn tell_warning_heading(
+    page: &mut Page,
+    coloured: bool,
+    kind: &str,
+    title: &[u8],
+    name: &str,
+) -> Result<(), AllocError>
+    ensures { Writes result page.old page.new (spec.warning_heading coloured kind.now title.now name.now) }
+{
+    tell_severity(page, coloured, yellow(coloured), "warning", Some(kind))?;
+    tell_title(page, coloured, title, name)
 }
 
 /// Writes a line and a column behind a file's name.

@@ -1,6 +1,6 @@
 //! Reports for people: what is wrong with a text, with the lines that show it, a path that leads there, and how to fix it. It exports
-//! the parts of a text's report, which `flt_notes` puts together, and the report of a line of another file. What is found and in which
-//! words it is said, `flt_details` has.
+//! the parts of a text's report, which `flt_notes` puts together, the report of a warning, and that of a line of another file. What is
+//! found and in which words it is said, `flt_details` and `flt_warning_details` have.
 #![tactic(auto)]
 
 mod colours;
@@ -9,11 +9,14 @@ mod finding_report;
 mod heading;
 mod indents;
 mod line_report;
+mod mark_order;
 mod mark_words;
 mod marks;
 mod reports;
 mod shown_lines;
+mod warning_report;
 mod way_lines;
 
 pub use line_report::{MarkedLine, report_line};
 pub use reports::{Report, report_findings, report_nothing, report_unread};
+pub use warning_report::report_warning;

@@ -5,7 +5,7 @@ ghost use Rattle.flt_details.specs.Page.{Writes};
 ghost use Rattle.flt_reports.specs.Line as spec;
 
 use crate::heading::{tell_heading, tell_place};
-use crate::marks::Drawing;
+use crate::marks::{Drawing, Stroke};
 use flt_details::Page;
 use flt_places::Site;
 use flt_tree::Position;
@@ -64,7 +64,7 @@ fn draw(page: &mut Page, coloured: bool, marked: &MarkedLine<'_>) -> Result<(), 
         place: place_of(marked),
         length: marked.marked,
     };
-    Drawing::new(coloured, marked.line).draw(page, marked.shown, &site, b'^')?;
+    Drawing::new(coloured, marked.line).draw(page, marked.shown, &site, Stroke::Error)?;
     tell_meant(page, marked.meant)
 }
 

@@ -4,7 +4,7 @@ ghost use Rattle.std.specs.Prelude.{◌≡◌, ◌+◌, ◌≤◌, option_copied
 ghost use Rattle.flt_details.specs.Page.{Writes};
 ghost use Rattle.flt_reports.specs.Marks as spec;
 
-use crate::colours::{blue, plain, red};
+use crate::colours::{blue, plain, red, yellow};
 use flt_details::Page;
 use flt_places::Site;
 use std::alloc::AllocError;
@@ -15,6 +15,17 @@ pub(crate) struct Drawing {
     coloured: bool,
     margin: usize,
     last: usize,
+}
+
+/// What a mark is drawn with.
+#[derive(Clone, Copy)]
+pub(crate) enum Stroke {
+    /// `^` in red: what is wrong.
+    Error,
+    /// `^` in yellow: what a warning is about.
+    Warning,
+    /// `-` in blue: what else is shown.
+    Aside,
 }
 
 fn is_return(byte: Option<&u8>) -> bool
@@ -62,15 +73,24 @@ fn width(number: usize) -> usize
     }
 }
 
-/// The colour of a sign: what led there is blue.
-#[tactic(auto, unfolding(crate::specs::Marks::colour_of))]
-fn colour(coloured: bool, sign: u8) -> &'static str
-    ensures { result.now ≡ spec.colour_of coloured sign }
+#[tactic(auto, unfolding(crate::specs::Marks::sign_of))]
+fn sign_of(stroke: Stroke) -> u8
+    ensures { result ≡ spec.sign_of stroke }
 {
-    if sign == b'^' {
-        red(coloured)
-    } else {
-        blue(coloured)
+    match stroke {
+        Stroke::Error | Stroke::Warning => b'^',
+        Stroke::Aside => b'-',
+    }
+}
+
+#[tactic(auto, unfolding(crate::specs::Marks::colour_of))]
+fn colour_of(coloured: bool, stroke: Stroke) -> &'static str
+    ensures { result.now ≡ spec.colour_of coloured stroke }
+{
+    match stroke {
+        Stroke::Error => red(coloured),
+        Stroke::Warning => yellow(coloured),
+        Stroke::Aside => blue(coloured),
     }
 }
 
@@ -131,15 +151,15 @@ impl Drawing {
         page: &mut Page,
         line: &[u8],
         site: &Site,
-        sign: u8,
+        stroke: Stroke,
     ) -> Result<(), AllocError>
-        ensures { Writes result page.old page.new (spec.marked self.coloured self.margin line.now site.now sign) }
+        ensures { Writes result page.old page.new (spec.marked self.coloured self.margin line.now site.now stroke) }
     {
         page.run(b' ', self.margin, blue(self.coloured))?;
         page.texts(&[" | ", plain(self.coloured)])?;
         let before = site.place.column.saturating_sub(1);
-        page.run(b' ', before, colour(self.coloured, sign))?;
-        page.run(sign, signs(line, site), plain(self.coloured))
+        page.run(b' ', before, colour_of(self.coloured, stroke))?;
+        page.run(sign_of(stroke), signs(line, site), plain(self.coloured))
     }
 
     /// Draws a site in its line with signs under it; the line only where it isn't the last that was drawn. What it says follows on the
@@ -150,10 +170,10 @@ impl Drawing {
         page: &mut Page,
         line: &[u8],
         site: &Site,
-        sign: u8,
+        stroke: Stroke,
     ) -> Result<(), AllocError>
         ensures drawn { Writes result page.old page.new
-            (spec.drawn self.old.coloured self.old.margin self.old.last line.now site.now sign) }
+            (spec.drawn self.old.coloured self.old.margin self.old.last line.now site.now stroke) }
         ensures coloured { OnOk result (self.new.coloured ≡ self.old.coloured) }
         ensures margin { OnOk result (self.new.margin ≡ self.old.margin) }
         ensures last { OnOk result (self.new.last ≡ site.now.place.line) }
@@ -161,6 +181,6 @@ impl Drawing {
         let line = without_return(line);
         self.draw_once(page, line, site.place.line)?;
         self.last = site.place.line;
-        self.draw_marks(page, line, site, sign)
+        self.draw_marks(page, line, site, stroke)
     }
 }

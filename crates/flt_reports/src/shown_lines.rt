@@ -1,70 +1,37 @@
 //! The lines of a text that show a finding, with marks: its point, where what is found comes from, and where paths meet.
 
-ghost use Rattle.std.specs.Prelude.{◌≡◌, ◌≤◌, length, option_copied, position, IfOk, OnOk};
-ghost use Rattle.std.specs.List.{position_or_len};
+ghost use Rattle.std.specs.Prelude.{◌≡◌, option_copied, IfOk, OnOk};
 ghost use Rattle.flt_details.specs.Tracing.{other_way, way_of};
 ghost use Rattle.flt_details.specs.Page.{Writes};
+ghost use Rattle.flt_reports.specs.MarkOrder.{all_placed};
 ghost use Rattle.flt_reports.specs.Shown as spec;
 
+use crate::mark_order::{Mark, add_mark, last_line};
 use crate::mark_words::{Sign, tell_mark};
-use crate::marks::Drawing;
+use crate::marks::{Drawing, Stroke};
 use flt_details::{Page, Scene, Shown};
 use flt_explain::Finding;
 use flt_origins::{Cause, Origin};
-use flt_places::Site;
 use std::alloc::{AllocError, Global};
-
-#[derive(Clone, Copy)]
-pub(crate) struct Mark {
-    pub(crate) sign: Sign,
-    pub(crate) site: Site,
-}
 
 // ---- which marks
 
 /// A mark at a point.
-fn mark_at(scene: &Scene<'_>, callback: usize, point: usize, sign: Sign) -> Mark
+fn mark_at(scene: &Scene<'_>, callback: usize, point: usize, sign: Sign) -> Mark<Sign>
     ensures { result ≡ spec.mark_at scene.now.lines.now scene.now.graph.now callback point sign }
 {
     let site = scene.site(callback, point);
     Mark { sign, site }
 }
 
-/// The place of the first mark that stands on a later line than another one.
-fn first_later(marks: &[Mark], mark: Mark) -> Option<usize>
-    ensures { result ≡ position (spec.is_later mark) marks.now }
-{
-    marks
-        .iter()
-        .position(|other| mark.site.place.line < other.site.place.line)
-}
-
-/// How many marks, from the first on, stand before that.
-fn count_before(marks: &[Mark], mark: Mark) -> usize
-    ensures value { result ≡ position_or_len (spec.is_later mark) marks.now }
-    ensures within { result ≤ length marks.now }
-{
-    first_later(marks, mark).unwrap_or(marks.len())
-}
-
-/// Adds a mark behind those that don't stand on a later line.
-#[tactic(auto, unfolding(crate::specs::Shown::placed))]
-fn add_mark(marks: &mut Vec<Mark>, mark: Mark) -> Result<(), AllocError>
-    ensures { OnOk result (marks.new.items ≡ spec.placed marks.old.items mark) }
-{
-    let place = count_before(marks.as_slice(), mark);
-    marks.insert(place, mark)?;
-    Ok(())
-}
-
 /// Adds the mark of an origin, if that is a step.
 fn add_origin(
-    marks: &mut Vec<Mark>,
+    marks: &mut Vec<Mark<Sign>>,
     scene: &Scene<'_>,
     callback: usize,
     origin: Option<&Origin>,
 ) -> Result<(), AllocError>
-    ensures { OnOk result (marks.new.items ≡ spec.all_placed marks.old.items
+    ensures { OnOk result (marks.new.items ≡ all_placed marks.old.items
         (spec.origin_marks scene.now.lines.now scene.now.graph.now callback (option_copied origin.entry))) }
 {
     let Some(origin) = origin else {
@@ -81,12 +48,12 @@ fn add_origin(
 
 /// Adds the mark of the point where two paths meet, if two are shown.
 fn add_meeting(
-    marks: &mut Vec<Mark>,
+    marks: &mut Vec<Mark<Sign>>,
     scene: &Scene<'_>,
     callback: usize,
     shown: &Shown,
 ) -> Result<(), AllocError>
-    ensures { OnOk result (marks.new.items ≡ spec.all_placed marks.old.items
+    ensures { OnOk result (marks.new.items ≡ all_placed marks.old.items
         (spec.meeting_marks scene.now.lines.now scene.now.graph.now callback (way_of shown.now.answer) (other_way shown.now.answer))) }
 {
     match shown.ways() {
@@ -107,7 +74,7 @@ fn marks_of(
     scene: &Scene<'_>,
     finding: &Finding,
     shown: &Shown,
-) -> Result<Vec<Mark>, AllocError>
+) -> Result<Vec<Mark<Sign>>, AllocError>
     ensures { IfOk result (λ marks. marks.items ≡ spec.marks_of scene.now.lines.now scene.now.graph.now finding.now shown.now) }
 {
     let mut marks = Vec::new(alloc);
@@ -120,27 +87,15 @@ fn marks_of(
 
 // ---- how they are drawn
 
-/// The byte that is drawn under a site.
+/// What is drawn under a site.
 #[tactic(auto, unfolding(crate::specs::Shown::stroke))]
-fn stroke(sign: Sign) -> u8
+fn stroke(sign: Sign) -> Stroke
     ensures { result ≡ spec.stroke sign }
 {
     match sign {
-        Sign::Point => b'^',
-        Sign::Origin(_, _) | Sign::Meeting => b'-',
+        Sign::Point => Stroke::Error,
+        Sign::Origin(_, _) | Sign::Meeting => Stroke::Aside,
     }
-}
-
-/// The line on which the last of some marks stands; another one where there is none.
-#[tactic(auto, unfolding(crate::specs::Shown::last_line))]
-fn last_line(line: usize, marks: &[Mark]) -> usize
-    ensures { result ≡ spec.last_line line marks.now }
-{
-    let mut last = line;
-    for mark in marks {
-        last = mark.site.place.line;
-    }
-    last
 }
 
 /// Draws marks, in their order, with what they say.
@@ -152,7 +107,7 @@ fn draw_marks(
     finding: &Finding,
     subject: &[u8],
     shown: &Shown,
-    marks: &[Mark],
+    marks: &[Mark<Sign>],
 ) -> Result<(), AllocError>
     ensures { Writes result page.old page.new
         (spec.all_drawn drawing.old.coloured drawing.old.margin scene.now.lines.now scene.now.graph.now finding.now subject.now

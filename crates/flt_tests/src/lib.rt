@@ -25,4 +25,6 @@ mod searches;
 #[cfg(test)]
 mod thin;
 #[cfg(test)]
+mod warnings;
+#[cfg(test)]
 mod words;

@@ -1,4 +1,5 @@
 pub mod Marks
 pub mod Places
 pub mod Reaching
+pub mod Sharing
 pub mod Sweeps

@@ -1,10 +1,13 @@
 pub mod Called
+pub mod Changed
 pub mod Flow
+pub mod Kinds
 pub mod Lost
 pub mod Never
 pub mod Paths
 pub mod Pended
 pub mod Reading
+pub mod Shared
 pub mod Trail
 pub mod Unreached
 pub mod Unused

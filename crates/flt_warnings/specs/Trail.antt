@@ -18,7 +18,7 @@ use Rattle.flt_graph.specs.declared.instruction.Instruction.TheVariants as instr
 use Rattle.flt_graph.specs.declared.instruction.Invocation.{Invocation}
 use Rattle.flt_warnings.specs.Reading.{removes_in}
 use Rattle.flt_warnings.specs.declared.trail.Trail.{Trail}
-use Rattle.flt_warnings.specs.declared.trail.Trail.TheVariants.{Pended, Lost}
+use Rattle.flt_warnings.specs.declared.trail.Trail.TheVariants.{Pended, Lost, Shared}
 
 -- a variable of contexts is the one that is named
 abbrev pub is_named : Option ContextVariable → ContextVariable → Bool
@@ -99,19 +99,30 @@ uses (instruction.Call c granted refused) v = hands_on c.call && is_named c.cont
 uses (instruction.Return st) v = status_uses st v
 uses _ v = false
 
--- ---- both
+-- ---- a context that others may have
+
+-- the instruction gives the variable another context, or none
+abbrev pub renews : Instruction → ContextVariable → Bool
+renews (instruction.Act (action.ClearContext c) next) v = is_named (Some c) v
+renews (instruction.Call c granted refused) v = is_named c.output v
+renews _ v = false
+
+-- ---- all
 
 -- the trail is lost behind an instruction by an outcome: a work item is queued that removes; the variable's context is another one,
--- released or tried again, or the variable that received the other context is NULL, so there was none
+-- released or tried again, or the variable that received the other context is NULL, so there was none; the variable's context is another
+-- one, or none
 abbrev pub stops : Graph → Trail → Instruction → Bool → Bool
 stops g Pended i outcome = queues_removal g i
 stops g (Lost c there) i outcome = settles i c || finds_null i outcome there
+stops g (Shared c) i outcome = renews i c
 
 -- where the trail leads behind an instruction by an outcome
 abbrev pub onward : Graph → Trail → Instruction → Bool → Option ℕ
 onward g t i outcome = if stops g t i outcome then None else successor i outcome
 
--- what is looked for: a return with PENDING; a use of the context
+-- what is looked for: a return with PENDING; a use of the context, of either kind
 abbrev pub ends : Trail → Instruction → Bool
 ends Pended i = returns_pending i
 ends (Lost c there) i = uses i c
+ends (Shared c) i = uses i c

@@ -2,7 +2,7 @@
 use Rattle.std.specs.Prelude.{ℕ, List, [], ◌∷◌, Option, Some, None}
 use Rattle.flt_order.specs.declared.order.Acquisition.{Acquisition}
 use Rattle.flt_warnings.specs.declared.warning.Kind.{Kind}
-use Rattle.flt_warnings.specs.declared.warning.Kind.TheVariants.{W01, W02, W03, W05, W06}
+use Rattle.flt_warnings.specs.declared.warning.Kind.TheVariants.{W01, W02, W03, W04, W05, W06}
 use Rattle.flt_warnings.specs.declared.warning.Site.{Site}
 use Rattle.flt_warnings.specs.declared.warning.Warning.{Warning}
 use Rattle.flt_warnings.specs.declared.warning.Warning.TheVariants as warning
@@ -17,6 +17,7 @@ kind_of (warning.LockCircle c) = W01
 kind_of (warning.CalledLocked s l) = W02
 kind_of (warning.NeverRemoved s) = W03
 kind_of (warning.LeftPended s q) = W03
+kind_of (warning.ChangedUnlocked s q) = W04
 kind_of (warning.LostContext s q) = W05
 kind_of (warning.UnusedLock l) = W06
 kind_of (warning.UnusedRoutine n) = W06
@@ -34,6 +35,7 @@ site_of (warning.LockCircle c) = first_site c
 site_of (warning.CalledLocked s l) = Some s
 site_of (warning.NeverRemoved s) = Some s
 site_of (warning.LeftPended s q) = Some s
+site_of (warning.ChangedUnlocked s q) = Some s
 site_of (warning.LostContext s q) = Some s
 site_of (warning.UnusedLock l) = None
 site_of (warning.UnusedRoutine n) = None

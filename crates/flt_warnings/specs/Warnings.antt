@@ -9,14 +9,17 @@ use Rattle.flt_order.specs.Circle.{IsCircle, TakesOnce}
 use Rattle.flt_order.specs.Order.{TakesInOrder}
 use Rattle.flt_order.specs.declared.order.Acquisition.{Acquisition}
 use Rattle.flt_warnings.specs.Called.{called_locked}
+use Rattle.flt_warnings.specs.Changed.{changed_unlocked}
 use Rattle.flt_warnings.specs.Lost.{lost_context}
 use Rattle.flt_warnings.specs.Never.{never_holds}
 use Rattle.flt_warnings.specs.Pended.{never_removed, left_pended}
+use Rattle.flt_warnings.specs.Shared.{shared_uses}
 use Rattle.flt_warnings.specs.Unreached.{unreached}
 use Rattle.flt_warnings.specs.Unused.{unused_locks, unused_routine}
 use Rattle.flt_warnings.specs.Warning.{site}
+use Rattle.flt_warnings.specs.declared.shared.SharedUse.{SharedUse}
 use Rattle.flt_warnings.specs.declared.warning.Kind.{Kind}
-use Rattle.flt_warnings.specs.declared.warning.Kind.TheVariants.{W01, W02, W03, W05, W06}
+use Rattle.flt_warnings.specs.declared.warning.Kind.TheVariants.{W00, W01, W02, W03, W04, W05, W06}
 use Rattle.flt_warnings.specs.declared.warning.Site.{Site}
 use Rattle.flt_warnings.specs.declared.warning.Warning.{Warning}
 use Rattle.flt_warnings.specs.declared.warning.Warning.TheVariants.{LockCircle}
@@ -31,33 +34,36 @@ pended_at g k s = option_to_list (never_removed g k s) ++ option_to_list (left_p
 abbrev pub unreached_at : Graph → Certificate → Site → List Warning
 unreached_at g k s = option_to_list (unused_routine g s) ++ (option_to_list (unreached g k s) ++ option_to_list (never_holds g k s))
 
--- the warnings of a kind
-abbrev pub warned_at : Graph → Certificate → Kind → Site → List Warning
-warned_at g k W01 s = []
-warned_at g k W02 s = option_to_list (called_locked g k s)
-warned_at g k W03 s = pended_at g k s
-warned_at g k W05 s = option_to_list (lost_context g k s)
-warned_at g k W06 s = unreached_at g k s
+-- the warnings of a kind, by the uses of contexts that others may have; no finder makes W00, and W01 isn't about a point
+abbrev pub warned_at : Graph → Certificate → List SharedUse → Kind → Site → List Warning
+warned_at g k us W00 s = []
+warned_at g k us W01 s = []
+warned_at g k us W02 s = option_to_list (called_locked g k s)
+warned_at g k us W03 s = pended_at g k s
+warned_at g k us W04 s = option_to_list (changed_unlocked k us s)
+warned_at g k us W05 s = option_to_list (lost_context g k s)
+warned_at g k us W06 s = unreached_at g k s
 
 -- ---- in a text
 
 -- the warnings of a kind at so many points of a callback, from one on
-unfoldable pub warned_from : Graph → Certificate → Kind → ℕ → ℕ → ℕ → List Warning
-warned_from g k kind callback point zero = []
-warned_from g k kind callback point (suc n) = warned_at g k kind (site callback point) ++ warned_from g k kind callback (point + 1) n
+unfoldable pub warned_from : Graph → Certificate → List SharedUse → Kind → ℕ → ℕ → ℕ → List Warning
+warned_from g k us kind callback point zero = []
+warned_from g k us kind callback point (suc n) =
+    warned_at g k us kind (site callback point) ++ warned_from g k us kind callback (point + 1) n
 
 -- the same at all points of a callback
-abbrev pub warned_in : Graph → Certificate → Kind → ℕ → List Warning
-warned_in g k kind callback = warned_from g k kind callback 0 (points_at g callback)
+abbrev pub warned_in : Graph → Certificate → List SharedUse → Kind → ℕ → List Warning
+warned_in g k us kind callback = warned_from g k us kind callback 0 (points_at g callback)
 
 -- the same in so many callbacks, from one on
-unfoldable pub warned_in_from : Graph → Certificate → Kind → ℕ → ℕ → List Warning
-warned_in_from g k kind callback zero = []
-warned_in_from g k kind callback (suc n) = warned_in g k kind callback ++ warned_in_from g k kind (callback + 1) n
+unfoldable pub warned_in_from : Graph → Certificate → List SharedUse → Kind → ℕ → ℕ → List Warning
+warned_in_from g k us kind callback zero = []
+warned_in_from g k us kind callback (suc n) = warned_in g k us kind callback ++ warned_in_from g k us kind (callback + 1) n
 
 -- the same in all callbacks
-abbrev pub warned_in_all : Graph → Certificate → Kind → List Warning
-warned_in_all g k kind = warned_in_from g k kind 0 (length g.callbacks)
+abbrev pub warned_in_all : Graph → Certificate → List SharedUse → Kind → List Warning
+warned_in_all g k us kind = warned_in_from g k us kind 0 (length g.callbacks)
 
 -- the warnings of a kind that are about declarations of locks
 abbrev pub warned_declared : Graph → Kind → List Warning
@@ -65,13 +71,13 @@ warned_declared g W06 = unused_locks g
 warned_declared g _ = []
 
 -- the warnings of some kinds, kind after kind
-abbrev pub warned_by : Graph → Certificate → List Kind → List Warning
-warned_by g k [] = []
-warned_by g k (kind ∷ kinds) = warned_declared g kind ++ (warned_in_all g k kind ++ warned_by g k kinds)
+abbrev pub warned_by : Graph → Certificate → List SharedUse → List Kind → List Warning
+warned_by g k us [] = []
+warned_by g k us (kind ∷ kinds) = warned_declared g kind ++ (warned_in_all g k us kind ++ warned_by g k us kinds)
 
 -- the warnings of all kinds but W01
 abbrev pub warned : Graph → Certificate → List Warning
-warned g k = warned_by g k (W02 ∷ W03 ∷ W05 ∷ W06 ∷ [])
+warned g k = warned_by g k (shared_uses g) (W02 ∷ W03 ∷ W04 ∷ W05 ∷ W06 ∷ [])
 
 -- ---- W01: locks that no order allows
 

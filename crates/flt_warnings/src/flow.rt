@@ -11,7 +11,7 @@ use std::alloc::{AllocError, Global};
 
 /// Whether a point is marked.
 #[tactic(auto, using(crate::proofs::Places::found, crate::proofs::Places::missing))]
-fn is_marked(marks: &[bool], point: usize) -> bool
+pub(crate) fn is_marked(marks: &[bool], point: usize) -> bool
     ensures { result ≡ spec.is_marked marks.now point }
 {
     match marks.get(point) {
@@ -22,7 +22,7 @@ fn is_marked(marks: &[bool], point: usize) -> bool
 
 /// Marks a point, if there is one; whether it is new.
 #[tactic(auto, using(crate::proofs::Marks::marked_again, crate::proofs::Marks::nothing_marked))]
-fn mark(marks: &mut Items<bool>, point: Option<usize>) -> bool
+pub(crate) fn mark(marks: &mut Items<bool>, point: Option<usize>) -> bool
     ensures marks { marks.new ≡ spec.marked marks.old point }
     ensures same { result ≡ false → marks.new ≡ marks.old }
 {
@@ -73,7 +73,7 @@ fn pass(graph: &Graph, callback: usize, trail: Trail, marks: &mut Items<bool>) -
 
 /// Follows the points until nothing is new.
 #[tactic(auto, using(crate::proofs::Marks::one_pass, crate::proofs::Marks::no_pass, crate::proofs::Marks::settled_once))]
-fn settle(graph: &Graph, callback: usize, trail: Trail, marks: &mut Items<bool>)
+pub(crate) fn settle(graph: &Graph, callback: usize, trail: Trail, marks: &mut Items<bool>)
     ensures { marks.new ≡ spec.settled graph.now callback trail (points_at graph.now callback) marks.old }
 {
     for _pass in 0..graph.points(callback) {
@@ -85,7 +85,7 @@ fn settle(graph: &Graph, callback: usize, trail: Trail, marks: &mut Items<bool>)
 }
 
 /// No point is marked.
-fn blank(alloc: Global, count: usize) -> Result<Items<bool>, AllocError>
+pub(crate) fn blank(alloc: Global, count: usize) -> Result<Items<bool>, AllocError>
     ensures { IfOk result (λ m. m ≡ spec.blank count) }
 {
     let mut marks = Items::new(alloc);

@@ -3,18 +3,22 @@
 #![tactic(auto)]
 
 mod called;
+mod changed;
 mod flow;
+mod kinds;
 mod laws;
 mod lost;
 mod never;
 mod of_text;
 mod pended;
 mod reading;
+mod shared;
 mod trail;
 mod unreached;
 mod unused;
 mod warning;
 
+pub use kinds::{AllowedKinds, kind_named};
 pub use laws::ends_are_on_paths;
 pub use of_text::warnings;
 pub use warning::{Kind, Site, Warning};

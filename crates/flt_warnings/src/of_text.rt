@@ -6,9 +6,11 @@ ghost use Rattle.flt_warnings.specs.Warnings as spec;
 ghost use Rattle.flt_warnings.specs.declared.warning.Warning.TheVariants.{LockCircle};
 
 use crate::called::called_locked;
+use crate::changed::changed_unlocked;
 use crate::lost::lost_context;
 use crate::never::never_holds;
 use crate::pended::{left_pended, never_removed};
+use crate::shared::{SharedUse, shared_uses};
 use crate::unreached::unreached;
 use crate::unused::{unused_locks, unused_routine};
 use crate::warning::{Kind, Site, Warning};
@@ -19,7 +21,7 @@ use sqlite_items::Items;
 use std::alloc::{AllocError, Global};
 
 /// The kinds that are looked for point by point, in their order.
-const KINDS: [Kind; 4] = [Kind::W02, Kind::W03, Kind::W05, Kind::W06];
+const KINDS: [Kind; 5] = [Kind::W02, Kind::W03, Kind::W04, Kind::W05, Kind::W06];
 
 /// Adds a warning, if there is one.
 fn push(warnings: &mut Items<Warning>, warning: Option<Warning>) -> Result<(), AllocError>
@@ -78,15 +80,17 @@ fn add_at(
     warnings: &mut Items<Warning>,
     graph: &Graph,
     cert: &FullCert,
+    uses: &[SharedUse],
     kind: Kind,
     site: Site,
 ) -> Result<(), AllocError>
-    ensures { OnOk result (warnings.new ≡ warnings.old ++ spec.warned_at graph.now cert.now kind site) }
+    ensures { OnOk result (warnings.new ≡ warnings.old ++ spec.warned_at graph.now cert.now uses.now kind site) }
 {
     match kind {
-        Kind::W01 => {}
+        Kind::W00 | Kind::W01 => {}
         Kind::W02 => push(warnings, called_locked(graph, cert, site))?,
         Kind::W03 => add_pended(alloc, warnings, graph, cert, site)?,
+        Kind::W04 => push(warnings, changed_unlocked(cert, uses, site))?,
         Kind::W05 => {
             let lost = lost_context(alloc, graph, cert, site)?;
             push(warnings, lost)?;
@@ -103,13 +107,22 @@ fn add_in(
     warnings: &mut Items<Warning>,
     graph: &Graph,
     cert: &FullCert,
+    uses: &[SharedUse],
     kind: Kind,
     callback: usize,
 ) -> Result<(), AllocError>
-    ensures { OnOk result (warnings.new ≡ warnings.old ++ spec.warned_in graph.now cert.now kind callback) }
+    ensures { OnOk result (warnings.new ≡ warnings.old ++ spec.warned_in graph.now cert.now uses.now kind callback) }
 {
     for point in 0..graph.points(callback) {
-        add_at(alloc, warnings, graph, cert, kind, Site { callback, point })?;
+        add_at(
+            alloc,
+            warnings,
+            graph,
+            cert,
+            uses,
+            kind,
+            Site { callback, point },
+        )?;
     }
     Ok(())
 }
@@ -121,12 +134,13 @@ fn add_all(
     warnings: &mut Items<Warning>,
     graph: &Graph,
     cert: &FullCert,
+    uses: &[SharedUse],
     kind: Kind,
 ) -> Result<(), AllocError>
-    ensures { OnOk result (warnings.new ≡ warnings.old ++ spec.warned_in_all graph.now cert.now kind) }
+    ensures { OnOk result (warnings.new ≡ warnings.old ++ spec.warned_in_all graph.now cert.now uses.now kind) }
 {
     for callback in 0..graph.callbacks() {
-        add_in(alloc, warnings, graph, cert, kind, callback)?;
+        add_in(alloc, warnings, graph, cert, uses, kind, callback)?;
     }
     Ok(())
 }
@@ -148,14 +162,15 @@ fn add_kinds(
     warnings: &mut Items<Warning>,
     graph: &Graph,
     cert: &FullCert,
+    uses: &[SharedUse],
     kinds: &[Kind],
 ) -> Result<(), AllocError>
-    ensures { OnOk result (warnings.new ≡ warnings.old ++ spec.warned_by graph.now cert.now kinds.now) }
+    ensures { OnOk result (warnings.new ≡ warnings.old ++ spec.warned_by graph.now cert.now uses.now kinds.now) }
 {
     if let [kind, others @ ..] = kinds {
         add_declared(warnings, graph, *kind)?;
-        add_all(alloc, warnings, graph, cert, *kind)?;
-        add_kinds(alloc, warnings, graph, cert, others)?;
+        add_all(alloc, warnings, graph, cert, uses, *kind)?;
+        add_kinds(alloc, warnings, graph, cert, uses, others)?;
     }
     Ok(())
 }
@@ -173,6 +188,7 @@ pub fn warnings(alloc: Global, graph: &Graph, cert: &FullCert) -> Result<Items<W
     let mut warnings = Items::new(alloc);
     let circle = find_circle(graph, cert);
     push_circle(&mut warnings, circle)?;
-    add_kinds(alloc, &mut warnings, graph, cert, &KINDS)?;
+    let uses = shared_uses(alloc, graph)?;
+    add_kinds(alloc, &mut warnings, graph, cert, uses.as_slice(), &KINDS)?;
     Ok(warnings)
 }

@@ -14,10 +14,12 @@ pub(crate) enum Trail {
     Pended,
     /// A context that wasn't set since there was another one, and the variable that received that one.
     Lost(ContextVariable, Option<ContextVariable>),
+    /// A context that others may have, while a variable holds it.
+    Shared(ContextVariable),
 }
 
 /// Whether a variable of contexts is the one that is named.
-fn is_named(named: Option<ContextVariable>, variable: ContextVariable) -> bool
+pub(crate) fn is_named(named: Option<ContextVariable>, variable: ContextVariable) -> bool
     ensures { result ≡ spec.is_named named variable }
 {
     match named {
@@ -27,7 +29,7 @@ fn is_named(named: Option<ContextVariable>, variable: ContextVariable) -> bool
 }
 
 /// Where an instruction leads by an outcome, if it goes on.
-fn successor(instruction: &Instruction, outcome: bool) -> Option<usize>
+pub(crate) fn successor(instruction: &Instruction, outcome: bool) -> Option<usize>
     ensures { result ≡ successor_of instruction.now outcome }
 {
     match instruction {
@@ -120,7 +122,7 @@ fn finds_null(instruction: &Instruction, outcome: bool, variable: Option<Context
 }
 
 /// Whether a call hands its context on.
-fn hands_on(call: Call) -> bool
+pub(crate) fn hands_on(call: Call) -> bool
     ensures { result ≡ spec.hands_on call }
 {
     matches!(
@@ -142,7 +144,7 @@ fn action_uses(action: Action, variable: ContextVariable) -> bool
     }
 }
 
-fn status_uses(status: Option<Status>, variable: ContextVariable) -> bool
+pub(crate) fn status_uses(status: Option<Status>, variable: ContextVariable) -> bool
     ensures { result ≡ spec.status_uses status variable }
 {
     is_named(flt_tree::named_context(status), variable)
@@ -160,7 +162,20 @@ fn uses(instruction: &Instruction, variable: ContextVariable) -> bool
     }
 }
 
-// ---- both
+// ---- a context that others may have
+
+/// Whether an instruction gives the variable another context, or none.
+fn renews(instruction: &Instruction, variable: ContextVariable) -> bool
+    ensures { result ≡ spec.renews instruction.now variable }
+{
+    match instruction {
+        Instruction::Act(Action::ClearContext(cleared), _) => is_named(Some(*cleared), variable),
+        Instruction::Call(call, _, _) => is_named(call.output, variable),
+        _ => false,
+    }
+}
+
+// ---- all
 
 impl Trail {
     /// Whether the trail is lost behind an instruction by an outcome.
@@ -172,6 +187,7 @@ impl Trail {
             Trail::Lost(context, there) => {
                 settles(instruction, context) || finds_null(instruction, outcome, there)
             }
+            Trail::Shared(context) => renews(instruction, context),
         }
     }
 
@@ -197,7 +213,7 @@ impl Trail {
     {
         match self {
             Trail::Pended => returns_pending(instruction),
-            Trail::Lost(context, _) => uses(instruction, context),
+            Trail::Lost(context, _) | Trail::Shared(context) => uses(instruction, context),
         }
     }
 }

@@ -9,9 +9,12 @@ use flt_rules::LockNumber;
 /// What is checked beside the rules, by number.
 #[derive(Clone, Copy)]
 pub enum Kind {
+    /// A comment that allows a warning where there is none.
+    W00,
     W01,
     W02,
     W03,
+    W04,
     W05,
     W06,
 }
@@ -35,6 +38,9 @@ pub enum Warning {
     NeverRemoved(Site),
     /// W03: an insert, and the point of the same callback that returns PENDING after it, where no work item was queued that removes.
     LeftPended(Site, usize),
+    /// W04: a write of the value of a context that others may have, and the first use of such a value with which it has no lock in
+    /// common: a read of the same callback, or a write of another one.
+    ChangedUnlocked(Site, Site),
     /// W05: a call that sets a context unless there is one, and the first point of the same callback where that context is used behind
     /// the failing side.
     LostContext(Site, usize),
@@ -56,6 +62,7 @@ impl Warning {
             Warning::LockCircle(_) => Kind::W01,
             Warning::CalledLocked(_, _) => Kind::W02,
             Warning::NeverRemoved(_) | Warning::LeftPended(_, _) => Kind::W03,
+            Warning::ChangedUnlocked(_, _) => Kind::W04,
             Warning::LostContext(_, _) => Kind::W05,
             Warning::UnusedLock(_)
             | Warning::UnusedRoutine(_)
@@ -74,6 +81,7 @@ impl Warning {
             Warning::CalledLocked(site, _)
             | Warning::NeverRemoved(site)
             | Warning::LeftPended(site, _)
+            | Warning::ChangedUnlocked(site, _)
             | Warning::LostContext(site, _)
             | Warning::Unreached(site)
             | Warning::NeverHolds(site) => Some(*site),

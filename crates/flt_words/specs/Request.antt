@@ -6,6 +6,15 @@ use Rattle.flt_words.specs.declared.request.Form.{Form}
 use Rattle.flt_words.specs.declared.request.FormatMode.{FormatMode}
 use Rattle.flt_words.specs.declared.request.Request.{Request}
 use Rattle.flt_words.specs.declared.request.Request.TheVariants as request
+use Rattle.flt_words.specs.declared.request.WarningChoice.{WarningChoice}
+
+-- what is asked of warnings: whether one that is shown counts for the exit status, and the names of the kinds that are left out
+pub record Choice : Type 0 where
+  pub strict : Bool
+  pub allowed : List Text
+
+abbrev pub choice_of : WarningChoice → Choice
+choice_of c = record { strict = c.is_strict; allowed = map (λ name. name.now) c.allowed.items }
 
 -- what is asked for
 pub data Asked : Type 0 where
@@ -15,7 +24,7 @@ pub data Asked : Type 0 where
   Run : (workers : ℕ) (quiet : Bool) (script : Text) (files : List Text) → Asked
   Replay : (journal : Text) (files : List Text) → Asked
   Show : (timeline : Bool) (picture : Option Text) (journal : Text) (files : List Text) → Asked
-  Explain : (form : Form) (colour : Colour) (states : ℕ) (journal : Option Text) (files : List Text) → Asked
+  Explain : (form : Form) (colour : Colour) (states : ℕ) (journal : Option Text) (warnings : Choice) (files : List Text) → Asked
   Extract : (map : Bool) (files : List Text) → Asked
   Format : (mode : FormatMode) (files : List Text) → Asked
   Pages : (names : List Text) → Asked
@@ -29,8 +38,8 @@ asked_of (request.Run workers quiet script files) = Some (Run workers.count quie
 asked_of (request.Replay journal files) = Some (Replay journal.now (map (λ name. name.now) files.items))
 asked_of (request.Show timeline picture journal files) =
     Some (Show timeline (option_map (λ name. name.now) picture) journal.now (map (λ name. name.now) files.items))
-asked_of (request.Explain form colour states journal files) =
-    Some (Explain form colour states (option_map (λ name. name.now) journal) (map (λ name. name.now) files.items))
+asked_of (request.Explain form colour states journal warnings files) =
+    Some (Explain form colour states (option_map (λ name. name.now) journal) (choice_of warnings) (map (λ name. name.now) files.items))
 asked_of (request.Extract of_map files) = Some (Extract of_map (map (λ name. name.now) files.items))
 asked_of (request.Format mode files) = Some (Format mode (map (λ name. name.now) files.items))
 asked_of (request.Pages names) = Some (Pages (map (λ name. name.now) names.items))

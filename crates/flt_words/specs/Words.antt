@@ -1,7 +1,7 @@
 -- What the words of a command line ask for. This project's own program.
 use Rattle.std.specs.Char.{digit_value}
 use Rattle.std.specs.List.{list_all, list_any}
-use Rattle.std.specs.Prelude.{ℕ, ◌≡◌, ◌&&◌, List, [], ◌∷◌, Bool, true, false, Option, Some, None, codes, if◌then◌else◌, length, nat_lt, unwrap_or, option_and_then, option_map}
+use Rattle.std.specs.Prelude.{ℕ, ◌≡◌, ◌&&◌, ◌||◌, List, [], ◌∷◌, Bool, true, false, Option, Some, None, codes, if◌then◌else◌, length, nat_lt, unwrap_or, option_and_then, option_map}
 use Rattle.std.specs.Option.{option_map_or}
 use Rattle.std.specs.Str.{bytes_eq}
 use Rattle.std.specs.Str.Parse.{digits_value, without_leading_plus}
@@ -19,7 +19,7 @@ use Rattle.flt_words.specs.declared.request.FormatMode.TheVariants.{Print, Check
 use Rattle.flt_words.specs.declared.request.Colour.{Colour}
 use Rattle.flt_words.specs.declared.request.Colour.TheVariants.{Auto, Always, Never}
 use Rattle.flt_words.specs.Workers.{within}
-use Rattle.flt_words.specs.Request.{Asked, Check, Analyse, Thin, Run, Replay, Show, Explain, Extract, Format, Pages}
+use Rattle.flt_words.specs.Request.{Asked, Choice, Check, Analyse, Thin, Run, Replay, Show, Explain, Extract, Format, Pages}
 
 -- ---- values
 
@@ -27,9 +27,13 @@ use Rattle.flt_words.specs.Request.{Asked, Check, Analyse, Thin, Run, Replay, Sh
 abbrev pub text_of : Text → List Row → Text
 text_of id rows = unwrap_or (first_of id rows) (codes "-")
 
+-- all values of an argument
+abbrev pub texts_of : Text → List Row → List Text
+texts_of id rows = unwrap_or (all_of id rows) []
+
 -- all values of FILE
 abbrev pub files_of : List Row → List Text
-files_of rows = unwrap_or (all_of (codes "FILE") rows) []
+files_of rows = texts_of (codes "FILE") rows
 
 -- the number behind `--workers`, 1 where there is none
 abbrev pub workers_of : List Row → ℕ
@@ -72,6 +76,20 @@ colour_named name =
 -- the time behind `--color`, that of a terminal where there is none
 abbrev pub colour_of : List Row → Option Colour
 colour_of rows = option_map_or colour_named (first_of (codes "color") rows) (Some Auto)
+
+-- the name of a kind of warning
+abbrev pub is_kind : Text → Bool
+is_kind name =
+    bytes_eq name (codes "W00") || (bytes_eq name (codes "W01") || (bytes_eq name (codes "W02") || (bytes_eq name (codes "W03")
+    || (bytes_eq name (codes "W04") || (bytes_eq name (codes "W05") || bytes_eq name (codes "W06"))))))
+
+-- some names of kinds; none at all where one isn't the name of a kind
+abbrev pub kinds_in : List Text → Option (List Text)
+kinds_in names = if list_all is_kind names then Some names else None
+
+-- the kinds behind each `--allow`
+abbrev pub allowed_of : List Row → Option (List Text)
+allowed_of rows = kinds_in (texts_of (codes "allow") rows)
 
 -- the file that is written, if one is named for it; none at all where `-` is
 abbrev pub written_by : Option Text → Option (Option Text)
@@ -135,14 +153,20 @@ have_pages [] = false
 have_pages names = list_all has_page names
 
 -- for people names that have pages ask for these, all else for reports
-abbrev pub explain_of : Form → Colour → ℕ → Option Text → List Text → Asked
-explain_of Human colour states journal files = if have_pages files then Pages files else Explain Human colour states journal files
-explain_of form colour states journal files = Explain form colour states journal files
+abbrev pub explain_of : Form → Colour → ℕ → Option Text → Choice → List Text → Asked
+explain_of Human colour states journal warnings files =
+    if have_pages files then Pages files else Explain Human colour states journal warnings files
+explain_of form colour states journal warnings files = Explain form colour states journal warnings files
 
--- in a form and with colours at some time, with the file into which a journal is written; `-` isn't one, and asks for nothing
-abbrev pub explain_in : List Row → Form → Colour → Option Asked
-explain_in rows form colour =
-    option_map (λ journal. explain_of form colour (states_of rows) journal (files_of rows)) (written_of (codes "journal") rows)
+-- in a form, with colours at some time and with the file into which a journal is written; a kind of warning that there isn't asks for nothing
+unfoldable pub explain_with : List Row → Form → Colour → Option Text → Option Asked
+explain_with rows form colour journal =
+    option_map (λ allowed. explain_of form colour (states_of rows) journal (record { strict = is_set (codes "strict") rows; allowed = allowed })
+    (files_of rows)) (allowed_of rows)
+
+-- in a form and with colours at some time; `-` is no file into which a journal is written, and asks for nothing
+unfoldable pub explain_in : List Row → Form → Colour → Option Asked
+explain_in rows form colour = option_and_then (explain_with rows form colour) (written_of (codes "journal") rows)
 
 -- in a form; a time that there isn't asks for nothing
 unfoldable pub explain_as : List Row → Form → Option Asked

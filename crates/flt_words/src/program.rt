@@ -138,6 +138,29 @@ fn written_argument<'a>(alloc: Global) -> Arg<'a>
         .help("Write the journal of the first finding that has one into this file")
 }
 
+/// The flag `--strict`.
+fn strict_argument<'a>(alloc: Global) -> Arg<'a>
+    ensures rule { rule_of result ≡ spec.strict_rule }
+    ensures own { result.global ≡ false }
+{
+    Arg::new(alloc, "strict")
+        .long("strict")
+        .action(ArgAction::SetTrue)
+        .help("Exit with 1 where warnings are shown, as where something is found")
+}
+
+/// The option `--allow`.
+fn allow_argument<'a>(alloc: Global) -> Arg<'a>
+    ensures rule { rule_of result ≡ spec.allow_rule }
+    ensures own { result.global ≡ false }
+{
+    Arg::new(alloc, "allow")
+        .long("allow")
+        .value_name("KIND")
+        .action(ArgAction::Append)
+        .help("Leave a kind of warning out, as `W03`; it may be given several times")
+}
+
 /// The flag `--timeline`.
 fn timeline_argument<'a>(alloc: Global) -> Arg<'a>
     ensures rule { rule_of result ≡ spec.timeline_rule }
@@ -311,10 +334,10 @@ fn bare_explain<'a>(alloc: Global) -> Command<'a>
             "Says all that is wrong with filters' texts, where it comes from, how to get there and how to mend it",
         )
         .override_usage(
-            "fltstack explain [--form <FORM>] [--color <WHEN>] [--states <N>] [--journal <JOURNAL>] <FILE>...\n       fltstack explain <R01 to R15, V1 to V8, E01 to E08, a call or a status>...",
+            "fltstack explain [--form <FORM>] [--color <WHEN>] [--states <N>] [--journal <JOURNAL>] [--strict] [--allow <KIND>]... <FILE>...\n       fltstack explain <R01 to R15, W00 to W06, V1 to V8, E01 to E08, a call or a status>...",
         )
         .after_help(
-            "Prints a report for each finding, with a run that breaks something because of it, and last what `analyse`\nsays (exit 1), or `nothing found` (exit 0). Where a text doesn't parse, it says where and why (exit 2).\n`--form short` prints a line for each finding, `--form lines` a JSON object, `--form sarif` a SARIF document. Of\nrules, violations, faults of a text, calls or statuses it prints the pages (exit 0); `./R02` is a file of that\nname. Errors go to the standard error with exit 2.\n\nExample: fltstack explain examples/leaked_context.flt",
+            "Prints a report for each finding, with a run that breaks something because of it, and last what `analyse`\nsays (exit 1), or a report for each warning and `nothing found` (exit 0; with `--strict` warnings make it 1).\nWhere a text doesn't parse, it says where and why (exit 2). `--form short` prints a line for each of them,\n`--form lines` a JSON object, `--form sarif` a SARIF document. A comment `# allow W03: why`, alone on the line\nbefore a statement, leaves a warning out there. Of rules, warnings, violations, faults of a text, calls or\nstatuses it prints the pages (exit 0); `./R02` is a file of that name. Errors go to the standard error with exit 2.\n\nExample: fltstack explain examples/leaked_context.flt",
         )
 }
 
@@ -325,6 +348,8 @@ fn explain_command<'a>(alloc: Global) -> Result<Command<'a>, AllocError>
     let command = with_argument(command, colour_argument(alloc));
     let command = with_argument(command, states_argument(alloc));
     let command = with_argument(command, written_argument(alloc));
+    let command = with_argument(command, strict_argument(alloc));
+    let command = with_argument(command, allow_argument(alloc));
     with_argument(
         command,
         texts_argument(

@@ -24,6 +24,15 @@ pub enum Colour {
     Never,
 }
 
+/// What `explain` is asked of warnings.
+#[derive(Debug, Drop)]
+pub struct WarningChoice<'a> {
+    /// Whether a warning that is shown counts as a finding does for the exit status.
+    pub is_strict: bool,
+    /// The kinds that are left out, by name: each is one of `W00` to `W06`.
+    pub allowed: Vec<&'a str>,
+}
+
 /// Where the layouts of texts go.
 #[derive(Clone, Copy, Debug)]
 pub enum FormatMode {
@@ -82,6 +91,7 @@ pub enum Request<'a> {
         states: u32,
         /// The file into which the journal of the first finding that has one is written.
         journal: Option<&'a str>,
+        warnings: WarningChoice<'a>,
         files: Vec<&'a str>,
     },
     /// Print the text of the annotations of some C files.

@@ -6,11 +6,11 @@ ghost use Rattle.clap.specs.Matches.{found_of};
 ghost use Rattle.clap.specs.Simple.{subcommand_rows_of};
 ghost use Rattle.clap.specs.Walk.{rows_of};
 ghost use Rattle.flt_pages.specs.Pages.{has_page};
-ghost use Rattle.flt_words.specs.Request.{asked_of};
+ghost use Rattle.flt_words.specs.Request.{asked_of, choice_of};
 ghost use Rattle.flt_words.specs.Words as spec;
 
 use crate::program::{program, program_for};
-use crate::request::{Colour, Form, FormatMode, Request};
+use crate::request::{Colour, Form, FormatMode, Request, WarningChoice};
 use crate::shown::visible;
 use crate::workers::Workers;
 use clap::ArgMatches;
@@ -27,15 +27,19 @@ pub const DEFAULT_STATES: u32 = 40_000;
 
 /// What is said where a form is asked for that there isn't.
 const NO_FORM: &str =
-    "error: `--form` takes `human`, `short`, `lines` or `sarif`\n\nUsage: fltstack explain [--form <FORM>] [--color <WHEN>] [--states <N>] [--journal <JOURNAL>] <FILE>...\n\nFor more information, try '--help'.\n";
+    "error: `--form` takes `human`, `short`, `lines` or `sarif`\n\nUsage: fltstack explain [--form <FORM>] [--color <WHEN>] [--states <N>] [--journal <JOURNAL>] [--strict] [--allow <KIND>]... <FILE>...\n\nFor more information, try '--help'.\n";
 
 /// The same of when there are colours.
 const NO_COLOUR: &str =
-    "error: `--color` takes `auto`, `always` or `never`\n\nUsage: fltstack explain [--form <FORM>] [--color <WHEN>] [--states <N>] [--journal <JOURNAL>] <FILE>...\n\nFor more information, try '--help'.\n";
+    "error: `--color` takes `auto`, `always` or `never`\n\nUsage: fltstack explain [--form <FORM>] [--color <WHEN>] [--states <N>] [--journal <JOURNAL>] [--strict] [--allow <KIND>]... <FILE>...\n\nFor more information, try '--help'.\n";
+
+/// The same of a kind of warning.
+const NO_KIND: &str =
+    "error: `--allow` takes `W00` to `W06`\n\nUsage: fltstack explain [--form <FORM>] [--color <WHEN>] [--states <N>] [--journal <JOURNAL>] [--strict] [--allow <KIND>]... <FILE>...\n\nFor more information, try '--help'.\n";
 
 /// What is said where the standard input is named for a journal that is written.
 const NO_JOURNAL: &str =
-    "error: `--journal` takes the name of a file\n\nUsage: fltstack explain [--form <FORM>] [--color <WHEN>] [--states <N>] [--journal <JOURNAL>] <FILE>...\n\nFor more information, try '--help'.\n";
+    "error: `--journal` takes the name of a file\n\nUsage: fltstack explain [--form <FORM>] [--color <WHEN>] [--states <N>] [--journal <JOURNAL>] [--strict] [--allow <KIND>]... <FILE>...\n\nFor more information, try '--help'.\n";
 
 /// The same of a picture.
 const NO_PICTURE: &str =
@@ -65,14 +69,25 @@ fn text_of<'a>(matches: &ArgMatches<'a>, id: &str) -> &'a str
     matches.get_str(id).unwrap_or("-")
 }
 
+/// All values of an argument.
+fn texts_of<'a>(
+    alloc: Global,
+    matches: &ArgMatches<'a>,
+    id: &str,
+) -> Result<Vec<&'a str>, AllocError>
+    ensures { IfOk result (λ texts. map (λ text. text.now) texts.items ≡ spec.texts_of id.now (rows_of (found_of matches.now))) }
+{
+    match matches.get_strs(id) {
+        Some(texts) => Vec::from_slice(alloc, texts),
+        None => Ok(Vec::new(alloc)),
+    }
+}
+
 /// The values of FILE.
 fn files_of<'a>(alloc: Global, matches: &ArgMatches<'a>) -> Result<Vec<&'a str>, AllocError>
     ensures { IfOk result (λ files. map (λ name. name.now) files.items ≡ spec.files_of (rows_of (found_of matches.now))) }
 {
-    match matches.get_strs("FILE") {
-        Some(files) => Vec::from_slice(alloc, files),
-        None => Ok(Vec::new(alloc)),
-    }
+    texts_of(alloc, matches, "FILE")
 }
 
 /// The number behind `--workers`; 1 where nothing is said.
@@ -150,6 +165,33 @@ fn colour_of(matches: &ArgMatches) -> Option<Colour>
     }
 }
 
+fn is_kind(name: &str) -> bool
+    ensures { result ≡ spec.is_kind name.now }
+{
+    matches!(name, "W00" | "W01" | "W02" | "W03" | "W04" | "W05" | "W06")
+}
+
+/// Some names of kinds of warnings; none at all where one isn't the name of a kind.
+fn kinds_in<'a>(names: Vec<&'a str>) -> Option<Vec<&'a str>>
+    ensures { option_map (λ kinds. map (λ name. name.now) kinds.items) result ≡ spec.kinds_in (map (λ name. name.now) names.entry.items) }
+{
+    if names.as_slice().iter().all(|name| is_kind(name)) {
+        Some(names)
+    } else {
+        None
+    }
+}
+
+/// The kinds of warnings that are left out, by name, if there are such kinds.
+fn allowed_of<'a>(
+    alloc: Global,
+    matches: &ArgMatches<'a>,
+) -> Result<Option<Vec<&'a str>>, AllocError>
+    ensures { IfOk result (λ o. option_map (λ kinds. map (λ name. name.now) kinds.items) o ≡ spec.allowed_of (rows_of (found_of matches.now))) }
+{
+    Ok(kinds_in(texts_of(alloc, matches, "allow")?))
+}
+
 /// The file that is written, if one is named for it; none at all where `-` is.
 fn written_by<'a>(name: Option<&'a str>) -> Option<Option<&'a str>>
     ensures { option_map (λ file. option_map (λ name. name.now) file) result ≡ spec.written_by (option_map (λ name. name.now) name.entry) }
@@ -221,10 +263,11 @@ fn explain_of<'a>(
     colour: Colour,
     states: u32,
     journal: Option<&'a str>,
+    warnings: WarningChoice<'a>,
     files: Vec<&'a str>,
 ) -> Request<'a>
     ensures { asked_of result ≡ Some (spec.explain_of form colour states (option_map (λ name. name.now) journal.entry)
-        (map (λ name. name.now) files.entry.items)) }
+        (choice_of warnings.entry) (map (λ name. name.now) files.entry.items)) }
 {
     match form {
         Form::Human if have_pages(files.as_slice()) => Request::Pages { names: files },
@@ -233,12 +276,37 @@ fn explain_of<'a>(
             colour,
             states,
             journal,
+            warnings,
             files,
         },
     }
 }
 
+/// What the matches of `explain` ask for, in a form, with colours at some time, and with the file into which a journal is written.
+#[tactic(auto, unfolding(crate::specs::Words::explain_with))]
+fn explain_with<'a>(
+    alloc: Global,
+    explain: &ArgMatches<'a>,
+    form: Form,
+    colour: Colour,
+    journal: Option<&'a str>,
+) -> Result<Request<'a>, AllocError>
+    ensures { IfOk result (λ r. asked_of r ≡
+        spec.explain_with (rows_of (found_of explain.now)) form colour (option_map (λ name. name.now) journal.entry)) }
+{
+    let Some(allowed) = allowed_of(alloc, explain)? else {
+        return Ok(Request::Usage(String::from_str(alloc, NO_KIND)?));
+    };
+    let warnings = WarningChoice {
+        is_strict: is_set(explain, "strict"),
+        allowed,
+    };
+    let files = files_of(alloc, explain)?;
+    Ok(explain_of(form, colour, states_of(explain), journal, warnings, files))
+}
+
 /// What the matches of `explain` ask for, in a form, with colours at some time.
+#[tactic(auto, unfolding(crate::specs::Words::explain_in))]
 fn explain_in<'a>(
     alloc: Global,
     explain: &ArgMatches<'a>,
@@ -250,8 +318,7 @@ fn explain_in<'a>(
     let Some(journal) = written_of(explain, "journal") else {
         return Ok(Request::Usage(String::from_str(alloc, NO_JOURNAL)?));
     };
-    let files = files_of(alloc, explain)?;
-    Ok(explain_of(form, colour, states_of(explain), journal, files))
+    explain_with(alloc, explain, form, colour, journal)
 }
 
 /// What the matches of `explain` ask for, in a form.

@@ -18,4 +18,4 @@ returns-clause-memory g c =
     let named : names_in c.in_ok-sources.sources.items ≡ map (told_name c.args.asked.form) (map (λ (n : Bor (List ℕ)). n.now) c.args.names.now) =
     c.in_ok-sources.ensures.names ∙ ap (λ ns. map string_bytes ns) c.as_slice.ensures.value ∙ c.in_ok-names.ensures
     ∙ sym (mapped_twice (λ (n : Bor (List ℕ)). n.now) (told_name c.args.asked.form) c.args.names.now) in
-    cut_some _ _ _ _ _ _ _ _ named c.in_ok-sources.ensures.texts (rw c.as_slice-sources.ensures.value at c.told.ensures.memory)
+    cut_some _ _ _ _ _ _ _ _ _ named c.in_ok-sources.ensures.texts (rw c.as_slice-sources.ensures.value at c.told.ensures.memory)

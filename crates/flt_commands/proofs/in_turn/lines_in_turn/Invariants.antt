@@ -5,7 +5,7 @@ use Rattle.flt_commands.proofs.in_turn.lines_in_turn.Given as goal
 
 abbrev pub invariant-loop-source : goal.invariant-loop-source
 invariant-loop-source g l = record {
-  told : AreLines l.style (take l.source-index l.sources) [] l.told.output.items l.told.status;
+  told : AreLines l.style l.options (take l.source-index l.sources) [] l.told.output.items l.told.status;
   sent : Appends (g.O.Sink.taken l.fn.out) (g.O.Sink.taken l.out) l.told.output.items;
   fine : g.O.Sink.failures l.out ≡ g.O.Sink.failures l.fn.out;
 }

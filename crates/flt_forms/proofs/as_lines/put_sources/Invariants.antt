@@ -4,4 +4,4 @@ use Rattle.flt_forms.proofs.as_lines.put_sources.Given as goal
 
 abbrev pub invariant-loop-source : goal.invariant-loop-source
 invariant-loop-source l =
-    AreLines l.style (take l.source-index l.sources) l.fn.out.items l.told.output.items l.told.status
+    AreLines l.style l.options (take l.source-index l.sources) l.fn.out.items l.told.output.items l.told.status

@@ -1,6 +1,7 @@
 use Rattle.std.proofs.Common.{◌≡◌, Some, ap, ◌∙◌}
 use Rattle.flt_forms.specs.Fault.{help_in, help_of}
-use Rattle.flt_forms.specs.Sarif.{IsFaultResult, fault_result}
+use Rattle.flt_forms.specs.Results.{fault_result}
+use Rattle.flt_forms.specs.Sarif.{IsFaultResult}
 use Rattle.flt_hints.specs.Trouble.{IsDescribed}
 use Rattle.flt_forms.proofs.as_sarif.put_unread.Goals as goal
 

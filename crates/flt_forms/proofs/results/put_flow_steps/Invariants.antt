@@ -1,6 +1,6 @@
 use Rattle.std.proofs.Common.{flat_map, take}
 use Rattle.flt_forms.specs.Members.{Added}
-use Rattle.flt_forms.specs.Sarif.{flow_step}
+use Rattle.flt_forms.specs.Results.{flow_step}
 use Rattle.flt_forms.proofs.results.put_flow_steps.Given as goal
 
 abbrev pub invariant-loop-stage : goal.invariant-loop-stage

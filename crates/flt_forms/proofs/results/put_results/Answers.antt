@@ -1,5 +1,5 @@
 use Rattle.std.proofs.Common.{arith}
-use Rattle.flt_forms.specs.Sarif.{result}
+use Rattle.flt_forms.specs.Results.{result}
 use Rattle.flt_forms.proofs.Adding.{one_more}
 use Rattle.flt_forms.proofs.results.put_results.Goals as goal
 

@@ -1,6 +1,6 @@
 use Rattle.std.proofs.Common.{flat_map, take}
 use Rattle.flt_forms.specs.Members.{Added}
-use Rattle.flt_forms.specs.Sarif.{result}
+use Rattle.flt_forms.specs.Results.{result}
 use Rattle.flt_forms.proofs.results.put_results.Given as goal
 
 abbrev pub invariant-loop-detail : goal.invariant-loop-detail

@@ -5,5 +5,5 @@ use Rattle.flt_warnings.proofs.of_text.add_all.Given as goal
 -- what was found, with what the callbacks that are left have, is what all callbacks have
 abbrev pub invariant-loop-callback : goal.invariant-loop-callback
 invariant-loop-callback l =
-    l.warnings ++ warned_in_from l.graph l.cert l.kind l.callback (l.callback-end - l.callback)
-    ≡ l.fn.warnings ++ warned_in_all l.graph l.cert l.kind
+    l.warnings ++ warned_in_from l.graph l.cert l.uses l.kind l.callback (l.callback-end - l.callback)
+    ≡ l.fn.warnings ++ warned_in_all l.graph l.cert l.uses l.kind

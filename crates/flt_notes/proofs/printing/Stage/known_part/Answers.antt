@@ -16,12 +16,12 @@ returns g c =
     let look = look_of c.args.self.now in
     let p : Part = record {
       output = c.lines.new.self;
-      tally = record { status = c.status_of.result; findings = length c.args.known.found.now };
+      tally = record { status = c.warned_status.result; findings = length c.args.known.found.now };
     } in
     let added = c.in_ok-lines.ensures.bytes
     ∙ ap (λ z. c.put_findings.new.output.bytes.items ++ quieted z) (c.as_bytes.ensures.value ∙ c.in_ok-findings_line.ensures) in
     known_is look _ c.args.known c.put_findings.new.output p c.requires.known c.in_ok-put_findings.ensures.said
-    c.in_ok-put_findings.ensures.noted c.in_ok-put_findings.ensures.firsts added c.in_ok-lines.ensures.noted c.status_of.ensures refl
+    c.in_ok-put_findings.ensures.noted c.in_ok-put_findings.ensures.firsts added c.in_ok-lines.ensures.noted c.warned_status.ensures refl
     (known_print look _ c.args.known c.new-output.result c.put_findings.new.output p c.requires.known c.new-output.ensures.bytes
     c.new-output.ensures.noted c.in_ok-put_findings.ensures.body c.in_ok-put_findings.ensures.noted added c.in_ok-lines.ensures.noted
-    c.status_of.ensures refl)
+    c.warned_status.ensures refl)

@@ -16,7 +16,7 @@ returns-in_ok-put_only-in-len1-clause-notes g c =
 
 pub returns-in_ok-put_only-in-len1-clause-sent : goal.returns-in_ok-put_only-in-len1-clause-sent
 returns-in_ok-put_only-in-len1-clause-sent g c =
-    only_sent c.args.self.now.trees.now _ _ _ c.args.each.now _ c.in-len1.len_at_least c.in-len1.len_below c.requires.parsed
+    only_sent _ c.args.self.now.trees.now _ _ _ c.args.each.now _ c.in-len1.len_at_least c.in-len1.len_below c.requires.parsed
     c.in_ok-put_only-in-len1.ensures.sent
 
 pub returns-in-empty-clause-print : goal.returns-in-empty-clause-print

@@ -18,5 +18,5 @@ returns-clause-body g c =
     body_of_none (look_of c.args.self.now) _ c.args.known c.as_slice.result.now c.args.output.now c.lines.new.self
     (empty_of c.args.known.found.now c.is_empty.result c.is_empty.ensures
     (λ h. first_of (cc, grind arith)))
-    (c.as_slice.ensures.value ∙ c.in_ok-report_nothing.ensures) c.in_ok-lines.ensures.bytes
+    (c.as_slice.ensures.value ∙ c.in_ok-said.ensures) c.in_ok-lines.ensures.bytes
     c.in_ok-lines.ensures.noted

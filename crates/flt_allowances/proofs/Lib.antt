@@ -1,0 +1,3 @@
+mod Ends
+mod Lines
+mod Marks

@@ -1,0 +1,23 @@
+use Rattle.std.proofs.Common.{◌≡◌, ◌++◌, flat_map, ap, ◌∙◌, refl}
+use Rattle.flt_forms.specs.Sarif.{IsPart}
+use Rattle.flt_forms.specs.Uri.{uri_of}
+use Rattle.flt_forms.specs.Warned.{status_of}
+use Rattle.flt_forms.specs.WarningResults.{result}
+use Rattle.flt_forms.proofs.Adding.{both}
+use Rattle.flt_forms.proofs.as_sarif.put_source.Goals as goal
+
+pub returns : goal.returns
+returns c =
+    let first = c.in_ok-put_judged.ensures in
+    let shown = flat_map (result (uri_of c.args.source.name.now)) c.in_ok-warned.warned in
+    let is : IsPart c.args.options c.args.source (first.0 ++ shown) c.status_of.result = record {
+      judged = c.in_ok-judged.judged;
+      is = c.in_ok-judged.ensures;
+      warned = c.in_ok-warned.warned;
+      are = c.in_ok-warned.ensures;
+      own = c.status_of.ensures ∙ ap (status_of c.args.options.is_strict c.in_ok-judged.judged) c.as_slice-2.ensures;
+      first = first.0;
+      results = first.1;
+      all = refl;
+    } in
+    (first.0 ++ shown, is, both first.2 (rw c.as_slice.ensures at c.in_ok-put_warned.ensures.ok))

@@ -1,0 +1,166 @@
+//! Warnings, as JSON.
+
+ghost use Rattle.std.specs.Prelude.{◌≡◌, ◌++◌, IfOk, codes, flat_map};
+ghost use Rattle.flt_forms.specs.Members.{Adds, string_member};
+ghost use Rattle.flt_forms.specs.Warning as spec;
+
+use crate::members::{
+    close_array, close_object, open_array, open_object, put_filled_items, put_items, put_key,
+    put_marks, put_null, put_number, put_string,
+};
+use flt_warning_details::{RelatedPlace, WarningDetail};
+use flt_warnings::Site;
+use json::Writer;
+use sqlite_items::Items;
+use std::alloc::{AllocError, Global};
+
+/// That something breaks no rule.
+pub(crate) fn put_warning_level(writer: &mut Writer) -> Result<(), AllocError>
+    ensures { Adds result writer.old writer.new (string_member (codes "level") (codes "warning")) }
+{
+    put_string(writer, "level", "warning")
+}
+
+/// The numbers of a callback and of a point.
+pub(crate) fn put_numbers(writer: &mut Writer, site: Site) -> Result<(), AllocError>
+    ensures { Adds result writer.old writer.new (spec.numbers site) }
+{
+    put_number(writer, "callback", site.callback)?;
+    put_number(writer, "point", site.point)
+}
+
+fn put_no_site(writer: &mut Writer) -> Result<(), AllocError>
+    ensures { Adds result writer.old writer.new spec.no_site }
+{
+    put_null(writer, "callback")?;
+    put_null(writer, "point")
+}
+
+/// The point that a warning is about, or nulls.
+fn put_site(writer: &mut Writer, site: Option<Site>) -> Result<(), AllocError>
+    ensures { Adds result writer.old writer.new (spec.site_members site) }
+{
+    match site {
+        None => put_no_site(writer),
+        Some(site) => put_numbers(writer, site),
+    }
+}
+
+/// That it is no finding, and where it is.
+fn put_place(writer: &mut Writer, detail: &WarningDetail) -> Result<(), AllocError>
+    ensures { Adds result writer.old writer.new (spec.place detail.now) }
+{
+    put_warning_level(writer)?;
+    put_site(writer, detail.site)?;
+    put_marks(writer, detail.marks)
+}
+
+fn put_words(alloc: Global, writer: &mut Writer, detail: &WarningDetail) -> Result<(), AllocError>
+    ensures { Adds result writer.old writer.new (spec.words detail.now) }
+{
+    put_string(writer, "warning", detail.kind.name())?;
+    put_filled_items(alloc, writer, "head", &detail.head)?;
+    put_items(alloc, writer, "message", &detail.title)?;
+    put_items(alloc, writer, "help", &detail.help)?;
+    put_filled_items(alloc, writer, "note", &detail.note)
+}
+
+/// Another place, with what is there.
+fn put_related_place(
+    alloc: Global,
+    writer: &mut Writer,
+    place: &RelatedPlace,
+) -> Result<(), AllocError>
+    ensures { Adds result writer.old writer.new (spec.related_place place.now) }
+{
+    open_object(writer)?;
+    put_marks(writer, place.marks)?;
+    put_items(alloc, writer, "message", &place.words)?;
+    close_object(writer)
+}
+
+fn put_related_places(
+    alloc: Global,
+    writer: &mut Writer,
+    places: &Items<RelatedPlace>,
+) -> Result<(), AllocError>
+    ensures { Adds result writer.old writer.new (flat_map spec.related_place places.now) }
+{
+    for place in places.as_slice() {
+        put_related_place(alloc, writer, place)?;
+    }
+    Ok(())
+}
+
+/// The other places, in order.
+fn put_related(alloc: Global, writer: &mut Writer, detail: &WarningDetail) -> Result<(), AllocError>
+    ensures { Adds result writer.old writer.new (spec.related detail.now) }
+{
+    put_key(writer, "related")?;
+    open_array(writer)?;
+    put_related_places(alloc, writer, &detail.related)?;
+    close_array(writer)
+}
+
+/// The reason of the comment that allows a warning, or null.
+fn put_suppressed(
+    alloc: Global,
+    writer: &mut Writer,
+    reason: &Option<Items<u8>>,
+) -> Result<(), AllocError>
+    ensures { Adds result writer.old writer.new (spec.suppressed reason.now) }
+{
+    match reason {
+        None => put_null(writer, "suppressed"),
+        Some(reason) => put_items(alloc, writer, "suppressed", reason),
+    }
+}
+
+fn put_warning(
+    alloc: Global,
+    writer: &mut Writer,
+    name: &str,
+    detail: &WarningDetail,
+) -> Result<(), AllocError>
+    ensures { Adds result writer.old writer.new (spec.warning name.now detail.now) }
+{
+    open_object(writer)?;
+    put_string(writer, "file", name)?;
+    put_place(writer, detail)?;
+    put_words(alloc, writer, detail)?;
+    put_related(alloc, writer, detail)?;
+    put_suppressed(alloc, writer, &detail.reason)?;
+    close_object(writer)
+}
+
+/// A warning on a line of its own, after what is there.
+fn put_line(
+    alloc: Global,
+    out: Vec<u8>,
+    name: &str,
+    detail: &WarningDetail,
+) -> Result<Vec<u8>, AllocError>
+    ensures { IfOk result (λ v. v.items ≡ out.items ++ spec.warning_line name.now detail.now) }
+{
+    let mut writer = Writer::new(out);
+    put_warning(alloc, &mut writer, name, detail)?;
+    let mut out = writer.into_inner();
+    out.push(b'\n')?;
+    Ok(out)
+}
+
+/// A line for each warning, after what is there.
+pub(crate) fn put_warnings(
+    alloc: Global,
+    out: Vec<u8>,
+    name: &str,
+    warned: &[WarningDetail],
+) -> Result<Vec<u8>, AllocError>
+    ensures { IfOk result (λ v. v.items ≡ out.items ++ flat_map (spec.warning_line name.now) warned.now) }
+{
+    let mut out = out;
+    for detail in warned {
+        out = put_line(alloc, out, name, detail)?;
+    }
+    Ok(out)
+}

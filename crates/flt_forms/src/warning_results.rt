@@ -1,0 +1,196 @@
+//! Results of SARIF: warnings.
+
+ghost use Rattle.std.specs.Prelude.{◌≡◌, IfOk, codes, flat_map};
+ghost use Rattle.flt_forms.specs.Members.{Adds, array_member, string_member};
+ghost use Rattle.flt_forms.specs.WarningResults as spec;
+ghost use Rattle.flt_warnings.specs.Kinds.{kind_name};
+
+use crate::members::{
+    close_array, close_object, open_array, open_object, put_filled_items, put_items, put_key,
+    put_string,
+};
+use crate::results::{
+    put_fingerprints, put_marked_location, put_marked_locations, put_message, put_not_suppressed,
+};
+use crate::warning::{put_numbers, put_warning_level};
+use flt_warning_details::{RelatedPlace, WarningDetail};
+use flt_warnings::{Kind, Site};
+use json::Writer;
+use sqlite_items::Items;
+use std::alloc::{AllocError, Global};
+
+/// The name of a kind of warnings under a name.
+pub(crate) fn put_kind_name(writer: &mut Writer, name: &str, kind: Kind) -> Result<(), AllocError>
+    ensures { Adds result writer.old writer.new (string_member name.now (kind_name kind)) }
+{
+    put_string(writer, name, kind.name())
+}
+
+/// The same bytes.
+fn vec_of(alloc: Global, bytes: &Items<u8>) -> Result<Vec<u8>, AllocError>
+    ensures { IfOk result (λ v. v.items ≡ bytes.now) }
+{
+    Vec::from_slice(alloc, bytes.as_slice())
+}
+
+// ---- the other places
+
+fn put_related_place(
+    alloc: Global,
+    writer: &mut Writer,
+    uri: &Vec<u8>,
+    place: &RelatedPlace,
+) -> Result<(), AllocError>
+    ensures { Adds result writer.old writer.new (spec.related_place uri.now.items place.now) }
+{
+    let words = vec_of(alloc, &place.words)?;
+    put_marked_location(alloc, writer, uri, place.marks, &words)
+}
+
+fn put_related_places(
+    alloc: Global,
+    writer: &mut Writer,
+    uri: &Vec<u8>,
+    places: &Items<RelatedPlace>,
+) -> Result<(), AllocError>
+    ensures { Adds result writer.old writer.new (flat_map (spec.related_place uri.now.items) places.now) }
+{
+    for place in places.as_slice() {
+        put_related_place(alloc, writer, uri, place)?;
+    }
+    Ok(())
+}
+
+/// The other places, in order.
+fn put_related(
+    alloc: Global,
+    writer: &mut Writer,
+    uri: &Vec<u8>,
+    detail: &WarningDetail,
+) -> Result<(), AllocError>
+    ensures { Adds result writer.old writer.new (spec.related uri.now.items detail.now) }
+{
+    put_key(writer, "relatedLocations")?;
+    open_array(writer)?;
+    put_related_places(alloc, writer, uri, &detail.related)?;
+    close_array(writer)
+}
+
+// ---- properties
+
+/// The point that a warning is about, if there is one.
+fn put_site(writer: &mut Writer, site: Option<Site>) -> Result<(), AllocError>
+    ensures { Adds result writer.old writer.new (spec.site_members site) }
+{
+    match site {
+        None => Ok(()),
+        Some(site) => put_numbers(writer, site),
+    }
+}
+
+fn put_properties(
+    alloc: Global,
+    writer: &mut Writer,
+    detail: &WarningDetail,
+) -> Result<(), AllocError>
+    ensures { Adds result writer.old writer.new (spec.properties detail.now) }
+{
+    put_key(writer, "properties")?;
+    open_object(writer)?;
+    put_site(writer, detail.site)?;
+    put_items(alloc, writer, "help", &detail.help)?;
+    put_filled_items(alloc, writer, "note", &detail.note)?;
+    close_object(writer)
+}
+
+/// That a comment in the text allows a warning, for this reason.
+fn put_suppression(alloc: Global, writer: &mut Writer, reason: &Items<u8>) -> Result<(), AllocError>
+    ensures { Adds result writer.old writer.new (spec.suppression reason.now) }
+{
+    open_object(writer)?;
+    put_string(writer, "kind", "inSource")?;
+    put_items(alloc, writer, "justification", reason)?;
+    close_object(writer)
+}
+
+fn put_one_suppression(
+    alloc: Global,
+    writer: &mut Writer,
+    reason: &Items<u8>,
+) -> Result<(), AllocError>
+    ensures { Adds result writer.old writer.new
+        (array_member (codes "suppressions") (spec.suppression reason.now)) }
+{
+    put_key(writer, "suppressions")?;
+    open_array(writer)?;
+    put_suppression(alloc, writer, reason)?;
+    close_array(writer)
+}
+
+fn put_suppressions(
+    alloc: Global,
+    writer: &mut Writer,
+    reason: &Option<Items<u8>>,
+) -> Result<(), AllocError>
+    ensures { Adds result writer.old writer.new (spec.suppressions reason.now) }
+{
+    match reason {
+        None => put_not_suppressed(writer),
+        Some(reason) => put_one_suppression(alloc, writer, reason),
+    }
+}
+
+// ---- results
+
+/// A warning, with this title, in the callback of this head.
+fn put_result_members(
+    alloc: Global,
+    writer: &mut Writer,
+    uri: &Vec<u8>,
+    detail: &WarningDetail,
+    title: &Vec<u8>,
+    head: &Vec<u8>,
+) -> Result<(), AllocError>
+    ensures { Adds result writer.old writer.new
+        (spec.result_members uri.now.items detail.now title.now.items head.now.items) }
+{
+    put_kind_name(writer, "ruleId", detail.kind)?;
+    put_warning_level(writer)?;
+    put_message(alloc, writer, title)?;
+    put_marked_locations(alloc, writer, uri, detail.marks, title)?;
+    put_related(alloc, writer, uri, detail)?;
+    put_fingerprints(alloc, writer, head, title)?;
+    put_properties(alloc, writer, detail)?;
+    put_suppressions(alloc, writer, &detail.reason)
+}
+
+/// A warning.
+fn put_result(
+    alloc: Global,
+    writer: &mut Writer,
+    uri: &Vec<u8>,
+    detail: &WarningDetail,
+) -> Result<(), AllocError>
+    ensures { Adds result writer.old writer.new (spec.result uri.now.items detail.now) }
+{
+    let title = vec_of(alloc, &detail.title)?;
+    let head = vec_of(alloc, &detail.head)?;
+    open_object(writer)?;
+    put_result_members(alloc, writer, uri, detail, &title, &head)?;
+    close_object(writer)
+}
+
+/// Warnings, in their order.
+pub(crate) fn put_warning_results(
+    alloc: Global,
+    writer: &mut Writer,
+    uri: &Vec<u8>,
+    warned: &[WarningDetail],
+) -> Result<(), AllocError>
+    ensures { Adds result writer.old writer.new (flat_map (spec.result uri.now.items) warned.now) }
+{
+    for detail in warned {
+        put_result(alloc, writer, uri, detail)?;
+    }
+    Ok(())
+}

@@ -1,0 +1,372 @@
+//! The pages of the warnings, from docs/RULES.md. `tools/write-pages` writes this file.
+
+pub(crate) const W00: &str = "W00: a comment that allows nothing
+
+A comment `# allow Wnn: ..` has no warning to allow: its number is none of W00 to W06, it gives no reason, or the line after it has no such
+warning.
+
+The bug. The comment looks as if somebody had weighed the warning. If the warning comes back later, it isn't seen.
+
+    filter a altitude 100
+    lock push list
+    pre read {
+      # allow W02: the list is short
+      FltAcquirePushLockExclusive list
+      FltReleasePushLock list
+      return NO_CALLBACK
+    }
+
+W02 is about calls that give an operation away, and line 5 has none. To fix it, remove the comment, or put it on the line before the
+statement that the warning is about. A warning about a lock or a routine is about its declaration.
+";
+
+pub(crate) const W01: &str = "W01: locks that no order allows
+
+The text takes locks one within the other so that no order of its locks fits all places. Some of these places form a circle: at each a
+callback takes the lock that the place before it holds.
+
+The bug. A deadlock. One callback holds the first lock and waits for the second, another holds the second and waits for the first.
+Both wait for ever, and so does each callback that asks for one of these locks later.
+
+    filter a altitude 100
+    lock push list
+    lock push table
+    pre read {
+      FltAcquirePushLockExclusive list
+      FltAcquirePushLockExclusive table
+      FltReleasePushLock table
+      FltReleasePushLock list
+      return NO_CALLBACK
+    }
+    pre cleanup {
+      FltAcquirePushLockExclusive table
+      FltAcquirePushLockExclusive list
+      FltReleasePushLock list
+      FltReleasePushLock table
+      return NO_CALLBACK
+    }
+
+W01 names line 13, which takes `list` and holds `table`, and line 6, which takes `table` and holds `list`. To fix it, take the locks
+in one order everywhere, or release the first before the second is taken:
+
+    filter a altitude 100
+    lock push list
+    lock push table
+    pre read {
+      FltAcquirePushLockExclusive list
+      FltAcquirePushLockExclusive table
+      FltReleasePushLock table
+      FltReleasePushLock list
+      return NO_CALLBACK
+    }
+    pre cleanup {
+      FltAcquirePushLockExclusive list
+      FltAcquirePushLockExclusive table
+      FltReleasePushLock table
+      FltReleasePushLock list
+      return NO_CALLBACK
+    }
+
+When it is wrong. The places of a circle needn't be reached at the same time. A third lock that is held at all of them prevents it, and
+locks that are only ever shared are never waited for. Take the locks in one order all the same: the order is easier to keep than the
+reason why it isn't needed. Where that can't be done, allow the warning at the first place that it names.
+";
+
+pub(crate) const W02: &str = "W02: given away under a lock
+
+`FltCompletePendedPreOperation`, `FltCompletePendedPostOperation` or `FltCbdqInsertIo` is called while a lock is held.
+
+The bug. The operation goes on inside a completion: other callbacks of the filter may run before the call returns. An insert runs
+`canceled` at once if the operation has been cancelled already. If one of these asks for the lock, the thread waits for itself. Others
+wait for as long as the operation takes.
+
+    filter a altitude 100
+    lock fast resuming
+    queue
+    pre read {
+      if irp data {
+        if FltCbdqInsertIo data {
+          if FltQueueGenericWorkItem let_go {
+          }
+          return PENDING
+        }
+      }
+      return NO_CALLBACK
+    }
+    generic let_go {
+      if arg != NULL {
+        FltReleaseContext arg
+      }
+      ExAcquireFastMutex resuming
+      if FltCbdqRemoveNextIo o0 context c0 {
+        if c0 != NULL {
+          FltReleaseContext c0
+        }
+        FltCompletePendedPreOperation o0 NO_CALLBACK
+      }
+      ExReleaseFastMutex resuming
+    }
+    canceled {
+      if arg != NULL {
+        FltReleaseContext arg
+      }
+      FltCompletePendedPreOperation data COMPLETE STATUS_CANCELLED
+    }
+
+W02 names line 23 and the lock `resuming`. To fix it, take the operation out under the lock, release the lock, and complete it then:
+
+    filter a altitude 100
+    lock fast resuming
+    queue
+    pre read {
+      if irp data {
+        if FltCbdqInsertIo data {
+          if FltQueueGenericWorkItem let_go {
+          }
+          return PENDING
+        }
+      }
+      return NO_CALLBACK
+    }
+    generic let_go {
+      if arg != NULL {
+        FltReleaseContext arg
+      }
+      ExAcquireFastMutex resuming
+      if FltCbdqRemoveNextIo o0 context c0 {
+        ExReleaseFastMutex resuming
+        if c0 != NULL {
+          FltReleaseContext c0
+        }
+        FltCompletePendedPreOperation o0 NO_CALLBACK
+      } else {
+        ExReleaseFastMutex resuming
+      }
+    }
+    canceled {
+      if arg != NULL {
+        FltReleaseContext arg
+      }
+      FltCompletePendedPreOperation data COMPLETE STATUS_CANCELLED
+    }
+
+When it is wrong. A lock that no callback takes which may run inside the call does no harm there. Nothing looks at which callbacks
+these are: release the lock first, or allow the warning and say which callbacks take the lock.
+";
+
+pub(crate) const W03: &str = "W03: pended and left
+
+An operation is put into the queue, and nothing takes it out: no callback of the text calls `FltCbdqRemoveNextIo`; or only routines of
+work items do, and the callback returns `PENDING` on a path on which it has queued none of them.
+
+The bug. The thread that reads or writes waits until it gives up. The operation stays in the queue until it is cancelled or the filter
+is unloaded.
+
+    filter a altitude 100
+    queue
+    pre read {
+      if irp data {
+        if FltCbdqInsertIo data {
+          return PENDING
+        }
+      }
+      return NO_CALLBACK
+    }
+    pre cleanup {
+      if FltQueueGenericWorkItem let_go {
+      }
+      return NO_CALLBACK
+    }
+    generic let_go {
+      if arg != NULL {
+        FltReleaseContext arg
+      }
+      if FltCbdqRemoveNextIo o0 context c0 {
+        if c0 != NULL {
+          FltReleaseContext c0
+        }
+        FltCompletePendedPreOperation o0 NO_CALLBACK
+      }
+    }
+    canceled {
+      if arg != NULL {
+        FltReleaseContext arg
+      }
+      FltCompletePendedPreOperation data COMPLETE STATUS_CANCELLED
+    }
+
+W03 names the insert in line 5 and the return in line 6. To fix it, queue the routine after the insert:
+
+    filter a altitude 100
+    queue
+    pre read {
+      if irp data {
+        if FltCbdqInsertIo data {
+          if FltQueueGenericWorkItem let_go {
+          }
+          return PENDING
+        }
+      }
+      return NO_CALLBACK
+    }
+    generic let_go {
+      if arg != NULL {
+        FltReleaseContext arg
+      }
+      if FltCbdqRemoveNextIo o0 context c0 {
+        if c0 != NULL {
+          FltReleaseContext c0
+        }
+        FltCompletePendedPreOperation o0 NO_CALLBACK
+      }
+    }
+    canceled {
+      if arg != NULL {
+        FltReleaseContext arg
+      }
+      FltCompletePendedPreOperation data COMPLETE STATUS_CANCELLED
+    }
+
+When it is wrong. A routine that is queued before the insert doesn't count, since it may have run by then: queue it after the insert. A
+filter may want operations to wait until they are cancelled, or until another callback, as here `pre cleanup`, queues the routine. Allow
+the warning at the insert then, and say what ends the wait. Where the routine couldn't be queued the operation waits too, and no warning
+says so: the next operation that is queued must take out all that it finds, or the callback must complete the operation itself.
+";
+
+pub(crate) const W04: &str = "W04: a value changed without a lock
+
+The value of a context is written where others may have the context, and another use of it may come in between: a read in the same
+callback, or a write in another one, with no lock in common.
+
+The bug. A lost change. Two callbacks read the same number, each adds to it, and the second write undoes the first.
+
+    filter a altitude 100
+    pre write {
+      if FltGetInstanceContext c0 {
+        n0 = value c0
+        n0 = n0 + 1
+        value c0 = n0
+        FltReleaseContext c0
+      }
+      return NO_CALLBACK
+    }
+
+W04 names the write in line 6 and the read in line 4. To fix it, read and write the value under one lock, the same one wherever the
+value of such a context is changed:
+
+    filter a altitude 100
+    lock spin counting
+    pre write {
+      if FltGetInstanceContext c0 {
+        KeAcquireSpinLock counting
+        n0 = value c0
+        n0 = n0 + 1
+        value c0 = n0
+        KeReleaseSpinLock counting
+        FltReleaseContext c0
+      }
+      return NO_CALLBACK
+    }
+
+Others may have a context that the callback got from its stream or instance, that it set there, or that came back in the variable after
+`old`. The same goes for `arg` and for the context of `FltCbdqRemoveNextIo` wherever the text hands over a context of which that is so, to
+whichever callback. Nobody else has a context that was allocated and not set yet: give it its first value there.
+
+When it is wrong. Contexts of two streams count as one, since nothing says which stream an operation is for. A test that is made without
+the lock and made again under it counts as a read: make it under the lock alone. So do writes of one and the same number, as of a flag:
+write it under the lock, or allow the warning at the write. Where the driver uses interlocked operations, such as
+`InterlockedIncrement`, let the text take a spin lock of its own round them: `lock spin interlocked`.
+
+No warning comes where a lock is held at the read and at the write and released in between, where a callback reads without a lock what
+only another one writes, or for the context of a variable that `FltReferenceContext c0 as c1` made.
+";
+
+pub(crate) const W05: &str = "W05: the context that lost is used
+
+`FltSetStreamContext KEEP_IF_EXISTS` or `FltSetInstanceContext KEEP_IF_EXISTS` may fail since another context is set already. The callback
+then reads or writes the value of its own context, or hands that context on.
+
+The bug. Two operations race to set a context, and the one that loses goes on with its own. No other callback will ever find that
+one: what is written there is lost, and locks and counts that it holds guard nothing.
+
+    filter a altitude 100
+    pre read {
+      if FltAllocateContext c0 {
+        if FltSetStreamContext KEEP_IF_EXISTS c0 old c1 {
+        }
+        if c1 != NULL {
+          FltReleaseContext c1
+        }
+        value c0 = 1
+        FltReleaseContext c0
+      }
+      return NO_CALLBACK
+    }
+
+W05 names the set in line 4 and the write in line 9. To fix it, release the own context and go on with the other one:
+
+    filter a altitude 100
+    pre read {
+      if FltAllocateContext c0 {
+        if FltSetStreamContext KEEP_IF_EXISTS c0 old c1 {
+        }
+        if c1 != NULL {
+          FltReleaseContext c0
+          value c1 = 1
+          FltReleaseContext c1
+        } else {
+          value c0 = 1
+          FltReleaseContext c0
+        }
+      }
+      return NO_CALLBACK
+    }
+
+A first value can also be written before the set: where the set fails, the other context has its own.
+
+When it is wrong. The set also fails where no other context is there, as while the instance is torn down. The own context may be used
+then: ask for the other one with `old`, and use the own one only where that is NULL. A test of a number that says the same isn't
+understood.
+";
+
+pub(crate) const W06: &str = "W06: never used or reached
+
+No call names a lock or a routine; no path reaches a statement; or a test asks for a number that its variable never has.
+
+The bug. Something is missing. A routine that isn't queued never completes what waits for it, a lock that isn't taken guards nothing,
+and a branch that isn't reached was meant for a case that now goes another path.
+
+    filter a altitude 100
+    lock spin counting
+    pre read {
+      if n0 == 1 {
+        return COMPLETE STATUS_ACCESS_DENIED
+      }
+      return NO_CALLBACK
+      n0 = 1
+    }
+    generic flush {
+      if arg != NULL {
+        FltReleaseContext arg
+      }
+    }
+
+W06 names the lock in line 2, the statement in line 8, which no path reaches, and the routine in line 10. It doesn't name the test in
+line 4, since the callback writes `n0`, if only in line 8. To fix it, use what is declared, or remove it:
+
+    filter a altitude 100
+    pre read {
+      if FltGetInstanceContext c0 {
+        n0 = value c0
+        FltReleaseContext c0
+      }
+      if n0 == 1 {
+        return COMPLETE STATUS_ACCESS_DENIED
+      }
+      return NO_CALLBACK
+    }
+
+When it is wrong. A lock that only other code of the driver takes needn't be in the text. A test `n0 == 1` of a variable that nothing
+writes can't stand for a condition of the driver that the language doesn't have: the variable is 0. Read it from the value of a context
+before.
+";

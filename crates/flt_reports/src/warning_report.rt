@@ -1,0 +1,230 @@
+//! The report of a warning.
+
+ghost use Rattle.std.specs.Prelude.{◌≡◌, option_copied, IfOk, OnOk};
+ghost use Rattle.flt_details.specs.Page.{Writes};
+ghost use Rattle.flt_reports.specs.MarkOrder.{all_placed};
+ghost use Rattle.flt_reports.specs.WarningReport as spec;
+
+use crate::finding_report::{tell_callback, tell_help, tell_note, tell_numbers};
+use crate::heading::{tell_place, tell_warning_heading};
+use crate::mark_order::{Mark, add_mark, last_line};
+use crate::marks::{Drawing, Stroke};
+use flt_details::{Marks, Page};
+use flt_places::{Lines, Region, Site};
+use flt_warning_details::{RelatedPlace, WarningDetail};
+use flt_warnings::Site as Point;
+use std::alloc::{AllocError, Global};
+
+// ---- what it says, and where
+
+/// Writes the head of a callback, if there is one.
+#[tactic(auto, unfolding(crate::specs::WarningReport::head_part))]
+fn tell_head(page: &mut Page, head: &[u8]) -> Result<(), AllocError>
+    ensures { Writes result page.old page.new (spec.head_part head.now) }
+{
+    if head.is_empty() {
+        Ok(())
+    } else {
+        tell_callback(page, head)
+    }
+}
+
+/// Writes the numbers of a callback and a point, if there are any, and ends the line.
+fn tell_point(page: &mut Page, point: Option<Point>) -> Result<(), AllocError>
+    ensures { Writes result page.old page.new (spec.point_part point) }
+{
+    match point {
+        Some(point) => tell_numbers(page, point.callback, point.point),
+        None => page.bytes(b"\n"),
+    }
+}
+
+/// Writes a warning's kind and title, the file, and where it is.
+#[tactic(auto, unfolding(crate::specs::WarningReport::head_lines))]
+fn tell_head_lines(
+    page: &mut Page,
+    coloured: bool,
+    name: &str,
+    detail: &WarningDetail,
+) -> Result<(), AllocError>
+    ensures { Writes result page.old page.new (spec.head_lines coloured name.now detail.now) }
+{
+    let kind = detail.kind.name();
+    tell_warning_heading(page, coloured, kind, detail.title.as_slice(), name)?;
+    tell_place(page, detail.marks.statement.first)?;
+    tell_head(page, detail.head.as_slice())?;
+    tell_point(page, detail.site)
+}
+
+// ---- the places
+
+/// What of a region is on its first line.
+#[tactic(auto, unfolding(crate::specs::WarningReport::site_of))]
+fn site_of(lines: &Lines<'_>, region: Region) -> Site
+    ensures { result ≡ spec.site_of lines.now region }
+{
+    let first = region.first;
+    let length = if region.end.line == first.line {
+        region.end.column.saturating_sub(first.column)
+    } else {
+        lines.line(first.line).len()
+    };
+    Site {
+        place: first,
+        length,
+    }
+}
+
+/// A mark at a place: at that of the related place of a number, from 0, or at the warning's own.
+fn mark_at(lines: &Lines<'_>, marks: &Marks, related: Option<usize>) -> Mark<Option<usize>>
+    ensures { result ≡ spec.mark_at lines.now marks.now related }
+{
+    Mark {
+        sign: related,
+        site: site_of(lines, marks.statement),
+    }
+}
+
+/// Adds the marks of related places.
+fn add_related(
+    marks: &mut Vec<Mark<Option<usize>>>,
+    lines: &Lines<'_>,
+    related: &[RelatedPlace],
+) -> Result<(), AllocError>
+    ensures { OnOk result (marks.new.items ≡ all_placed marks.old.items (spec.related_marks lines.now 0 related.now)) }
+{
+    for number in 0..related.len() {
+        let place = &related[number];
+        add_mark(marks, mark_at(lines, &place.marks, Some(number)))?;
+    }
+    Ok(())
+}
+
+/// The marks of a warning in the order of their lines.
+#[tactic(auto, unfolding(crate::specs::WarningReport::marks_of))]
+fn marks_of(
+    alloc: Global,
+    lines: &Lines<'_>,
+    detail: &WarningDetail,
+) -> Result<Vec<Mark<Option<usize>>>, AllocError>
+    ensures { IfOk result (λ marks. marks.items ≡ spec.marks_of lines.now detail.now) }
+{
+    let mut marks = Vec::new(alloc);
+    add_mark(&mut marks, mark_at(lines, &detail.marks, None))?;
+    add_related(&mut marks, lines, detail.related.as_slice())?;
+    Ok(marks)
+}
+
+/// What is drawn under a place.
+#[tactic(auto, unfolding(crate::specs::WarningReport::stroke))]
+fn stroke(related: Option<usize>) -> Stroke
+    ensures { result ≡ spec.stroke related }
+{
+    match related {
+        Some(_) => Stroke::Aside,
+        None => Stroke::Warning,
+    }
+}
+
+/// Writes what is said of a related place.
+fn tell_words(page: &mut Page, related: Option<&RelatedPlace>) -> Result<(), AllocError>
+    ensures { Writes result page.old page.new (spec.words_of (option_copied related.entry)) }
+{
+    match related {
+        Some(related) => page.line(&[b" ", related.words.as_slice()]),
+        None => page.bytes(b"\n"),
+    }
+}
+
+/// Writes what is behind a mark: nothing at the warning's own place.
+#[tactic(auto, unfolding(crate::specs::WarningReport::mark_words))]
+fn tell_mark(
+    page: &mut Page,
+    related: &[RelatedPlace],
+    number: Option<usize>,
+) -> Result<(), AllocError>
+    ensures { Writes result page.old page.new (spec.mark_words related.now number) }
+{
+    match number {
+        Some(number) => tell_words(page, related.get(number)),
+        None => page.bytes(b"\n"),
+    }
+}
+
+/// Draws marks, in their order, with what they say.
+#[tactic(auto, unfolding(crate::specs::WarningReport::all_drawn))]
+fn draw_marks(
+    page: &mut Page,
+    drawing: &mut Drawing,
+    lines: &Lines<'_>,
+    related: &[RelatedPlace],
+    marks: &[Mark<Option<usize>>],
+) -> Result<(), AllocError>
+    ensures { Writes result page.old page.new
+        (spec.all_drawn drawing.old.coloured drawing.old.margin lines.now related.now drawing.old.last marks.now) }
+{
+    for mark in marks {
+        let line = lines.line(mark.site.place.line);
+        drawing.draw(page, line, &mark.site, stroke(mark.sign))?;
+        tell_mark(page, related, mark.sign)?;
+    }
+    Ok(())
+}
+
+/// Draws the places of a warning, in the order of their lines.
+#[tactic(auto, unfolding(crate::specs::WarningReport::places_drawn))]
+fn draw_places(
+    alloc: Global,
+    page: &mut Page,
+    coloured: bool,
+    lines: &Lines<'_>,
+    detail: &WarningDetail,
+) -> Result<(), AllocError>
+    ensures { Writes result page.old page.new (spec.places_drawn coloured lines.now detail.now) }
+{
+    let marks = marks_of(alloc, lines, detail)?;
+    let marks = marks.as_slice();
+    let first = detail.marks.statement.first.line;
+    let mut drawing = Drawing::new(coloured, last_line(first, marks));
+    draw_marks(page, &mut drawing, lines, detail.related.as_slice(), marks)
+}
+
+// ---- all of it
+
+/// Writes the report of a warning.
+#[tactic(auto, unfolding(crate::specs::WarningReport::warning_report))]
+fn tell(
+    alloc: Global,
+    page: &mut Page,
+    coloured: bool,
+    name: &str,
+    lines: &Lines<'_>,
+    detail: &WarningDetail,
+) -> Result<(), AllocError>
+    ensures { Writes result page.old page.new (spec.warning_report coloured name.now lines.now detail.now) }
+{
+    tell_head_lines(page, coloured, name, detail)?;
+    draw_places(alloc, page, coloured, lines, detail)?;
+    tell_help(alloc, page, detail.help.as_slice())?;
+    tell_note(page, detail.note.as_slice())
+}
+
+/// What is reported of a warning in a file of this name, which has these lines: what it says and where, the lines of its places, what to
+/// write, and what may come of it. Whole lines. With `coloured`, signs of a terminal colour them.
+///
+/// # Errors
+///
+/// Where a growth was refused.
+pub fn report_warning(
+    alloc: Global,
+    coloured: bool,
+    name: &str,
+    lines: &Lines<'_>,
+    detail: &WarningDetail,
+) -> Result<Vec<u8>, AllocError>
+    ensures { IfOk result (λ report. report.items ≡ spec.warning_report coloured name.now lines.now detail.now) }
+{
+    let mut page = Page::new(alloc);
+    tell(alloc, &mut page, coloured, name, lines, detail)?;
+    Ok(page.out)
+}

@@ -1,0 +1,2 @@
+pub mod Comments
+mod Orderly

@@ -1,0 +1,53 @@
+-- Comments that allow nothing (W00). This project's own program.
+use Rattle.std.specs.Prelude.{ℕ, [], ◌∷◌, codes, Option, Some, None}
+use Rattle.std.specs.Fmt.{decimal}
+use Rattle.std.specs.List.{concat}
+use Rattle.flt_tree.specs.Names.{Text}
+use Rattle.flt_details.specs.Page.{marked}
+use Rattle.flt_warnings.specs.Kinds.{kind_name}
+use Rattle.flt_warnings.specs.declared.warning.Kind.{Kind}
+use Rattle.flt_warnings.specs.declared.warning.Kind.TheVariants.{W00}
+use Rattle.flt_allowances.specs.declared.allowances.Allowance.{Allowance}
+use Rattle.flt_warning_details.specs.Places.{bare}
+use Rattle.flt_warning_details.specs.declared.detail.WarningDetail.{WarningDetail}
+
+-- why a comment that names a kind allows nothing: it has no reason, or its line has no such warning that no comment before it allows
+unfoldable pub named_title : Kind → Text → ℕ → Text
+named_title kind [] statement = codes "this comment allows nothing: it gives no reason"
+named_title kind (b ∷ reason) statement =
+    concat (codes "this comment allows no " ∷ marked (kind_name kind) ∷ codes " on line " ∷ decimal statement ∷ [])
+
+-- what to do with it
+unfoldable pub named_help : Kind → Text → Text
+named_help kind [] = concat (codes "write why after a colon: `# allow " ∷ kind_name kind ∷ codes ": ..`" ∷ [])
+named_help kind (b ∷ reason) = codes "remove the comment, or put it on the line before the statement of the warning"
+
+abbrev pub title_by : Option Kind → Text → ℕ → Text
+title_by None reason statement = codes "this comment allows nothing: no warning has this number"
+title_by (Some kind) reason statement = named_title kind reason statement
+
+abbrev pub help_by : Option Kind → Text → Text
+help_by None reason = codes "write a number from `W01` to `W06`"
+help_by (Some kind) reason = named_help kind reason
+
+-- why a comment allows nothing
+abbrev pub title_of : Allowance → Text
+title_of a = title_by a.kind a.reason a.statement
+
+-- what to do with it
+abbrev pub help_of : Allowance → Text
+help_of a = help_by a.kind a.reason
+
+-- what is said of it
+abbrev pub idle_detail : Allowance → WarningDetail
+idle_detail a = record {
+  kind = W00;
+  site = None;
+  marks = bare a.region;
+  head = [];
+  title = title_of a;
+  help = help_of a;
+  note = [];
+  related = [];
+  reason = None;
+}

@@ -1,0 +1,12 @@
+pub mod Allowing
+pub mod Comments
+pub mod Contexts
+pub mod Details
+pub mod Locks
+pub mod Options
+pub mod Orderly
+pub mod Parsed
+pub mod Places
+pub mod Queue
+pub mod Saying
+pub mod Unused

@@ -1,0 +1,107 @@
+//! Comments that allow nothing (W00).
+
+ghost use Rattle.std.specs.Prelude.{◌≡◌, [], IfOk};
+ghost use Rattle.flt_details.specs.Page.{Writes};
+ghost use Rattle.flt_warning_details.specs.Comments as spec;
+
+use crate::detail::WarningDetail;
+use crate::places::bare;
+use flt_allowances::Allowance;
+use flt_details::{Page, Part};
+use flt_warnings::Kind;
+use sqlite_items::Items;
+use std::alloc::{AllocError, Global};
+
+/// Writes why a comment that names a kind allows nothing.
+#[tactic(auto, unfolding(crate::specs::Comments::named_title))]
+fn tell_named_title(
+    page: &mut Page,
+    kind: Kind,
+    reason: &[u8],
+    statement: usize,
+) -> Result<(), AllocError>
+    ensures { Writes result page.old page.new (spec.named_title kind reason.now statement) }
+{
+    match reason {
+        [] => page.texts(&["this comment allows nothing: it gives no reason"]),
+        [_, ..] => page.say(&[
+            Part::Text("this comment allows no "),
+            Part::Word(kind.name()),
+            Part::Text(" on line "),
+            Part::Number(statement),
+        ]),
+    }
+}
+
+/// Writes what to do with it.
+#[tactic(auto, unfolding(crate::specs::Comments::named_help))]
+fn tell_named_help(page: &mut Page, kind: Kind, reason: &[u8]) -> Result<(), AllocError>
+    ensures { Writes result page.old page.new (spec.named_help kind reason.now) }
+{
+    match reason {
+        [] => page.texts(&["write why after a colon: `# allow ", kind.name(), ": ..`"]),
+        [_, ..] => page.texts(&[
+            "remove the comment, or put it on the line before the statement of the warning",
+        ]),
+    }
+}
+
+/// Writes why a comment allows nothing.
+fn tell_title(page: &mut Page, allowance: &Allowance) -> Result<(), AllocError>
+    ensures { Writes result page.old page.new (spec.title_of allowance.now) }
+{
+    match allowance.kind {
+        Some(kind) => tell_named_title(
+            page,
+            kind,
+            allowance.reason.as_slice(),
+            allowance.statement,
+        ),
+        None => page.texts(&["this comment allows nothing: no warning has this number"]),
+    }
+}
+
+/// Writes what to do with it.
+fn tell_help(page: &mut Page, allowance: &Allowance) -> Result<(), AllocError>
+    ensures { Writes result page.old page.new (spec.help_of allowance.now) }
+{
+    match allowance.kind {
+        Some(kind) => tell_named_help(page, kind, allowance.reason.as_slice()),
+        None => page.texts(&["write a number from `W01` to `W06`"]),
+    }
+}
+
+fn title_of(alloc: Global, allowance: &Allowance) -> Result<Items<u8>, AllocError>
+    ensures { IfOk result (λ z. z ≡ spec.title_of allowance.now) }
+{
+    let mut page = Page::new(alloc);
+    tell_title(&mut page, allowance)?;
+    Ok(Items::from_vec(page.out))
+}
+
+fn help_of(alloc: Global, allowance: &Allowance) -> Result<Items<u8>, AllocError>
+    ensures { IfOk result (λ z. z ≡ spec.help_of allowance.now) }
+{
+    let mut page = Page::new(alloc);
+    tell_help(&mut page, allowance)?;
+    Ok(Items::from_vec(page.out))
+}
+
+/// What is said of a comment that allows nothing.
+pub(crate) fn idle_detail(alloc: Global, allowance: &Allowance) -> Result<WarningDetail, AllocError>
+    ensures { IfOk result (λ d. d ≡ spec.idle_detail allowance.now) }
+{
+    let title = title_of(alloc, allowance)?;
+    let help = help_of(alloc, allowance)?;
+    Ok(WarningDetail {
+        kind: Kind::W00,
+        site: None,
+        marks: bare(allowance.region),
+        head: Items::new(alloc),
+        title,
+        help,
+        note: Items::new(alloc),
+        related: Items::new(alloc),
+        reason: None,
+    })
+}

@@ -1,0 +1,243 @@
+//! What is said of all warnings of a text.
+
+ghost use Rattle.std.specs.Prelude.{◌≡◌, ◌<◌, ◌++◌, flat_map, IfOk, OnOk};
+ghost use Rattle.flt_warning_details.specs.Details as spec;
+ghost use Rattle.flt_warning_details.specs.Parsed.{of_parsed};
+
+use crate::allowing::{is_needed, reason_for};
+use crate::comments::idle_detail;
+use crate::detail::WarningDetail;
+use crate::parsed::ParsedText;
+use crate::saying::{head_of, help_of, marks_of, note_of, related_of, title_of};
+use flt_allowances::{Allowance, allowances};
+use flt_analyse::{AnalyseFault, Ticks, analyse};
+use flt_cert::FullCert;
+use flt_details::{Scene, tokens_of};
+use flt_explain::Finding;
+use flt_graph::Graph;
+use flt_places::Lines;
+use flt_syntax::Tree;
+use flt_warnings::{AllowedKinds, Kind, Warning, warnings};
+use sqlite_items::Items;
+use std::alloc::{AllocError, Global};
+use std::marker::Brand;
+use std::sync::ledger::{Blank, Ledger};
+
+// ---- the certificate
+
+/// The least certificate of a text; none where none covers it.
+fn certificate_with<L: Ledger>(
+    alloc: Global,
+    graph: &Graph,
+    blank: Blank,
+) -> Result<Option<FullCert>, AllocError>
+    requires name { blank.name ≡ L.name }
+    requires parts { blank.parts ≡ L.parts }
+    requires some { 0 < blank.parts }
+    ensures { IfOk result (spec.IsLeastOf graph.now) }
+{
+    let mut ticks = Ticks::<L, 0, 0>::new(blank);
+    match analyse(alloc, graph, &mut ticks) {
+        Ok(cert) => Ok(Some(cert)),
+        Err(AnalyseFault::Refused(_)) => Ok(None),
+        Err(AnalyseFault::OutOfMemory) => Err(AllocError),
+    }
+}
+
+fn certificate(alloc: Global, graph: &Graph) -> Result<Option<FullCert>, AllocError>
+    ensures { IfOk result (spec.IsLeastOf graph.now) }
+{
+    certificate_with::<Brand>(alloc, graph, Blank::new(1))
+}
+
+// ---- what is said
+
+/// What is said of a warning.
+fn detail_of(
+    alloc: Global,
+    text: &ParsedText<'_>,
+    comments: &[Allowance],
+    warning: &Warning,
+) -> Result<WarningDetail, AllocError>
+    ensures { IfOk result (λ d. d ≡ spec.detail_of (of_parsed text.now) comments.now warning.now) }
+{
+    let marks = marks_of(alloc, text, warning)?;
+    let head = Items::from_slice(alloc, head_of(text, warning))?;
+    let title = title_of(alloc, text, warning)?;
+    let help = help_of(alloc, text, warning)?;
+    let note = note_of(alloc, text, warning)?;
+    let related = related_of(alloc, text, warning)?;
+    let reason = reason_for(alloc, text, comments, warning)?;
+    Ok(WarningDetail {
+        kind: warning.kind(),
+        site: warning.site(),
+        marks,
+        head,
+        title,
+        help,
+        note,
+        related,
+        reason,
+    })
+}
+
+/// Adds what is said of a warning, if its kind isn't left out.
+fn add_detail(
+    alloc: Global,
+    all: &mut Items<WarningDetail>,
+    text: &ParsedText<'_>,
+    allowed: AllowedKinds,
+    comments: &[Allowance],
+    warning: &Warning,
+) -> Result<(), AllocError>
+    ensures { OnOk result (all.new ≡ all.old ++ spec.detail_by (of_parsed text.now) allowed comments.now warning.now) }
+{
+    if !allowed.allows(warning.kind()) {
+        all.push(detail_of(alloc, text, comments, warning)?)?;
+    }
+    Ok(())
+}
+
+/// What is said of some warnings.
+fn warned(
+    alloc: Global,
+    text: &ParsedText<'_>,
+    allowed: AllowedKinds,
+    comments: &[Allowance],
+    warnings: &[Warning],
+) -> Result<Items<WarningDetail>, AllocError>
+    ensures { IfOk result (λ all. all ≡ flat_map (spec.detail_by (of_parsed text.now) allowed comments.now) warnings.now) }
+{
+    let mut all = Items::new(alloc);
+    for warning in warnings {
+        add_detail(alloc, &mut all, text, allowed, comments, warning)?;
+    }
+    Ok(all)
+}
+
+/// Adds what is said of the comment of a number, if it allows nothing.
+fn add_idle(
+    alloc: Global,
+    all: &mut Items<WarningDetail>,
+    text: &ParsedText<'_>,
+    comments: &[Allowance],
+    warnings: &[Warning],
+    number: usize,
+) -> Result<(), AllocError>
+    ensures { OnOk result (all.new ≡ all.old ++ spec.idle_at (of_parsed text.now) comments.now warnings.now number) }
+{
+    if let Some(comment) = comments.get(number) {
+        if !is_needed(text, warnings, &comments[..number], comment) {
+            all.push(idle_detail(alloc, comment)?)?;
+        }
+    }
+    Ok(())
+}
+
+/// What is said of the comments that allow nothing.
+#[tactic(auto, using(crate::proofs::Comments::one_comment, crate::proofs::Comments::no_comment))]
+fn idle(
+    alloc: Global,
+    text: &ParsedText<'_>,
+    comments: &[Allowance],
+    warnings: &[Warning],
+) -> Result<Items<WarningDetail>, AllocError>
+    ensures { IfOk result (λ all. all ≡ spec.idle (of_parsed text.now) comments.now warnings.now) }
+{
+    let mut all = Items::new(alloc);
+    for number in 0..comments.len() {
+        add_idle(alloc, &mut all, text, comments, warnings, number)?;
+    }
+    Ok(all)
+}
+
+/// The same, unless W00 is left out.
+fn idle_unless(
+    alloc: Global,
+    text: &ParsedText<'_>,
+    allowed: AllowedKinds,
+    comments: &[Allowance],
+    warnings: &[Warning],
+) -> Result<Items<WarningDetail>, AllocError>
+    ensures { IfOk result (λ all. all ≡ spec.idle_unless (of_parsed text.now) allowed comments.now warnings.now) }
+{
+    if allowed.allows(Kind::W00) {
+        Ok(Items::new(alloc))
+    } else {
+        idle(alloc, text, comments, warnings)
+    }
+}
+
+/// What is said of the warnings of a text and of its comments that allow nothing.
+fn details(
+    alloc: Global,
+    text: &ParsedText<'_>,
+    allowed: AllowedKinds,
+    comments: &[Allowance],
+    warnings: &[Warning],
+) -> Result<Items<WarningDetail>, AllocError>
+    ensures { IfOk result (λ all. all ≡ spec.details (of_parsed text.now) allowed comments.now warnings.now) }
+{
+    let mut all = warned(alloc, text, allowed, comments, warnings)?;
+    let others = idle_unless(alloc, text, allowed, comments, warnings)?;
+    all.append(others)?;
+    Ok(all)
+}
+
+/// What is said of the warnings of a text that a certificate covers.
+fn certified(
+    alloc: Global,
+    text: &[u8],
+    tree: &Tree,
+    graph: &Graph,
+    cert: &FullCert,
+    allowed: AllowedKinds,
+) -> Result<Items<WarningDetail>, AllocError>
+    ensures { IfOk result (spec.AreDetailsBy text.now tree.now.filter graph.now cert.now allowed) }
+{
+    let lines = Lines::of(alloc, text)?;
+    let tokens = tokens_of(alloc, text)?;
+    let parsed = ParsedText {
+        scene: Scene {
+            lines: &lines,
+            tree,
+            graph,
+        },
+        tokens: tokens.as_slice(),
+    };
+    let comments = allowances(alloc, text)?;
+    let found = warnings(alloc, graph, cert)?;
+    details(
+        alloc,
+        &parsed,
+        allowed,
+        comments.as_slice(),
+        found.as_slice(),
+    )
+}
+
+/// What is said of the warnings of a text in which nothing is found, by its least certificate: in the order of `flt_warnings::warnings`,
+/// and after them of each comment that allows nothing, in the order of the text. Kinds that are `allowed` are left out. Of a text with
+/// findings nothing is said.
+///
+/// # Errors
+///
+/// Where a growth was refused.
+pub fn warning_details(
+    alloc: Global,
+    text: &[u8],
+    tree: &Tree,
+    graph: &Graph,
+    found: &[Finding],
+    allowed: AllowedKinds,
+) -> Result<Items<WarningDetail>, AllocError>
+    ensures { IfOk result (spec.AreWarningDetails text.now tree.now.filter graph.now found.now allowed) }
+{
+    if let [_, ..] = found {
+        return Ok(Items::new(alloc));
+    }
+    match certificate(alloc, graph)? {
+        Some(cert) => certified(alloc, text, tree, graph, &cert, allowed),
+        None => Ok(Items::new(alloc)),
+    }
+}
