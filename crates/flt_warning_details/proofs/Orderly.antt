@@ -1,5 +1,5 @@
 -- Why a text of which no circle is warned takes its locks in an order: a circle comes first among the warnings, and its kind isn't left out.
-use Rattle.std.proofs.Common.{◌≡◌, Bool, true, false, List, [], ◌∷◌, ◌++◌, Option, Some, None, sym, ap, refl, ◌∙◌, inl, inr, tt}
+use Rattle.std.proofs.Common.{◌≡◌, Bool, true, false, List, [], ◌∷◌, ◌++◌, Option, Some, None, sym, ap, refl, ◌∙◌, inl, inr}
 use Rattle.std.specs.Prelude.{◌⊎◌}
 use Rattle.flt_tree.specs.WellFormed.{IsWellFormed}
 use Rattle.flt_syntax.specs.Spelling.{SpelledIsWellFormed}
@@ -18,7 +18,7 @@ use Rattle.flt_warnings.specs.declared.warning.Kind.TheVariants.{W01}
 use Rattle.flt_warnings.specs.declared.warning.Warning.{Warning}
 use Rattle.flt_warnings.specs.declared.warning.Warning.TheVariants.{LockCircle}
 use Rattle.flt_allowances.specs.Allowances.{allowances_of}
-use Rattle.flt_allowances.specs.declared.allowances.Allowance.{Allowance}
+use Rattle.flt_allowances.specs.declared.of_text.Allowance.{Allowance}
 use Rattle.flt_warning_details.specs.Details.{AreCertified, AreDetailsBy, IsUncovered, details}
 use Rattle.flt_warning_details.specs.Orderly.{TextsWithoutCirclesAreOrderly, warns_of_circle}
 use Rattle.flt_warning_details.specs.Parsed.{Parsed, parsed}
