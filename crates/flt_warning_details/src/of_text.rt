@@ -135,7 +135,7 @@ fn add_idle(
 }
 
 /// What is said of the comments that allow nothing.
-#[tactic(auto, using(crate::proofs::Idle::one_comment, crate::proofs::Comments::no_comment))]
+#[tactic(auto, using(crate::proofs::IdleComments::one_comment, crate::proofs::IdleComments::no_comment))]
 fn idle(
     alloc: Global,
     text: &ParsedText<'_>,
