@@ -13,36 +13,39 @@ use Rattle.flt_allowances.specs.Marks.{CommentsBeginWithMarks, begins_with_mark}
 
 -- ---- where the first byte is that is no blank
 
+short_more : (b : ℕ) (z : Text) → length (after_blanks z) ≤ length z → (t : Bool) → is_blank b ≡ t →
+    length (after_blanks (b ∷ z)) ≤ length (b ∷ z)
+short_more b z less true e = rw e (omega (arith, less))
+short_more b z less false e = rw e (omega arith)
+
 short : (z : Text) → length (after_blanks z) ≤ length z
 short [] = omega arith
-short (b ∷ z) = by (is_blank b) refl
-  where
-    by : (t : Bool) → is_blank b ≡ t → length (after_blanks (b ∷ z)) ≤ length (b ∷ z)
-    by true e = let less = short z in rw e (omega (arith, less))
-    by false e = rw e (omega arith)
+short (b ∷ z) = short_more b z (short z) (is_blank b) refl
+
+first_more : (b : ℕ) (z : Text) → get_or z (length z - length (after_blanks z)) 0 ≡ get_or (after_blanks z) 0 0 → (t : Bool) → is_blank b ≡ t →
+    get_or (b ∷ z) (length (b ∷ z) - length (after_blanks (b ∷ z))) 0 ≡ get_or (after_blanks (b ∷ z)) 0 0
+first_more b z is true e =
+    let less = short z in
+    let next : length (b ∷ z) - length (after_blanks z) ≡ suc (length z - length (after_blanks z)) = omega (arith, less) in
+    rw (e, next) is
+first_more b z is false e =
+    let none : length (b ∷ z) - length (b ∷ z) ≡ 0 = omega arith in
+    rw (e, none) refl
 
 first_at : (z : Text) → get_or z (length z - length (after_blanks z)) 0 ≡ get_or (after_blanks z) 0 0
 first_at [] = refl
-first_at (b ∷ z) = by (is_blank b) refl
-  where
-    by : (t : Bool) → is_blank b ≡ t → get_or (b ∷ z) (length (b ∷ z) - length (after_blanks (b ∷ z))) 0 ≡ get_or (after_blanks (b ∷ z)) 0 0
-    by true e =
-        let less = short z in
-        let next : length (b ∷ z) - length (after_blanks z) ≡ suc (length z - length (after_blanks z)) = omega (arith, less) in
-        rw (e, next) (first_at z)
-    by false e =
-        let none : length (b ∷ z) - length (b ∷ z) ≡ 0 = omega arith in
-        rw (e, none) refl
+first_at (b ∷ z) = first_more b z (first_at z) (is_blank b) refl
 
 -- a line without its end begins as the line does
+alike_more : (n b : ℕ) (z : Text) → (get_or (after_blanks (take n z)) 0 0 ≡ 35 → get_or (after_blanks z) 0 0 ≡ 35) →
+    get_or (after_blanks (b ∷ take n z)) 0 0 ≡ 35 → (t : Bool) → is_blank b ≡ t → get_or (after_blanks (b ∷ z)) 0 0 ≡ 35
+alike_more n b z others is true e = rw e (others (rw e at is))
+alike_more n b z others is false e = rw e (rw e at is)
+
 begins_alike : (n : ℕ) (z : Text) → get_or (after_blanks (take n z)) 0 0 ≡ 35 → get_or (after_blanks z) 0 0 ≡ 35
 begins_alike zero z is = absurd (omega (arith, is))
 begins_alike (suc n) [] is = is
-begins_alike (suc n) (b ∷ z) is = by (is_blank b) refl
-  where
-    by : (t : Bool) → is_blank b ≡ t → get_or (after_blanks (b ∷ z)) 0 0 ≡ 35
-    by true e = rw e (begins_alike n z (rw e at is))
-    by false e = rw e (rw e at is)
+begins_alike (suc n) (b ∷ z) is = alike_more n b z (begins_alike n z) is (is_blank b) refl
 
 -- ---- a line that is a comment
 
