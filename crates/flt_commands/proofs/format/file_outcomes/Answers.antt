@@ -19,7 +19,8 @@ loop-number-preserved g c =
     record {
       are = outcome_more c.args.mode c.args.names.now c.args.texts.now c.loop-number.number name other c.index-texts-number.result _
           (omega (arith, c.requires, c.loop-number-test.true)) c.loop-number-test.true refl c.index-texts-number.is
-          c.loop-number.files.items _ c.in_ok-file.file c.loop-number.invariant.are c.in_ok-file.ensures.named (rw c.as_slice.ensures.value at c.in_ok-file.ensures.is)
+          c.loop-number.files.items _ c.in_ok-file.file c.loop-number.invariant.are c.in_ok-file.ensures.named
+          (rw c.as_slice.ensures.value at c.in_ok-file.ensures.is)
           c.in_ok-push.ensures.items;
       done = done_more (g.P.Pictures.written c.loop-number.pictures) (g.P.Pictures.written c.file_outcome.new.pictures)
           c.in_ok-file.ensures.kept c.args.mode c.loop-number.files.items _ c.in_ok-file.file c.loop-number.invariant.done
