@@ -1,6 +1,6 @@
 -- What texts come to that are laid out, and how that is printed. This project's own program.
 use Rattle.std.specs.List.{list_any}
-use Rattle.std.specs.Prelude.{ℕ, Bool, true, false, ◌&&◌, if◌then◌else◌, List, [], ◌∷◌, ◌++◌, codes, string_bytes}
+use Rattle.std.specs.Prelude.{ℕ, Bool, true, false, ◌&&◌, if◌then◌else◌, List, [], ◌∷◌, ◌++◌, codes, flat_map, string_bytes}
 use Rattle.flt_details.specs.Closing.{syntax_line}
 use Rattle.flt_forms.specs.declared.unread.UnreadFile.{UnreadFile}
 use Rattle.flt_syntax.specs.declared.fault.SyntaxFault.{SyntaxFault}
@@ -10,6 +10,7 @@ use Rattle.flt_words.specs.declared.request.FormatMode.TheVariants as modes
 use Rattle.flt_commands.specs.Inputs.{Text}
 use Rattle.flt_commands.specs.declared.outcomes.FileOutcome.{FileOutcome}
 use Rattle.flt_commands.specs.declared.outcomes.Outcome.{Outcome}
+use Rattle.flt_commands.specs.declared.outcomes.Outcomes.{Outcomes}
 use Rattle.flt_commands.specs.declared.outcomes.Outcome.TheVariants.{Same, Other, Unwritten, Fault, Long}
 
 -- ---- the exit status
@@ -59,7 +60,7 @@ printed modes.Write file = []
 abbrev pub unread_line : UnreadFile → List ℕ
 unread_line file = codes "cannot read " ++ (visible (string_bytes file.name) ++ 10 ∷ [])
 
--- why a file has no layout: of one that is printed as `check` says it, of others behind their names
+-- why a file has no layout: of one that is printed as `check` says it, of others after their names
 abbrev pub reason_line : FormatMode → Text → List ℕ → List ℕ
 reason_line modes.Print name why = why ++ 10 ∷ []
 reason_line _ name why = visible name ++ (codes ": " ++ (why ++ 10 ∷ []))
@@ -72,7 +73,7 @@ fault_line mode name f = reason_line mode name (syntax_line f)
 abbrev pub unwritten_line : Text → List ℕ
 unwritten_line name = codes "cannot write " ++ (visible name ++ 10 ∷ [])
 
--- what stands on the standard error of the file of a name
+-- what is on the standard error of the file of a name
 abbrev pub remark : FormatMode → Text → Outcome → List ℕ
 remark mode name (Same layout) = []
 remark mode name (Other layout) = []
@@ -83,3 +84,7 @@ remark mode name Long = reason_line mode name (codes "layout too long")
 -- the same of a file
 abbrev pub remarked : FormatMode → FileOutcome → List ℕ
 remarked mode file = remark mode (string_bytes file.name) file.outcome
+
+-- the same of all files: first of those that aren't read
+abbrev pub all_remarks : FormatMode → Outcomes → List ℕ
+all_remarks mode found = flat_map unread_line found.unread.items ++ flat_map (remarked mode) found.files.items

@@ -10,7 +10,7 @@ use flt_syntax::SyntaxFault;
 use flt_words::{FormatMode, visible};
 use std::alloc::{AllocError, Global};
 
-/// What the text of a file comes to, where it is laid out with the certificate behind it.
+/// What the text of a file comes to, where it is laid out with the certificate after it.
 #[derive(Drop)]
 pub enum Outcome {
     /// The file is as its layout, which has these bytes.
@@ -30,6 +30,13 @@ pub enum Outcome {
 pub struct FileOutcome {
     pub name: String,
     pub outcome: Outcome,
+}
+
+/// What some files come to, and the others, which aren't read.
+#[derive(Drop)]
+pub struct Outcomes {
+    pub files: Vec<FileOutcome>,
+    pub unread: Vec<UnreadFile>,
 }
 
 // ---- the exit status
@@ -149,7 +156,7 @@ fn unread_line(alloc: Global, file: &UnreadFile) -> Result<String, AllocError>
 }
 
 /// The same of some files.
-pub(crate) fn unread_lines(alloc: Global, files: &[UnreadFile]) -> Result<Vec<u8>, AllocError>
+fn unread_lines(alloc: Global, files: &[UnreadFile]) -> Result<Vec<u8>, AllocError>
     ensures { IfOk result (λ lines. lines.items ≡ flat_map spec.unread_line files.now) }
 {
     let mut lines = Vec::new(alloc);
@@ -159,7 +166,7 @@ pub(crate) fn unread_lines(alloc: Global, files: &[UnreadFile]) -> Result<Vec<u8
     Ok(lines)
 }
 
-/// Why a file has no layout, in a line: of one that is printed as `check` says it, of others behind their names.
+/// Why a file has no layout, in a line: of one that is printed as `check` says it, of others after their names.
 fn reason_line(
     alloc: Global,
     mode: FormatMode,
@@ -192,7 +199,7 @@ fn fault_line(
     reason_line(alloc, mode, name, why.as_str())
 }
 
-/// That a file isn't written, in a line behind those that say why.
+/// That a file isn't written, in a line after those that say why.
 fn unwritten_line(alloc: Global, name: &str, why: &[u8]) -> Result<Vec<u8>, AllocError>
     ensures { IfOk result (λ lines. lines.items ≡ why.now ++ spec.unwritten_line name.now) }
 {
@@ -203,7 +210,7 @@ fn unwritten_line(alloc: Global, name: &str, why: &[u8]) -> Result<Vec<u8>, Allo
     Ok(lines)
 }
 
-/// What stands on the standard error of the file of a name.
+/// What is on the standard error of the file of a name.
 fn remark(
     alloc: Global,
     mode: FormatMode,
@@ -220,12 +227,8 @@ fn remark(
     }
 }
 
-/// What stands on the standard error of some files.
-pub(crate) fn remarks(
-    alloc: Global,
-    mode: FormatMode,
-    files: &[FileOutcome],
-) -> Result<Vec<u8>, AllocError>
+/// What is on the standard error of some files.
+fn remarks(alloc: Global, mode: FormatMode, files: &[FileOutcome]) -> Result<Vec<u8>, AllocError>
     ensures { IfOk result (λ lines. lines.items ≡ flat_map (spec.remarked mode) files.now) }
 {
     let mut lines = Vec::new(alloc);
@@ -233,5 +236,19 @@ pub(crate) fn remarks(
         let name = file.name.as_str();
         lines.extend_from_slice(remark(alloc, mode, name, &file.outcome)?.as_slice())?;
     }
+    Ok(lines)
+}
+
+/// Whole lines on all files that aren't read, have no layout or aren't written.
+pub(crate) fn all_remarks(
+    alloc: Global,
+    mode: FormatMode,
+    found: &Outcomes,
+) -> Result<Vec<u8>, AllocError>
+    ensures { IfOk result (λ lines. lines.items ≡ spec.all_remarks mode found.now) }
+{
+    let mut lines = unread_lines(alloc, found.unread.as_slice())?;
+    let others = remarks(alloc, mode, found.files.as_slice())?;
+    lines.extend_from_slice(others.as_slice())?;
     Ok(lines)
 }

@@ -46,7 +46,7 @@ Both wait for ever, and so does each callback that asks for one of these locks l
       return NO_CALLBACK
     }
 
-W01 names line 6, which takes `table` and holds `list`, and line 13, which takes `list` and holds `table`. To fix it, take the locks
+W01 names line 13, which takes `list` and holds `table`, and line 6, which takes `table` and holds `list`. To fix it, take the locks
 in one order everywhere, or release the first before the second is taken:
 
     filter a altitude 100

@@ -20,7 +20,7 @@ static CASES: [Case<'static>; 12] = [
     // A circle of two locks, and a third lock that no call names.
     (
         "filter a altitude 1 lock push a lock push b lock push c pre read { FltAcquirePushLockShared a FltAcquirePushLockShared b FltReleasePushLock b FltReleasePushLock a return NO_CALLBACK } pre write { FltAcquirePushLockShared b FltAcquirePushLockShared a FltReleasePushLock a FltReleasePushLock b return NO_CALLBACK }",
-        &[("W01", Some((0, 1))), ("W06", None)],
+        &[("W01", Some((1, 1))), ("W06", None)],
     ),
     // An insert under a lock, in a text that removes nothing.
     (

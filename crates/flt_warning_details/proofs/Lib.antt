@@ -1,2 +1,2 @@
-pub mod Comments
+pub mod IdleComments
 mod Orderly

@@ -128,9 +128,13 @@ used_from g callback s marks point zero = []
 used_from g callback s marks point (suc n) =
     option_to_list (use_at g s marks (site callback point)) ++ used_from g callback s marks (point + 1) n
 
+-- the same at all points of a callback
+abbrev pub used_in : Graph → ℕ → Sharing → List Bool → List SharedUse
+used_in g callback s marks = used_from g callback s marks 0 (points_at g callback)
+
 -- the uses of the variable's contexts in a callback
 abbrev pub uses_of : Graph → ℕ → Sharing → List SharedUse
-uses_of g callback s = used_from g callback s (shared g callback s) 0 (points_at g callback)
+uses_of g callback s = used_in g callback s (shared g callback s)
 
 -- ---- in a text
 

@@ -244,8 +244,24 @@ fn add_use(
     Ok(())
 }
 
-/// Adds what a callback does with the contexts of a variable.
+/// Adds what a callback does with the variable's contexts, where others may have them at the marked points.
 #[tactic(auto, using(crate::proofs::Sharing::one_used, crate::proofs::Sharing::none_used))]
+fn add_marked(
+    uses: &mut Items<SharedUse>,
+    graph: &Graph,
+    callback: usize,
+    sharing: Sharing,
+    marks: &[bool],
+) -> Result<(), AllocError>
+    ensures { OnOk result (uses.new ≡ uses.old ++ spec.used_in graph.now callback sharing marks.now) }
+{
+    for point in 0..graph.points(callback) {
+        add_use(uses, graph, sharing, marks, Site { callback, point })?;
+    }
+    Ok(())
+}
+
+/// Adds what a callback does with the contexts of a variable.
 fn add_uses(
     alloc: Global,
     uses: &mut Items<SharedUse>,
@@ -256,15 +272,7 @@ fn add_uses(
     ensures { OnOk result (uses.new ≡ uses.old ++ spec.uses_of graph.now callback sharing) }
 {
     let marks = shared(alloc, graph, callback, sharing)?;
-    for point in 0..graph.points(callback) {
-        add_use(
-            uses,
-            graph,
-            sharing,
-            marks.as_slice(),
-            Site { callback, point },
-        )?;
-    }
+    add_marked(uses, graph, callback, sharing, marks.as_slice())?;
     Ok(())
 }
 
