@@ -1,2 +1,2 @@
-pub mod Idle
+pub mod IdleComments
 mod Orderly

@@ -64,7 +64,8 @@ abbrev pub told_at : Parsed → Site → Text
 told_at x s = number_told (tested (instruction x s))
 
 unfoldable pub never_title : Parsed → Site → Text
-never_title x s = codes "this test never holds: nothing in the callback writes " ++ told_at x s
+never_title x s =
+    concat (codes "nothing in the callback writes " ∷ told_at x s ∷ codes ", so this test never holds" ∷ [])
 
 unfoldable pub never_help : Parsed → Site → Text
 never_help x s = concat (codes "set " ∷ told_at x s ∷ codes " before the test, or remove the test" ∷ [])

@@ -131,8 +131,9 @@ pub(crate) fn tell_never_title(
 ) -> Result<(), AllocError>
     ensures { Writes result page.old page.new (spec.never_title (of_parsed text.now) site) }
 {
-    page.texts(&["this test never holds: nothing in the callback writes "])?;
-    tell_number(page, tested(&text.instruction(site)))
+    page.texts(&["nothing in the callback writes "])?;
+    tell_number(page, tested(&text.instruction(site)))?;
+    page.texts(&[", so this test never holds"])
 }
 
 /// Writes what to do with it.
