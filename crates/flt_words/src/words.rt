@@ -171,11 +171,18 @@ fn is_kind(name: &str) -> bool
     matches!(name, "W00" | "W01" | "W02" | "W03" | "W04" | "W05" | "W06")
 }
 
+/// Whether each of some names is the name of a kind of warning.
+fn are_kinds(names: &[&str]) -> bool
+    ensures { result ≡ list_all (λ name. spec.is_kind name.now) names.now }
+{
+    names.iter().all(|name| is_kind(name))
+}
+
 /// Some names of kinds of warnings; none at all where one isn't the name of a kind.
 fn kinds_in<'a>(names: Vec<&'a str>) -> Option<Vec<&'a str>>
     ensures { option_map (λ kinds. map (λ name. name.now) kinds.items) result ≡ spec.kinds_in (map (λ name. name.now) names.entry.items) }
 {
-    if names.as_slice().iter().all(|name| is_kind(name)) {
+    if are_kinds(names.as_slice()) {
         Some(names)
     } else {
         None
