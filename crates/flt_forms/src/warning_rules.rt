@@ -5,8 +5,7 @@ ghost use Rattle.flt_forms.specs.Members.{Adds};
 ghost use Rattle.flt_forms.specs.WarningResults as spec;
 
 use crate::members::{close_object, open_object, put_key, put_string};
-use crate::warning::put_warning_level;
-use crate::warning_results::put_kind_name;
+use crate::warning::{put_kind_name, put_warning_level};
 use flt_warnings::Kind;
 use json::Writer;
 use std::alloc::AllocError;
