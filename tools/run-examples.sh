@@ -4,11 +4,11 @@
 #   tools/run-examples.sh [PROGRAM]
 #       runs PROGRAM, else what `rt ci`, or `rt run` in crates/fltstack, made, and pipes each journal that `run` prints into `replay`,
 #       which must call it legal. Each accepted filter is also driven by scripts in which operations of each kind arrive, with a
-#       cancel, a detach or a refused choice at each place, and by several workers with some of these in the midst. Each journal of examples/verdicts/ must have the verdict that stands above
-#       it. `tools/run-cases` runs those of examples/cases/. Each report of a broken filter has a run, and `replay` says the same of the
-#       journal that `explain --journal` writes of it; of an accepted filter there is none. Ends with status 1 at any difference: another
-#       exit status, another output, a byte on the standard error, a journal that
-#       isn't legal, or a file of examples/ that no line of `expected` names.
+#       cancel, a detach or a refused choice at each place, and by several workers with some of these in the midst. Each journal of
+#       examples/verdicts/ must have the verdict that stands above it. `tools/run-cases` runs those of examples/cases/. Each text is its own
+#       layout. Each report of a broken filter has a run, and `replay` says the same of the journal that `explain --journal` writes of it;
+#       of an accepted filter there is none. Ends with status 1 at any difference: another exit status, another output, a byte on the standard
+#       error, a journal that isn't legal, or a file of examples/ that no line of `expected` names.
 set -euo pipefail
 
 top=$(cd "$(dirname "$0")/.." && pwd)
@@ -253,6 +253,11 @@ done
 for file in verdicts/*; do
     judges "$file"
 done
+
+# Each text has its own layout.
+runs=$((runs + 1))
+laid=$("$program" format --check ./*.flt warnings/*.flt 2>&1) || true
+[ -z "$laid" ] || differs "format --check: $laid"
 
 for file in * c/*; do
     case $file in

@@ -85,7 +85,7 @@ kept_formatted written untouched modes.Write files found done still = (done, sti
 pub formatted_of : (gives : Giving) (mode : FormatMode) (files : List Text) (r : ReadFiles) (outcomes : Vec FileOutcome Global) → AreReadIn gives files r →
     AreOutcomes mode (map (λ n. n.now) r.names.items) (map (λ t. t.items) r.texts.items) outcomes.items →
     AreFormatted gives mode files (map (λ t. t.items) r.texts.items) (record { files = outcomes; unread = r.unread })
-formatted_of gives mode files r outcomes read are = record { names = map (λ (n : Bor Text). n.now) r.names.items; read = read; are = are }
+formatted_of gives mode files r outcomes has are = record { names = map (λ (n : Bor Text). n.now) r.names.items; read = has; are = are }
 
 -- ---- with the exit status 0 or 1 nothing is remarked
 

@@ -37,12 +37,12 @@ module _ (gives : Giving) (one : GivesOne gives) where
   given_or_missing : (before : List Text) (name text : Text) → gives name (Some text) → is_standard name && list_any is_standard before ≡ false →
       IsMissing gives before name → ⊥
   given_or_missing before name text is other (inl again) = cc
-  given_or_missing before name text is other (inr none) = none-some text (one name None (Some text) none is)
+  given_or_missing before name text is other (inr nothing) = none-some text (one name None (Some text) nothing is)
 
   -- the names that are read are one list, and so are what they give and the others
   pub read_once : (files others names again texts more unread left : List Text) → files ≡ others → AreRead gives files names texts unread →
       AreRead gives others again more left → (names ≡ again) × ((texts ≡ more) × (unread ≡ left))
-  read_once _ _ _ _ _ _ _ _ same none none = (refl, refl, refl)
+  read_once _ _ _ _ _ _ _ _ same none none = (refl, (refl, refl))
   read_once _ _ _ _ _ _ _ _ same none (read {names = ns} name text are is other) = absurd (nil_push ns name same)
   read_once _ _ _ _ _ _ _ _ same none (missing {names = ns} name are lost) = absurd (nil_push ns name same)
   read_once _ _ _ _ _ _ _ _ same (read {names = ns} name text are is other) none = absurd (nil_push ns name (sym same))
@@ -53,14 +53,13 @@ module _ (gives : Giving) (one : GivesOne gives) where
       let before = read_once ns ms got found ts ss us vs ends.0 are were in
       let texts : text ≡ own = same_Some text own (one name (Some text) (Some own) is (subst (λ n. gives n (Some own)) (sym ends.1) has)) in (
         ap (λ l. l ++ name ∷ []) before.0 ∙ ap (λ n. found ++ n ∷ []) ends.1,
-        ap (λ l. l ++ text ∷ []) before.1.0 ∙ ap (λ t. ss ++ t ∷ []) texts,
-        before.1.1,
+        (ap (λ l. l ++ text ∷ []) before.1.0 ∙ ap (λ t. ss ++ t ∷ []) texts, before.1.1),
       )
   read_once _ _ _ _ _ _ _ _ same (missing {names = ns} {read = got} {texts = ts} {unread = us} name are lost)
       (missing {names = ms} {read = found} {texts = ss} {unread = vs} last were gone) =
       let ends = same_from_push ns ms name last same in
       let before = read_once ns ms got found ts ss us vs ends.0 are were in
-      (before.0, before.1.0, ap (λ l. l ++ name ∷ []) before.1.1 ∙ ap (λ n. vs ++ n ∷ []) ends.1)
+      (before.0, (before.1.0, ap (λ l. l ++ name ∷ []) before.1.1 ∙ ap (λ n. vs ++ n ∷ []) ends.1))
   read_once _ _ _ _ _ _ _ _ same (read {names = ns} name text are is other) (missing {names = ms} last were gone) =
       let ends = same_from_push ns ms name last same in
       absurd (given_or_missing ns name text is other (subst (λ l. IsMissing gives l name) (sym ends.0) (subst (IsMissing gives ms) (sym ends.1) gone)))
@@ -104,8 +103,8 @@ module _ (nowhere : SpelledFailsNowhere) where
       absurd (omega (arith, x.is.short, long.long, ap length is))
 
   alike : (input : Text) (p q : Outcome) → is_unwritten p ≡ false → is_unwritten q ≡ false → ComesTo input p → ComesTo input q → AreAlike p q
-  alike input (Same a) (Same b) k l x y = (layouts_once input a.items b.items x.0 y.0, refl, refl)
-  alike input (Other a) (Other b) k l x y = (layouts_once input a.items b.items x.0 y.0, refl, refl)
+  alike input (Same a) (Same b) k l x y = (layouts_once input a.items b.items x.0 y.0, (refl, refl))
+  alike input (Other a) (Other b) k l x y = (layouts_once input a.items b.items x.0 y.0, (refl, refl))
   alike input (Same a) (Other b) k l x y = absurd (y.1 (layouts_once input b.items a.items y.0 x.0 ∙ x.1))
   alike input (Other a) (Same b) k l x y = absurd (x.1 (layouts_once input a.items b.items x.0 y.0 ∙ y.1))
   alike input (Same a) (Fault f) k l x y = absurd (not_faulty input a.items f x.0 y)
@@ -116,10 +115,10 @@ module _ (nowhere : SpelledFailsNowhere) where
   alike input (Fault f) (Other b) k l x y = absurd (not_faulty input b.items f y.0 x)
   alike input Long (Same b) k l x y = absurd (not_long input b.items y.0 x)
   alike input Long (Other b) k l x y = absurd (not_long input b.items y.0 x)
-  alike input (Fault f) (Fault g) k l x y = (refl, refl, refl)
-  alike input (Fault f) Long k l x y = (refl, refl, refl)
-  alike input Long (Fault f) k l x y = (refl, refl, refl)
-  alike input Long Long k l x y = (refl, refl, refl)
+  alike input (Fault f) (Fault g) k l x y = (refl, (refl, refl))
+  alike input (Fault f) Long k l x y = (refl, (refl, refl))
+  alike input Long (Fault f) k l x y = (refl, (refl, refl))
+  alike input Long Long k l x y = (refl, (refl, refl))
   alike input (Unwritten a why) q k l x y = absurd (cc k)
   alike input p (Unwritten b why) k l x y = absurd (cc l)
 

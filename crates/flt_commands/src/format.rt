@@ -33,7 +33,7 @@ fn compared(input: &[u8], layout: Vec<u8>) -> Outcome
 
 /// What an input comes to, where its text has a layout and this certificate follows it.
 fn joined(input: &[u8], layout: Vec<u8>, certificate: &[u8]) -> Result<Outcome, AllocError>
-    ensures comes { IfOk result (λ outcome. spec.IsLayout input.now (layout.entry.items ++ certificate.now) → spec.ComesTo input.now outcome) }
+    ensures comes { IfOk result (λ outcome. spec.IsLayout input.now (layout.items ++ certificate.now) → spec.ComesTo input.now outcome) }
     ensures read { IfOk result (λ outcome. spec.is_unwritten outcome ≡ false) }
 {
     let mut whole = layout;
@@ -62,7 +62,7 @@ fn put_layout<P: Pictures>(
     layout: Vec<u8>,
     pictures: &mut P,
 ) -> Result<Outcome, AllocError>
-    ensures comes { (input : List ℕ) → spec.IsLayout input layout.entry.items → layout.entry.items ≢ input → IfOk result (spec.ComesTo input) }
+    ensures comes { (input : List ℕ) → spec.IsLayout input layout.items → layout.items ≢ input → IfOk result (spec.ComesTo input) }
     ensures done { IfOk result (spec.IsDone (P.written pictures.new) FormatMode.Write name.now) }
     ensures wanted { IfOk result (λ outcome. spec.is_wanted FormatMode.Write outcome ≡ true) }
     ensures kept { (other bytes : List ℕ) → P.written pictures.old other bytes → P.written pictures.new other bytes }
@@ -83,7 +83,7 @@ fn put_other<P: Pictures>(
     outcome: Outcome,
     pictures: &mut P,
 ) -> Result<Outcome, AllocError>
-    ensures comes { (input : List ℕ) → spec.ComesTo input outcome.entry → IfOk result (spec.ComesTo input) }
+    ensures comes { (input : List ℕ) → spec.ComesTo input outcome → IfOk result (spec.ComesTo input) }
     ensures done { IfOk result (spec.IsDone (P.written pictures.new) FormatMode.Write name.now) }
     ensures still { IfOk result (λ outcome. spec.is_wanted FormatMode.Write outcome ≡ false → pictures.new ≡ pictures.old) }
     ensures kept { (other bytes : List ℕ) → P.written pictures.old other bytes → P.written pictures.new other bytes }
@@ -106,7 +106,7 @@ fn written<P: Pictures>(
     pictures: &mut P,
 ) -> Result<Outcome, AllocError>
     requires read { spec.is_unwritten outcome ≡ false }
-    ensures comes { (input : List ℕ) → spec.ComesTo input outcome.entry → IfOk result (spec.ComesTo input) }
+    ensures comes { (input : List ℕ) → spec.ComesTo input outcome → IfOk result (spec.ComesTo input) }
     ensures fits { IfOk result (spec.MayBe mode) }
     ensures done { IfOk result (spec.IsDone (P.written pictures.new) mode name.now) }
     ensures still { IfOk result (λ outcome. spec.is_wanted mode outcome ≡ false → pictures.new ≡ pictures.old) }

@@ -6,7 +6,7 @@ use Rattle.flt_commands.proofs.format.file_outcomes.Goals as goal
 
 pub loop-number-init : goal.loop-number-init
 loop-number-init g c = record {
-  are = rw c.new.ensures.items spec.none;
-  done = rw c.new.ensures.items (All-nil _);
+  are = rw c.new-files.ensures.items spec.none;
+  done = rw c.new-files.ensures.items (All-nil _);
   still = λ none. refl;
 }
