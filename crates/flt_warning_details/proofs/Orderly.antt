@@ -18,7 +18,7 @@ use Rattle.flt_warnings.specs.declared.warning.Kind.TheVariants.{W01}
 use Rattle.flt_warnings.specs.declared.warning.Warning.{Warning}
 use Rattle.flt_warnings.specs.declared.warning.Warning.TheVariants.{LockCircle}
 use Rattle.flt_allowances.specs.Allowances.{allowances_of}
-use Rattle.flt_allowances.specs.declared.allowances.Allowance.{Allowance}
+use Rattle.flt_allowances.specs.declared.of_text.Allowance.{Allowance}
 use Rattle.flt_warning_details.specs.Details.{AreCertified, AreDetailsBy, IsUncovered, details}
 use Rattle.flt_warning_details.specs.Orderly.{TextsWithoutCirclesAreOrderly, warns_of_circle}
 use Rattle.flt_warning_details.specs.Parsed.{Parsed, parsed}

@@ -7,7 +7,7 @@ use Rattle.flt_details.specs.Page.{marked}
 use Rattle.flt_warnings.specs.Kinds.{kind_name}
 use Rattle.flt_warnings.specs.declared.warning.Kind.{Kind}
 use Rattle.flt_warnings.specs.declared.warning.Kind.TheVariants.{W00}
-use Rattle.flt_allowances.specs.declared.allowances.Allowance.{Allowance}
+use Rattle.flt_allowances.specs.declared.of_text.Allowance.{Allowance}
 use Rattle.flt_warning_details.specs.Places.{bare}
 use Rattle.flt_warning_details.specs.declared.detail.WarningDetail.{WarningDetail}
 

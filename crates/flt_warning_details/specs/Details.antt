@@ -14,7 +14,7 @@ use Rattle.flt_warnings.specs.declared.kinds.AllowedKinds.{AllowedKinds}
 use Rattle.flt_warnings.specs.declared.warning.Kind.TheVariants.{W00}
 use Rattle.flt_warnings.specs.declared.warning.Warning.{Warning}
 use Rattle.flt_allowances.specs.Allowances.{allowances_of}
-use Rattle.flt_allowances.specs.declared.allowances.Allowance.{Allowance}
+use Rattle.flt_allowances.specs.declared.of_text.Allowance.{Allowance}
 use Rattle.flt_warning_details.specs.Allowing.{is_needed, reason_for}
 use Rattle.flt_warning_details.specs.Comments.{idle_detail}
 use Rattle.flt_warning_details.specs.Parsed.{Parsed, parsed}
