@@ -1,1 +1,3 @@
-pub mod Ends
+mod Ends
+mod Lines
+mod Marks

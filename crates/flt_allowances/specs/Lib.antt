@@ -1,2 +1,3 @@
 pub mod Allowances
 pub mod Comment
+pub mod Marks

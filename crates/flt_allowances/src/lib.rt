@@ -3,6 +3,8 @@
 #![tactic(auto)]
 
 mod comment;
+mod laws;
 mod of_text;
 
+pub use laws::comments_begin_with_marks;
 pub use of_text::{Allowance, allowances};

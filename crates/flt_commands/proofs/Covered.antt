@@ -99,7 +99,7 @@ module _ (law : Law) (runs : LawOfRuns) (nowhere : SpelledFailsNowhere) where
   judged text certificate (Explained r missed) said good = absurd said.decided
   judged text certificate (Shown rows v) said good = absurd said.decided
   judged text certificate (has_text b) said good = absurd said.decided
-  judged text certificate (has_layouts mode outcomes others) said good = absurd said.decided
+  judged text certificate (has_layouts mode outcomes) said good = absurd said.decided
   judged text certificate (has_pages t) said good = absurd said.decided
 
   checked : (texts : List Text) (answer : Answer) (file : Text) (cert : Option Text) → IsChecked texts (Ok answer) →
@@ -120,7 +120,7 @@ module _ (law : Law) (runs : LawOfRuns) (nowhere : SpelledFailsNowhere) where
   left text certificate (Explained r missed) said good = absurd said.decided
   left text certificate (Shown rows v) said good = absurd said.decided
   left text certificate (has_text b) said good = absurd said.decided
-  left text certificate (has_layouts mode outcomes others) said good = absurd said.decided
+  left text certificate (has_layouts mode outcomes) said good = absurd said.decided
   left text certificate (has_pages t) said good = absurd said.decided
 
   thinned : (texts : List Text) (answer : Answer) (file : Text) (cert : Option Text) → IsThinned texts (Ok answer) →
@@ -142,7 +142,7 @@ module _ (law : Law) (runs : LawOfRuns) (nowhere : SpelledFailsNowhere) where
   analysed (text ∷ []) (Explained r missed) file said good = absurd said
   analysed (text ∷ []) (Shown rows v) file said good = absurd said
   analysed (text ∷ []) (has_text b) file said good = absurd said
-  analysed (text ∷ []) (has_layouts mode outcomes others) file said good = absurd said
+  analysed (text ∷ []) (has_layouts mode outcomes) file said good = absurd said
   analysed (text ∷ []) (has_pages t) file said good = absurd said
   analysed (text ∷ more ∷ texts) answer file said good = said
 
@@ -155,7 +155,7 @@ module _ (law : Law) (runs : LawOfRuns) (nowhere : SpelledFailsNowhere) where
   driven (bytes ∷ texts) (Explained r missed) workers quiet script files said good = absurd said
   driven (bytes ∷ texts) (Shown rows v) workers quiet script files said good = absurd said
   driven (bytes ∷ texts) (has_text b) workers quiet script files said good = absurd said
-  driven (bytes ∷ texts) (has_layouts mode outcomes others) workers quiet script files said good = absurd said
+  driven (bytes ∷ texts) (has_layouts mode outcomes) workers quiet script files said good = absurd said
   driven (bytes ∷ texts) (has_pages t) workers quiet script files said good = absurd said
   driven (bytes ∷ texts) (Refused f) workers quiet script files said good = absurd said
   driven (bytes ∷ texts) (Written c) workers quiet script files said good = absurd said
@@ -258,7 +258,7 @@ module _ (law : Law) (runs : LawOfRuns) (nowhere : SpelledFailsNowhere) where
       (told_well form look.options said.told.sources missed.items e.explained said.told.told (own_zero e.explained.status missed.items good))
   explained gives form colour states look journal warnings files texts (Shown rows v) said good = absurd said
   explained gives form colour states look journal warnings files texts (has_text b) said good = absurd said
-  explained gives form colour states look journal warnings files texts (has_layouts mode outcomes others) said good = absurd said
+  explained gives form colour states look journal warnings files texts (has_layouts mode outcomes) said good = absurd said
   explained gives form colour states look journal warnings files texts (has_pages t) said good = absurd said
   explained gives form colour states look journal warnings files texts (has_run ran) said good = absurd said
   explained gives form colour states look journal warnings files texts (FileRefused n f) said good = absurd said

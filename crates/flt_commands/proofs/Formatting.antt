@@ -3,17 +3,17 @@ use Rattle.std.proofs.Common.{◌≡◌, ◌≢◌, ◌∙◌, ◌+◌, ◌<◌,
 use Rattle.std.proofs.lemmas.List.Elements.{All-push, All-weaker}
 use Rattle.std.specs.List.{All, list_any}
 use Rattle.flt_commands.proofs.Firsts.{any_more, one_more}
-use Rattle.flt_commands.specs.Answer.{status_of, told_status}
+use Rattle.flt_commands.specs.Answer.{told_status}
 use Rattle.flt_commands.specs.Commands.{IsKept, IsReported}
-use Rattle.flt_commands.specs.Format.{AreOutcomes, IsDone, IsFileDone, IsFormatSaid, IsOutcome, is_wanted, one_more as an_outcome_more, remarks_in}
+use Rattle.flt_commands.specs.Format.{AreFormatted, AreOutcomes, IsDone, IsFileDone, IsOutcome, is_wanted, one_more as an_outcome_more}
 use Rattle.flt_commands.specs.Inputs.{AreReadIn, Giving, Text}
-use Rattle.flt_commands.specs.Outcomes.{files_status, is_failed, remark, remarked, unread_line}
-use Rattle.flt_commands.specs.declared.answer.Answer.{Answer}
+use Rattle.flt_commands.specs.Outcomes.{all_remarks, files_status, is_failed, remark, remarked, unread_line}
 use Rattle.flt_commands.specs.declared.answer.Answer.TheVariants.{Formatted}
 use Rattle.flt_commands.specs.declared.fault.CommandFault.{CommandFault}
 use Rattle.flt_commands.specs.declared.inputs.ReadFiles.{ReadFiles}
 use Rattle.flt_commands.specs.declared.outcomes.FileOutcome.{FileOutcome}
 use Rattle.flt_commands.specs.declared.outcomes.Outcome.{Outcome}
+use Rattle.flt_commands.specs.declared.outcomes.Outcomes.{Outcomes}
 use Rattle.flt_commands.specs.declared.outcomes.Outcome.TheVariants.{Same, Other, Unwritten, Fault, Long}
 use Rattle.flt_commands.specs.declared.report.Report.{Report}
 use Rattle.flt_forms.specs.declared.unread.UnreadFile.{UnreadFile}
@@ -74,19 +74,18 @@ none_checked : (files : List FileOutcome) → list_any (λ (f : FileOutcome). is
 none_checked [] = refl
 none_checked (f ∷ fs) = none_checked fs
 
-pub kept_formatted : (written : Text → Text → Type 0) (untouched : Type 0) (mode : FormatMode) (files : List Text) (outcomes : Vec FileOutcome Global)
-    (unread : Vec UnreadFile Global) → All (IsFileDone written mode) outcomes.items →
-    (list_any (λ (f : FileOutcome). is_wanted mode f.outcome) outcomes.items ≡ false → untouched) →
-    IsKept written untouched (Format mode files) (Ok (Formatted mode outcomes unread))
-kept_formatted written untouched modes.Print files outcomes unread done still = still (none_printed outcomes.items)
-kept_formatted written untouched modes.Check files outcomes unread done still = still (none_checked outcomes.items)
-kept_formatted written untouched modes.Write files outcomes unread done still = (done, still)
+pub kept_formatted : (written : Text → Text → Type 0) (untouched : Type 0) (mode : FormatMode) (files : List Text) (found : Outcomes) →
+    All (IsFileDone written mode) found.files.items →
+    (list_any (λ (f : FileOutcome). is_wanted mode f.outcome) found.files.items ≡ false → untouched) →
+    IsKept written untouched (Format mode files) (Ok (Formatted mode found))
+kept_formatted written untouched modes.Print files found done still = still (none_printed found.files.items)
+kept_formatted written untouched modes.Check files found done still = still (none_checked found.files.items)
+kept_formatted written untouched modes.Write files found done still = (done, still)
 
-pub formatted_said : (gives : Giving) (mode : FormatMode) (files : List Text) (r : ReadFiles) (outcomes : Vec FileOutcome Global) → AreReadIn gives files r →
+pub formatted_of : (gives : Giving) (mode : FormatMode) (files : List Text) (r : ReadFiles) (outcomes : Vec FileOutcome Global) → AreReadIn gives files r →
     AreOutcomes mode (map (λ n. n.now) r.names.items) (map (λ t. t.items) r.texts.items) outcomes.items →
-    IsFormatSaid gives mode files (map (λ t. t.items) r.texts.items) (Ok (Formatted mode outcomes r.unread))
-formatted_said gives mode files r outcomes read are =
-    (refl, record { names = map (λ (n : Bor Text). n.now) r.names.items; read = read; are = are })
+    AreFormatted gives mode files (map (λ t. t.items) r.texts.items) (record { files = outcomes; unread = r.unread })
+formatted_of gives mode files r outcomes read are = record { names = map (λ (n : Bor Text). n.now) r.names.items; read = read; are = are }
 
 -- ---- with the exit status 0 or 1 nothing is remarked
 
@@ -116,13 +115,10 @@ none_remarked : (mode : FormatMode) (files : List FileOutcome) (unread : List Un
 none_remarked mode files [] good = no_remarks mode files (none_fails mode files (list_any fails files) refl good)
 none_remarked mode files (file ∷ others) good = absurd (good refl)
 
-none_in : (answer : Answer) → status_of answer ≢ 2 → remarks_in answer ≡ []
-none_in (Formatted mode files unread) good = none_remarked mode files.items unread.items good
-none_in _ good = refl
-
-pub quiet_formatted : (answer : Answer) (before : List ℕ) (result : Result Report CommandFault) → before ≡ remarks_in answer →
-    IfOk result (λ report. IsReported (Ok answer) report.output.items report.status) →
+pub quiet_formatted : (mode : FormatMode) (found : Outcomes) (before : List ℕ) (result : Result Report CommandFault) →
+    before ≡ all_remarks mode found → IfOk result (λ report. IsReported (Ok (Formatted mode found)) report.output.items report.status) →
     IfOk result (λ report. report.status ≢ 2 → report.remark.items ≡ before) →
     IfOk result (λ report. report.status ≢ 2 → report.remark.items ≡ [])
-quiet_formatted answer before (Ok report) is reported same = λ good. same good ∙ is ∙ none_in answer (λ two. good (reported.1 ∙ two))
-quiet_formatted answer before (Err e) is reported same = tt
+quiet_formatted mode found before (Ok report) is reported same =
+    λ good. same good ∙ is ∙ none_remarked mode found.files.items found.unread.items (λ two. good (reported.1 ∙ two))
+quiet_formatted mode found before (Err e) is reported same = tt

@@ -12,6 +12,7 @@ pub mod OneAnswer
 pub mod OneCheck
 pub mod OneDecision
 pub mod OneExtraction
+pub mod OneLayout
 pub mod OnePlace
 pub mod OneReading
 pub mod OneThin

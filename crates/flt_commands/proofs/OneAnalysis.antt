@@ -51,7 +51,7 @@ module _ (graph : (text : Text) (g h : Graph) → HasPoints text g → HasPoints
   answered text (Explained r files) x = absurd x
   answered text (Shown rows v) x = absurd x
   answered text (Extracted bytes) x = absurd x
-  answered text (Formatted mode files others) x = absurd x
+  answered text (Formatted mode found) x = absurd x
   answered text (Pages t) x = absurd x
 
   answers_once : (text : Text) (a b : Answer) → Judges text (Ok a) → Judges text (Ok b) → seen (Ok a) ≡ seen (Ok b)
@@ -66,7 +66,7 @@ module _ (graph : (text : Text) (g h : Graph) → HasPoints text g → HasPoints
   answers_once text (Written c) (Explained r files) x y = absurd y
   answers_once text (Written c) (Shown rows v) x y = absurd y
   answers_once text (Written c) (Extracted bytes) x y = absurd y
-  answers_once text (Written c) (Formatted mode files others) x y = absurd y
+  answers_once text (Written c) (Formatted mode found) x y = absurd y
   answers_once text (Written c) (Pages t) x y = absurd y
   answers_once text (Refused f) Accepted x y = absurd y
   answers_once text (Refused f) (Judged v) x y = absurd y
@@ -75,7 +75,7 @@ module _ (graph : (text : Text) (g h : Graph) → HasPoints text g → HasPoints
   answers_once text (Refused f) (Explained r files) x y = absurd y
   answers_once text (Refused f) (Shown rows v) x y = absurd y
   answers_once text (Refused f) (Extracted bytes) x y = absurd y
-  answers_once text (Refused f) (Formatted mode files others) x y = absurd y
+  answers_once text (Refused f) (Formatted mode found) x y = absurd y
   answers_once text (Refused f) (Pages t) x y = absurd y
   answers_once text Accepted b x y = absurd x
   answers_once text (Judged v) b x y = absurd x
@@ -84,7 +84,7 @@ module _ (graph : (text : Text) (g h : Graph) → HasPoints text g → HasPoints
   answers_once text (Explained r files) b x y = absurd x
   answers_once text (Shown rows v) b x y = absurd x
   answers_once text (Extracted bytes) b x y = absurd x
-  answers_once text (Formatted mode files others) b x y = absurd x
+  answers_once text (Formatted mode found) b x y = absurd x
   answers_once text (Pages t) b x y = absurd x
 
   not_both : (text : Text) (a : Answer) (f : Failure) → Judges text (Ok a) → IsFailure text f → f ≢ OutOfMemory → ⊥

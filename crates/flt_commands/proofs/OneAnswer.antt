@@ -2,6 +2,7 @@
 use Rattle.std.proofs.Common.{◌≡◌, ◌≢◌, ℕ, Bool, true, false, List, Option, Some, None, Result, Ok, Err, refl, sym, ap, unwrap_or, ◌∙◌}
 use Rattle.std.specs.Str.{bytes_eq}
 use Rattle.flt_commands.proofs.OneExtraction.{extracts_once}
+use Rattle.flt_commands.proofs.OneLayout.{layouts_said_once}
 use Rattle.flt_commands.proofs.OneReading.{says_once}
 use Rattle.flt_commands.specs.Analyse.{IsAnalysed}
 use Rattle.flt_commands.specs.Answer.{output, status_of}
@@ -18,6 +19,8 @@ use Rattle.flt_commands.specs.declared.answer.Answer.{Answer}
 use Rattle.flt_commands.specs.declared.failure.Failure.{Failure}
 use Rattle.flt_commands.specs.declared.failure.Failure.TheVariants.{OutOfMemory}
 use Rattle.flt_commands.specs.declared.report.Report.{Report}
+use Rattle.flt_syntax.specs.TextFails.{SpelledFailsNowhere}
+use Rattle.flt_words.specs.declared.request.FormatMode.TheVariants as modes
 
 -- an answer isn't want of memory, nor is any other failure
 an_answer : (a : Answer) → Ok a ≢ Err OutOfMemory
@@ -84,7 +87,8 @@ module _ (gives : Giving) (one : GivesOne gives) where
   gives_one (Format mode files) = one
   gives_one (Pages names) = one
 
-module _ (checked : SaysOne IsChecked) (analysed : SaysOne IsAnalysed) (thinned : SaysOne IsThinned) (replayed : SaysOne IsReplayed) where
+module _ (checked : SaysOne IsChecked) (analysed : SaysOne IsAnalysed) (thinned : SaysOne IsThinned) (replayed : SaysOne IsReplayed)
+    (nowhere : SpelledFailsNowhere) where
   -- of what is asked for one thing is said at most
   pub said_once : (gives : Giving) (shown showing : Bool) (request : Asked) (texts more : List Text) (a b : Result Answer Failure) → HasOneAnswer request →
       GivesOne gives → IsSaid shown gives request texts a → IsSaid showing gives request more b → AreSame a b
@@ -101,7 +105,11 @@ module _ (checked : SaysOne IsChecked) (analysed : SaysOne IsAnalysed) (thinned 
   said_once gives shown showing (Explain form colour states journal warnings files) texts more a b has one x y = absurd has
   said_once gives shown showing (Extract of_map files) texts more a b has one x y =
       says_once gives one (names_of (Extract of_map files)) (IsExtracted of_map files) (extracts_once of_map files) texts more a b x y
-  said_once gives shown showing (Format mode files) texts more a b has one x y = absurd has
+  said_once gives shown showing (Format modes.Print files) texts more a b has one x y =
+      layouts_said_once nowhere gives one modes.Print (λ e. cc) files texts more a b x y
+  said_once gives shown showing (Format modes.Check files) texts more a b has one x y =
+      layouts_said_once nowhere gives one modes.Check (λ e. cc) files texts more a b x y
+  said_once gives shown showing (Format modes.Write files) texts more a b has one x y = absurd has
   said_once gives shown showing (Pages names) texts more a b has one x y = absurd has
 
   -- one thing is printed at most, with one exit status

@@ -28,7 +28,7 @@ module _ (one : HasOneFault) (none : CoversWithoutFault) where
   checks_once g c Accepted (Explained r files) x y = absurd y
   checks_once g c Accepted (Shown rows v) x y = absurd y
   checks_once g c Accepted (Extracted bytes) x y = absurd y
-  checks_once g c Accepted (Formatted mode files others) x y = absurd y
+  checks_once g c Accepted (Formatted mode found) x y = absurd y
   checks_once g c Accepted (Pages t) x y = absurd y
   checks_once g c (Refused f) Accepted x y = absurd (none g c f y x)
   checks_once g c (Refused f) (Refused h) x y = ap (λ r. seen (Ok (Refused r))) (one g c f h x y)
@@ -39,7 +39,7 @@ module _ (one : HasOneFault) (none : CoversWithoutFault) where
   checks_once g c (Refused f) (Explained r files) x y = absurd y
   checks_once g c (Refused f) (Shown rows v) x y = absurd y
   checks_once g c (Refused f) (Extracted bytes) x y = absurd y
-  checks_once g c (Refused f) (Formatted mode files others) x y = absurd y
+  checks_once g c (Refused f) (Formatted mode found) x y = absurd y
   checks_once g c (Refused f) (Pages t) x y = absurd y
   checks_once g c (Written d) b x y = absurd x
   checks_once g c (Judged v) b x y = absurd x
@@ -48,5 +48,5 @@ module _ (one : HasOneFault) (none : CoversWithoutFault) where
   checks_once g c (Explained r files) b x y = absurd x
   checks_once g c (Shown rows v) b x y = absurd x
   checks_once g c (Extracted bytes) b x y = absurd x
-  checks_once g c (Formatted mode files others) b x y = absurd x
+  checks_once g c (Formatted mode found) b x y = absurd x
   checks_once g c (Pages t) b x y = absurd x

@@ -18,7 +18,7 @@ module _ (one : HasOneFault) (none : CoversWithoutFault) where
   thins_once g c (Written d) (Explained r files) x y = absurd y
   thins_once g c (Written d) (Shown rows v) x y = absurd y
   thins_once g c (Written d) (Extracted bytes) x y = absurd y
-  thins_once g c (Written d) (Formatted mode files others) x y = absurd y
+  thins_once g c (Written d) (Formatted mode found) x y = absurd y
   thins_once g c (Written d) (Pages t) x y = absurd y
   thins_once g c (Refused f) (Written d) x y = absurd (none g c f y.0 x)
   thins_once g c (Refused f) (Refused h) x y = ap (λ r. seen (Ok (Refused r))) (one g c f h x y)
@@ -29,7 +29,7 @@ module _ (one : HasOneFault) (none : CoversWithoutFault) where
   thins_once g c (Refused f) (Explained r files) x y = absurd y
   thins_once g c (Refused f) (Shown rows v) x y = absurd y
   thins_once g c (Refused f) (Extracted bytes) x y = absurd y
-  thins_once g c (Refused f) (Formatted mode files others) x y = absurd y
+  thins_once g c (Refused f) (Formatted mode found) x y = absurd y
   thins_once g c (Refused f) (Pages t) x y = absurd y
   thins_once g c Accepted b x y = absurd x
   thins_once g c (Judged v) b x y = absurd x
@@ -38,5 +38,5 @@ module _ (one : HasOneFault) (none : CoversWithoutFault) where
   thins_once g c (Explained r files) b x y = absurd x
   thins_once g c (Shown rows v) b x y = absurd x
   thins_once g c (Extracted bytes) b x y = absurd x
-  thins_once g c (Formatted mode files others) b x y = absurd x
+  thins_once g c (Formatted mode found) b x y = absurd x
   thins_once g c (Pages t) b x y = absurd x

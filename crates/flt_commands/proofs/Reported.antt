@@ -89,7 +89,7 @@ unread_none (Refused f) good = refl
 unread_none (Certificate bytes) good = refl
 unread_none (Judged v) good = refl
 unread_none (Extracted bytes) good = refl
-unread_none (Formatted mode files others) good = refl
+unread_none (Formatted mode found) good = refl
 unread_none (Pages pages) good = refl
 unread_none (Ran ran) good = refl
 unread_none (Shown rows v) good = refl
@@ -144,7 +144,7 @@ written_anyway written untouched (Some name) _ is = tt
 
 changed_anyway : (written : Text → Text → Type 0) (untouched : Type 0) (answer : Answer) → AreChanged written untouched answer →
     AreChanged written ⊤ answer
-changed_anyway written untouched (Formatted mode files others) is = (is.0, λ none. tt)
+changed_anyway written untouched (Formatted mode found) is = (is.0, λ none. tt)
 changed_anyway written untouched _ is = tt
 
 kept_anyway : (written : Text → Text → Type 0) (untouched : Type 0) (request : Asked) (said : Result Answer Failure) →

@@ -1,14 +1,13 @@
 -- What `format` says, and what it writes. This project's own program.
 use Rattle.std.specs.List.{All, list_any}
-use Rattle.std.specs.Prelude.{◌≡◌, ◌≢◌, ℕ, Bool, true, false, List, [], ◌∷◌, ◌++◌, drop, flat_map, string_bytes, take, Result, Ok, Err}
-use Rattle.flt_forms.specs.declared.unread.UnreadFile.{UnreadFile}
+use Rattle.std.specs.Prelude.{◌≡◌, ◌≢◌, ℕ, Bool, true, false, List, [], ◌∷◌, ◌++◌, drop, string_bytes, take, Result, Ok, Err}
 use Rattle.flt_layout.specs.Formatted.{IsFormatted, IsUnformatted}
 use Rattle.flt_layout.specs.declared.formatted.FormatError.{FormatError}
 use Rattle.flt_layout.specs.declared.formatted.FormatError.TheVariants as error
 use Rattle.flt_words.specs.declared.request.FormatMode.{FormatMode}
 use Rattle.flt_words.specs.declared.request.FormatMode.TheVariants as modes
 use Rattle.flt_commands.specs.Inputs.{AreRead, Giving, Text, unread_names}
-use Rattle.flt_commands.specs.Outcomes.{remarked, unread_line}
+use Rattle.flt_commands.specs.Outcomes.{all_remarks}
 use Rattle.flt_commands.specs.Split.{IsCertificateStart}
 use Rattle.flt_commands.specs.declared.answer.Answer.{Answer}
 use Rattle.flt_commands.specs.declared.answer.Answer.TheVariants.{Formatted}
@@ -16,6 +15,7 @@ use Rattle.flt_commands.specs.declared.failure.Failure.{Failure}
 use Rattle.flt_commands.specs.declared.outcomes.FileOutcome.{FileOutcome}
 use Rattle.flt_commands.specs.declared.outcomes.Outcome.{Outcome}
 use Rattle.flt_commands.specs.declared.outcomes.Outcome.TheVariants.{Same, Other, Unwritten, Fault, Long}
+use Rattle.flt_commands.specs.declared.outcomes.Outcomes.{Outcomes}
 
 -- ---- one file
 
@@ -63,22 +63,20 @@ pub data AreOutcomes (mode : FormatMode) : List Text → List Text → List File
       AreOutcomes mode (names ++ string_bytes file.name ∷ []) (inputs ++ input ∷ []) (files ++ file ∷ [])
 
 -- the same of those of these files that are read, beside which these aren't
-pub record AreFormatted (gives : Giving) (mode : FormatMode) (files texts : List Text) (outcomes : List FileOutcome) (unread : List UnreadFile) :
-    Type 0 where
+pub record AreFormatted (gives : Giving) (mode : FormatMode) (files texts : List Text) (found : Outcomes) : Type 0 where
   pub names : List Text
-  pub read : AreRead gives files names texts (unread_names unread)
-  pub are : AreOutcomes mode names texts outcomes
+  pub read : AreRead gives files names texts (unread_names found.unread.items)
+  pub are : AreOutcomes mode names texts found.files.items
 
 -- what is said of the bytes of each FILE that is read
 abbrev pub IsFormatSaid : Giving → FormatMode → List Text → List Text → Result Answer Failure → Type 0
-IsFormatSaid gives mode files texts (Ok (Formatted own outcomes unread)) =
-    (own ≡ mode) × AreFormatted gives mode files texts outcomes.items unread.items
+IsFormatSaid gives mode files texts (Ok (Formatted own found)) = (own ≡ mode) × AreFormatted gives mode files texts found
 IsFormatSaid gives mode files texts (Ok _) = ⊥
 IsFormatSaid gives mode files texts (Err f) = ⊥
 
 -- what stands on the standard error beside it: which files aren't read, and of the others why they have no layout or aren't written
 abbrev pub remarks_in : Answer → List ℕ
-remarks_in (Formatted mode files unread) = flat_map unread_line unread.items ++ flat_map (remarked mode) files.items
+remarks_in (Formatted mode found) = all_remarks mode found
 remarks_in answer = []
 
 -- ---- what is written
@@ -100,7 +98,7 @@ IsFileDone written mode file = IsDone written mode (string_bytes file.name) file
 
 -- the layout of each file that differs from it is written there; where none does, all that is written stays as it was
 abbrev pub AreChanged : (Text → Text → Type 0) → Type 0 → Answer → Type 0
-AreChanged written untouched (Formatted mode files unread) =
-    All (IsFileDone written mode) files.items
-    × (list_any (λ (file : FileOutcome). is_wanted mode file.outcome) files.items ≡ false → untouched)
+AreChanged written untouched (Formatted mode found) =
+    All (IsFileDone written mode) found.files.items
+    × (list_any (λ (file : FileOutcome). is_wanted mode file.outcome) found.files.items ≡ false → untouched)
 AreChanged written untouched answer = untouched

@@ -1,6 +1,6 @@
 -- What texts come to that are laid out, and how that is printed. This project's own program.
 use Rattle.std.specs.List.{list_any}
-use Rattle.std.specs.Prelude.{ℕ, Bool, true, false, ◌&&◌, if◌then◌else◌, List, [], ◌∷◌, ◌++◌, codes, string_bytes}
+use Rattle.std.specs.Prelude.{ℕ, Bool, true, false, ◌&&◌, if◌then◌else◌, List, [], ◌∷◌, ◌++◌, codes, flat_map, string_bytes}
 use Rattle.flt_details.specs.Closing.{syntax_line}
 use Rattle.flt_forms.specs.declared.unread.UnreadFile.{UnreadFile}
 use Rattle.flt_syntax.specs.declared.fault.SyntaxFault.{SyntaxFault}
@@ -10,6 +10,7 @@ use Rattle.flt_words.specs.declared.request.FormatMode.TheVariants as modes
 use Rattle.flt_commands.specs.Inputs.{Text}
 use Rattle.flt_commands.specs.declared.outcomes.FileOutcome.{FileOutcome}
 use Rattle.flt_commands.specs.declared.outcomes.Outcome.{Outcome}
+use Rattle.flt_commands.specs.declared.outcomes.Outcomes.{Outcomes}
 use Rattle.flt_commands.specs.declared.outcomes.Outcome.TheVariants.{Same, Other, Unwritten, Fault, Long}
 
 -- ---- the exit status
@@ -83,3 +84,7 @@ remark mode name Long = reason_line mode name (codes "layout too long")
 -- the same of a file
 abbrev pub remarked : FormatMode → FileOutcome → List ℕ
 remarked mode file = remark mode (string_bytes file.name) file.outcome
+
+-- the same of all files: first of those that aren't read
+abbrev pub all_remarks : FormatMode → Outcomes → List ℕ
+all_remarks mode found = flat_map unread_line found.unread.items ++ flat_map (remarked mode) found.files.items

@@ -1,6 +1,7 @@
 -- What is one at most, where the inputs give one thing for each name. This project's own program.
 use Rattle.std.specs.Prelude.{◌≡◌, ◌≢◌, ℕ, List, Option, Some, None, Result, Ok, Err}
 use Rattle.flt_words.specs.Request.{Asked, Run, Show, Explain, Format, Pages}
+use Rattle.flt_words.specs.declared.request.FormatMode.TheVariants.{Write}
 use Rattle.flt_commands.specs.Answer.{output, status_of}
 use Rattle.flt_commands.specs.Inputs.{Giving, Text}
 use Rattle.flt_commands.specs.declared.answer.Answer.{Answer}
@@ -26,14 +27,15 @@ seen (Err f) = Err (told f)
 abbrev pub AreSame : Result Answer Failure → Result Answer Failure → Type 0
 AreSame a b = a ≢ Err OutOfMemory → b ≢ Err OutOfMemory → seen a ≡ seen b
 
--- of what is asked for one thing is said at most: of all but a run, a journal that is shown, reports, layouts and pages. A run's journal is legal,
+-- of what is asked for one thing is said at most: of all but a run, a journal that is shown, reports, pages and
+-- layouts that are written. A run's journal is legal,
 -- but which journal it is stands in no clause; nor is it said which of several runs a report shows, and there is no more of rows than what
 -- stands below them, and of a page than how it begins
 abbrev pub HasOneAnswer : Asked → Type 0
 HasOneAnswer (Run workers quiet script files) = ⊥
 HasOneAnswer (Show timeline picture journal files) = ⊥
 HasOneAnswer (Explain form colour states journal warnings files) = ⊥
-HasOneAnswer (Format mode files) = ⊥
+HasOneAnswer (Format Write files) = ⊥
 HasOneAnswer (Pages names) = ⊥
 HasOneAnswer _ = Unit {0}
 

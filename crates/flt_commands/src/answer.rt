@@ -3,7 +3,7 @@
 ghost use Rattle.std.specs.Prelude.{◌≡◌, ◌≢◌, [], ◌∷◌, ◌++◌, Some, IfOk};
 ghost use Rattle.flt_commands.specs.Answer as spec;
 
-use crate::outcomes::{FileOutcome, files_status, printed_files};
+use crate::outcomes::{Outcomes, files_status, printed_files};
 use flt_check::Refusal;
 use flt_crew::{Ending, Ran};
 use flt_forms::UnreadFile;
@@ -29,8 +29,8 @@ pub enum Answer {
     Explained(Told, Vec<UnreadFile>),
     /// The text of the annotations of C files, or where its lines begin.
     Extracted(Vec<u8>),
-    /// What the texts of files come to that are laid out, where their layouts go; and the files that aren't read.
-    Formatted(FormatMode, Vec<FileOutcome>, Vec<UnreadFile>),
+    /// What the texts of files come to that are laid out, and where their layouts go.
+    Formatted(FormatMode, Outcomes),
     /// The pages of rules, violations, faults of a text, calls or statuses.
     Pages(Vec<&'static str>),
     /// What a script came to.
@@ -53,8 +53,9 @@ impl Answer {
             Answer::Explained(told, unread) => {
                 told_status(told.explained.status, unread.as_slice())
             }
-            Answer::Formatted(mode, files, unread) => {
-                told_status(files_status(*mode, files.as_slice()), unread.as_slice())
+            Answer::Formatted(mode, found) => {
+                let status = files_status(*mode, found.files.as_slice());
+                told_status(status, found.unread.as_slice())
             }
             Answer::Refused(_) | Answer::FileRefused(_, _) | Answer::Judged(_) => 1,
             Answer::Shown(_, _) => 1,
@@ -72,7 +73,7 @@ impl Answer {
             Answer::Accepted | Answer::Refused(_) | Answer::Certificate(_) => Ending::Whole,
             Answer::Judged(_) | Answer::Explained(_, _) | Answer::Pages(_) => Ending::Whole,
             Answer::FileRefused(_, _) | Answer::Shown(_, _) => Ending::Whole,
-            Answer::Extracted(_) | Answer::Formatted(_, _, _) => Ending::Whole,
+            Answer::Extracted(_) | Answer::Formatted(_, _) => Ending::Whole,
         }
     }
 
@@ -83,8 +84,8 @@ impl Answer {
         let line = match self {
             Answer::Certificate(bytes) => return Ok(bytes),
             Answer::Extracted(bytes) => return Ok(bytes),
-            Answer::Formatted(mode, files, _) => {
-                return printed_files(alloc, mode, files.as_slice());
+            Answer::Formatted(mode, found) => {
+                return printed_files(alloc, mode, found.files.as_slice());
             }
             Answer::Explained(told, _) => return Ok(told.explained.output),
             Answer::Ran(ran) => return Ok(ran.journal),

@@ -155,20 +155,18 @@ fn told_in_turn<O: Sink, W: SearchWatch>(
     ensures memory { IfErr result (λ e. e ≡ CommandFault.OutOfMemory →
         spec.IsCutIn asked.entry.form asked.entry.options asked.entry.states sources.now (O.taken out.old) (O.taken out.new)) }
 {
+    let options = asked.options;
     match asked.form {
         Form::Human => Ok(explain(alloc, asking(asked, false), sources, out, watch)?),
         Form::Short => Ok(sent(
             alloc,
-            lines_in_turn(alloc, Style::Sentence, asked.options, sources, out)?,
+            lines_in_turn(alloc, Style::Sentence, options, sources, out)?,
         )),
         Form::Lines => Ok(sent(
             alloc,
-            lines_in_turn(alloc, Style::Object, asked.options, sources, out)?,
+            lines_in_turn(alloc, Style::Object, options, sources, out)?,
         )),
-        Form::Sarif => Ok(unsent(
-            sarif(alloc, asked.options, sources, unread)?,
-            Items::new(alloc),
-        )),
+        Form::Sarif => Ok(unsent(sarif(alloc, options, sources, unread)?, Items::new(alloc))),
     }
 }
 

@@ -1,7 +1,7 @@
 //! What `format` says of the names that it is given, and what it writes.
 
 ghost use Rattle.std.specs.List.{All, list_any};
-ghost use Rattle.std.specs.Prelude.{◌≡◌, ◌≢◌, ℕ, [], Bool, List, IfErr, IfOk, Ok, length, map, string_bytes, true, false};
+ghost use Rattle.std.specs.Prelude.{◌≡◌, ◌≢◌, ◌++◌, ℕ, [], Bool, List, IfErr, IfOk, Ok, length, map, string_bytes, true, false};
 ghost use Rattle.flt_commands.specs.Commands.{IsAnswered, IsKept};
 ghost use Rattle.flt_commands.specs.Format as spec;
 ghost use Rattle.flt_words.specs.Request.{Format};
@@ -10,7 +10,7 @@ use crate::answer::Answer;
 use crate::clean::{covered_texts_break_nothing, driven_texts_break_nothing};
 use crate::fault::CommandFault;
 use crate::inputs::{Inputs, Pictures, read_each};
-use crate::outcomes::{FileOutcome, Outcome, remarks, unread_lines};
+use crate::outcomes::{FileOutcome, Outcome, Outcomes, all_remarks};
 use crate::report::{Contents, Report, report_on};
 use crate::split::certificate_start;
 use crate::unwritten::unwritten_lines;
@@ -76,7 +76,28 @@ fn put_layout<P: Pictures>(
     }
 }
 
-/// What the file of a name comes to, once its layout is written where it differs from it, if files are written.
+/// What the file of a name comes to, once its layout is written where it differs from it.
+fn put_other<P: Pictures>(
+    alloc: Global,
+    name: &str,
+    outcome: Outcome,
+    pictures: &mut P,
+) -> Result<Outcome, AllocError>
+    ensures comes { (input : List ℕ) → spec.ComesTo input outcome.entry → IfOk result (spec.ComesTo input) }
+    ensures done { IfOk result (spec.IsDone (P.written pictures.new) FormatMode.Write name.now) }
+    ensures still { IfOk result (λ outcome. spec.is_wanted FormatMode.Write outcome ≡ false → pictures.new ≡ pictures.old) }
+    ensures kept { (other bytes : List ℕ) → P.written pictures.old other bytes → P.written pictures.new other bytes }
+{
+    match outcome {
+        Outcome::Other(layout) => put_layout(alloc, name, layout, pictures),
+        Outcome::Same(layout) => Ok(Outcome::Same(layout)),
+        Outcome::Unwritten(layout, why) => Ok(Outcome::Unwritten(layout, why)),
+        Outcome::Fault(fault) => Ok(Outcome::Fault(fault)),
+        Outcome::Long => Ok(Outcome::Long),
+    }
+}
+
+/// The same where files are written, and else what it comes to anyway.
 fn written<P: Pictures>(
     alloc: Global,
     mode: FormatMode,
@@ -91,9 +112,10 @@ fn written<P: Pictures>(
     ensures still { IfOk result (λ outcome. spec.is_wanted mode outcome ≡ false → pictures.new ≡ pictures.old) }
     ensures kept { (other bytes : List ℕ) → P.written pictures.old other bytes → P.written pictures.new other bytes }
 {
-    match (mode, outcome) {
-        (FormatMode::Write, Outcome::Other(layout)) => put_layout(alloc, name, layout, pictures),
-        (_, outcome) => Ok(outcome),
+    match mode {
+        FormatMode::Print => Ok(outcome),
+        FormatMode::Check => Ok(outcome),
+        FormatMode::Write => put_other(alloc, name, outcome, pictures),
     }
 }
 
@@ -148,35 +170,24 @@ fn format_files<I: Inputs, P: Pictures>(
     files: &[&str],
     pictures: &mut P,
     contents: &mut Contents,
-) -> Result<Answer, AllocError>
-    ensures said { IfOk result (λ answer. spec.IsFormatSaid (I.gives inputs.now) mode (map (λ name. name.now) files.now)
-        (map (λ text. text.items) contents.new.texts.items) (Ok answer)) }
-    ensures kept { IfOk result (λ answer. IsKept (P.written pictures.new) (pictures.new ≡ pictures.old)
-        (Format mode (map (λ name. name.now) files.now)) (Ok answer)) }
+) -> Result<Outcomes, AllocError>
+    ensures said { IfOk result (spec.AreFormatted (I.gives inputs.now) mode (map (λ name. name.now) files.now)
+        (map (λ text. text.items) contents.new.texts.items)) }
+    ensures kept { IfOk result (λ found. IsKept (P.written pictures.new) (pictures.new ≡ pictures.old)
+        (Format mode (map (λ name. name.now) files.now)) (Ok (Answer.Formatted mode found))) }
 {
     let read = read_each(alloc, inputs, files)?;
+    let names = read.names;
+    let unread = read.unread;
     contents.texts = read.texts;
-    let outcomes = file_outcomes(
+    let files = file_outcomes(
         alloc,
         mode,
-        read.names.as_slice(),
+        names.as_slice(),
         contents.texts.as_slice(),
         pictures,
     )?;
-    Ok(Answer::Formatted(mode, outcomes, read.unread))
-}
-
-/// Whole lines on the files that aren't read, have no layout or aren't written.
-fn format_remark(alloc: Global, answer: &Answer) -> Result<Vec<u8>, AllocError>
-    ensures { IfOk result (λ lines. lines.items ≡ spec.remarks_in answer.now) }
-{
-    let Answer::Formatted(mode, files, unread) = answer else {
-        return Ok(Vec::new(alloc));
-    };
-    let mut lines = unread_lines(alloc, unread.as_slice())?;
-    let others = remarks(alloc, *mode, files.as_slice())?;
-    lines.extend_from_slice(others.as_slice())?;
-    Ok(lines)
+    Ok(Outcomes { files, unread })
 }
 
 /// The report on `format` of some files. Each file that is written is written by then.
@@ -197,7 +208,8 @@ pub(crate) fn report_on_layouts<I: Inputs, P: Pictures>(
     driven_texts_break_nothing();
     fails_exactly_where_nothing_is_spelled();
     let mut contents = Contents::new(alloc);
-    let answer = format_files(alloc, mode, inputs, files, pictures, &mut contents)?;
-    let before = format_remark(alloc, &answer)?;
+    let found = format_files(alloc, mode, inputs, files, pictures, &mut contents)?;
+    let before = all_remarks(alloc, mode, &found)?;
+    let answer = Answer::Formatted(mode, found);
     report_on(alloc, before, Ok(answer), contents)
 }

@@ -32,6 +32,13 @@ pub struct FileOutcome {
     pub outcome: Outcome,
 }
 
+/// What some files come to, and the others, which aren't read.
+#[derive(Drop)]
+pub struct Outcomes {
+    pub files: Vec<FileOutcome>,
+    pub unread: Vec<UnreadFile>,
+}
+
 // ---- the exit status
 
 /// Whether there is no layout, or it isn't written.
@@ -149,7 +156,7 @@ fn unread_line(alloc: Global, file: &UnreadFile) -> Result<String, AllocError>
 }
 
 /// The same of some files.
-pub(crate) fn unread_lines(alloc: Global, files: &[UnreadFile]) -> Result<Vec<u8>, AllocError>
+fn unread_lines(alloc: Global, files: &[UnreadFile]) -> Result<Vec<u8>, AllocError>
     ensures { IfOk result (λ lines. lines.items ≡ flat_map spec.unread_line files.now) }
 {
     let mut lines = Vec::new(alloc);
@@ -221,11 +228,7 @@ fn remark(
 }
 
 /// What stands on the standard error of some files.
-pub(crate) fn remarks(
-    alloc: Global,
-    mode: FormatMode,
-    files: &[FileOutcome],
-) -> Result<Vec<u8>, AllocError>
+fn remarks(alloc: Global, mode: FormatMode, files: &[FileOutcome]) -> Result<Vec<u8>, AllocError>
     ensures { IfOk result (λ lines. lines.items ≡ flat_map (spec.remarked mode) files.now) }
 {
     let mut lines = Vec::new(alloc);
@@ -233,5 +236,19 @@ pub(crate) fn remarks(
         let name = file.name.as_str();
         lines.extend_from_slice(remark(alloc, mode, name, &file.outcome)?.as_slice())?;
     }
+    Ok(lines)
+}
+
+/// Whole lines on all files that aren't read, have no layout or aren't written.
+pub(crate) fn all_remarks(
+    alloc: Global,
+    mode: FormatMode,
+    found: &Outcomes,
+) -> Result<Vec<u8>, AllocError>
+    ensures { IfOk result (λ lines. lines.items ≡ spec.all_remarks mode found.now) }
+{
+    let mut lines = unread_lines(alloc, found.unread.as_slice())?;
+    let others = remarks(alloc, mode, found.files.as_slice())?;
+    lines.extend_from_slice(others.as_slice())?;
     Ok(lines)
 }

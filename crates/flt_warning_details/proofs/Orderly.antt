@@ -1,5 +1,5 @@
 -- Why a text of which no circle is warned takes its locks in an order: a circle comes first among the warnings, and its kind isn't left out.
-use Rattle.std.proofs.Common.{◌≡◌, Bool, true, false, List, [], ◌∷◌, ◌++◌, Option, Some, None, sym, ap, refl, ◌∙◌, inl, inr, tt}
+use Rattle.std.proofs.Common.{◌≡◌, Bool, true, false, List, [], ◌∷◌, ◌++◌, Option, Some, None, sym, ap, refl, ◌∙◌, inl, inr}
 use Rattle.std.specs.Prelude.{◌⊎◌}
 use Rattle.flt_tree.specs.WellFormed.{IsWellFormed}
 use Rattle.flt_syntax.specs.Spelling.{SpelledIsWellFormed}
@@ -34,7 +34,7 @@ circle_said x allowed comments c ws sought = rw sought refl
 in_order_by : (x : Parsed) (allowed : AllowedKinds) (comments : List Allowance) (g : Graph) (k : Certificate) (c : Option (List Acquisition)) →
     IsShown g k c → allows allowed W01 ≡ false → warns_of_circle (details x allowed comments (circle_warned c ++ warned g k)) ≡ false →
     TakesInOrder g k
-in_order_by x allowed comments g k None shown sought none = shown.ordered.0 tt
+in_order_by x allowed comments g k None shown sought none = shown.ordered.0 refl
 in_order_by x allowed comments g k (Some c) shown sought none =
     let bad : true ≡ false = sym (circle_said x allowed comments c (warned g k) sought) ∙ none in absurd (cc)
 

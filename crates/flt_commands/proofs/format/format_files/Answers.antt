@@ -1,4 +1,4 @@
-use Rattle.flt_commands.proofs.Formatting.{formatted_said, kept_formatted}
+use Rattle.flt_commands.proofs.Formatting.{formatted_of, kept_formatted}
 use Rattle.flt_commands.proofs.SomeRead.{read_many}
 use Rattle.flt_commands.proofs.format.format_files.Goals as goal
 
@@ -8,8 +8,8 @@ file_outcomes-requires g c =
 
 pub returns-clause-said : goal.returns-clause-said
 returns-clause-said g c =
-    formatted_said _ c.args.mode _ c.in_ok-read.read c.in_ok-outcomes.outcomes c.in_ok-read.ensures
-    (rw (c.as_slice.ensures.value, c.as_slice-2.ensures.value) at c.in_ok-outcomes.ensures.are)
+    formatted_of _ c.args.mode _ c.in_ok-read.read c.in_ok-files.files c.in_ok-read.ensures
+    (rw (c.as_slice.ensures.value, c.as_slice-2.ensures.value) at c.in_ok-files.ensures.are)
 
 pub returns-clause-kept : goal.returns-clause-kept
-returns-clause-kept g c = kept_formatted _ _ c.args.mode _ c.in_ok-outcomes.outcomes _ c.in_ok-outcomes.ensures.done c.in_ok-outcomes.ensures.still
+returns-clause-kept g c = kept_formatted _ _ c.args.mode _ _ c.in_ok-files.ensures.done c.in_ok-files.ensures.still

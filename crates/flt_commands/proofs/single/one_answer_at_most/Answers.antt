@@ -9,8 +9,9 @@ returns g c =
     let analysed = c.one_analysis_at_most.ensures in
     let thinned = c.one_thin_at_most.ensures in
     let replayed = c.one_verdict_at_most.ensures in
+    let nowhere = c.fails_exactly_where_nothing_is_spelled.ensures.nowhere in
     record {
-      one = λ inputs before pictures past others shown showing words. printed_once checked analysed thinned replayed (g.I.Inputs.gives inputs)
+      one = λ inputs before pictures past others shown showing words. printed_once checked analysed thinned replayed nowhere (g.I.Inputs.gives inputs)
           (g.P.Pictures.written pictures) (g.P.Pictures.written others) (pictures ≡ before) (others ≡ past) shown showing (asked words);
-      said = λ inputs. said_once checked analysed thinned replayed (g.I.Inputs.gives inputs);
+      said = λ inputs. said_once checked analysed thinned replayed nowhere (g.I.Inputs.gives inputs);
     }

@@ -1,0 +1,8 @@
+//! Where comments are.
+
+ghost use Rattle.flt_allowances.specs.Marks as spec;
+
+/// Each comment is where its region says: its `#` is there in the text. It does nothing: its clause is the law.
+pub fn comments_begin_with_marks()
+    ensures { spec.CommentsBeginWithMarks }
+{}
