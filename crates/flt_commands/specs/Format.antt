@@ -19,7 +19,7 @@ use Rattle.flt_commands.specs.declared.outcomes.Outcomes.{Outcomes}
 
 -- ---- one file
 
--- the text of an input spells a filter, and these bytes are its layout and the certificate behind it, as it was
+-- the text of an input spells a filter, and these bytes are its layout and the certificate after it, as it was
 pub record IsLayout (input bytes : Text) : Type 0 where
   pub start : ℕ
   pub begins : IsCertificateStart input start
@@ -74,7 +74,7 @@ IsFormatSaid gives mode files texts (Ok (Formatted own found)) = (own ≡ mode) 
 IsFormatSaid gives mode files texts (Ok _) = ⊥
 IsFormatSaid gives mode files texts (Err f) = ⊥
 
--- what stands on the standard error beside it: which files aren't read, and of the others why they have no layout or aren't written
+-- what is on the standard error beside it: which files aren't read, and of the others why they have no layout or aren't written
 abbrev pub remarks_in : Answer → List ℕ
 remarks_in (Formatted mode found) = all_remarks mode found
 remarks_in answer = []

@@ -60,7 +60,7 @@ printed modes.Write file = []
 abbrev pub unread_line : UnreadFile → List ℕ
 unread_line file = codes "cannot read " ++ (visible (string_bytes file.name) ++ 10 ∷ [])
 
--- why a file has no layout: of one that is printed as `check` says it, of others behind their names
+-- why a file has no layout: of one that is printed as `check` says it, of others after their names
 abbrev pub reason_line : FormatMode → Text → List ℕ → List ℕ
 reason_line modes.Print name why = why ++ 10 ∷ []
 reason_line _ name why = visible name ++ (codes ": " ++ (why ++ 10 ∷ []))
@@ -73,7 +73,7 @@ fault_line mode name f = reason_line mode name (syntax_line f)
 abbrev pub unwritten_line : Text → List ℕ
 unwritten_line name = codes "cannot write " ++ (visible name ++ 10 ∷ [])
 
--- what stands on the standard error of the file of a name
+-- what is on the standard error of the file of a name
 abbrev pub remark : FormatMode → Text → Outcome → List ℕ
 remark mode name (Same layout) = []
 remark mode name (Other layout) = []

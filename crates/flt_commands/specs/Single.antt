@@ -27,10 +27,9 @@ seen (Err f) = Err (told f)
 abbrev pub AreSame : Result Answer Failure → Result Answer Failure → Type 0
 AreSame a b = a ≢ Err OutOfMemory → b ≢ Err OutOfMemory → seen a ≡ seen b
 
--- of what is asked for one thing is said at most: of all but a run, a journal that is shown, reports, pages and
--- layouts that are written. A run's journal is legal,
--- but which journal it is stands in no clause; nor is it said which of several runs a report shows, and there is no more of rows than what
--- stands below them, and of a page than how it begins
+-- of what is asked for one thing is said at most: of all but a run, a journal that is shown, reports, pages and layouts that are written. A
+-- run's journal is legal, but which journal it is stands in no clause; nor is it said which of several runs a report shows, and there is no
+-- more of rows than what stands below them, and of a page than how it begins
 abbrev pub HasOneAnswer : Asked → Type 0
 HasOneAnswer (Run workers quiet script files) = ⊥
 HasOneAnswer (Show timeline picture journal files) = ⊥

@@ -31,7 +31,7 @@ fn compared(input: &[u8], layout: Vec<u8>) -> Outcome
     }
 }
 
-/// What an input comes to, where its text has a layout and this certificate is behind it.
+/// What an input comes to, where its text has a layout and this certificate follows it.
 fn joined(input: &[u8], layout: Vec<u8>, certificate: &[u8]) -> Result<Outcome, AllocError>
     ensures comes { IfOk result (λ outcome. spec.IsLayout input.now (layout.entry.items ++ certificate.now) → spec.ComesTo input.now outcome) }
     ensures read { IfOk result (λ outcome. spec.is_unwritten outcome ≡ false) }

@@ -10,7 +10,7 @@ use flt_syntax::SyntaxFault;
 use flt_words::{FormatMode, visible};
 use std::alloc::{AllocError, Global};
 
-/// What the text of a file comes to, where it is laid out with the certificate behind it.
+/// What the text of a file comes to, where it is laid out with the certificate after it.
 #[derive(Drop)]
 pub enum Outcome {
     /// The file is as its layout, which has these bytes.
@@ -166,7 +166,7 @@ fn unread_lines(alloc: Global, files: &[UnreadFile]) -> Result<Vec<u8>, AllocErr
     Ok(lines)
 }
 
-/// Why a file has no layout, in a line: of one that is printed as `check` says it, of others behind their names.
+/// Why a file has no layout, in a line: of one that is printed as `check` says it, of others after their names.
 fn reason_line(
     alloc: Global,
     mode: FormatMode,
@@ -199,7 +199,7 @@ fn fault_line(
     reason_line(alloc, mode, name, why.as_str())
 }
 
-/// That a file isn't written, in a line behind those that say why.
+/// That a file isn't written, in a line after those that say why.
 fn unwritten_line(alloc: Global, name: &str, why: &[u8]) -> Result<Vec<u8>, AllocError>
     ensures { IfOk result (λ lines. lines.items ≡ why.now ++ spec.unwritten_line name.now) }
 {
@@ -210,7 +210,7 @@ fn unwritten_line(alloc: Global, name: &str, why: &[u8]) -> Result<Vec<u8>, Allo
     Ok(lines)
 }
 
-/// What stands on the standard error of the file of a name.
+/// What is on the standard error of the file of a name.
 fn remark(
     alloc: Global,
     mode: FormatMode,
@@ -227,7 +227,7 @@ fn remark(
     }
 }
 
-/// What stands on the standard error of some files.
+/// What is on the standard error of some files.
 fn remarks(alloc: Global, mode: FormatMode, files: &[FileOutcome]) -> Result<Vec<u8>, AllocError>
     ensures { IfOk result (λ lines. lines.items ≡ flat_map (spec.remarked mode) files.now) }
 {

@@ -1,5 +1,5 @@
 -- Comments that allow nothing (W00). This project's own program.
-use Rattle.std.specs.Prelude.{ℕ, [], ◌∷◌, codes, Option, Some, None}
+use Rattle.std.specs.Prelude.{ℕ, if◌then◌else◌, [], ◌∷◌, codes, Option, Some, None}
 use Rattle.std.specs.Fmt.{decimal}
 use Rattle.std.specs.List.{concat}
 use Rattle.flt_tree.specs.Names.{Text}
@@ -8,19 +8,28 @@ use Rattle.flt_warnings.specs.Kinds.{kind_name}
 use Rattle.flt_warnings.specs.declared.warning.Kind.{Kind}
 use Rattle.flt_warnings.specs.declared.warning.Kind.TheVariants.{W00}
 use Rattle.flt_allowances.specs.declared.of_text.Allowance.{Allowance}
+use Rattle.flt_warning_details.specs.Allowing.{is_reason}
 use Rattle.flt_warning_details.specs.Places.{bare}
 use Rattle.flt_warning_details.specs.declared.detail.WarningDetail.{WarningDetail}
 
--- why a comment that names a kind allows nothing: it has no reason, or its line has no such warning that no comment before it allows
-unfoldable pub named_title : Kind → Text → ℕ → Text
-named_title kind [] statement = codes "this comment allows nothing: it gives no reason"
-named_title kind (b ∷ reason) statement =
+-- that a comment is for a line that has no warning of its kind which no comment before it allows
+unfoldable pub needless_title : Kind → ℕ → Text
+needless_title kind statement =
     concat (codes "this comment allows no " ∷ marked (kind_name kind) ∷ codes " on line " ∷ decimal statement ∷ [])
 
--- what to do with it
-unfoldable pub named_help : Kind → Text → Text
-named_help kind [] = concat (codes "write why after a colon: `# allow " ∷ kind_name kind ∷ codes ": ..`" ∷ [])
-named_help kind (b ∷ reason) = codes "remove the comment, or put it on the line before the statement of the warning"
+-- why a comment that names a kind allows nothing
+abbrev pub named_title : Kind → Text → ℕ → Text
+named_title kind reason statement =
+    if is_reason reason then needless_title kind statement else codes "this comment allows nothing: it gives no reason"
+
+-- what to do with a comment that has no reason
+unfoldable pub reason_help : Kind → Text
+reason_help kind = concat (codes "write why after a colon: `# allow " ∷ kind_name kind ∷ codes ": ..`" ∷ [])
+
+-- what to do with a comment that names a kind
+abbrev pub named_help : Kind → Text → Text
+named_help kind reason =
+    if is_reason reason then codes "remove the comment, or put it on the line before the statement of the warning" else reason_help kind
 
 abbrev pub title_by : Option Kind → Text → ℕ → Text
 title_by None reason statement = codes "this comment allows nothing: no warning has this number"

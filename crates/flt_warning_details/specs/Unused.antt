@@ -59,19 +59,16 @@ abbrev pub number_told : Option NumberVariable → Text
 number_told (Some n) = concat (codes "`n" ∷ decimal (number_place n) ∷ codes "`" ∷ [])
 number_told None = codes "its variable"
 
--- a variable of numbers between words
-unfoldable pub around_number : Text → Option NumberVariable → Text → Text
-around_number before n after = concat (before ∷ number_told n ∷ after ∷ [])
-
 -- the variable that a point tests
-abbrev pub tested_at : Parsed → Site → Option NumberVariable
-tested_at x s = tested (instruction x s)
+abbrev pub told_at : Parsed → Site → Text
+told_at x s = number_told (tested (instruction x s))
 
-abbrev pub never_title : Parsed → Site → Text
-never_title x s = around_number (codes "this test never holds: nothing in the callback writes ") (tested_at x s) []
+unfoldable pub never_title : Parsed → Site → Text
+never_title x s =
+    concat (codes "nothing in the callback writes " ∷ told_at x s ∷ codes ", so this test never holds" ∷ [])
 
-abbrev pub never_help : Parsed → Site → Text
-never_help x s = around_number (codes "set ") (tested_at x s) (codes " before the test, or remove the test")
+unfoldable pub never_help : Parsed → Site → Text
+never_help x s = concat (codes "set " ∷ told_at x s ∷ codes " before the test, or remove the test" ∷ [])
 
 abbrev pub never_note : Text
 never_note = codes "a variable of numbers is 0 where its callback begins"

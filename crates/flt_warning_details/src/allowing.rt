@@ -22,7 +22,7 @@ fn names(named: Option<Kind>, kind: Kind) -> bool
     }
 }
 
-fn is_reason(reason: &[u8]) -> bool
+pub(crate) fn is_reason(reason: &[u8]) -> bool
     ensures { result ≡ spec.is_reason reason.now }
 {
     match reason {

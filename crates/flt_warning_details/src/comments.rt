@@ -4,6 +4,7 @@ ghost use Rattle.std.specs.Prelude.{◌≡◌, [], IfOk};
 ghost use Rattle.flt_details.specs.Page.{Writes};
 ghost use Rattle.flt_warning_details.specs.Comments as spec;
 
+use crate::allowing::is_reason;
 use crate::detail::WarningDetail;
 use crate::places::bare;
 use flt_allowances::Allowance;
@@ -12,8 +13,19 @@ use flt_warnings::Kind;
 use sqlite_items::Items;
 use std::alloc::{AllocError, Global};
 
+/// Writes that a comment is for a line that has no warning of its kind.
+fn tell_needless_title(page: &mut Page, kind: Kind, statement: usize) -> Result<(), AllocError>
+    ensures { Writes result page.old page.new (spec.needless_title kind statement) }
+{
+    page.say(&[
+        Part::Text("this comment allows no "),
+        Part::Word(kind.name()),
+        Part::Text(" on line "),
+        Part::Number(statement),
+    ])
+}
+
 /// Writes why a comment that names a kind allows nothing.
-#[tactic(auto, unfolding(crate::specs::Comments::named_title))]
 fn tell_named_title(
     page: &mut Page,
     kind: Kind,
@@ -22,27 +34,30 @@ fn tell_named_title(
 ) -> Result<(), AllocError>
     ensures { Writes result page.old page.new (spec.named_title kind reason.now statement) }
 {
-    match reason {
-        [] => page.texts(&["this comment allows nothing: it gives no reason"]),
-        [_, ..] => page.say(&[
-            Part::Text("this comment allows no "),
-            Part::Word(kind.name()),
-            Part::Text(" on line "),
-            Part::Number(statement),
-        ]),
+    if is_reason(reason) {
+        tell_needless_title(page, kind, statement)
+    } else {
+        page.texts(&["this comment allows nothing: it gives no reason"])
     }
 }
 
-/// Writes what to do with it.
-#[tactic(auto, unfolding(crate::specs::Comments::named_help))]
+/// Writes what to do with a comment that has no reason.
+fn tell_reason_help(page: &mut Page, kind: Kind) -> Result<(), AllocError>
+    ensures { Writes result page.old page.new (spec.reason_help kind) }
+{
+    page.texts(&["write why after a colon: `# allow ", kind.name(), ": ..`"])
+}
+
+/// Writes what to do with a comment that names a kind.
 fn tell_named_help(page: &mut Page, kind: Kind, reason: &[u8]) -> Result<(), AllocError>
     ensures { Writes result page.old page.new (spec.named_help kind reason.now) }
 {
-    match reason {
-        [] => page.texts(&["write why after a colon: `# allow ", kind.name(), ": ..`"]),
-        [_, ..] => page.texts(&[
+    if is_reason(reason) {
+        page.texts(&[
             "remove the comment, or put it on the line before the statement of the warning",
-        ]),
+        ])
+    } else {
+        tell_reason_help(page, kind)
     }
 }
 

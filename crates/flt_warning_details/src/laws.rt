@@ -6,7 +6,6 @@ use flt_syntax::spelled_is_well_formed;
 
 /// A text in which nothing is found and of which no circle of locks is warned is of a filter that takes its locks in an order. It does
 /// nothing: its clause is the law.
-#[tactic(auto, using(crate::proofs::Orderly::orderly_without_circles))]
 pub fn texts_without_circles_are_orderly()
     ensures { TextsWithoutCirclesAreOrderly }
 {

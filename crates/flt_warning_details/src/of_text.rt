@@ -1,6 +1,6 @@
 //! What is said of all warnings of a text.
 
-ghost use Rattle.std.specs.Prelude.{◌≡◌, ◌<◌, ◌++◌, flat_map, IfOk, OnOk};
+ghost use Rattle.std.specs.Prelude.{◌≡◌, ◌<◌, ◌++◌, flat_map, length, slice_get, IfOk, OnOk, Some};
 ghost use Rattle.flt_warning_details.specs.Details as spec;
 ghost use Rattle.flt_warning_details.specs.Parsed.{of_parsed};
 
@@ -115,6 +115,31 @@ fn warned(
     Ok(all)
 }
 
+/// The comment of a number, from 0.
+fn comment_at(comments: &[Allowance], number: usize) -> &Allowance
+    requires within { number < length comments.now }
+    ensures { slice_get comments.now number ≡ Some result.now }
+{
+    &comments[number]
+}
+
+/// Adds what is said of a comment after some others, if it allows nothing.
+fn add_unneeded(
+    alloc: Global,
+    all: &mut Items<WarningDetail>,
+    text: &ParsedText<'_>,
+    warnings: &[Warning],
+    before: &[Allowance],
+    comment: &Allowance,
+) -> Result<(), AllocError>
+    ensures { OnOk result (all.new ≡ all.old ++ spec.idle_by (of_parsed text.now) warnings.now before.now (Some comment.now)) }
+{
+    if !is_needed(text, warnings, before, comment) {
+        all.push(idle_detail(alloc, comment)?)?;
+    }
+    Ok(())
+}
+
 /// Adds what is said of the comment of a number, if it allows nothing.
 fn add_idle(
     alloc: Global,
@@ -124,14 +149,11 @@ fn add_idle(
     warnings: &[Warning],
     number: usize,
 ) -> Result<(), AllocError>
+    requires within { number < length comments.now }
     ensures { OnOk result (all.new ≡ all.old ++ spec.idle_at (of_parsed text.now) comments.now warnings.now number) }
 {
-    if let Some(comment) = comments.get(number) {
-        if !is_needed(text, warnings, &comments[..number], comment) {
-            all.push(idle_detail(alloc, comment)?)?;
-        }
-    }
-    Ok(())
+    let comment = comment_at(comments, number);
+    add_unneeded(alloc, all, text, warnings, &comments[..number], comment)
 }
 
 /// What is said of the comments that allow nothing.
@@ -169,6 +191,7 @@ fn idle_unless(
 }
 
 /// What is said of the warnings of a text and of its comments that allow nothing.
+#[tactic(auto, unfolding(crate::specs::Details::details))]
 fn details(
     alloc: Global,
     text: &ParsedText<'_>,

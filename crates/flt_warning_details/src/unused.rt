@@ -122,22 +122,8 @@ fn tell_number(page: &mut Page, number: Option<NumberVariable>) -> Result<(), Al
     }
 }
 
-/// Writes a variable of numbers between words.
-#[tactic(auto, unfolding(crate::specs::Unused::around_number))]
-fn around_number<'a>(
-    page: &mut Page,
-    before: &'a str,
-    number: Option<NumberVariable>,
-    after: &'a str,
-) -> Result<(), AllocError>
-    ensures { Writes result page.old page.new (spec.around_number before.now number after.now) }
-{
-    page.texts(&[before])?;
-    tell_number(page, number)?;
-    page.texts(&[after])
-}
-
 /// Writes that a test never holds.
+#[tactic(auto, unfolding(crate::specs::Unused::never_title))]
 pub(crate) fn tell_never_title(
     page: &mut Page,
     text: &ParsedText<'_>,
@@ -145,15 +131,13 @@ pub(crate) fn tell_never_title(
 ) -> Result<(), AllocError>
     ensures { Writes result page.old page.new (spec.never_title (of_parsed text.now) site) }
 {
-    around_number(
-        page,
-        "this test never holds: nothing in the callback writes ",
-        tested(&text.instruction(site)),
-        "",
-    )
+    page.texts(&["nothing in the callback writes "])?;
+    tell_number(page, tested(&text.instruction(site)))?;
+    page.texts(&[", so this test never holds"])
 }
 
 /// Writes what to do with it.
+#[tactic(auto, unfolding(crate::specs::Unused::never_help))]
 pub(crate) fn tell_never_help(
     page: &mut Page,
     text: &ParsedText<'_>,
@@ -161,12 +145,9 @@ pub(crate) fn tell_never_help(
 ) -> Result<(), AllocError>
     ensures { Writes result page.old page.new (spec.never_help (of_parsed text.now) site) }
 {
-    around_number(
-        page,
-        "set ",
-        tested(&text.instruction(site)),
-        " before the test, or remove the test",
-    )
+    page.texts(&["set "])?;
+    tell_number(page, tested(&text.instruction(site)))?;
+    page.texts(&[" before the test, or remove the test"])
 }
 
 /// Writes why.

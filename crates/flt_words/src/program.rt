@@ -391,7 +391,7 @@ fn bare_format<'a>(alloc: Global) -> Command<'a>
             "fltstack format <FILE>\n       fltstack format --check <FILE>...\n       fltstack format --write <FILE>...",
         )
         .after_help(
-            "Prints the layout of one FILE, with the certificate behind its text (exit 0). `--check` prints `not formatted`\nand the name of each file that differs from its layout (exit 1 if there is one). `--write` changes these files,\nand leaves a symbolic link as it is. Errors go to the standard error with exit 2; `--check` and `--write` go on\nwith the other files.\n\nExample: fltstack format examples/pending_reads.flt",
+            "Prints the layout of one FILE, with the certificate after its text (exit 0). `--check` prints `not formatted`\nand the name of each file that differs from its layout (exit 1 if there is one). `--write` changes these files,\nand leaves a symbolic link as it is. Errors go to the standard error with exit 2; `--check` and `--write` go on\nwith the other files.\n\nExample: fltstack format examples/pending_reads.flt",
         )
 }
 
