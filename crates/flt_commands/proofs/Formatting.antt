@@ -23,8 +23,9 @@ use Rattle.flt_words.specs.declared.request.FormatMode.TheVariants as modes
 
 -- ---- a file more
 
-module _ (mode : FormatMode) (names : List (Bor Text)) (texts : List (Vec ℕ Global)) (i : ℕ) (name other : Bor Text) (text another : Vec ℕ Global)
-    (few : i < length names) (within : i < length texts) (first : name ≡ get_or names i other) (second : text ≡ get_or texts i another) where
+module _ (mode : FormatMode) (names : List (Bor Text)) (texts : List (Vec ℕ Global)) (i : ℕ) (name other : Bor Text)
+    (text another : Vec ℕ Global) (few : i < length names) (within : i < length texts) (first : name ≡ get_or names i other)
+    (second : text ≡ get_or texts i another) where
   pub outcome_more : (files more : List FileOutcome) (file : FileOutcome) →
       AreOutcomes mode (map (λ n. n.now) (take i names)) (map (λ t. t.items) (take i texts)) files → string_bytes file.name ≡ name.now →
       IsOutcome mode text.items file → more ≡ files ++ file ∷ [] →
@@ -32,7 +33,8 @@ module _ (mode : FormatMode) (names : List (Bor Text)) (texts : List (Vec ℕ Gl
   outcome_more files more file are named is pushed =
       let ns : map (λ (n : Bor Text). n.now) (take (i + 1) names) ≡ map (λ (n : Bor Text). n.now) (take i names) ++ name.now ∷ [] =
       one_more (λ n. n.now) names i name other few first in
-      let ts : map (λ (t : Vec ℕ Global). t.items) (take (i + 1) texts) ≡ map (λ (t : Vec ℕ Global). t.items) (take i texts) ++ text.items ∷ [] =
+      let ts : map (λ (t : Vec ℕ Global). t.items) (take (i + 1) texts) ≡ map (λ (t : Vec ℕ Global). t.items) (take i texts)
+      ++ text.items ∷ [] =
       one_more (λ t. t.items) texts i text another within second in
       rw (ns, ts, pushed, ← named) (an_outcome_more text.items file are is)
 
@@ -57,7 +59,8 @@ wants mode file = is_wanted mode file.outcome
 
 -- where no file is written, all that is written stays as it was
 pub still_more : {P : Type 0} (mode : FormatMode) (files more : List FileOutcome) (file : FileOutcome) (start old new : P) →
-    (list_any (λ (f : FileOutcome). is_wanted mode f.outcome) files ≡ false → old ≡ start) → (is_wanted mode file.outcome ≡ false → new ≡ old) →
+    (list_any (λ (f : FileOutcome). is_wanted mode f.outcome) files ≡ false → old ≡ start) →
+    (is_wanted mode file.outcome ≡ false → new ≡ old) →
     more ≡ files ++ file ∷ [] → list_any (λ (f : FileOutcome). is_wanted mode f.outcome) more ≡ false → new ≡ start
 still_more mode files more file start old new before one pushed none =
     let both : (list_any (wants mode) files || is_wanted mode file.outcome) ≡ false =
@@ -82,7 +85,8 @@ kept_formatted written untouched modes.Print files found done still = still (non
 kept_formatted written untouched modes.Check files found done still = still (none_checked found.files.items)
 kept_formatted written untouched modes.Write files found done still = (done, still)
 
-pub formatted_of : (gives : Giving) (mode : FormatMode) (files : List Text) (r : ReadFiles) (outcomes : Vec FileOutcome Global) → AreReadIn gives files r →
+pub formatted_of : (gives : Giving) (mode : FormatMode) (files : List Text) (r : ReadFiles) (outcomes : Vec FileOutcome Global) →
+    AreReadIn gives files r →
     AreOutcomes mode (map (λ n. n.now) r.names.items) (map (λ t. t.items) r.texts.items) outcomes.items →
     AreFormatted gives mode files (map (λ t. t.items) r.texts.items) (record { files = outcomes; unread = r.unread })
 formatted_of gives mode files r outcomes has are = record { names = map (λ (n : Bor Text). n.now) r.names.items; read = has; are = are }
@@ -110,7 +114,8 @@ none_fails : (mode : FormatMode) (files : List FileOutcome) (b : Bool) → list_
 none_fails mode files true is good = absurd (good (rw is refl))
 none_fails mode files false is good = is
 
-none_remarked : (mode : FormatMode) (files : List FileOutcome) (unread : List UnreadFile) → told_status (files_status mode files) unread ≢ 2 →
+none_remarked : (mode : FormatMode) (files : List FileOutcome) (unread : List UnreadFile) →
+    told_status (files_status mode files) unread ≢ 2 →
     flat_map unread_line unread ++ flat_map (remarked mode) files ≡ []
 none_remarked mode files [] good = no_remarks mode files (none_fails mode files (list_any fails files) refl good)
 none_remarked mode files (file ∷ others) good = absurd (good refl)

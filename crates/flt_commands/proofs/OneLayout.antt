@@ -34,7 +34,8 @@ nil_push (y ∷ ys) x e = cc
 
 module _ (gives : Giving) (one : GivesOne gives) where
   -- a name that gives something isn't missing
-  given_or_missing : (before : List Text) (name text : Text) → gives name (Some text) → is_standard name && list_any is_standard before ≡ false →
+  given_or_missing : (before : List Text) (name text : Text) → gives name (Some text) →
+      is_standard name && list_any is_standard before ≡ false →
       IsMissing gives before name → ⊥
   given_or_missing before name text is other (inl again) = cc
   given_or_missing before name text is other (inr nothing) = none-some text (one name None (Some text) nothing is)
@@ -51,7 +52,8 @@ module _ (gives : Giving) (one : GivesOne gives) where
       (read {names = ms} {read = found} {texts = ss} {unread = vs} last own were has first) =
       let ends = same_from_push ns ms name last same in
       let before = read_once ns ms got found ts ss us vs ends.0 are were in
-      let texts : text ≡ own = same_Some text own (one name (Some text) (Some own) is (subst (λ n. gives n (Some own)) (sym ends.1) has)) in (
+      let texts : text ≡ own = same_Some text own
+      (one name (Some text) (Some own) is (subst (λ n. gives n (Some own)) (sym ends.1) has)) in (
         ap (λ l. l ++ name ∷ []) before.0 ∙ ap (λ n. found ++ n ∷ []) ends.1,
         (ap (λ l. l ++ text ∷ []) before.1.0 ∙ ap (λ t. ss ++ t ∷ []) texts, before.1.1),
       )
@@ -62,7 +64,8 @@ module _ (gives : Giving) (one : GivesOne gives) where
       (before.0, (before.1.0, ap (λ l. l ++ name ∷ []) before.1.1 ∙ ap (λ n. vs ++ n ∷ []) ends.1))
   read_once _ _ _ _ _ _ _ _ same (read {names = ns} name text are is other) (missing {names = ms} last were gone) =
       let ends = same_from_push ns ms name last same in
-      absurd (given_or_missing ns name text is other (subst (λ l. IsMissing gives l name) (sym ends.0) (subst (IsMissing gives ms) (sym ends.1) gone)))
+      absurd (given_or_missing ns name text is other
+      (subst (λ l. IsMissing gives l name) (sym ends.0) (subst (IsMissing gives ms) (sym ends.1) gone)))
   read_once _ _ _ _ _ _ _ _ same (missing {names = ns} name are lost) (read {names = ms} last text were is other) =
       let ends = same_from_push ns ms name last same in
       absurd (given_or_missing ms last text is other (subst (λ l. IsMissing gives l last) ends.0 (subst (IsMissing gives ns) ends.1 lost)))
@@ -102,7 +105,8 @@ module _ (nowhere : SpelledFailsNowhere) where
       let is : x.layout ≡ laid_out (take start input) = x.is.is ∙ ap (λ n. laid_out (take n input)) starts in
       absurd (omega (arith, x.is.short, long.long, ap length is))
 
-  alike : (input : Text) (p q : Outcome) → is_unwritten p ≡ false → is_unwritten q ≡ false → ComesTo input p → ComesTo input q → AreAlike p q
+  alike : (input : Text) (p q : Outcome) → is_unwritten p ≡ false → is_unwritten q ≡ false → ComesTo input p → ComesTo input q →
+      AreAlike p q
   alike input (Same a) (Same b) k l x y = (layouts_once input a.items b.items x.0 y.0, (refl, refl))
   alike input (Other a) (Other b) k l x y = (layouts_once input a.items b.items x.0 y.0, (refl, refl))
   alike input (Same a) (Other b) k l x y = absurd (y.1 (layouts_once input b.items a.items y.0 x.0 ∙ x.1))
@@ -128,7 +132,8 @@ module _ (nowhere : SpelledFailsNowhere) where
   fits_unwritten modes.Check outcome other fits = fits
   fits_unwritten modes.Write outcome other fits = absurd (other refl)
 
-  unformatted_once : (name own : Text) (p q : Outcome) → name ≡ own → is_other p ≡ is_other q → unformatted_line name p ≡ unformatted_line own q
+  unformatted_once : (name own : Text) (p q : Outcome) → name ≡ own → is_other p ≡ is_other q →
+      unformatted_line name p ≡ unformatted_line own q
   unformatted_once name own p q named same = rw (named, same) refl
 
   printed_once : (mode : FormatMode) (a b : FileOutcome) → string_bytes a.name ≡ string_bytes b.name → AreAlike a.outcome b.outcome →
@@ -144,7 +149,8 @@ module _ (nowhere : SpelledFailsNowhere) where
         AreSeenAlike mode (files ++ a ∷ []) (others ++ b ∷ [])
     seen_more files others a b input same named x y =
         let one : AreAlike a.outcome b.outcome =
-        alike input a.outcome b.outcome (fits_unwritten mode a.outcome other x.fits) (fits_unwritten mode b.outcome other y.fits) x.comes y.comes in
+        alike input a.outcome b.outcome (fits_unwritten mode a.outcome other x.fits) (fits_unwritten mode b.outcome other y.fits)
+        x.comes y.comes in
         let printed_one : printed mode a ≡ printed mode b = printed_once mode a b named one in
         record {
           prints = flat_map-append (printed mode) files (a ∷ []) ∙ ap (λ l. l ++ (printed mode a ++ [])) same.prints
@@ -158,7 +164,8 @@ module _ (nowhere : SpelledFailsNowhere) where
     outcomes_once : (names own inputs more : List Text) (files others : List FileOutcome) → names ≡ own → inputs ≡ more →
         AreOutcomes mode names inputs files → AreOutcomes mode own more others → AreSeenAlike mode files others
     outcomes_once _ _ _ _ _ _ named given no_outcome no_outcome = record { prints = refl; failing = refl; differing = refl }
-    outcomes_once _ _ _ _ _ _ named given no_outcome (one_more {names = ns} input file are is) = absurd (nil_push ns (string_bytes file.name) named)
+    outcomes_once _ _ _ _ _ _ named given no_outcome (one_more {names = ns} input file are is) =
+        absurd (nil_push ns (string_bytes file.name) named)
     outcomes_once _ _ _ _ _ _ named given (one_more {names = ns} input file are is) no_outcome =
         absurd (nil_push ns (string_bytes file.name) (sym named))
     outcomes_once _ _ _ _ _ _ named given (one_more {names = ns} {inputs = ts} {files = fs} input file are is)
@@ -168,10 +175,12 @@ module _ (nowhere : SpelledFailsNowhere) where
         seen_more fs gs file own input (outcomes_once ns ms ts ss fs gs ends.0 texts.0 are were) ends.1 is
         (subst (λ t. IsOutcome mode t own) (sym texts.1) has)
 
-  status_once : (mode : FormatMode) (files others : List FileOutcome) → AreSeenAlike mode files others → files_status mode files ≡ files_status mode others
+  status_once : (mode : FormatMode) (files others : List FileOutcome) → AreSeenAlike mode files others →
+      files_status mode files ≡ files_status mode others
   status_once mode files others same = rw (same.failing, same.differing) refl
 
-  told_once : (m n : ℕ) (unread left : List UnreadFile) → m ≡ n → unread_names unread ≡ unread_names left → told_status m unread ≡ told_status n left
+  told_once : (m n : ℕ) (unread left : List UnreadFile) → m ≡ n → unread_names unread ≡ unread_names left →
+      told_status m unread ≡ told_status n left
   told_once m n [] [] same named = same
   told_once m n (f ∷ fs) (g ∷ gs) same named = refl
   told_once m n [] (g ∷ gs) same named = absurd (cc named)
@@ -181,8 +190,8 @@ module _ (nowhere : SpelledFailsNowhere) where
   pub layouts_said_once : (gives : Giving) → GivesOne gives → (mode : FormatMode) → mode ≢ modes.Write → (files texts more : List Text)
       (a b : Result Answer Failure) → IsFormatSaid gives mode files texts a → IsFormatSaid gives mode files more b → AreSame a b
   layouts_said_once gives one mode other files texts more (Ok (Formatted m a)) (Ok (Formatted n b)) x y =
-      let once = read_once gives one files files x.1.names y.1.names texts more (unread_names a.unread.items) (unread_names b.unread.items) refl
-      x.1.read y.1.read in
+      let once = read_once gives one files files x.1.names y.1.names texts more (unread_names a.unread.items)
+      (unread_names b.unread.items) refl x.1.read y.1.read in
       let seen = outcomes_once mode other x.1.names y.1.names texts more a.files.items b.files.items once.0 once.1.0 x.1.are y.1.are in
       let prints : flat_map (printed m) a.files.items ≡ flat_map (printed n) b.files.items = rw (x.0, y.0) seen.prints in
       let status : told_status (files_status m a.files.items) a.unread.items ≡ told_status (files_status n b.files.items) b.unread.items =

@@ -54,8 +54,8 @@ verdict_line Legal = codes "legal"
 verdict_line (NotARun n) = codes "not a run at " ++ decimal n
 verdict_line (Breaks v n) = codes "breaks V" ++ decimal (violation_number v) ++ codes " at " ++ decimal n
 
--- what stands on the standard output: the certificate, a text or its map, a layout or which files differ from theirs, reports, pages with an empty line between them, the journal, or a line and a line
--- feed; of a journal that is shown, rows before that line
+-- what stands on the standard output: the certificate, a text or its map, a layout or which files differ from theirs, reports, pages with
+-- an empty line between them, the journal, or a line and a line feed; of a journal that is shown, rows before that line
 abbrev pub output : Answer → List ℕ
 output Accepted = codes "accepted" ++ 10 ∷ []
 output (Refused f) = refusal_line f ++ 10 ∷ []

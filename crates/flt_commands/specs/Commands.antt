@@ -72,8 +72,8 @@ abbrev pub IsRemarkedAfter : List ℕ → Result Answer Failure → List ℕ →
 IsRemarkedAfter before (Ok answer) bytes = bytes ≡ before ++ remark (ending_of answer)
 IsRemarkedAfter before (Err f) bytes = bytes ≡ before ++ (failure_line f ++ 10 ∷ [])
 
--- what may stand before it: which files of `explain` and `format` aren't read; why a file isn't written or has no layout; and that no run is
--- found
+-- what may stand before it: which files of `explain` and `format` aren't read; why a file isn't written or has no layout; and that no run
+-- is found
 abbrev pub IsBefore : Asked → Result Answer Failure → List ℕ → Type 0
 IsBefore (Explain form colour states journal warnings files) said bytes = IsFound journal said bytes
 IsBefore (Show timeline picture journal files) said bytes = OnOk said (bytes ≡ [])

@@ -226,11 +226,11 @@ fn write_report<O: Sink, E: Sink>(
 
 /// Runs the command of a program's words, its own name left out, and hands out the report on it once it is written: what answers goes to
 /// `out`, why there is no answer, `full` or `receipts differ` to `err`, and that no run is found for a journal that is asked for; a
-/// picture, a journal or a layout that is written into its file goes to `pictures`. What `explain` tells of a file goes out as soon as it is
-/// made, unless it is told in one document or a file is named for a journal. Reports of `explain` have the colours of a terminal where it is
-/// `coloured`, unless the words say when. Where it drives filters, `watch` hears of each line of the script, unless the words ask for quiet;
-/// and where it looks for runs, of how far the search has come, where the words ask for more states than there are without them. Threads are
-/// started by `run` alone, where it has more than one worker.
+/// picture, a journal or a layout that is written into its file goes to `pictures`. What `explain` tells of a file goes out as soon as it
+/// is made, unless it is told in one document or a file is named for a journal. Reports of `explain` have the colours of a terminal where
+/// it is `coloured`, unless the words say when. Where it drives filters, `watch` hears of each line of the script, unless the words ask
+/// for quiet; and where it looks for runs, of how far the search has come, where the words ask for more states than there are without
+/// them. Threads are started by `run` alone, where it has more than one worker.
 ///
 /// # Errors
 ///

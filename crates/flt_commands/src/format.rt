@@ -198,8 +198,8 @@ pub(crate) fn report_on_layouts<I: Inputs, P: Pictures>(
     files: &[&str],
     pictures: &mut P,
 ) -> Result<Report, CommandFault>
-    ensures answered { (shown : Bool) → IfOk result (IsAnswered shown (I.gives inputs.now) (P.written pictures.new) (pictures.new ≡ pictures.old)
-        (Format mode (map (λ name. name.now) files.now))) }
+    ensures answered { (shown : Bool) → IfOk result (IsAnswered shown (I.gives inputs.now) (P.written pictures.new)
+        (pictures.new ≡ pictures.old) (Format mode (map (λ name. name.now) files.now))) }
     ensures quiet { IfOk result (λ report. report.status ≢ 2 → report.remark.items ≡ []) }
     ensures sent { IfOk result (λ report. report.sent ≡ 0) }
     ensures err { IfErr result (λ e. e ≡ CommandFault.OutOfMemory) }

@@ -118,8 +118,8 @@ extract_of rows = Extract (is_set (codes "map") rows) (files_of rows)
 abbrev pub is_input : Text → Bool
 is_input name = bytes_eq name (codes "-")
 
--- by whether `--check` and `--write` are there: without both one layout is printed, and where files are written, none is the standard input;
--- all else asks for nothing
+-- by whether `--check` and `--write` are there: without both one layout is printed, and where files are written, none is the standard
+-- input; all else asks for nothing
 abbrev pub format_by : Bool → Bool → List Text → Option Asked
 format_by true true files = None
 format_by true false files = Some (Format CheckOnly files)

@@ -8,7 +8,8 @@ pub returns-clause-answered : goal.returns-clause-answered
 returns-clause-answered g c =
     λ shown. let request = Format c.args.mode (map (λ name. name.now) c.args.files.now) in
     answered_of c.covered_texts_break_nothing.ensures c.driven_texts_break_nothing.ensures
-    c.fails_exactly_where_nothing_is_spelled.ensures.nowhere shown _ _ _ request _ _ _ (refl, c.in_ok-found.ensures.said) c.in_ok-found.ensures.kept
+    c.fails_exactly_where_nothing_is_spelled.ensures.nowhere shown _ _ _ request _ _ _ (refl, c.in_ok-found.ensures.said)
+    c.in_ok-found.ensures.kept
     (those_of _ _ c.report_on.ensures.texts) c.report_on.ensures.reported
     (remarked_after request _ _ _ c.in_ok-before.ensures c.report_on.ensures.remarked)
 

@@ -11,7 +11,7 @@ returns g c =
     let replayed = c.one_verdict_at_most.ensures in
     let nowhere = c.fails_exactly_where_nothing_is_spelled.ensures.nowhere in
     record {
-      one = λ inputs before pictures past others shown showing words. printed_once checked analysed thinned replayed nowhere (g.I.Inputs.gives inputs)
-          (g.P.Pictures.written pictures) (g.P.Pictures.written others) (pictures ≡ before) (others ≡ past) shown showing (asked words);
+      one = λ inputs before pictures past others shown showing words. printed_once checked analysed thinned replayed nowhere
+          (g.I.Inputs.gives inputs) (g.P.Pictures.written pictures) (g.P.Pictures.written others) (pictures ≡ before) (others ≡ past) shown showing (asked words);
       said = λ inputs. said_once checked analysed thinned replayed nowhere (g.I.Inputs.gives inputs);
     }
