@@ -80,6 +80,18 @@ fn put_site(writer: &mut Writer, site: Option<Site>) -> Result<(), AllocError>
     }
 }
 
+fn put_property_members(
+    alloc: Global,
+    writer: &mut Writer,
+    detail: &WarningDetail,
+) -> Result<(), AllocError>
+    ensures { Adds result writer.old writer.new (spec.property_members detail.now) }
+{
+    put_site(writer, detail.site)?;
+    put_items(alloc, writer, "help", &detail.help)?;
+    put_filled_items(alloc, writer, "note", &detail.note)
+}
+
 fn put_properties(
     alloc: Global,
     writer: &mut Writer,
@@ -89,9 +101,7 @@ fn put_properties(
 {
     put_key(writer, "properties")?;
     open_object(writer)?;
-    put_site(writer, detail.site)?;
-    put_items(alloc, writer, "help", &detail.help)?;
-    put_filled_items(alloc, writer, "note", &detail.note)?;
+    put_property_members(alloc, writer, detail)?;
     close_object(writer)
 }
 
