@@ -14,10 +14,18 @@ use Rattle.flt_warning_details.specs.declared.detail.WarningDetail.{WarningDetai
 abbrev pub sentence : List ℕ → List ℕ → List ℕ
 sentence head words = head ++ words ++ 10 ∷ []
 
+-- `LEVEL[RULE]`
+abbrev pub tag : List ℕ → List ℕ → List ℕ
+tag level rule = level ++ codes "[" ++ rule ++ codes "]"
+
+-- `FILE:LINE:COLUMN: TAG: `
+abbrev pub tagged : List ℕ → ℕ → ℕ → List ℕ → List ℕ
+tagged name line column tag =
+    name ++ codes ":" ++ decimal line ++ codes ":" ++ decimal column ++ codes ": " ++ tag ++ codes ": "
+
 -- `FILE:LINE:COLUMN: LEVEL[RULE]: `
 abbrev pub head : List ℕ → ℕ → ℕ → List ℕ → List ℕ → List ℕ
-head name line column level rule =
-    name ++ codes ":" ++ decimal line ++ codes ":" ++ decimal column ++ codes ": " ++ level ++ codes "[" ++ rule ++ codes "]: "
+head name line column level rule = tagged name line column (tag level rule)
 
 -- the line of a finding: where it stands, its rule, and its title
 abbrev pub finding_line : List ℕ → Detail → List ℕ

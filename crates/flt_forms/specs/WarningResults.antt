@@ -30,10 +30,13 @@ abbrev pub site_members : Option Site → List Token
 site_members None = []
 site_members (Some s) = numbers s
 
+-- where it is, and what is said of it besides
+abbrev pub property_members : WarningDetail → List Token
+property_members d =
+    site_members d.site ++ (text_member (codes "help") d.help ++ filled_member (codes "note") d.note)
+
 abbrev pub properties : WarningDetail → List Token
-properties d =
-    object_member (codes "properties") (site_members d.site ++ (text_member (codes "help") d.help
-    ++ filled_member (codes "note") d.note))
+properties d = object_member (codes "properties") (property_members d)
 
 -- that a comment in the text allows it, for this reason
 abbrev pub suppression : List ℕ → List Token

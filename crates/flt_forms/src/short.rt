@@ -15,42 +15,64 @@ use flt_warning_details::WarningDetail;
 use std::alloc::{AllocError, Global};
 use std::fmt;
 
-/// What a line begins with: the file's name, the place, how bad it is, and the rule.
+/// Whether it is an error or a warning, and the rule.
+#[derive(Drop)]
+struct Tag<'a> {
+    level: &'a str,
+    rule: &'a str,
+}
+
+impl fmt::Display for Tag<'_> {
+    ghost output = { λ t. Some (spec.tag t.level.now t.rule.now) };
+
+    fn fmt<W: fmt::Write>(&self, f: &mut fmt::Formatter<W>) -> fmt::Result {
+        let level = self.level;
+        let rule = self.rule;
+        write!(f, "{level}[{rule}]")
+    }
+}
+
+/// What stands before the words: the file's name, the place and the tag.
 #[derive(Drop)]
 struct Head<'a> {
     name: &'a str,
     place: Position,
-    level: &'static str,
-    rule: &'a str,
+    tag: &'a str,
 }
 
 impl fmt::Display for Head<'_> {
-    ghost output = { λ h. Some (spec.head h.name.now h.place.line h.place.column h.level.now h.rule.now) };
+    ghost output = { λ h. Some (spec.tagged h.name.now h.place.line h.place.column h.tag.now) };
 
     fn fmt<W: fmt::Write>(&self, f: &mut fmt::Formatter<W>) -> fmt::Result {
         let name = self.name;
         let line = self.place.line;
         let column = self.place.column;
-        let level = self.level;
-        let rule = self.rule;
-        write!(f, "{name}:{line}:{column}: {level}[{rule}]: ")
+        let tag = self.tag;
+        write!(f, "{name}:{line}:{column}: {tag}: ")
     }
+}
+
+fn tag_of(alloc: Global, level: &str, rule: &str) -> Result<String, AllocError>
+    ensures { IfOk result (λ tag. string_bytes tag ≡ spec.tag level.now rule.now) }
+{
+    let tag = Tag { level, rule };
+    format!(in alloc; "{tag}")
 }
 
 fn head_of(
     alloc: Global,
     name: &str,
     place: Position,
-    level: &'static str,
+    level: &str,
     rule: &str,
 ) -> Result<String, AllocError>
     ensures { IfOk result (λ head. string_bytes head ≡ spec.head name.now place.line place.column level.now rule.now) }
 {
+    let tag = tag_of(alloc, level, rule)?;
     let head = Head {
         name,
         place,
-        level,
-        rule,
+        tag: tag.as_str(),
     };
     format!(in alloc; "{head}")
 }

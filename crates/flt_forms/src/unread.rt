@@ -4,6 +4,7 @@ ghost use Rattle.std.specs.Prelude.{codes, flat_map, string_bytes, false, []};
 ghost use Rattle.std.specs.Prelude.{◌∷◌};
 ghost use Rattle.json.specs.Token.{boolean, key};
 ghost use Rattle.flt_forms.specs.Members.{Adds, array_member, object_member};
+ghost use Rattle.flt_forms.specs.Results.{item};
 ghost use Rattle.flt_forms.specs.Sarif as spec;
 
 use crate::members::{close_array, close_object, open_array, open_object, put_key, put_string};
@@ -41,7 +42,7 @@ fn put_file(alloc: Global, writer: &mut Writer, uri: &Vec<u8>) -> Result<(), All
 }
 
 fn put_place(alloc: Global, writer: &mut Writer, uri: &Vec<u8>) -> Result<(), AllocError>
-    ensures { Adds result writer.old writer.new (spec.item (spec.whole_file uri.now.items)) }
+    ensures { Adds result writer.old writer.new (item (spec.whole_file uri.now.items)) }
 {
     open_object(writer)?;
     put_file(alloc, writer, uri)?;

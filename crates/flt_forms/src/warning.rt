@@ -3,13 +3,14 @@
 ghost use Rattle.std.specs.Prelude.{◌≡◌, ◌++◌, IfOk, codes, flat_map};
 ghost use Rattle.flt_forms.specs.Members.{Adds, string_member};
 ghost use Rattle.flt_forms.specs.Warning as spec;
+ghost use Rattle.flt_warnings.specs.Kinds.{kind_name};
 
 use crate::members::{
     close_array, close_object, open_array, open_object, put_filled_items, put_items, put_key,
     put_marks, put_null, put_number, put_string,
 };
 use flt_warning_details::{RelatedPlace, WarningDetail};
-use flt_warnings::Site;
+use flt_warnings::{Kind, Site};
 use json::Writer;
 use sqlite_items::Items;
 use std::alloc::{AllocError, Global};
@@ -19,6 +20,13 @@ pub(crate) fn put_warning_level(writer: &mut Writer) -> Result<(), AllocError>
     ensures { Adds result writer.old writer.new (string_member (codes "level") (codes "warning")) }
 {
     put_string(writer, "level", "warning")
+}
+
+/// The name of a kind of warnings under a name.
+pub(crate) fn put_kind_name(writer: &mut Writer, name: &str, kind: Kind) -> Result<(), AllocError>
+    ensures { Adds result writer.old writer.new (string_member name.now (kind_name kind)) }
+{
+    put_string(writer, name, kind.name())
 }
 
 /// The numbers of a callback and of a point.
@@ -58,7 +66,7 @@ fn put_place(writer: &mut Writer, detail: &WarningDetail) -> Result<(), AllocErr
 fn put_words(alloc: Global, writer: &mut Writer, detail: &WarningDetail) -> Result<(), AllocError>
     ensures { Adds result writer.old writer.new (spec.words detail.now) }
 {
-    put_string(writer, "warning", detail.kind.name())?;
+    put_kind_name(writer, "warning", detail.kind)?;
     put_filled_items(alloc, writer, "head", &detail.head)?;
     put_items(alloc, writer, "message", &detail.title)?;
     put_items(alloc, writer, "help", &detail.help)?;

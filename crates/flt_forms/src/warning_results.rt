@@ -1,9 +1,8 @@
 //! Results of SARIF: warnings.
 
 ghost use Rattle.std.specs.Prelude.{◌≡◌, IfOk, codes, flat_map};
-ghost use Rattle.flt_forms.specs.Members.{Adds, array_member, string_member};
+ghost use Rattle.flt_forms.specs.Members.{Adds, array_member};
 ghost use Rattle.flt_forms.specs.WarningResults as spec;
-ghost use Rattle.flt_warnings.specs.Kinds.{kind_name};
 
 use crate::members::{
     close_array, close_object, open_array, open_object, put_filled_items, put_items, put_key,
@@ -12,19 +11,12 @@ use crate::members::{
 use crate::results::{
     put_fingerprints, put_marked_location, put_marked_locations, put_message, put_not_suppressed,
 };
-use crate::warning::{put_numbers, put_warning_level};
+use crate::warning::{put_kind_name, put_numbers, put_warning_level};
 use flt_warning_details::{RelatedPlace, WarningDetail};
-use flt_warnings::{Kind, Site};
+use flt_warnings::Site;
 use json::Writer;
 use sqlite_items::Items;
 use std::alloc::{AllocError, Global};
-
-/// The name of a kind of warnings under a name.
-pub(crate) fn put_kind_name(writer: &mut Writer, name: &str, kind: Kind) -> Result<(), AllocError>
-    ensures { Adds result writer.old writer.new (string_member name.now (kind_name kind)) }
-{
-    put_string(writer, name, kind.name())
-}
 
 /// The same bytes.
 fn vec_of(alloc: Global, bytes: &Items<u8>) -> Result<Vec<u8>, AllocError>
@@ -88,6 +80,18 @@ fn put_site(writer: &mut Writer, site: Option<Site>) -> Result<(), AllocError>
     }
 }
 
+fn put_property_members(
+    alloc: Global,
+    writer: &mut Writer,
+    detail: &WarningDetail,
+) -> Result<(), AllocError>
+    ensures { Adds result writer.old writer.new (spec.property_members detail.now) }
+{
+    put_site(writer, detail.site)?;
+    put_items(alloc, writer, "help", &detail.help)?;
+    put_filled_items(alloc, writer, "note", &detail.note)
+}
+
 fn put_properties(
     alloc: Global,
     writer: &mut Writer,
@@ -97,9 +101,7 @@ fn put_properties(
 {
     put_key(writer, "properties")?;
     open_object(writer)?;
-    put_site(writer, detail.site)?;
-    put_items(alloc, writer, "help", &detail.help)?;
-    put_filled_items(alloc, writer, "note", &detail.note)?;
+    put_property_members(alloc, writer, detail)?;
     close_object(writer)
 }
 

@@ -1,12 +1,11 @@
 //! The kinds of warnings, as rules of SARIF.
 
-ghost use Rattle.std.specs.Prelude.{◌≡◌, flat_map};
-ghost use Rattle.flt_forms.specs.Members.{Adds};
+ghost use Rattle.std.specs.Prelude.{◌≡◌, codes, flat_map};
+ghost use Rattle.flt_forms.specs.Members.{Adds, string_member};
 ghost use Rattle.flt_forms.specs.WarningResults as spec;
 
 use crate::members::{close_object, open_object, put_key, put_string};
-use crate::warning::put_warning_level;
-use crate::warning_results::put_kind_name;
+use crate::warning::{put_kind_name, put_warning_level};
 use flt_warnings::Kind;
 use json::Writer;
 use std::alloc::AllocError;
@@ -41,13 +40,19 @@ fn kind_text(kind: Kind) -> &'static str
     }
 }
 
+fn put_kind_text(writer: &mut Writer, kind: Kind) -> Result<(), AllocError>
+    ensures { Adds result writer.old writer.new (string_member (codes "text") (spec.kind_text kind)) }
+{
+    put_string(writer, "text", kind_text(kind))
+}
+
 /// The words of a kind.
 fn put_description(writer: &mut Writer, kind: Kind) -> Result<(), AllocError>
     ensures { Adds result writer.old writer.new (spec.description kind) }
 {
     put_key(writer, "shortDescription")?;
     open_object(writer)?;
-    put_string(writer, "text", kind_text(kind))?;
+    put_kind_text(writer, kind)?;
     close_object(writer)
 }
 

@@ -11,7 +11,7 @@ use Rattle.flt_notes.specs.Noted.{AreNotesIn, AreNotesOf, no_text as notes_none,
 use Rattle.flt_notes.specs.Parsed.{AreParsed}
 use Rattle.flt_notes.specs.Printing.{AreNotesFor, ArePrinted, HoldsBack, IsMore, IsPart, IsPrintOf, IsPutOut, part_of}
 use Rattle.flt_notes.specs.Readings.{AreStudied, IsPlaced, IsReading, IsStudied, known, known_in, sources_read, texts_read}
-use Rattle.flt_notes.specs.Reported.{AreFirst, IsAllButLast, IsCut, none as parts_none, one_more as parts_more}
+use Rattle.flt_notes.specs.Reported.{AreFirst, AreWhole, IsAllButLast, IsCut, none as parts_none, one_more as parts_more}
 use Rattle.flt_notes.specs.Told.{nothing, others}
 use Rattle.flt_notes.specs.Whole.{AreSeveralPrinted, IsKnownPrint, IsOnePrinted, IsPrintOfAll, Look, no_print}
 use Rattle.flt_notes.specs.declared.fault.ExplainFault.{ExplainFault}
@@ -201,6 +201,27 @@ put_out_more options texts states held a b old new more is same added =
       early = λ h. subst (λ z. IsAllButLast options texts states z) first (is.early h);
       late = λ h. same ∙ is.late h;
     }
+
+-- the reports of all texts but the last, or nothing, are whole reports of the first of them
+whole_of_all_but_last : (options : WarningOptions) (texts : List Text) (states : ℕ) (printed : List ℕ) → IsAllButLast options texts states printed →
+    AreWhole options texts states printed
+whole_of_all_but_last options [] states printed none = inl none
+whole_of_all_but_last options (t ∷ ts) states printed all =
+    inr (record { before = all.before; others = all.last ∷ []; whole = all.whole; are = all.are })
+
+-- where it ends after all is known, so much is put out
+pub cut_after : (options : WarningOptions) (texts : List Text) (states : ℕ) (held : Bool) (a b : Option (List ℕ)) (p : Printed) →
+    IsPutOut options texts states held a b p → IsCut options texts states a b
+cut_after options texts states true a b p is = record {
+  printed = take p.sent p.output.bytes.items;
+  added = is.added;
+  are = inl (ap (λ n. take n p.output.bytes.items) (is.late refl));
+}
+cut_after options texts states false a b p is = record {
+  printed = take p.sent p.output.bytes.items;
+  added = is.added;
+  are = whole_of_all_but_last options texts states (take p.sent p.output.bytes.items) (is.early refl);
+}
 
 -- nothing is put out of nothing
 pub put_out_none : (options : WarningOptions) (states : ℕ) (held : Bool) (a : Option (List ℕ)) (p : Printed) → p.output.bytes.items ≡ [] → p.sent ≡ 0 →

@@ -16,6 +16,7 @@ use Rattle.flt_reports.specs.Fault.{IsFaultReport}
 use Rattle.flt_reports.specs.declared.reports.Report.{Report}
 use Rattle.flt_warning_details.specs.Options.{warned_status}
 use Rattle.flt_warning_details.specs.declared.detail.WarningDetail.{WarningDetail}
+use Rattle.flt_warning_details.specs.Orderly.{TextsWithoutCirclesAreOrderly}
 use Rattle.flt_notes.specs.Again.{IsSetting}
 use Rattle.flt_notes.specs.Lines.{again_line, note_line}
 use Rattle.flt_notes.specs.Notices.{AreNoticeLines}
@@ -137,12 +138,12 @@ body_of_none look trees k lines old new none is added same = record {
 
 -- ---- the whole of one text
 
-pub known_print : (look : Look) (trees : List Tree) (k : Known) (first before : Output) (p : Part) → IsKnownIn look trees k →
+pub known_print : TextsWithoutCirclesAreOrderly → (look : Look) (trees : List Tree) (k : Known) (first before : Output) (p : Part) → IsKnownIn look trees k →
     first.bytes.items ≡ [] → first.noted ≡ [] → AddsBody look trees k first before → HasNotes trees k before.noted →
     p.output.bytes.items ≡ before.bytes.items ++ quieted (findings_closing k.found.now) → p.output.noted ≡ before.noted →
     p.tally.status ≡ warned_status look.options.is_strict k.found.now k.details.now → p.tally.findings ≡ length k.found.now →
     IsKnownPrint look trees k.place k.source p.output.noted p.output.bytes.items p.tally.status p.tally.findings
-known_print look trees k first before p known none unnoted body notes added same status count =
+known_print law look trees k first before p known none unnoted body notes added same status count =
     let all : p.output.noted ≡ body.notes = same ∙ body.noted ∙ ap (λ z. z ++ body.notes) unnoted in
     let above : before.bytes.items ≡ body.printed = body.bytes ∙ ap (λ z. z ++ body.printed) none in
     let last = findings_closing k.found.now in
@@ -156,7 +157,7 @@ known_print look trees k first before p known none unnoted body notes added same
       details = k.details.now;
       warned = known.warned;
       above = body.printed;
-      order = known.order;
+      order = law k.source.text.now k.tree.now k.graph.now k.found.now look.options.allowed k.details.now known.known known.warned;
       body = subst (λ ns. IsBody look trees k.source k.tree.now k.graph.now k.found.now k.details.now ns body.printed) (sym all) body.is;
       whole = added ∙ ap (λ z. before.bytes.items ++ z) (quieted_same last (quiet_findings k.found.now)) ∙ ap (λ z. z ++ last) above;
       worth = status;

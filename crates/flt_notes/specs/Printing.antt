@@ -15,7 +15,6 @@ use Rattle.flt_schedules.specs.Schedules.{IsScheduled}
 use Rattle.flt_schedules.specs.declared.schedules.Outcome.{Outcome}
 use Rattle.flt_schedules.specs.declared.schedules.Suspect.{Suspect}
 use Rattle.flt_warning_details.specs.Details.{AreWarningDetails}
-use Rattle.flt_warning_details.specs.Orderly.{PromisesOrder}
 use Rattle.flt_warning_details.specs.declared.options.WarningOptions.{WarningOptions}
 use Rattle.flt_notes.specs.Lines.{again_line, note_line}
 use Rattle.flt_notes.specs.Noted.{AreNoted, AreNotesIn, AreNotesOf, IsAgain, IsNoted}
@@ -50,7 +49,6 @@ pub record IsKnownIn (look : Look) (trees : List Tree) (k : Known) : Type 0 wher
   pub own : slice_get trees k.place ≡ Some k.tree.now
   pub known : IsKnown k.source.text.now k.tree.now k.graph.now k.found.now
   pub warned : AreWarningDetails k.source.text.now k.tree.now.filter k.graph.now k.found.now look.options.allowed k.details.now
-  pub order : PromisesOrder k.found.now look.options.allowed k.details.now k.tree.now.filter
 
 -- the lines on runs are those of the notes
 abbrev pub IsSaid : List Tree → ℕ → Output → Type 0

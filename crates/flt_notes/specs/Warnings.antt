@@ -16,9 +16,13 @@ shown_report coloured name text d = if is_shown d then warning_report coloured n
 abbrev pub shown_reports : Bool → Text → Text → List WarningDetail → List ℕ
 shown_reports coloured name text details = flat_map (shown_report coloured name text) details
 
--- the line that says how many warnings there are; nothing where there are none
+-- how many warnings there are
+abbrev pub warning_count : ℕ → List ℕ
+warning_count n = decimal n ++ codes " warning" ++ plural n
+
+-- the line that says so; nothing where there are none
 abbrev pub warnings_line : ℕ → List ℕ
-warnings_line n = if n == 0 then [] else decimal n ++ codes " warning" ++ plural n ++ 10 ∷ []
+warnings_line n = if n == 0 then [] else warning_count n ++ 10 ∷ []
 
 -- what a text promises in which nothing is found, the reports of its warnings, and how many they are
 abbrev pub promise_and_warnings : Bool → Text → Text → List WarningDetail → List ℕ

@@ -3,6 +3,7 @@
 ghost use Rattle.std.specs.Prelude.{◌≡◌, ◌≢◌, ◌<◌, ◌++◌, ◌∷◌, [], All, IfOk, IfSome, None, Some, length, map, option_map, reverse, slice_get, OnOk};
 ghost use Rattle.std.specs.List.{AllZip};
 ghost use Rattle.flt_model.specs.Program.{filters_of};
+ghost use Rattle.flt_syntax.specs.Spelling.{Spells};
 ghost use Rattle.flt_reports.specs.Covering.{AreFirsts};
 ghost use Rattle.flt_notes.specs.Again.{IsSetting};
 ghost use Rattle.flt_notes.specs.Noted.{IsAlso, numbers_in};
@@ -95,6 +96,15 @@ fn suspects_of(
         all.push(Suspect { number, finding })?;
     }
     Ok(all)
+}
+
+/// The tree of a text that parses, by its number.
+fn tree_at<'a>(trees: &'a [Tree], _text: &[u8], place: usize) -> &'a Tree
+    requires tree { IsTreeOf trees.now _text.now place }
+    ensures own { slice_get trees.now place ≡ Some result.now }
+    ensures spelled { Spells _text.now result.now.filter }
+{
+    &trees[place]
 }
 
 /// The last of what came of findings.
@@ -397,6 +407,7 @@ impl Stage<'_> {
         requires known { spec.IsKnownIn (spec.look_of self.now) self.now.trees.now known }
         ensures { IfOk result (spec.IsKnownPart (spec.look_of self.now) self.now.trees.now known.entry) }
     {
+        texts_without_circles_are_orderly();
         let mut output = Output::new(self.alloc);
         self.put_findings(&mut output, known, watch)?;
         output.lines(findings_line(self.alloc, known.found)?.as_bytes())?;
@@ -417,13 +428,12 @@ impl Stage<'_> {
         requires tree { IsTreeOf self.now.trees.now source.text.now place }
         ensures { IfOk result (spec.IsParsedPart (spec.look_of self.now) self.now.trees.now source.entry place) }
     {
-        let tree = &self.trees[place];
+        let tree = tree_at(self.trees, source.text, place);
         let graph = lower(self.alloc, tree)?;
         let found = findings(self.alloc, &graph)?;
         let found = found.as_slice();
         let allowed = self.options.allowed;
         let details = warning_details(self.alloc, source.text, tree, &graph, found, allowed)?;
-        texts_without_circles_are_orderly();
         let known = Known {
             source,
             place,

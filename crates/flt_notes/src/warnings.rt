@@ -1,6 +1,6 @@
 //! What is printed of a text in which nothing is found: what that promises, and its warnings.
 
-ghost use Rattle.std.specs.Prelude.{◌≡◌, ◌++◌, IfOk, OnOk, string_bytes};
+ghost use Rattle.std.specs.Prelude.{◌≡◌, ◌++◌, IfOk, OnOk, Some, string_bytes};
 ghost use Rattle.flt_notes.specs.Warnings as spec;
 
 use crate::lines::plural;
@@ -9,6 +9,7 @@ use flt_places::Lines;
 use flt_reports::{report_nothing, report_warning};
 use flt_warning_details::{WarningDetail, shown_count};
 use std::alloc::{AllocError, Global};
+use std::fmt;
 
 /// Adds the report of a warning, unless a comment of the text allows it.
 fn add_report(
@@ -46,6 +47,20 @@ fn shown_reports(
     Ok(out)
 }
 
+/// How many warnings there are.
+#[derive(Drop)]
+struct WarningCount(usize);
+
+impl fmt::Display for WarningCount {
+    ghost output = { λ c. Some (spec.warning_count c.0) };
+
+    fn fmt<W: fmt::Write>(&self, f: &mut fmt::Formatter<W>) -> fmt::Result {
+        let count = self.0;
+        let many = plural(count);
+        write!(f, "{count} warning{many}")
+    }
+}
+
 /// The line that says how many warnings there are; nothing where there are none.
 fn warnings_line(alloc: Global, count: usize) -> Result<String, AllocError>
     ensures { IfOk result (λ line. string_bytes line ≡ spec.warnings_line count) }
@@ -53,8 +68,8 @@ fn warnings_line(alloc: Global, count: usize) -> Result<String, AllocError>
     if count == 0 {
         return Ok(String::new(alloc));
     }
-    let many = plural(count);
-    format!(in alloc; "{count} warning{many}\n")
+    let line = WarningCount(count);
+    format!(in alloc; "{line}\n")
 }
 
 /// What a text promises in which nothing is found, the reports of its warnings that no comment allows, and how many they are; whole lines.

@@ -1,5 +1,7 @@
 //! The warnings of texts: of which kinds, and where.
 
+ghost use Rattle.std.specs.Prelude.{◌≡◌, ◌<◌};
+
 use flt_analyse::{Ticks, analyse};
 use flt_cert::FullCert;
 use flt_graph::{Graph, lower};
@@ -96,17 +98,23 @@ fn is_there(site: Option<Site>, place: Option<(usize, usize)>) -> bool {
     }
 }
 
+/// Whether a warning, if there is one, is that of a row.
+fn is_as(warning: Option<&Warning>, row: &Row<'_>) -> bool {
+    let (name, place) = *row;
+    match warning {
+        Some(warning) => warning.kind().name() == name && is_there(warning.site(), place),
+        None => false,
+    }
+}
+
 /// Whether the warnings are those of these rows.
 fn are_as(found: &[Warning], rows: &[Row<'_>]) -> bool {
-    match (found, rows) {
-        ([], []) => true,
-        ([warning, found @ ..], [(name, place), rows @ ..]) => {
-            warning.kind().name() == *name
-                && is_there(warning.site(), *place)
-                && are_as(found, rows)
+    for (number, row) in rows.iter().enumerate() {
+        if !is_as(found.get(number), row) {
+            return false;
         }
-        _ => false,
     }
+    found.len() == rows.len()
 }
 
 /// Whether a text has the warnings of its case.

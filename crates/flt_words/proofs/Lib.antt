@@ -4,4 +4,4 @@ pub mod Requests
 pub mod Letters
 pub mod Needed
 pub mod PagedNames
-pub mod Kinds
+pub mod KindNames

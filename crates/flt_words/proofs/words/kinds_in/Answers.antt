@@ -1,5 +1,5 @@
 use Rattle.std.proofs.Common.{◌∙◌, true, false, sym}
-use Rattle.flt_words.proofs.Kinds.{kinds_if}
+use Rattle.flt_words.proofs.KindNames.{kinds_if}
 use Rattle.flt_words.proofs.words.kinds_in.Goals as goal
 
 pub returns-then-are_kinds : goal.returns-then-are_kinds

@@ -1,11 +1,12 @@
-use Rattle.std.proofs.Common.{◌∙◌, length, sym}
+use Rattle.std.proofs.Common.{Err, rules, ◌≡◌, ◌∙◌, length, sym}
 use Rattle.std.proofs.lemmas.List.{length-map}
 use Rattle.flt_details.specs.declared.sources.Source.{Source}
 use Rattle.flt_notes.specs.Printing.{look_of}
-use Rattle.flt_notes.specs.Readings.{sources_read}
+use Rattle.flt_notes.specs.Readings.{sources_read, texts_read}
 use Rattle.flt_notes.specs.declared.readings.Studied.{Studied}
+use Rattle.flt_notes.specs.declared.fault.ExplainFault.TheVariants.{OutOfMemory}
 use Rattle.flt_notes.proofs.Said.{said_more}
-use Rattle.flt_notes.proofs.Several.{several_print, summed}
+use Rattle.flt_notes.proofs.Several.{cut_after, several_print, summed}
 use Rattle.flt_notes.proofs.printing.Stage.put_several.Goals as goal
 
 pub returns-clause-reports : goal.returns-clause-reports
@@ -33,3 +34,9 @@ returns-clause-print g c =
     c.lines.new.self.bytes.items (length c.args.each.now) c.in_ok-printed.ensures.printed c.in_ok-lines.ensures.noted
     c.in_ok-lines.ensures.bytes (c.as_bytes.ensures.value ∙ c.in_ok-line.ensures.ok)
     (sym (length-map c.args.each.now (λ (s : Studied). s.source)))
+
+pub returns-in_err-lines-clause-memory : goal.returns-in_err-lines-clause-memory
+returns-in_err-lines-clause-memory g c =
+    let fails : c.from_residual-in_err-lines.result ≡ Err OutOfMemory = search rules in
+    rw fails (λ e. cut_after c.args.self.now.options (texts_read c.args.each.now) c.args.self.now.states c.args.is_held _ _
+    c.in_ok-printed.printed c.in_ok-printed.ensures.sent)

@@ -1,5 +1,5 @@
 -- Names of kinds of warnings.
-use Rattle.std.proofs.Common.{◌≡◌, ◌∙◌, List, [], ◌∷◌, ℕ, Bool, true, false, Some, None, Bor, if◌then◌else◌, map, refl}
+use Rattle.std.proofs.Common.{◌≡◌, List, ℕ, Bool, Some, None, Bor, if◌then◌else◌, map, refl}
 use Rattle.std.proofs.lemmas.List.Folds.{list_all-map}
 use Rattle.std.specs.List.{list_all}
 use Rattle.flt_words.specs.Words.{is_kind, kinds_in}
