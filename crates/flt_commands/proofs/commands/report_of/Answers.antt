@@ -1,6 +1,6 @@
 use Rattle.std.proofs.Common.{ap, map, option_map, refl}
 use Rattle.flt_commands.proofs.Reported.{answers_asked, answers_of, cut_asked, held_asked, kept_shown, quiet_asked, remarked_after, says_of_pages, those_after, those_of}
-use Rattle.flt_words.specs.Request.{Check, Analyse, Thin, Run, Replay, Show, Extract, Pages}
+use Rattle.flt_words.specs.Request.{choice_of, Check, Analyse, Thin, Run, Replay, Show, Extract, Pages}
 use Rattle.flt_commands.proofs.commands.report_of.Goals as goal
 
 pub returns-in-Check-clause-answers : goal.returns-in-Check-clause-answers
@@ -89,12 +89,12 @@ pub returns-in-Explain-clause-answers : goal.returns-in-Explain-clause-answers
 returns-in-Explain-clause-answers g c =
     answers_asked _ _ (rw c.in-Explain.is at c.in_ok-text.ensures) c.args.coloured _ _ _ _
     (rw c.as_slice-files-in-Explain.ensures.value at (c.report_on_files.ensures.answered c.in-Explain.colour c.args.coloured
-    _ c.is_coloured.ensures c.options_of.ensures))
+    (choice_of c.in-Explain.warnings) c.is_coloured.ensures c.options_of.ensures))
 
 pub returns-in-Explain-clause-quiet : goal.returns-in-Explain-clause-quiet
 returns-in-Explain-clause-quiet g c =
     quiet_asked _ _ (rw c.in-Explain.is at c.in_ok-text.ensures) _
-    (rw c.as_slice-files-in-Explain.ensures.value at (c.report_on_files.ensures.quiet c.in-Explain.colour _))
+    (rw c.as_slice-files-in-Explain.ensures.value at (c.report_on_files.ensures.quiet c.in-Explain.colour (choice_of c.in-Explain.warnings)))
 
 pub returns-in-Explain-clause-memory : goal.returns-in-Explain-clause-memory
 returns-in-Explain-clause-memory g c =
