@@ -25,6 +25,4 @@ mod searches;
 #[cfg(test)]
 mod thin;
 #[cfg(test)]
-mod warnings;
-#[cfg(test)]
 mod words;
