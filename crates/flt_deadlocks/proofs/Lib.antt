@@ -1,0 +1,4 @@
+pub mod Deadlocked
+pub mod LocalRuns
+pub mod Rounds
+pub mod Waiting
