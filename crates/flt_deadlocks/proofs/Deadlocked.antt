@@ -19,7 +19,7 @@ use Rattle.flt_deadlocks.proofs.Waiting.{IsListed, all_listed, held_up, last_hol
 -- where nothing waits, nothing is chosen of it
 none_chosen : (round : List Blocked) → All (Contains []) round → (round ≡ [] → ⊥) → ⊥
 none_chosen [] all some = some refl
-none_chosen (b ∷ rest) all some = let first = all 0 b (omega arith) in elim first.1.0 [ ]
+none_chosen (b ∷ rest) all some = let first = all 0 b (omega arith) in elim first.1 [ ]
 
 -- those of a round are stuck where each waits for a lock that one of them holds
 stuck : (p : List Filter) (m : Moment) (waits round : List Blocked) → waits ≡ waits_at m.world (length m.world.activations) →

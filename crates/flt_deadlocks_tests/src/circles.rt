@@ -195,29 +195,6 @@ fn wrong_case(alloc: Global, cases: &[Case<'_>]) -> Result<Option<usize>, Fail> 
 
 #[test]
 fn finds_runs_to_deadlocks(rt: HostRuntime) -> Result<(), Fail> {
-    for (row, case) in CASES.iter().enumerate() {
-        let (texts, filter, steps, entries) = *case;
-        let trees = trees_of(rt.alloc(), texts)?;
-        let circle = circle_in(rt.alloc(), trees.as_slice(), filter, steps)?;
-        let bounds = Bounds { states: 4_000 };
-        let mut watch = UnwatchedSearch;
-        let mut watched = Watched::new(&mut watch);
-        let answer = find_deadlock(
-            rt.alloc(),
-            trees.as_slice(),
-            filter,
-            circle.as_slice(),
-            bounds,
-            &mut watched,
-        )?;
-        match answer {
-            Answer::Found(d) => {
-                println!(rt; "row {row} circle {} found {} waits {} right {}", circle.len(), d.journal.len(), d.waits.len(), is_at(&d, steps))?;
-            }
-            Answer::NotWithin => { println!(rt; "row {row} circle {} not within", circle.len())?; }
-            Answer::Cut => { println!(rt; "row {row} circle {} cut", circle.len())?; }
-        }
-    }
     assert!(rt; wrong_case(rt.alloc(), &CASES)?.is_none());
     Ok(())
 }
