@@ -1,4 +1,3 @@
 pub mod Deadlocked
-pub mod LocalRuns
+pub mod Legal
 pub mod Rounds
-pub mod Waiting

@@ -1,17 +1,16 @@
 -- A run to a deadlock: a legal journal after which activations wait at all acquisitions of a circle, for locks of one another. This
 -- project's own definitions.
-use Rattle.std.specs.Prelude.{◌≡◌, ℕ, Bool, true, false, List, [], None, Some, All, Contains, map}
+use Rattle.std.specs.Prelude.{◌≡◌, ℕ, List, [], Some, All, Contains, map}
 use Rattle.std.specs.List.{AllZip}
 use Rattle.flt_tree.specs.declared.filter.Filter.{Filter}
 use Rattle.flt_model.specs.Expansion.{verdict}
 use Rattle.flt_model.specs.Program.{by_altitude, filter_at, filter_of}
-use Rattle.flt_model.specs.Runs.{Moment, next, run_from, start}
-use Rattle.flt_model.specs.Steps.{Local, Board}
-use Rattle.flt_model.specs.World.{activation_at}
+use Rattle.flt_model.specs.Runs.{Moment, run_from, start}
+use Rattle.flt_model.specs.Steps.{Local}
 use Rattle.flt_model.specs.declared.verdict.Verdict.TheVariants.{Legal}
 use Rattle.flt_order.specs.declared.order.Acquisition.{Acquisition}
 use Rattle.flt_replay.specs.Lesser.{moment_after}
-use Rattle.flt_waits.specs.Waiting.{holds}
+use Rattle.flt_waits.specs.Stuck.{IsStuck}
 use Rattle.flt_waits.specs.declared.waits.Blocked.{Blocked}
 use Rattle.flt_deadlocks.specs.declared.judging.Deadlock.{Deadlock}
 use Rattle.flt_deadlocks.specs.declared.searching.Answer.{Answer}
@@ -23,23 +22,15 @@ pub record WaitsAt (number : ℕ) (a : Acquisition) (b : Blocked) : Type 0 where
   pub line : b.span.line ≡ a.line
   pub lock : b.lock ≡ a.taken
 
--- one of some activations is the one that is named as the holder of its lock
+-- the one that is named as the holder of the lock for which the activation waits is one of these
 pub record IsHeldAmong (round : List Blocked) (b : Blocked) : Type 0 where
   pub other : Blocked
   pub among : Contains round other
   pub named : b.holder ≡ Some other.activation
 
--- the activation hasn't ended, no step of it is enabled, and one of these activations holds the lock for which it waits
-pub record IsStuck (p : List Filter) (m : Moment) (round : List Blocked) (b : Blocked) : Type 0 where
-  pub runs : (activation_at m.world b.activation).ended ≡ false
-  pub unseen : next p m (Local b.activation) ≡ None
-  pub seen : (grant : Bool) → next p m (Board b.activation grant) ≡ None
-  pub other : Blocked
-  pub among : Contains round other
-  pub held : holds m.world b.activation b.lock other.activation ≡ true
-
 -- The journal is a run that breaks nothing. It leads to a moment, and from there steps that nobody else sees lead to another one. At that
--- an activation waits at each acquisition of the circle, and no step of these activations is enabled.
+-- an activation waits at each acquisition of the circle. None of them has ended, no step of them is enabled, and each waits for a lock that one of
+-- them holds.
 pub record IsDeadlockIn (filters : List Filter) (number : ℕ) (circle : List Acquisition) (d : Deadlock) : Type 0 where
   pub legal : verdict filters d.journal ≡ Legal
   pub moment : Moment
@@ -49,7 +40,8 @@ pub record IsDeadlockIn (filters : List Filter) (number : ℕ) (circle : List Ac
   pub led : run_from (by_altitude filters) moment (map Local steps) ≡ Some last
   pub some : d.waits.items ≡ [] → ⊥
   pub waits : AllZip (WaitsAt number) circle d.waits.items
-  pub stuck : All (IsStuck (by_altitude filters) last d.waits.items) d.waits.items
+  pub stuck : All (IsStuck (by_altitude filters) last) d.waits.items
+  pub held : All (IsHeldAmong d.waits.items) d.waits.items
 
 -- the number of the filter that is at the altitude of a tree's filter
 abbrev pub number_of : List Filter → ℕ → ℕ

@@ -1,15 +1,15 @@
 //! What a journal is worth: it is run again, and those that wait at its end are compared with the circle.
 
-ghost use Rattle.std.specs.Prelude.{◌≡◌, IfOk, IfSome, IsTrue, All, Contains};
+ghost use Rattle.std.specs.Prelude.{◌≡◌, [], IfOk, IfSome, IsTrue, All, Contains};
 ghost use Rattle.std.specs.List.{AllZip};
 ghost use Rattle.flt_model.specs.Program.{by_altitude, filter_at, filter_of};
 ghost use Rattle.flt_world.specs.Filters.{filters_of};
 ghost use Rattle.flt_deadlocks.specs.Deadlocks as spec;
 
-use flt_model::{Journal, local_steps_are_quiet};
+use flt_model::Journal;
 use flt_order::Acquisition;
 use flt_tree::Tree;
-use flt_waits::{Blocked, waits_of};
+use flt_waits::{Blocked, local_steps_are_runs, waits_of, what_waits_is_stuck};
 use flt_world::Stack;
 use std::alloc::{AllocError, Global};
 
@@ -102,6 +102,13 @@ fn are_held_among(round: &[Blocked]) -> bool
     true
 }
 
+/// Whether there are some activations, and each waits for a lock that one of them holds.
+fn is_round(round: &[Blocked]) -> bool
+    ensures { IsTrue result → (round.now ≡ [] → ⊥) × All (spec.IsHeldAmong round.now) round.now }
+{
+    !round.is_empty() && are_held_among(round)
+}
+
 /// The deadlock to which a journal leads, if in the filter of a number an activation waits at each acquisition of a circle.
 fn deadlock_at(
     alloc: Global,
@@ -112,12 +119,13 @@ fn deadlock_at(
 ) -> Result<Option<Deadlock>, AllocError>
     ensures { IfOk result (λ found. IfSome found (spec.IsDeadlockIn (filters_of trees.now) number circle.now)) }
 {
-    local_steps_are_quiet();
+    local_steps_are_runs();
+    what_waits_is_stuck();
     let waits = waits_of(alloc, trees, &journal)?;
     let Some(round) = waiting_round(alloc, waits.as_slice(), number, circle)? else {
         return Ok(None);
     };
-    if round.is_empty() || !are_held_among(round.as_slice()) {
+    if !is_round(round.as_slice()) {
         return Ok(None);
     }
     Ok(Some(Deadlock {

@@ -1,30 +1,15 @@
--- Journals that lead to a moment are legal, and the local steps after them are a run.
-use Rattle.std.proofs.Common.{◌≡◌, ◌+◌, ◌++◌, ◌∷◌, [], ℕ, zero, suc, List, Option, Some, None, map, replicate, refl}
-use Rattle.std.specs.Prelude.{length, option_and_then}
+-- Local steps of activations, one activation after the other, are a run.
+use Rattle.std.proofs.Common.{◌≡◌, ◌++◌, ◌∷◌, [], ℕ, zero, suc, List, Option, Some, None, map, replicate, refl}
+use Rattle.std.specs.Prelude.{option_and_then}
 use Rattle.std.proofs.lemmas.List.{append-nil}
 use Rattle.flt_tree.specs.declared.filter.Filter.{Filter}
 use Rattle.flt_model.specs.declared.event.Event.{Event}
-use Rattle.flt_model.specs.declared.moves.JournalEntry.{JournalEntry}
-use Rattle.flt_model.specs.declared.verdict.Verdict.TheVariants.{Legal}
 use Rattle.flt_model.specs.Effects.{Step}
-use Rattle.flt_model.specs.Expansion.{Course, Reaches, Stops, Fails, entry_course, expansion, judged, verdict_from}
 use Rattle.flt_model.specs.Runs.{Moment, after, next, run_from}
 use Rattle.flt_model.specs.Steps.{Local, local}
 use Rattle.flt_model.specs.World.{World}
-use Rattle.flt_replay.specs.Lesser.{moment_by, moment_after}
 use Rattle.flt_steps.specs.Unseen.{unseen}
 use Rattle.flt_waits.specs.Waiting.{AreSettled}
-
--- entries that lead to a moment are legal
-pub legal : (p : List Filter) (m r : Moment) (n : ℕ) (es : List JournalEntry) → moment_after p m es ≡ Some r → verdict_from p m n es ≡ Legal
-legal p m r n [] led = refl
-legal p m r n (e ∷ es) led = by (λ q led. legal p q r (n + 1) es led) (entry_course p m (expansion e)) led
-  where
-    by : ((q : Moment) → moment_after p q es ≡ Some r → verdict_from p q (n + 1) es ≡ Legal) → (c : Course) →
-        moment_by c (λ q. moment_after p q es) ≡ Some r → judged c n (λ q. verdict_from p q (n + 1) es) ≡ Legal
-    by more (Reaches q) led = more q led
-    by more Stops led = absurd (cc)
-    by more (Fails v) led = absurd (cc)
 
 -- local steps have no events
 abbrev pub AreSilent : Type 0

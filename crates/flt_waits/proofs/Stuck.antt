@@ -1,5 +1,5 @@
 -- What waits for a lock can't go on.
-use Rattle.std.proofs.Common.{◌≡◌, ◌∷◌, [], ◌&&◌, ℕ, zero, suc, Bool, true, false, List, Option, Some, None, refl, sym, ◌∙◌, subst}
+use Rattle.std.proofs.Common.{◌≡◌, ◌∷◌, [], ◌&&◌, ℕ, zero, suc, Bool, true, false, List, Option, Some, None, refl, ◌∙◌, subst}
 use Rattle.std.specs.Prelude.{All, if◌then◌else◌, length, option_and_then}
 use Rattle.std.proofs.lemmas.List.Elements.{All-append, All-cons, All-nil}
 use Rattle.flt_rules.specs.declared.call.LockNumber.{LockNumber}
@@ -11,10 +11,11 @@ use Rattle.flt_tree.specs.declared.filter.Span.{Span}
 use Rattle.flt_tree.specs.declared.filter.Statement.{Statement, out-Statement}
 use Rattle.flt_tree.specs.declared.filter.Statement.TheOpen.{Statement-F}
 use Rattle.flt_model.specs.LocalSteps.{after_statement}
-use Rattle.flt_model.specs.Runs.{Moment, next}
-use Rattle.flt_model.specs.Steps.{Local, Board, may_go, may_take}
+use Rattle.flt_model.specs.Runs.{Moment}
+use Rattle.flt_model.specs.Steps.{may_go, may_take}
 use Rattle.flt_model.specs.World.{Activation, World, activation_at, actor_at}
 use Rattle.flt_waits.specs.Asking.{asked}
+use Rattle.flt_waits.specs.Stuck.{IsStuck}
 use Rattle.flt_waits.specs.Waiting.{first_asked, holds, last_holder, listed, wait_for, wait_of, waits_at}
 use Rattle.flt_waits.specs.declared.asking.Request.{Request}
 use Rattle.flt_waits.specs.declared.waits.Blocked.{Blocked}
@@ -49,15 +50,24 @@ takes (Statement-F.Return at status) x is = absurd (cc)
 takes (Statement-F.If at condition granted refused) x is = absurd (cc)
 takes (Statement-F.Repeat at turns block) x is = absurd (cc)
 
+-- ---- who holds it
+
+-- the last one that holds a lock holds it
+pub last_holds : (w : World) (a : ℕ) (l : LockNumber) (n h : ℕ) → last_holder w a l n ≡ Some h → holds w a l h ≡ true
+last_holds w a l zero h is = absurd (cc)
+last_holds w a l (suc b) h is = by (λ is. last_holds w a l b h is) (holds w a l b) refl is
+  where
+    by : (last_holder w a l b ≡ Some h → holds w a l h ≡ true) → (x : Bool) → holds w a l b ≡ x →
+        (if x then Some b else last_holder w a l b) ≡ Some h → holds w a l h ≡ true
+    by more true is led = let same : b ≡ h = cc (led) in subst (λ k. holds w a l k ≡ true) same is
+    by more false is led = more led
+
 -- ---- an activation that waits
 
--- it hasn't ended, and no step of it is enabled
+-- it is stuck, and is the activation of this number
 pub record IsHeldUp (p : List Filter) (m : Moment) (a : ℕ) (b : Blocked) : Type 0 where
-  pub runs : (activation_at m.world a).ended ≡ false
-  pub unseen : next p m (Local a) ≡ None
-  pub seen : (grant : Bool) → next p m (Board a grant) ≡ None
   pub number : b.activation ≡ a
-  pub holder : b.holder ≡ last_holder m.world a b.lock (length m.world.activations)
+  pub stuck : IsStuck p m b
 
 -- the activation that waits for a lock which it may not take
 abbrev blocked : World → ℕ → Request → Blocked
@@ -87,7 +97,15 @@ module _ (p : List Filter) (m : Moment) (a : ℕ) (b : Blocked) where
       let no : (grant : Bool) → may_go m.world a grant (out-Statement s) ≡ false = λ grant. t.goes m.world a grant ∙ rw free (no_grant grant) in
       let same : blocked m.world a x ≡ b = cc (here, waits) in
       subst (λ k. IsHeldUp p m a k) same
-      (record { runs = on; unseen = rw (on, are, none) refl; seen = λ grant. rw (on, are, no grant) refl; number = refl; holder = refl })
+      (record {
+        number = refl;
+        stuck = record {
+          runs = on;
+          unseen = rw (on, are, none) refl;
+          seen = λ grant. rw (on, are, no grant) refl;
+          held = λ h is. last_holds m.world a x.lock (length m.world.activations) h is;
+        };
+      })
 
   by_statement : (s : Statement) (rest : List Statement) → (activation_at m.world a).ended ≡ false →
       (activation_at m.world a).rest ≡ s ∷ rest → (o : Option Request) → asked (out-Statement s) ≡ o →
@@ -106,34 +124,14 @@ module _ (p : List Filter) (m : Moment) (a : ℕ) (b : Blocked) where
   pub held_up : wait_of m.world a ≡ Some b → IsHeldUp p m a b
   held_up waits = by_rest (activation_at m.world a).ended (activation_at m.world a).rest refl refl waits
 
--- ---- who holds it
-
--- the last one that holds a lock holds it
-pub last_holds : (w : World) (a : ℕ) (l : LockNumber) (n h : ℕ) → last_holder w a l n ≡ Some h → holds w a l h ≡ true
-last_holds w a l zero h is = absurd (cc)
-last_holds w a l (suc b) h is = by (λ is. last_holds w a l b h is) (holds w a l b) refl is
-  where
-    by : (last_holder w a l b ≡ Some h → holds w a l h ≡ true) → (x : Bool) → holds w a l b ≡ x →
-        (if x then Some b else last_holder w a l b) ≡ Some h → holds w a l h ≡ true
-    by more true is led = let same : b ≡ h = cc (led) in subst (λ k. holds w a l k ≡ true) same is
-    by more false is led = more led
-
 -- ---- all that wait
 
--- what is listed of an activation is what the activation of that number waits for
-abbrev pub IsListed : World → Blocked → Type 0
-IsListed w b = wait_of w b.activation ≡ Some b
-
 module _ (p : List Filter) (m : Moment) where
-  one_listed : (a : ℕ) (o : Option Blocked) → wait_of m.world a ≡ o → All (IsListed m.world) (listed o)
-  one_listed a None is = All-nil (IsListed m.world)
-  one_listed a (Some b) is =
-      let number = (held_up p m a b is).number in
-      let own : IsListed m.world b = subst (λ k. wait_of m.world k ≡ Some b) (sym number) is in
-      All-cons (IsListed m.world) b [] own (All-nil (IsListed m.world))
+  one_stuck : (a : ℕ) (o : Option Blocked) → wait_of m.world a ≡ o → All (IsStuck p m) (listed o)
+  one_stuck a None is = All-nil (IsStuck p m)
+  one_stuck a (Some b) is = All-cons (IsStuck p m) b [] (held_up p m a b is).stuck (All-nil (IsStuck p m))
 
-  pub all_listed : (n : ℕ) → All (IsListed m.world) (waits_at m.world n)
-  all_listed zero = All-nil (IsListed m.world)
-  all_listed (suc a) =
-      All-append (IsListed m.world) (waits_at m.world a) (listed (wait_of m.world a)) (all_listed a)
-      (one_listed a (wait_of m.world a) refl)
+  pub all_stuck : (n : ℕ) → All (IsStuck p m) (waits_at m.world n)
+  all_stuck zero = All-nil (IsStuck p m)
+  all_stuck (suc a) =
+      All-append (IsStuck p m) (waits_at m.world a) (listed (wait_of m.world a)) (all_stuck a) (one_stuck a (wait_of m.world a) refl)
