@@ -2,7 +2,6 @@
 
 ghost use Rattle.std.specs.Prelude.{◌≡◌, [], IfOk, IfSome, IsTrue, All, Contains};
 ghost use Rattle.std.specs.List.{AllZip};
-ghost use Rattle.flt_model.specs.Program.{by_altitude, filter_at, filter_of};
 ghost use Rattle.flt_world.specs.Filters.{filters_of};
 ghost use Rattle.flt_deadlocks.specs.Deadlocks as spec;
 
