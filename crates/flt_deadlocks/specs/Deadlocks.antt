@@ -29,8 +29,8 @@ pub record IsHeldAmong (round : List Blocked) (b : Blocked) : Type 0 where
   pub named : b.holder ≡ Some other.activation
 
 -- The journal is a run that breaks nothing. It leads to a moment, and from there steps that nobody else sees lead to another one. At that
--- an activation waits at each acquisition of the circle. None of them has ended, no step of them is enabled, and each waits for a lock that one of
--- them holds.
+-- an activation waits at each acquisition of the circle. None of them has ended, no step of them is enabled, and each waits for a lock that
+-- one of them holds.
 pub record IsDeadlockIn (filters : List Filter) (number : ℕ) (circle : List Acquisition) (d : Deadlock) : Type 0 where
   pub legal : verdict filters d.journal ≡ Legal
   pub moment : Moment

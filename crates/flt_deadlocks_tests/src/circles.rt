@@ -40,7 +40,8 @@ const SEES: &str = "filter b altitude 200\npre read {\nreturn NO_CALLBACK\n}\n";
 /// A line that takes a lock, which lock, and one that is held there.
 type Step = (usize, LockNumber, LockNumber);
 
-/// Texts, of which one has the circle, its number, the circle, and how many entries a shortest run has that comes to a deadlock there, if any does.
+/// Texts, of which one has the circle, its number, the circle, and how many entries a shortest run has that comes to a deadlock there, if any
+/// does.
 type Case<'a> = (&'a [&'a str], usize, &'a [Step], Option<usize>);
 
 const X: LockNumber = LockNumber::L0;

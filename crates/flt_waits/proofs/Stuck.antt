@@ -85,8 +85,8 @@ no_grant false = refl
 
 module _ (p : List Filter) (m : Moment) (a : ℕ) (b : Blocked) where
   by_request : (s : Statement) (rest : List Statement) (x : Request) → (activation_at m.world a).ended ≡ false →
-      (activation_at m.world a).rest ≡ s ∷ rest → asked (out-Statement s) ≡ Some x → (may : Bool) → may_take m.world a x.lock x.access ≡ may →
-      wait_for m.world a x ≡ Some b → IsHeldUp p m a b
+      (activation_at m.world a).rest ≡ s ∷ rest → asked (out-Statement s) ≡ Some x → (may : Bool) →
+      may_take m.world a x.lock x.access ≡ may → wait_for m.world a x ≡ Some b → IsHeldUp p m a b
   by_request s rest x on are asks true free waits =
       let none : wait_for m.world a x ≡ None = rw free refl in
       absurd (cc)
@@ -94,7 +94,8 @@ module _ (p : List Filter) (m : Moment) (a : ℕ) (b : Blocked) where
       let t = takes (out-Statement s) x asks in
       let here : wait_for m.world a x ≡ Some (blocked m.world a x) = rw free refl in
       let none = t.seen (actor_at m.world a).draining (activation_at m.world a) rest in
-      let no : (grant : Bool) → may_go m.world a grant (out-Statement s) ≡ false = λ grant. t.goes m.world a grant ∙ rw free (no_grant grant) in
+      let no : (grant : Bool) → may_go m.world a grant (out-Statement s) ≡ false =
+      λ grant. t.goes m.world a grant ∙ rw free (no_grant grant) in
       let same : blocked m.world a x ≡ b = cc (here, waits) in
       subst (λ k. IsHeldUp p m a k) same
       (record {

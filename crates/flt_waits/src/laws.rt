@@ -4,8 +4,8 @@ ghost use Rattle.flt_waits.specs.Stuck as spec;
 
 use flt_model::local_steps_are_quiet;
 
-/// Whatever waits for a lock is stuck: it hasn't ended, no step of it is enabled, and the one that is named as the holder holds the lock. It does
-/// nothing: its clause is the law.
+/// Whatever waits for a lock is stuck: it hasn't ended, no step of it is enabled, and the one that is named as the holder holds the lock. It
+/// does nothing: its clause is the law.
 pub fn what_waits_is_stuck()
     ensures { spec.WhatWaitsIsStuck }
 {}

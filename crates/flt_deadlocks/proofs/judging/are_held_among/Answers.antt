@@ -12,4 +12,5 @@ loop-wait-preserved c =
 
 pub returns : goal.returns
 returns c is =
-    subst (All (IsHeldAmong c.args.round.now)) (take_all c.loop-wait.wait-index c.args.round.now c.loop-wait-test.false) c.loop-wait.invariant
+    subst (All (IsHeldAmong c.args.round.now)) (take_all c.loop-wait.wait-index c.args.round.now c.loop-wait-test.false)
+    c.loop-wait.invariant

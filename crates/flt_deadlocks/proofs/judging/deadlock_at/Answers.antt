@@ -14,7 +14,8 @@ pub returns : goal.returns
 returns c =
     let round = c.in-Some.round.items in
     let found = some_of _ c.in_ok-round.field-0 c.in-Some.round c.in-Some.is c.in_ok-round.ensures in
-    let chosen : All (Contains c.in_ok-waits.waits.items) round = subst (λ (w : List Blocked). All (Contains w) round) c.as_slice.ensures.value found.0 in
+    let chosen : All (Contains c.in_ok-waits.waits.items) round =
+    subst (λ (w : List Blocked). All (Contains w) round) c.as_slice.ensures.value found.0 in
     let judged = c.if-not-is_round.ensures refl in
     let held : All (IsHeldAmong round) round = subst (λ (r : List Blocked). All (IsHeldAmong r) r) c.as_slice-2.ensures.value judged.1 in
     deadlock (filters_of c.args.trees.now) c.args.number c.args.circle.now _ c.in_ok-waits.waits.items c.local_steps_are_runs.ensures

@@ -8,7 +8,8 @@ use Rattle.flt_deadlocks.proofs.judging.number_of.Goals as goal
 
 -- the number by the altitude of a tree's filter
 number : (trees : List Tree) (n : ℕ) (t : Tree) (p : List Filter) (altitude found : ℕ) → n < length trees → t ≡ get_or trees n t →
-    p ≡ by_altitude (filters_of trees) → altitude ≡ t.filter.altitude → found ≡ filter_of p altitude → found ≡ spec.number_of (filters_of trees) n
+    p ≡ by_altitude (filters_of trees) → altitude ≡ t.filter.altitude → found ≡ filter_of p altitude →
+    found ≡ spec.number_of (filters_of trees) n
 number trees n t p altitude found less is stack same counted =
     let at : filter_at (filters_of trees) n ≡ t.filter =
     get_or-map (λ (x : Tree). x.filter) trees n t no_filter less ∙ ap (λ (x : Tree). x.filter) (sym is) in
@@ -19,5 +20,6 @@ number trees n t p altitude found less is stack same counted =
 
 pub returns : goal.returns
 returns c =
-    number c.args.trees.now c.args.filter c.in-Some.tree.now _ _ _ c.in-Some.ensures.lookup.3.0 c.in-Some.ensures.lookup.1 c.in_ok-stack.ensures
+    number c.args.trees.now c.args.filter c.in-Some.tree.now _ _ _ c.in-Some.ensures.lookup.3.0 c.in-Some.ensures.lookup.1
+    c.in_ok-stack.ensures
     c.in-Ok.ensures.1 c.number_of.ensures
