@@ -2,13 +2,15 @@
 //!
 //! `explore` goes breadth first from the world in which nothing has come (`round_search`), by what may come next within the bounds of its
 //! round (`coming`, `rounds`), past worlds that it has met (`key`), and at each depth by callbacks in turn (`counts`). It keeps the entries
-//! that lead to each (`paths`), and notes the breaks that stand for something that is looked for (`targets`). No clause says what it finds:
-//! safety and an end are proved, and what it finds is replayed by whoever asks.
+//! that lead to each (`paths`), and notes the breaks that stand for something that is looked for (`targets`), or the first world in which
+//! activations wait for one another (`meeting`). No clause says what it finds: safety and an end are proved, and what it finds is replayed
+//! by whoever asks.
 #![tactic(auto)]
 
 mod coming;
 mod counts;
 mod key;
+mod meeting;
 mod paths;
 mod round_search;
 mod rounds;
@@ -16,6 +18,6 @@ mod targets;
 mod watch;
 
 pub use round_search::{Found, Left, Search, explore};
-pub use rounds::{ROUNDS, Round};
+pub use rounds::{MEETINGS, ROUNDS, Round};
 pub use targets::{Firsts, Stand, Targets};
 pub use watch::{SearchWatch, UnwatchedSearch, Watched};

@@ -50,7 +50,7 @@ pub struct Left {
 /// A world that is gone on from.
 #[derive(Clone, Copy)]
 pub(crate) struct State {
-    node: Option<usize>,
+    pub(crate) node: Option<usize>,
     depth: usize,
     pub(crate) world: World,
     /// The activation that is on.
@@ -110,7 +110,7 @@ pub struct Search<'p> {
     pub(crate) plan: &'p Plan,
     pub(crate) round: Round,
     pub targets: Targets,
-    paths: Paths,
+    pub(crate) paths: Paths,
     states: Vec<State>,
     layers: Vec<Layer>,
     /// The places in the list of states that are free, and how many wait.
@@ -128,8 +128,10 @@ pub struct Search<'p> {
     /// The states within turns that were met last, by keys without the turns that are left.
     anchors: BTreeMap<u64, Anchor>,
     pub found: Vec<Found>,
-    /// The most entries of a break that stands for something.
-    longest: usize,
+    /// The first world in which activations stand at the points of the circle that is looked for, and none of them can go on.
+    pub(crate) meeting: Option<usize>,
+    /// The most entries of a break that stands for something, or of the path to that world.
+    pub(crate) longest: usize,
     pub left: Left,
     /// Whether something wasn't gone on from.
     pub is_cut: bool,
@@ -168,6 +170,7 @@ impl<'p> Search<'p> {
             seen: HashMap::new(alloc),
             anchors: BTreeMap::new(alloc),
             found: Vec::new(alloc),
+            meeting: None,
             longest: 0,
             left,
             is_cut: false,
@@ -222,6 +225,7 @@ impl<'p> Search<'p> {
             return Ok(());
         }
         state.node = Some(self.paths.add_node(from.node, first)?);
+        self.look_for_meeting(state);
         if self.leap(state)? {
             self.put_state(state)?;
         }

@@ -115,3 +115,63 @@ pub const ROUNDS: [Round; 7] = [
         states: 1000,
     },
 ];
+
+/// The rounds of a search for a deadlock, from the narrowest: one operation with its work items, and then as many operations at once as
+/// there may be activations. Near operations come alone, but in the last one.
+pub const MEETINGS: [Round; 5] = [
+    Round {
+        alive: 1,
+        total: 1,
+        switches: 1,
+        cancels: 1,
+        detaches: false,
+        is_near: true,
+        first_files: 6,
+        files: 6,
+        states: 4000,
+    },
+    Round {
+        alive: 2,
+        total: 2,
+        switches: 1,
+        cancels: 0,
+        detaches: false,
+        is_near: true,
+        first_files: 6,
+        files: 6,
+        states: 8000,
+    },
+    Round {
+        alive: 3,
+        total: 3,
+        switches: 2,
+        cancels: 0,
+        detaches: false,
+        is_near: true,
+        first_files: 1,
+        files: 1,
+        states: 12000,
+    },
+    Round {
+        alive: 4,
+        total: 4,
+        switches: 3,
+        cancels: 0,
+        detaches: false,
+        is_near: true,
+        first_files: 1,
+        files: 1,
+        states: 8000,
+    },
+    Round {
+        alive: 2,
+        total: 3,
+        switches: 2,
+        cancels: 1,
+        detaches: true,
+        is_near: false,
+        first_files: 6,
+        files: 6,
+        states: 8000,
+    },
+];

@@ -92,6 +92,8 @@ struct Open {
 pub struct Targets {
     callbacks: Vec<Callback>,
     goals: Vec<Open>,
+    /// The points at which activations wait for one another in the deadlock that is looked for; none where no deadlock is.
+    pub(crate) circle: Vec<Stand>,
     /// How many goals are open.
     pub(crate) open: usize,
 }
@@ -153,8 +155,23 @@ impl Targets {
         Ok(Targets {
             callbacks,
             goals: Vec::new(alloc),
+            circle: Vec::new(alloc),
             open: 0,
         })
+    }
+
+    /// Nothing but a deadlock is looked for: activations at these points, none of which can go on.
+    ///
+    /// # Errors
+    ///
+    /// Where a growth was refused.
+    pub fn of_circle(alloc: Global, plan: &Plan, circle: &[Stand]) -> Result<Targets, AllocError> {
+        let mut targets = Targets::new(alloc, plan)?;
+        for stand in circle {
+            targets.circle.push(*stand)?;
+        }
+        targets.open = 1;
+        Ok(targets)
     }
 
     fn callback(&mut self, filter: u8, callback: usize) -> Option<&mut Callback> {
@@ -252,9 +269,19 @@ impl Targets {
     /// Whether something is looked for in a callback.
     pub(crate) fn is_looked_in(&self, filter: u8, callback: usize) -> bool {
         match self.found(filter, callback) {
-            Some(own) => !own.whole.wanted.is_empty(),
+            Some(own) => !own.whole.wanted.is_empty() || self.is_in_circle(filter, callback),
             None => false,
         }
+    }
+
+    /// Whether a point of the circle is in a callback.
+    fn is_in_circle(&self, filter: u8, callback: usize) -> bool {
+        for stand in self.circle.iter() {
+            if stand.filter == filter && stand.callback == callback {
+                return true;
+            }
+        }
+        false
     }
 
     /// A break stands for its violation at its point.

@@ -48,7 +48,11 @@ pub(crate) fn is_wanted(wanted: &[Violation], violation: Violation) -> bool
 }
 
 /// The journal of some entries.
-pub(crate) fn journal_of(alloc: Global, entries: &[JournalEntry]) -> Result<Journal, AllocError>
+///
+/// # Errors
+///
+/// Where a growth was refused.
+pub fn journal_of(alloc: Global, entries: &[JournalEntry]) -> Result<Journal, AllocError>
     ensures { IfOk result (λ j. j ≡ entries.now) }
 {
     let mut heap = Heap::new(alloc);

@@ -15,5 +15,5 @@ mod shortening;
 pub use answering::Answer;
 pub use flt_explore::{SearchWatch, UnwatchedSearch, Watched};
 pub use goal::{Bounds, Goal};
-pub use judging::Broken;
+pub use judging::{Broken, journal_of};
 pub use searching::search;

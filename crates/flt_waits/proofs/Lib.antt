@@ -1,2 +1,4 @@
 pub mod Listing
+pub mod LocalRuns
 pub mod LocalSteps
+pub mod Stuck

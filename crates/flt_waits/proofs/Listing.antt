@@ -3,7 +3,7 @@ use Rattle.std.proofs.Common.{◌≡◌, ◌+◌, ◌++◌, ◌∷◌, [], ℕ, 
 use Rattle.std.proofs.lemmas.List.{append-nil}
 use Rattle.flt_model.specs.World.{World}
 use Rattle.flt_rules.specs.declared.call.LockNumber.{LockNumber}
-use Rattle.flt_waits.specs.Waiting.{AreWaits, IsSettled, holds, last_holder, listed, wait_of}
+use Rattle.flt_waits.specs.Waiting.{AreSettled, IsSettled, holds, last_holder, listed, wait_of, waits_at}
 use Rattle.flt_waits.specs.declared.waits.Blocked.{Blocked}
 
 -- one activation more that holds the lock is the last one
@@ -14,10 +14,14 @@ holds_too w a l b is = rw (add-one, is) refl
 pub holds_not : (w : World) (a : ℕ) (l : LockNumber) (b : ℕ) → holds w a l b ≡ false → last_holder w a l (b + 1) ≡ last_holder w a l b
 holds_not w a l b is = rw (add-one, is) refl
 
--- one activation more, behind its local steps
-pub waits_too : (w v u : World) (a : ℕ) (earlier waits : List Blocked) → AreWaits w a v earlier → IsSettled v a u →
-    waits ≡ earlier ++ listed (wait_of u a) → AreWaits w (a + 1) u waits
-waits_too w v u a earlier waits are settled is = rw add-one (v, earlier, are, settled, is)
+-- one activation more, after its local steps
+pub settled_too : (w v u : World) (a : ℕ) → AreSettled w a v → IsSettled v a u → AreSettled w (a + 1) u
+settled_too w v u a are settled = rw add-one (v, are, settled)
+
+-- one activation more that is looked at
+pub waits_too : (w : World) (a : ℕ) (earlier waits : List Blocked) → earlier ≡ waits_at w a → waits ≡ earlier ++ listed (wait_of w a) →
+    waits ≡ waits_at w (a + 1)
+waits_too w a earlier waits before is = rw (add-one, ← before) is
 
 -- what is found goes behind the others
 pub listed_some : (found wait : Option Blocked) (some : Blocked) (old new : List Blocked) → found ≡ wait → found ≡ Some some →

@@ -52,8 +52,16 @@ abbrev pub listed : Option Blocked → List Blocked
 listed None = []
 listed (Some wait) = wait ∷ []
 
--- what so many activations wait for, each behind its local steps, which nobody else sees
-abbrev pub AreWaits : World → ℕ → World → List Blocked → Type 0
-AreWaits w zero u waits = (u ≡ w) × (waits ≡ [])
-AreWaits w (suc a) u waits =
-    (v : World) × (earlier : List Blocked) × AreWaits w a v earlier × IsSettled v a u × (waits ≡ earlier ++ listed (wait_of u a))
+-- what the first so many activations wait for, each by its first statement
+abbrev pub waits_at : World → ℕ → List Blocked
+waits_at w zero = []
+waits_at w (suc a) = waits_at w a ++ listed (wait_of w a)
+
+-- the first so many activations make their local steps, which nobody else sees, one activation after the other
+abbrev pub AreSettled : World → ℕ → World → Type 0
+AreSettled w zero u = u ≡ w
+AreSettled w (suc a) u = (v : World) × AreSettled w a v × IsSettled v a u
+
+-- what the activations wait for, once all have made their local steps
+abbrev pub AreWaits : World → World → List Blocked → Type 0
+AreWaits w u waits = AreSettled w (length w.activations) u × (waits ≡ waits_at u (length u.activations))

@@ -1,6 +1,6 @@
 //! Which activations wait for locks at the end of a run.
 
-ghost use Rattle.std.specs.Prelude.{◌≡◌, [], length, IfOk, MatchOption};
+ghost use Rattle.std.specs.Prelude.{◌≡◌, [], length, IfOk, OnOk, MatchOption};
 ghost use Rattle.flt_model.specs.Program.{by_altitude, filters_of};
 ghost use Rattle.flt_model.specs.Runs.{start};
 ghost use Rattle.flt_model.specs.World.{World as Machine};
@@ -9,6 +9,7 @@ ghost use Rattle.flt_waits.specs.Waiting as spec;
 
 use crate::asking::{Request, asked};
 use crate::settling::settle;
+use flt_course::upcoming;
 use flt_model::Journal;
 use flt_records::Upcoming;
 use flt_replay::world_after;
@@ -74,11 +75,11 @@ fn wait_for(world: &World<'_>, a: usize, request: Request) -> Option<Blocked>
     })
 }
 
-/// What an activation waits for behind its local steps.
+/// What an activation waits for, which stays.
 fn wait_of(world: &mut World<'_>, a: usize) -> Result<Option<Blocked>, AllocError>
-    ensures { IfOk result (λ wait. spec.IsSettled world.old a world.new × (wait ≡ spec.wait_of world.new a)) }
+    ensures { IfOk result (λ wait. (world.new ≡ world.old) × (wait ≡ spec.wait_of world.old a)) }
 {
-    let next = settle(world, a)?;
+    let next = upcoming(world, a)?;
     if world.has_ended(a) {
         return Ok(None);
     }
@@ -92,9 +93,19 @@ fn wait_of(world: &mut World<'_>, a: usize) -> Result<Option<Blocked>, AllocErro
     }
 }
 
-/// What the activations of a world wait for, each behind its local steps.
-fn waits_in(alloc: Global, world: &mut World<'_>) -> Result<Vec<Blocked>, AllocError>
-    ensures { IfOk result (λ waits. spec.AreWaits world.old (length world.old.activations) world.new waits.items) }
+/// All activations of a world make their local steps, one activation after the other.
+fn settle_all(world: &mut World<'_>) -> Result<(), AllocError>
+    ensures { OnOk result (spec.AreSettled world.old (length world.old.activations) world.new) }
+{
+    for a in 0..world.activations.len() {
+        settle(world, a)?;
+    }
+    Ok(())
+}
+
+/// What the activations of a world wait for, each by its first statement.
+fn waits_at(alloc: Global, world: &mut World<'_>) -> Result<Vec<Blocked>, AllocError>
+    ensures { IfOk result (λ waits. (world.new ≡ world.old) × (waits.items ≡ spec.waits_at world.old (length world.old.activations))) }
 {
     let mut waits = Vec::new(alloc);
     for a in 0..world.activations.len() {
@@ -104,6 +115,14 @@ fn waits_in(alloc: Global, world: &mut World<'_>) -> Result<Vec<Blocked>, AllocE
         }
     }
     Ok(waits)
+}
+
+/// What the activations of a world wait for, once all have made their local steps.
+fn waits_in(alloc: Global, world: &mut World<'_>) -> Result<Vec<Blocked>, AllocError>
+    ensures { IfOk result (λ waits. spec.AreWaits world.old world.new waits.items) }
+{
+    settle_all(world)?;
+    waits_at(alloc, world)
 }
 
 /// Which activations wait for a lock at the end of a journal on some filters, in any order: those whose next step that others see takes a
@@ -120,7 +139,7 @@ pub fn waits_of(
     ensures { IfOk result (λ waits. MatchOption
         (moment_after (by_altitude (filters_of trees.now)) (start (by_altitude (filters_of trees.now))) journal.now)
         (waits.items ≡ [])
-        (λ m. (u : Machine) × spec.AreWaits m.world (length m.world.activations) u waits.items)) }
+        (λ m. (u : Machine) × spec.AreWaits m.world u waits.items)) }
 {
     let stack = Stack::of(alloc, trees)?;
     match world_after(alloc, &stack, journal)? {

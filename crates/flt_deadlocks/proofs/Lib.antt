@@ -1,0 +1,3 @@
+pub mod Deadlocked
+pub mod Legal
+pub mod Rounds

@@ -1,0 +1,14 @@
+//! The search for a run to a deadlock: to a moment at which each acquisition of a circle has an activation that waits at it.
+//!
+//! `find_deadlock` goes through the rounds of `flt_explore` (`searching`). Whatever they propose is run again: only a legal journal after
+//! which all of these activations wait for locks of one another is found (`judging`). That is proved; that a run is found where there is
+//! one isn't.
+#![tactic(auto)]
+
+mod judging;
+mod searching;
+
+pub use flt_explore::{SearchWatch, UnwatchedSearch, Watched};
+pub use flt_search::Bounds;
+pub use judging::Deadlock;
+pub use searching::{Answer, find_deadlock};
