@@ -4,5 +4,6 @@ pub mod QuietLines
 pub mod Runs
 pub mod Said
 pub mod Several
+pub mod ShownWarnings
 pub mod Studied
 pub mod Whole

@@ -21,12 +21,12 @@ use Rattle.flt_notes.specs.Again.{IsSetting}
 use Rattle.flt_notes.specs.Lines.{again_line, note_line}
 use Rattle.flt_notes.specs.Notices.{AreNoticeLines}
 use Rattle.flt_notes.specs.Parsed.{IsUnread}
-use Rattle.flt_notes.specs.Printing.{AddBlocks, AddsBlock, AddsBody, AddsNote, HasNotes, IsKnownIn, IsPrintOf, IsUnreadPart, PrintsNotice}
+use Rattle.flt_notes.specs.Printing.{AddBlocks, AddsBlock, AddsBody, AddsNote, HasNotes, IsKnownIn, IsPrintOf, IsUnreadPart, PrintsNotice, warned_in}
 use Rattle.flt_notes.specs.Quiet.{quieted}
 use Rattle.flt_notes.specs.Readings.{IsPlaced, known}
 use Rattle.flt_notes.specs.Rows.{AreAgainRows, AreSettingRows}
 use Rattle.flt_notes.specs.Totals.{some}
-use Rattle.flt_notes.specs.Warnings.{promise_and_warnings}
+use Rattle.flt_notes.specs.Warnings.{ArePromised}
 use Rattle.flt_notes.specs.Whole.{AreReported, AreReportsWithNotes, ArePrints, IsBody, IsKnownPrint, Look, fails, is_alone, no_block, one_block_more, parses}
 use Rattle.flt_notes.specs.declared.again.Setting.{Setting}
 use Rattle.flt_notes.specs.declared.noted.Again.{Again}
@@ -100,11 +100,11 @@ blocks_more trees states text reports i r first old new h is all one =
       noted = one.noted ∙ ap (λ z. z ++ one.note ∷ []) all.noted ∙ append_assoc first.noted all.notes (one.note ∷ []);
     })
 
-some_body : (look : Look) (trees : List Tree) (s : Source) (tree : Tree) (graph : Graph) (found : List Finding)
+some_body : (look : Look) (trees : List Tree) (place : ℕ) (s : Source) (tree : Tree) (graph : Graph) (found : List Finding)
     (details : List WarningDetail) (notes : List Noted) (printed : List ℕ) → found ≢ [] →
-    AreReportsWithNotes look trees s tree graph found notes printed → IsBody look trees s tree graph found details notes printed
-some_body look trees s tree graph [] details notes printed some are = absurd (some refl)
-some_body look trees s tree graph (f ∷ fs) details notes printed some are = are
+    AreReportsWithNotes look trees s tree graph found notes printed → IsBody look trees place s tree graph found details notes printed
+some_body look trees place s tree graph [] details notes printed some are = absurd (some refl)
+some_body look trees place s tree graph (f ∷ fs) details notes printed some are = are
 
 -- all reports of a text
 pub body_of_reports : (look : Look) (trees : List Tree) (k : Known) (reports : List Report) (old new : Output) → k.found.now ≢ [] →
@@ -113,7 +113,7 @@ pub body_of_reports : (look : Look) (trees : List Tree) (k : Known) (reports : L
 body_of_reports look trees k reports old new some are blocks = record {
   notes = blocks.notes;
   printed = blocks.printed;
-  is = some_body look trees k.source k.tree.now k.graph.now k.found.now k.details.now blocks.notes blocks.printed some
+  is = some_body look trees k.place k.source k.tree.now k.graph.now k.found.now k.details.now blocks.notes blocks.printed some
       (record { reports = reports; are = are; blocks = blocks.are });
   bytes = blocks.bytes;
   noted = blocks.noted;
@@ -125,13 +125,13 @@ empty_of (f ∷ found) b is some = absurd (some (is ∙ ne_eqb (length (f ∷ fo
 
 -- what is said where nothing is found, with the warnings
 pub body_of_none : (look : Look) (trees : List Tree) (k : Known) (lines : List ℕ) (old new : Output) → k.found.now ≡ [] →
-    lines ≡ promise_and_warnings look.coloured k.source.name.now k.source.text.now k.details.now → new.bytes.items ≡ old.bytes.items ++ quieted lines → new.noted ≡ old.noted →
-    AddsBody look trees k old new
-body_of_none look trees k lines old new none is added same = record {
+    ArePromised (warned_in look trees k) k.details.now lines → new.bytes.items ≡ old.bytes.items ++ quieted lines →
+    new.noted ≡ old.noted → AddsBody look trees k old new
+body_of_none look trees k lines old new none are added same = record {
   notes = [];
   printed = quieted lines;
-  is = subst (λ found. IsBody look trees k.source k.tree.now k.graph.now found k.details.now [] (quieted lines)) (sym none)
-      (refl, ap quieted is);
+  is = subst (λ found. IsBody look trees k.place k.source k.tree.now k.graph.now found k.details.now [] (quieted lines)) (sym none)
+      (record { none = refl; lines = lines; are = are; whole = refl });
   bytes = added;
   noted = same ∙ sym (append-nil old.noted);
 }
@@ -158,7 +158,8 @@ known_print law look trees k first before p known none unnoted body notes added 
       warned = known.warned;
       above = body.printed;
       order = law k.source.text.now k.tree.now k.graph.now k.found.now look.options.allowed k.details.now known.known known.warned;
-      body = subst (λ ns. IsBody look trees k.source k.tree.now k.graph.now k.found.now k.details.now ns body.printed) (sym all) body.is;
+      body = subst (λ ns. IsBody look trees k.place k.source k.tree.now k.graph.now k.found.now k.details.now ns body.printed) (sym all)
+          body.is;
       whole = added ∙ ap (λ z. before.bytes.items ++ z) (quieted_same last (quiet_findings k.found.now)) ∙ ap (λ z. z ++ last) above;
       worth = status;
       many = count;

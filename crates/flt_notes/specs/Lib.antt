@@ -1,4 +1,5 @@
 pub mod Again
+pub mod Deadlocked
 pub mod Lines
 pub mod Noted
 pub mod Notices
@@ -10,5 +11,6 @@ pub mod Reported
 pub mod Rows
 pub mod Told
 pub mod Totals
+pub mod Warned
 pub mod Warnings
 pub mod Whole

@@ -25,7 +25,8 @@ use Rattle.flt_notes.specs.Reported.{AreParts, IsAllButLast, IsReport, faults_in
 use Rattle.flt_notes.specs.Rows.{AreNoteRows, AreSettingRows}
 use Rattle.flt_notes.specs.Told.{Say}
 use Rattle.flt_notes.specs.Totals.{some}
-use Rattle.flt_notes.specs.Whole.{AreBlocks, ArePrints, IsBlock, IsBody, IsKnownPrint, IsNoticePrint, IsUnreadPrint, Look, is_alone}
+use Rattle.flt_notes.specs.Warned.{Warned}
+use Rattle.flt_notes.specs.Whole.{AreBlocks, ArePrints, IsBlock, IsBody, IsKnownPrint, IsNoticePrint, IsUnreadPrint, Look, is_alone, warned_at}
 use Rattle.flt_notes.specs.declared.again.Setting.{Setting}
 use Rattle.flt_notes.specs.declared.noted.Again.{Again}
 use Rattle.flt_notes.specs.declared.noted.Noted.{Noted}
@@ -49,6 +50,10 @@ pub record IsKnownIn (look : Look) (trees : List Tree) (k : Known) : Type 0 wher
   pub own : slice_get trees k.place ≡ Some k.tree.now
   pub known : IsKnown k.source.text.now k.tree.now k.graph.now k.found.now
   pub warned : AreWarningDetails k.source.text.now k.tree.now.filter k.graph.now k.found.now look.options.allowed k.details.now
+
+-- the same, as a text with warnings
+abbrev pub warned_in : Look → List Tree → Known → Warned
+warned_in look trees k = warned_at look trees k.place k.source k.tree.now
 
 -- the lines on runs are those of the notes
 abbrev pub IsSaid : List Tree → ℕ → Output → Type 0
@@ -124,7 +129,7 @@ pub record AddBlocks (trees : List Tree) (states : ℕ) (text : Text) (reports :
 pub record AddsBody (look : Look) (trees : List Tree) (k : Known) (old new : Output) : Type 0 where
   pub notes : List Noted
   pub printed : List ℕ
-  pub is : IsBody look trees k.source k.tree.now k.graph.now k.found.now k.details.now notes printed
+  pub is : IsBody look trees k.place k.source k.tree.now k.graph.now k.found.now k.details.now notes printed
   pub bytes : new.bytes.items ≡ old.bytes.items ++ printed
   pub noted : new.noted ≡ old.noted ++ notes
 

@@ -4,7 +4,9 @@ use Rattle.std.specs.Fmt.{format_spec, styled_decimal}
 use Rattle.flt_tree.specs.Names.{Text}
 use Rattle.flt_tree.specs.declared.tree.Tree.{Tree}
 use Rattle.flt_search.specs.declared.judging.Broken.{Broken}
+use Rattle.flt_model.specs.JournalText.{Entries}
 use Rattle.flt_model.specs.Program.{filters_of}
+use Rattle.flt_model.specs.declared.verdict.Verdict.{Verdict}
 use Rattle.flt_model.specs.declared.verdict.Verdict.TheVariants as verdicts
 use Rattle.flt_timeline.specs.Text as timelines
 use Rattle.flt_timeline.specs.Timelines.{IsTimeline}
@@ -33,12 +35,15 @@ stricter =
     codes "   = note: stricter than the driver kit: this rule takes `arg` as possibly held in each callback that has one"
     ++ 10 ∷ []
 
--- a run of these filters as rows, four blanks in, below a line that says how they are read: the timeline of its own journal, with what it
--- breaks
-pub record AreRunRows (own : List Tree) (run : Broken) (rows : List ℕ) : Type 0 where
+-- a journal on these filters, of which this is said, as rows, four blanks in, below a line that says how they are read
+pub record AreJournalRows (own : List Tree) (journal : Entries) (verdict : Verdict) (rows : List ℕ) : Type 0 where
   pub timeline : Timeline
-  pub is : IsTimeline (filters_of own) run.journal (verdicts.Breaks run.violation run.entry) timeline
+  pub is : IsTimeline (filters_of own) journal verdict timeline
   pub whole : rows ≡ legend ++ timelines.text timeline 4
+
+-- a run of these filters as rows: its own journal, with what it breaks
+abbrev pub AreRunRows : List Tree → Broken → List ℕ → Type 0
+AreRunRows own run rows = AreJournalRows own run.journal (verdicts.Breaks run.violation run.entry) rows
 
 -- what comes of a finding as rows: its run; that the rule is stricter than the driver kit; or nothing
 abbrev pub AreScheduleRows : List Tree → Schedule → List ℕ → Type 0

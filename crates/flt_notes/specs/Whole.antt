@@ -15,6 +15,7 @@ use Rattle.flt_details.specs.declared.sources.Source.{Source}
 use Rattle.flt_reports.specs.Fault.{IsFaultReport}
 use Rattle.flt_reports.specs.Reports.{AreReports}
 use Rattle.flt_reports.specs.declared.reports.Report.{Report}
+use Rattle.flt_schedules.specs.Schedules.{only}
 use Rattle.flt_warning_details.specs.Details.{AreWarningDetails}
 use Rattle.flt_warning_details.specs.Orderly.{PromisesOrder}
 use Rattle.flt_warning_details.specs.Options.{warned_status}
@@ -28,7 +29,8 @@ use Rattle.flt_notes.specs.Quiet.{quieted}
 use Rattle.flt_notes.specs.Reported.{faults_in, stack_of}
 use Rattle.flt_notes.specs.Rows.{AreAgainRows, AreNoteRows}
 use Rattle.flt_notes.specs.Totals.{some, summary}
-use Rattle.flt_notes.specs.Warnings.{promise_and_warnings}
+use Rattle.flt_notes.specs.Warned.{Warned}
+use Rattle.flt_notes.specs.Warnings.{ArePromised}
 use Rattle.flt_notes.specs.declared.explaining.Asking.{Asking}
 use Rattle.flt_notes.specs.declared.noted.Noted.{Noted}
 
@@ -73,11 +75,28 @@ pub record AreReportsWithNotes (look : Look) (trees : List Tree) (s : Source) (t
   pub are : AreReported look s tree graph found reports
   pub blocks : AreBlocks trees look.states s.text.now reports notes printed
 
+-- a text with warnings, whose tree is that of this place
+abbrev pub warned_at : Look → List Tree → ℕ → Source → Tree → Warned
+warned_at look trees place s tree = record {
+  coloured = look.coloured;
+  states = look.states;
+  own = only trees place;
+  filter = tree.filter;
+  name = s.name.now;
+  text = s.text.now;
+}
+
+-- what is said where nothing is found: what that promises, and the warnings; there are no notes
+pub record AreWarningsAlone (x : Warned) (details : List WarningDetail) (notes : List Noted) (printed : List ℕ) : Type 0 where
+  pub none : notes ≡ []
+  pub lines : List ℕ
+  pub are : ArePromised x details lines
+  pub whole : printed ≡ quieted lines
+
 -- what is above the last line: what is said where nothing is found, with the warnings, or the reports with their notes
-abbrev pub IsBody : Look → List Tree → Source → Tree → Graph → List Finding → List WarningDetail → List Noted → List ℕ → Type 0
-IsBody look trees s tree graph [] details notes printed =
-    (notes ≡ []) × (printed ≡ quieted (promise_and_warnings look.coloured s.name.now s.text.now details))
-IsBody look trees s tree graph (f ∷ fs) details notes printed = AreReportsWithNotes look trees s tree graph (f ∷ fs) notes printed
+abbrev pub IsBody : Look → List Tree → ℕ → Source → Tree → Graph → List Finding → List WarningDetail → List Noted → List ℕ → Type 0
+IsBody look trees place s tree graph [] details notes printed = AreWarningsAlone (warned_at look trees place s tree) details notes printed
+IsBody look trees place s tree graph (f ∷ fs) details notes printed = AreReportsWithNotes look trees s tree graph (f ∷ fs) notes printed
 
 -- what is printed of a text that parses, whose tree is that of this place, with its status and how many findings it has: what is printed
 -- and the status are of the same warnings
@@ -94,7 +113,7 @@ pub record IsKnownPrint (look : Look) (trees : List Tree) (place : ℕ) (s : Sou
   pub warned : AreWarningDetails s.text.now tree.filter graph found look.options.allowed details
   pub order : PromisesOrder found look.options.allowed details tree.filter
   pub above : List ℕ
-  pub body : IsBody look trees s tree graph found details notes above
+  pub body : IsBody look trees place s tree graph found details notes above
   pub whole : printed ≡ above ++ findings_closing found
   pub worth : status ≡ warned_status look.options.is_strict found details
   pub many : count ≡ length found

@@ -4,13 +4,15 @@
 //! `readings` has which texts parse, beside their trees; `notices` what is said of a certificate, a journal or a script. `noted` is what
 //! comes of a finding, `lines` has the words for it; `setters` adds a callback to a text that sets what nothing in it sets, and `again`
 //! has what comes of a finding then. `also` says what a run that was shown breaks beside the least. `quiet` keeps other lines from being
-//! taken for those on runs, and `output` has both. `warnings` has what is said where nothing is found: the promise, and the warnings.
+//! taken for those on runs, and `output` has both. `warnings` has what is said where nothing is found: the promise, and the warnings of a
+//! `warned` text, with the run to a deadlock below a circle of locks (`deadlocks`).
 //! `printing` puts the report of a text together with its notes, `together` those of several texts, each put out as soon as it is whole,
 //! and `totals` says behind them how much is found. It exports `explain`, and `first_journal`.
 #![tactic(auto)]
 
 mod again;
 mod also;
+mod deadlocks;
 mod explaining;
 mod fault;
 mod lines;
@@ -23,6 +25,7 @@ mod readings;
 mod setters;
 mod together;
 mod totals;
+mod warned;
 mod warnings;
 
 pub use explaining::{Asking, Told, explain};

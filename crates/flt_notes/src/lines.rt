@@ -3,11 +3,11 @@
 ghost use Rattle.std.specs.Prelude.{◌≡◌, ◌++◌, Some, IfOk, OnOk, codes, map, string_bytes};
 ghost use Rattle.flt_notes.specs.Lines as spec;
 ghost use Rattle.flt_notes.specs.Noted.{own_of, schedule_of as schedule_in};
-ghost use Rattle.flt_notes.specs.Rows.{AreNoteRows, AreRunRows};
+ghost use Rattle.flt_notes.specs.Rows.{AreJournalRows, AreNoteRows, AreRunRows};
 
 use crate::noted::{Again, Noted, schedule_of};
 use flt_graph::Place;
-use flt_model::{JournalEntry, Move, Verdict, Violation};
+use flt_model::{Journal, JournalEntry, Move, Verdict, Violation};
 use flt_schedules::{Schedule, Scheduled, Unset, only};
 use flt_search::Broken;
 use flt_timeline::Timeline;
@@ -86,7 +86,7 @@ pub(crate) fn plural(count: usize) -> &'static str
 
 /// How many operations and entries a journal has.
 #[derive(Clone, Copy)]
-struct Lengths {
+pub(crate) struct Lengths {
     operations: usize,
     entries: usize,
 }
@@ -105,13 +105,13 @@ impl fmt::Display for Lengths {
     }
 }
 
-/// How long the journal of a run is.
-fn lengths_of(broken: &Broken) -> Lengths
-    ensures { spec.lengths_of result.operations result.entries ≡ spec.lengths broken.now.journal }
+/// How long a journal is.
+pub(crate) fn lengths_of(journal: &Journal) -> Lengths
+    ensures { spec.lengths_of result.operations result.entries ≡ spec.lengths journal.now }
 {
     Lengths {
-        operations: arrivals(broken.journal.entries()),
-        entries: broken.journal.len(),
+        operations: arrivals(journal.entries()),
+        entries: journal.len(),
     }
 }
 
@@ -161,7 +161,7 @@ fn broken_words(alloc: Global, broken: &Broken) -> Result<String, AllocError>
         ≡ spec.break_words broken.now.violation broken.now.entry ++ spec.lengths broken.now.journal) }
 {
     let words = BreakWords(broken.violation, broken.entry);
-    let lengths = lengths_of(broken);
+    let lengths = lengths_of(&broken.journal);
     format!(in alloc; "{words}{lengths}")
 }
 
@@ -381,7 +381,7 @@ fn run_again(alloc: Global, broken: &Broken) -> Result<String, AllocError>
     ensures { IfOk result (λ line. string_bytes line ≡ spec.run_again broken.now) }
 {
     let words = AgainWords(broken.violation, broken.entry);
-    let lengths = lengths_of(broken);
+    let lengths = lengths_of(&broken.journal);
     let line = format!(in alloc;
         "{words}{lengths}; it is no run of this text, and `--journal` doesn't keep it:\n"
     )?;
@@ -404,16 +404,28 @@ pub(crate) fn again_line(alloc: Global, again: &Option<Again>) -> Result<String,
 
 // ---- rows
 
+/// A journal on these filters as rows, and how these are read.
+pub(crate) fn journal_rows(
+    alloc: Global,
+    own: &[Tree],
+    journal: &Journal,
+    verdict: Verdict,
+) -> Result<String, AllocError>
+    ensures { IfOk result (λ rows. AreJournalRows own.now journal.now verdict (string_bytes rows)) }
+{
+    let timeline = Timeline::of(alloc, own, journal, verdict)?;
+    let rows = timeline.text(alloc, INDENT)?;
+    let mut out = String::from_str(alloc, LEGEND)?;
+    out.push_str(rows.as_str())?;
+    Ok(out)
+}
+
 /// A run of these filters as rows, and how these are read.
 pub(crate) fn run_rows(alloc: Global, own: &[Tree], broken: &Broken) -> Result<String, AllocError>
     ensures { IfOk result (λ rows. AreRunRows own.now broken.now (string_bytes rows)) }
 {
     let verdict = Verdict::Breaks(broken.violation, broken.entry);
-    let timeline = Timeline::of(alloc, own, &broken.journal, verdict)?;
-    let rows = timeline.text(alloc, INDENT)?;
-    let mut out = String::from_str(alloc, LEGEND)?;
-    out.push_str(rows.as_str())?;
-    Ok(out)
+    journal_rows(alloc, own, &broken.journal, verdict)
 }
 
 /// What stands behind the line of a note.

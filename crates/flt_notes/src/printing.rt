@@ -12,6 +12,7 @@ ghost use Rattle.flt_notes.specs.Printing as spec;
 ghost use Rattle.flt_notes.specs.Readings.{IsStudied, IsTreeOf};
 ghost use Rattle.flt_notes.specs.Reported.{faults_in as faults, stack_of};
 ghost use Rattle.flt_notes.specs.Rows.{AreSettingRows};
+ghost use Rattle.flt_notes.specs.Warnings.{ArePromised};
 ghost use Rattle.flt_notes.specs.Whole.{AreReported, is_alone};
 
 use crate::again::Setting;
@@ -23,14 +24,18 @@ use crate::output::Output;
 use crate::readings::{Reading, Studied};
 use crate::setters::Setter;
 use crate::totals::Tally;
+use crate::warned::WarnedText;
 use crate::warnings::promise_and_warnings;
 use flt_details::{Source, fault_line, findings_line};
 use flt_explain::{Finding, findings};
 use flt_graph::{Graph, lower};
 use flt_model::Violation;
+use flt_places::Lines;
 use flt_reasons::{Kind, Notice, describe};
 use flt_reports::{Report, report_findings, report_unread};
-use flt_schedules::{Outcome, Outlook, Schedule, Scheduled, Suspect, Suspects, outcomes_among};
+use flt_schedules::{
+    Outcome, Outlook, Schedule, Scheduled, Suspect, Suspects, only, outcomes_among,
+};
 use flt_search::SearchWatch;
 use flt_syntax::SyntaxFault;
 use flt_tree::Tree;
@@ -377,6 +382,46 @@ impl Stage<'_> {
         Ok(())
     }
 
+    /// What is said of a text that parses, where nothing is found: what that promises, and its warnings.
+    fn promise_and_warnings<W: SearchWatch>(
+        &self,
+        known: Known<'_>,
+        watch: &mut W,
+    ) -> Result<Vec<u8>, AllocError>
+        ensures { IfOk result (λ said. ArePromised (spec.warned_in (spec.look_of self.now) self.now.trees.now known.entry)
+            known.entry.details.now said.items) }
+    {
+        let lines = Lines::of(self.alloc, known.source.text)?;
+        let text = WarnedText {
+            alloc: self.alloc,
+            coloured: self.coloured,
+            states: self.states,
+            own: only(self.trees, known.place),
+            tree: known.tree,
+            name: known.source.name,
+            lines: &lines,
+        };
+        promise_and_warnings(&text, known.details, watch)
+    }
+
+    /// Writes what is said where nothing is found.
+    fn put_warnings<W: SearchWatch>(
+        &self,
+        output: &mut Output,
+        known: Known<'_>,
+        watch: &mut W,
+    ) -> Result<(), AllocError>
+        requires none { known.found.now ≡ [] }
+        requires silent { spec.IsSilent self.now.trees.now self.now.states output.old }
+        ensures said { OnOk result (spec.IsSaid self.now.trees.now self.now.states output.new) }
+        ensures noted { OnOk result (output.new.noted ≡ []) }
+        ensures body { OnOk result (spec.AddsBody (spec.look_of self.now) self.now.trees.now known.entry output.old output.new) }
+    {
+        let said = self.promise_and_warnings(known, watch)?;
+        output.lines(said.as_slice())?;
+        Ok(())
+    }
+
     /// Writes what is found of a text that parses.
     fn put_findings<W: SearchWatch>(
         &self,
@@ -393,9 +438,7 @@ impl Stage<'_> {
         if !known.found.is_empty() {
             return self.put_found(output, known, watch);
         }
-        let said = promise_and_warnings(self.alloc, self.coloured, known.source, known.details)?;
-        output.lines(said.as_slice())?;
-        Ok(())
+        self.put_warnings(output, known, watch)
     }
 
     /// The report of a text that parses, and the line that ends it.

@@ -1,48 +1,59 @@
 //! What is printed of a text in which nothing is found: what that promises, and its warnings.
 
 ghost use Rattle.std.specs.Prelude.{◌≡◌, ◌++◌, IfOk, OnOk, Some, string_bytes};
+ghost use Rattle.flt_notes.specs.Warned.{warned_of};
 ghost use Rattle.flt_notes.specs.Warnings as spec;
 
+use crate::deadlocks::run_lines;
 use crate::lines::plural;
-use flt_details::Source;
-use flt_places::Lines;
+use crate::warned::WarnedText;
 use flt_reports::{report_nothing, report_warning};
+use flt_search::SearchWatch;
 use flt_warning_details::{WarningDetail, shown_count};
 use std::alloc::{AllocError, Global};
 use std::fmt;
 
-/// Adds the report of a warning, unless a comment of the text allows it.
-fn add_report(
-    alloc: Global,
-    out: &mut Vec<u8>,
-    coloured: bool,
-    name: &str,
-    lines: &Lines<'_>,
+/// The report of a warning, with the run to the deadlock that it is about.
+fn report_with_run<W: SearchWatch>(
+    text: &WarnedText<'_>,
     detail: &WarningDetail,
-) -> Result<(), AllocError>
-    ensures { OnOk result (out.new.items ≡ out.old.items ++ spec.shown_report coloured name.now lines.now detail.now) }
+    watch: &mut W,
+) -> Result<Vec<u8>, AllocError>
+    ensures { IfOk result (λ printed. spec.IsReportWithRun (warned_of text.now) detail.now printed.items) }
 {
-    if !detail.is_shown() {
-        return Ok(());
+    let mut printed = report_warning(text.alloc, text.coloured, text.name, text.lines, detail)?;
+    let run = run_lines(text, detail.circle.as_slice(), watch)?;
+    printed.extend_from_slice(run.as_slice())?;
+    Ok(printed)
+}
+
+/// The same, unless a comment of the text allows the warning.
+fn shown_report<W: SearchWatch>(
+    text: &WarnedText<'_>,
+    detail: &WarningDetail,
+    watch: &mut W,
+) -> Result<Vec<u8>, AllocError>
+    ensures { IfOk result (λ printed. spec.IsShownReport (warned_of text.now) detail.now printed.items) }
+{
+    if detail.is_shown() {
+        report_with_run(text, detail, watch)
+    } else {
+        Ok(Vec::new(text.alloc))
     }
-    let report = report_warning(alloc, coloured, name, lines, detail)?;
-    out.extend_from_slice(report.as_slice())?;
-    Ok(())
 }
 
 /// The reports of the warnings that no comment allows, one below the other.
-fn shown_reports(
-    alloc: Global,
-    coloured: bool,
-    name: &str,
-    lines: &Lines<'_>,
+fn shown_reports<W: SearchWatch>(
+    text: &WarnedText<'_>,
     details: &[WarningDetail],
+    watch: &mut W,
 ) -> Result<Vec<u8>, AllocError>
-    ensures { IfOk result (λ out. out.items ≡ spec.shown_reports coloured name.now lines.now details.now) }
+    ensures { IfOk result (λ out. spec.AreShownReports (warned_of text.now) details.now out.items) }
 {
-    let mut out = Vec::new(alloc);
+    let mut out = Vec::new(text.alloc);
     for detail in details {
-        add_report(alloc, &mut out, coloured, name, lines, detail)?;
+        let report = shown_report(text, detail, watch)?;
+        out.extend_from_slice(report.as_slice())?;
     }
     Ok(out)
 }
@@ -76,20 +87,17 @@ fn warnings_line(alloc: Global, count: usize) -> Result<String, AllocError>
 ///
 /// # Errors
 ///
-/// Where a growth was refused.
-pub(crate) fn promise_and_warnings(
-    alloc: Global,
-    coloured: bool,
-    source: Source<'_>,
+/// Where a growth was refused, or a number or a count would reach 2^32.
+pub(crate) fn promise_and_warnings<W: SearchWatch>(
+    text: &WarnedText<'_>,
     details: &[WarningDetail],
+    watch: &mut W,
 ) -> Result<Vec<u8>, AllocError>
-    ensures { IfOk result (λ out. out.items
-        ≡ spec.promise_and_warnings coloured source.entry.name.now source.entry.text.now details.now) }
+    ensures { IfOk result (λ out. spec.ArePromised (warned_of text.now) details.now out.items) }
 {
-    let mut out = report_nothing(alloc, source)?;
-    let lines = Lines::of(alloc, source.text)?;
-    let reports = shown_reports(alloc, coloured, source.name, &lines, details)?;
-    let count = warnings_line(alloc, shown_count(details))?;
+    let mut out = report_nothing(text.alloc, text.name)?;
+    let reports = shown_reports(text, details, watch)?;
+    let count = warnings_line(text.alloc, shown_count(details))?;
     out.extend_from_slice(reports.as_slice())?;
     out.extend_from_slice(count.as_bytes())?;
     Ok(out)

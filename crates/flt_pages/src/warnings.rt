@@ -46,8 +46,19 @@ Both wait for ever, and so does each callback that asks for one of these locks l
       return NO_CALLBACK
     }
 
-W01 names line 13, which takes `list` and holds `table`, and line 6, which takes `table` and holds `list`. To fix it, take the locks
-in one order everywhere, or release the first before the second is taken:
+W01 names line 13, which takes `list` and holds `table`, and line 6, which takes `table` and holds `list`. Where a search finds a run to
+the deadlock, the report shows it, row by row, and who waits for what at its end:
+
+       = deadlock: a run leads to one, with 2 operations and 6 entries
+        (in front: entries; behind: lines, without those that nobody else sees; `yes` and `no`: how a call went)
+        0-2  o arrive read irp 0, `pre read` starts, 5
+        3-5  |   o arrive cleanup irp 0, `pre cleanup` starts, 12
+        activation 1 waits for `list` on line 13, held by activation 0
+        activation 0 waits for `table` on line 6, held by activation 1
+
+No step of these activations is possible any more. Where no run is found, the report says so, and that isn't a promise that there is none.
+
+To fix it, take the locks in one order everywhere, or release the first before the second is taken:
 
     filter a altitude 100
     lock push list

@@ -152,16 +152,16 @@ fn tell_nothing(page: &mut Page, name: &[u8]) -> Result<(), AllocError>
     Ok(())
 }
 
-/// What is reported of a text of which nothing is found, and what that promises; whole lines.
+/// What is reported of a text of this name of which nothing is found, and what that promises; whole lines.
 ///
 /// # Errors
 ///
 /// Where a growth was refused.
-pub fn report_nothing(alloc: Global, source: Source<'_>) -> Result<Vec<u8>, AllocError>
-    ensures { IfOk result (λ lines. lines.items ≡ spec.nothing_report source.entry.name.now) }
+pub fn report_nothing(alloc: Global, name: &str) -> Result<Vec<u8>, AllocError>
+    ensures { IfOk result (λ lines. lines.items ≡ spec.nothing_report name.now) }
 {
     let mut page = Page::new(alloc);
-    tell_nothing(&mut page, source.name.as_bytes())?;
+    tell_nothing(&mut page, name.as_bytes())?;
     Ok(page.out)
 }
 

@@ -58,5 +58,6 @@ idle_detail a = record {
   help = help_of a;
   note = [];
   related = [];
+  circle = [];
   reason = None;
 }

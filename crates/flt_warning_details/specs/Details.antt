@@ -18,7 +18,7 @@ use Rattle.flt_allowances.specs.declared.of_text.Allowance.{Allowance}
 use Rattle.flt_warning_details.specs.Allowing.{is_needed, reason_for}
 use Rattle.flt_warning_details.specs.Comments.{idle_detail}
 use Rattle.flt_warning_details.specs.Parsed.{Parsed, parsed}
-use Rattle.flt_warning_details.specs.Saying.{head_of, help_of, marks_of, note_of, related_of, title_of}
+use Rattle.flt_warning_details.specs.Saying.{circle_of, head_of, help_of, marks_of, note_of, related_of, title_of}
 use Rattle.flt_warning_details.specs.declared.detail.WarningDetail.{WarningDetail}
 
 -- ---- of each warning
@@ -34,6 +34,7 @@ detail_of x comments w = record {
   help = help_of x w;
   note = note_of x w;
   related = related_of x w;
+  circle = circle_of w;
   reason = reason_for x comments w;
 }
 

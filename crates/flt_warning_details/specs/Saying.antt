@@ -4,6 +4,7 @@ use Rattle.flt_tree.specs.Names.{Text}
 use Rattle.flt_tree.specs.declared.variable.OperationVariable.TheVariants.{Data}
 use Rattle.flt_explain.specs.declared.finding.Subject.TheVariants as about
 use Rattle.flt_details.specs.declared.operands.Marks.{Marks}
+use Rattle.flt_order.specs.declared.order.Acquisition.{Acquisition}
 use Rattle.flt_warnings.specs.Warning.{site, site_of}
 use Rattle.flt_warnings.specs.declared.warning.Site.{Site}
 use Rattle.flt_warnings.specs.declared.warning.Warning.{Warning}
@@ -63,6 +64,11 @@ related_of x (warning.LeftPended s q) = queue.left_place x (site s.callback q) �
 related_of x (warning.ChangedUnlocked s o) = contexts.access_place x o ∷ []
 related_of x (warning.LostContext s q) = contexts.lost_place x s q ∷ []
 related_of x _ = []
+
+-- the acquisitions of the circle that it is about; nothing where it is about none
+abbrev pub circle_of : Warning → List Acquisition
+circle_of (warning.LockCircle c) = c
+circle_of _ = []
 
 -- ---- words
 

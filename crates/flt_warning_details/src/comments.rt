@@ -117,6 +117,7 @@ pub(crate) fn idle_detail(alloc: Global, allowance: &Allowance) -> Result<Warnin
         help,
         note: Items::new(alloc),
         related: Items::new(alloc),
+        circle: Items::new(alloc),
         reason: None,
     })
 }

@@ -4,6 +4,7 @@ ghost use Rattle.std.specs.Prelude.{◌≡◌};
 ghost use Rattle.flt_warning_details.specs.Options as spec;
 
 use flt_details::Marks;
+use flt_order::Acquisition;
 use flt_warnings::{Kind, Site};
 use sqlite_items::Items;
 
@@ -33,6 +34,8 @@ pub struct WarningDetail {
     pub note: Items<u8>,
     /// The other places that it is about, in the order in which they are read.
     pub related: Items<RelatedPlace>,
+    /// Of a circle of locks its acquisitions; else nothing.
+    pub circle: Items<Acquisition>,
     /// The reason of the comment that allows it, if one does.
     pub reason: Option<Items<u8>>,
 }

@@ -8,7 +8,7 @@ use crate::allowing::{is_needed, reason_for};
 use crate::comments::idle_detail;
 use crate::detail::WarningDetail;
 use crate::parsed::ParsedText;
-use crate::saying::{head_of, help_of, marks_of, note_of, related_of, title_of};
+use crate::saying::{circle_of, head_of, help_of, marks_of, note_of, related_of, title_of};
 use flt_allowances::{Allowance, allowances};
 use flt_analyse::{AnalyseFault, Ticks, analyse};
 use flt_cert::FullCert;
@@ -67,6 +67,7 @@ fn detail_of(
     let help = help_of(alloc, text, warning)?;
     let note = note_of(alloc, text, warning)?;
     let related = related_of(alloc, text, warning)?;
+    let circle = Items::from_slice(alloc, circle_of(warning))?;
     let reason = reason_for(alloc, text, comments, warning)?;
     Ok(WarningDetail {
         kind: warning.kind(),
@@ -77,6 +78,7 @@ fn detail_of(
         help,
         note,
         related,
+        circle,
         reason,
     })
 }

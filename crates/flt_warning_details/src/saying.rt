@@ -27,6 +27,7 @@ use crate::unused::{
 use flt_details::{Marks, Page};
 use flt_explain::Subject;
 use flt_graph::OperationVariable;
+use flt_order::Acquisition;
 use flt_warnings::{Site, Warning};
 use sqlite_items::Items;
 use std::alloc::{AllocError, Global};
@@ -123,6 +124,16 @@ pub(crate) fn related_of(
         Warning::ChangedUnlocked(_, other) => one(alloc, access_place(alloc, text, *other)?),
         Warning::LostContext(site, point) => one(alloc, lost_place(alloc, text, *site, *point)?),
         _ => Ok(Items::new(alloc)),
+    }
+}
+
+/// The acquisitions of the circle that a warning is about; nothing where it is about none.
+pub(crate) fn circle_of(warning: &Warning) -> &[Acquisition]
+    ensures { result.now ≡ spec.circle_of warning.now }
+{
+    match warning {
+        Warning::LockCircle(circle) => circle.acquisitions(),
+        _ => &[],
     }
 }
 

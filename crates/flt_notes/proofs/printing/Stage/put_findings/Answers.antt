@@ -1,22 +1,11 @@
-use Rattle.std.proofs.Common.{◌∙◌, arith}
+use Rattle.std.proofs.Common.{arith}
 use Rattle.flt_notes.specs.Noted.{no_note}
-use Rattle.flt_notes.specs.Printing.{look_of}
-use Rattle.flt_notes.proofs.Said.{said_more}
-use Rattle.flt_notes.proofs.Whole.{body_of_none, empty_of}
+use Rattle.flt_notes.proofs.Whole.{empty_of}
 use Rattle.flt_notes.proofs.printing.Stage.put_findings.Goals as goal
 
-pub returns-clause-said : goal.returns-clause-said
-returns-clause-said g c =
-    said_more _ _ c.args.output.now c.lines.new.self c.as_slice.result.now c.requires.silent.said c.in_ok-lines.ensures.bytes
-    c.in_ok-lines.ensures.noted
+pub put_warnings-requires-clause-none : goal.put_warnings-requires-clause-none
+put_warnings-requires-clause-none g c =
+    empty_of c.args.known.found.now c.is_empty.result c.is_empty.ensures (λ h. first_of (cc, grind arith))
 
 pub returns-clause-noted : goal.returns-clause-noted
-returns-clause-noted g c = rw (c.in_ok-lines.ensures.noted, c.requires.silent.none) no_note
-
-pub returns-clause-body : goal.returns-clause-body
-returns-clause-body g c =
-    body_of_none (look_of c.args.self.now) _ c.args.known c.as_slice.result.now c.args.output.now c.lines.new.self
-    (empty_of c.args.known.found.now c.is_empty.result c.is_empty.ensures
-    (λ h. first_of (cc, grind arith)))
-    (c.as_slice.ensures.value ∙ c.in_ok-said.ensures) c.in_ok-lines.ensures.bytes
-    c.in_ok-lines.ensures.noted
+returns-clause-noted g c = rw c.put_warnings.ensures.noted no_note

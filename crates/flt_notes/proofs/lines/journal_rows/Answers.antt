@@ -1,6 +1,6 @@
 use Rattle.std.proofs.Common.{◌++◌, ◌∙◌, ap}
 use Rattle.flt_notes.specs.Rows.{legend}
-use Rattle.flt_notes.proofs.lines.run_rows.Goals as goal
+use Rattle.flt_notes.proofs.lines.journal_rows.Goals as goal
 
 pub returns : goal.returns
 returns c = record {

@@ -1,0 +1,19 @@
+//! A text with warnings.
+
+use flt_places::Lines;
+use flt_tree::Tree;
+use std::alloc::Global;
+
+/// A text with warnings, and how they are reported.
+#[derive(Clone, Copy)]
+pub(crate) struct WarnedText<'a> {
+    pub(crate) alloc: Global,
+    pub(crate) coloured: bool,
+    /// How many states a search for a run goes on from at most.
+    pub(crate) states: u32,
+    /// The tree of the text, alone.
+    pub(crate) own: &'a [Tree],
+    pub(crate) tree: &'a Tree,
+    pub(crate) name: &'a str,
+    pub(crate) lines: &'a Lines<'a>,
+}
