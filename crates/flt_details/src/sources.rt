@@ -7,7 +7,8 @@ pub struct Source<'a> {
     pub text: &'a [u8],
 }
 
-/// What is printed, and the exit status: 0 where nothing is found, 1 where something is, 2 where a text doesn't parse.
+/// What is printed, and the exit status: 0 where nothing is found, 1 where something is or where a warning counts, 2 where a text doesn't
+/// parse.
 #[derive(Drop)]
 pub struct Explained {
     pub output: Vec<u8>,
