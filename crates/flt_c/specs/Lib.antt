@@ -1,5 +1,6 @@
 pub mod Files
 pub mod Fronts
+pub mod InPlace
 pub mod Laws
 pub mod Modes
 pub mod Pieces

@@ -1,7 +1,8 @@
 //! The annotations of a driver's C files: comments `//@flt TEXT` and `/*@flt TEXT*/`, which no compiler sees.
 //!
 //! A file is read byte by byte, as far as C says what is a comment (`mode`) and which lines compilers skip (`front`). The annotations of
-//! several files make one text, each line of which knows where it begins in C (`text`, `files`).
+//! several files make one text, each line of which knows where it begins in C (`text`, `files`); those of one file are laid where they
+//! stand in it (`laying`).
 //! That this is C's own division of a file into pieces is a law (`laws`).
 #![tactic(auto)]
 
@@ -9,6 +10,7 @@ mod fault;
 mod files;
 mod front;
 mod laws;
+mod laying;
 mod mode;
 mod place;
 mod scan;
@@ -17,5 +19,6 @@ mod text;
 pub use fault::{Fault, FaultKind};
 pub use files::{FileFlaw, Flaw, extract};
 pub use laws::{each_byte_stands_in_c, files_are_pieces, no_byte_is_left_out};
+pub use laying::{PlaceFlaw, in_place};
 pub use place::Place;
 pub use text::{Annotations, Line};
