@@ -8,6 +8,7 @@ pub mod Formatting
 pub mod InTurn
 pub mod Lengths
 pub mod OneAnalysis
+pub mod OneAnnotation
 pub mod OneAnswer
 pub mod OneCheck
 pub mod OneDecision

@@ -5,6 +5,7 @@ use Rattle.std.proofs.KnownBytes.{Appends-nil, Appends-trans}
 use Rattle.std.specs.Io.KnownBytes.{Appends}
 use Rattle.flt_commands.proofs.InTurn.{no_lines}
 use Rattle.flt_commands.specs.Allowed.{options_of}
+use Rattle.flt_commands.specs.Annotated.{gives_annotations}
 use Rattle.flt_commands.specs.Explain.{IsCutIn, IsCutShort, IsCutUnder}
 use Rattle.flt_commands.specs.Commands.{IsCutShort as IsCutShortFor}
 use Rattle.flt_commands.specs.Explain as explain
@@ -51,7 +52,8 @@ cut_short_for gives (Some (Thin file cert)) old = Appends-nil old
 cut_short_for gives (Some (Run workers quiet script files)) old = Appends-nil old
 cut_short_for gives (Some (Replay journal files)) old = Appends-nil old
 cut_short_for gives (Some (Show timeline picture journal files)) old = Appends-nil old
-cut_short_for gives (Some (Explain form colour states journal warnings files)) old = cut_short gives form (options_of warnings) states files old
+cut_short_for gives (Some (Explain form colour states journal warnings files)) old =
+    cut_short (gives_annotations gives) form (options_of warnings) states files old
 cut_short_for gives (Some (Extract of_map files)) old = Appends-nil old
 cut_short_for gives (Some (Format mode files)) old = Appends-nil old
 cut_short_for gives (Some (Pages names)) old = Appends-nil old

@@ -4,6 +4,7 @@ use Rattle.std.specs.Io.KnownBytes.{Appends}
 use Rattle.std.specs.Prelude.{◌≡◌, ◌≢◌, ℕ, Bool, List, [], ◌∷◌, ◌++◌, Option, Some, None, Result, Ok, Err, IfOk, OnOk, map, unwrap_or, ⊤}
 use Rattle.flt_commands.specs.Allowed.{options_of}
 use Rattle.flt_commands.specs.Analyse.{IsAnalysed}
+use Rattle.flt_commands.specs.Annotated.{gives_annotations}
 use Rattle.flt_commands.specs.Answer.{ending_of, output, remark, status_of}
 use Rattle.flt_commands.specs.Check.{IsChecked}
 use Rattle.flt_commands.specs.Clean.{IsClean}
@@ -30,7 +31,7 @@ use Rattle.flt_commands.specs.declared.report.Report.{Report}
 -- ---- what is said
 
 -- what the names may give: all their bytes, and of a name that is a text alone what is kept of them. `explain` reads all, since a FILE may
--- be a journal; so does `check` of a text and its certificate in one input
+-- be a journal, and of C files their annotations; so does `check` of a text and its certificate in one input
 abbrev pub giving_for : Asked → Giving → Giving
 giving_for (Check file cert) = gives_but (Some (unwrap_or cert file))
 giving_for (Analyse file) = gives_but None
@@ -38,6 +39,7 @@ giving_for (Thin file cert) = gives_but (Some (unwrap_or cert file))
 giving_for (Run workers quiet script files) = gives_but (Some script)
 giving_for (Replay journal files) = gives_but (Some journal)
 giving_for (Show timeline picture journal files) = gives_but (Some journal)
+giving_for (Explain form colour states journal warnings files) = gives_annotations
 giving_for request = λ gives. gives
 
 -- what is said of what is asked for, an answer or why there is none, where the names give these texts; `explain` alone says something of
@@ -94,7 +96,8 @@ HoldsBack request = Unit {0}
 
 -- where memory runs out, nothing went out, or of `explain` what is told of the first files that are read
 abbrev pub IsCutShort : Giving → Option Asked → Option Text → Option Text → Type 0
-IsCutShort gives (Some (Explain form colour states journal warnings files)) old new = explain.IsCutShort gives form (options_of warnings) states files old new
+IsCutShort gives (Some (Explain form colour states journal warnings files)) old new =
+    explain.IsCutShort (gives_annotations gives) form (options_of warnings) states files old new
 IsCutShort gives request old new = Appends old new []
 
 -- no file is named for the journal of a finding

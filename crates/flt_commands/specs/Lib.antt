@@ -1,5 +1,6 @@
 pub mod Allowed
 pub mod Analyse
+pub mod Annotated
 pub mod Answer
 pub mod Check
 pub mod Clean

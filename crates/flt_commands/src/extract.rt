@@ -14,7 +14,7 @@ use crate::answer::Answer;
 use crate::failure::Failure;
 use crate::inputs::{Inputs, read_all};
 use crate::report::Contents;
-use flt_c::{Annotations, Fault, FaultKind, FileFlaw, Flaw, Line, Place, extract};
+use flt_c::{Annotations, Fault, FaultKind, FileFlaw, Flaw, Line, Place, PlaceFlaw, extract};
 use flt_words::visible;
 use std::alloc::{AllocError, Global};
 use std::fmt;
@@ -69,6 +69,34 @@ pub(crate) fn flaw_line(alloc: Global, name: &str, flaw: Flaw) -> Result<String,
         Flaw::Large => format!(in alloc; "{name}: too large"),
         Flaw::Bare => format!(in alloc; "{name}: no annotation"),
         Flaw::Long => format!(in alloc; "{name}: text too long"),
+    }
+}
+
+/// A fault of a file that is named elsewhere.
+fn fault_words(alloc: Global, fault: Fault) -> Result<String, AllocError> {
+    let spot = Spot(fault.place);
+    let why = reason(fault.kind);
+    format!(in alloc; "{why} at {spot}")
+}
+
+/// What is wrong with a file that is named elsewhere.
+fn flaw_words(alloc: Global, flaw: Flaw) -> Result<String, AllocError> {
+    match flaw {
+        Flaw::Faulty(fault) => fault_words(alloc, fault),
+        Flaw::Large => String::from_str(alloc, "a C file has at most 16,777,216 bytes"),
+        Flaw::Bare => String::from_str(alloc, "it has no annotation"),
+        Flaw::Long => String::from_str(alloc, "its annotations have more than 65,536 bytes"),
+    }
+}
+
+/// Why the annotations of a file that is named elsewhere can't be laid where they stand.
+pub(crate) fn place_flaw_words(alloc: Global, flaw: PlaceFlaw) -> Result<String, AllocError> {
+    match flaw {
+        PlaceFlaw::Flawed(flaw) => flaw_words(alloc, flaw),
+        PlaceFlaw::Crowded(place) => {
+            let spot = Spot(place);
+            format!(in alloc; "a second annotation in one line at {spot}")
+        }
     }
 }
 

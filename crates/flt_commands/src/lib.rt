@@ -4,6 +4,7 @@
 
 mod allowed;
 mod analyse;
+mod annotated;
 mod answer;
 mod check;
 mod clean;

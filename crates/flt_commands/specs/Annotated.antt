@@ -1,0 +1,36 @@
+-- What C files give. This project's own program.
+use Rattle.std.specs.Prelude.{◌≡◌, ◌⊎◌, Bool, true, false, ◌||◌, Option, Some, None, Ok, Err, codes, eqb}
+use Rattle.std.specs.List.{ends_with}
+use Rattle.flt_c.specs.InPlace.{in_place}
+use Rattle.flt_c.specs.declared.laying.PlaceFlaw.{PlaceFlaw}
+use Rattle.flt_commands.specs.Inputs.{Giving, Text}
+
+-- a file is C, by the ending of its name
+abbrev pub is_c_file : Text → Bool
+is_c_file name =
+    ends_with eqb name (codes ".c") || ends_with eqb name (codes ".h") || ends_with eqb name (codes ".cc") || ends_with eqb name (codes ".cpp")
+
+-- the annotations of a file where they stand in it, or none where they make no text
+abbrev pub AreLaid : Text → Option Text → Type 0
+AreLaid file (Some text) = in_place file ≡ Ok text
+AreLaid file None = (flaw : PlaceFlaw) × (in_place file ≡ Err flaw)
+
+-- a C file that gives its annotations, or none
+pub record GivesLaid (gives : Giving) (name : Text) (found : Option Text) : Type 0 where
+  pub file : Text
+  pub given : gives name (Some file)
+  pub laid : AreLaid file found
+
+-- what a C file may give: its annotations where they stand in it; none where it isn't read, or where they make no text
+abbrev pub gives_laid : Giving → Giving
+gives_laid gives name (Some text) = GivesLaid gives name (Some text)
+gives_laid gives name None = GivesLaid gives name None ⊎ gives name None
+
+-- the same where a file is C
+abbrev pub gives_laid_if : Bool → Giving → Giving
+gives_laid_if true gives = gives_laid gives
+gives_laid_if false gives = gives
+
+-- what may be given for a name, where C files give their annotations
+abbrev pub gives_annotations : Giving → Giving
+gives_annotations gives name = gives_laid_if (is_c_file name) gives name
