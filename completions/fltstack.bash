@@ -31,7 +31,7 @@ _fltstack_options() {
 _fltstack_pages_or_files() {
     local operand files=yes names=yes
     for operand in "${operands[@]}"; do
-        if [[ " $pages " == *" ${operand^^[rwve]} "* ]]; then files=; else names=; fi
+        if [[ " $pages " == *" ${operand^[rwve]} "* ]]; then files=; else names=; fi
     done
     [[ -z $files ]] || _fltstack_files "$@"
     [[ -z $names ]] || _fltstack_words "$pages"

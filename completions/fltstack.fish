@@ -130,7 +130,7 @@ end
 function __fltstack_takes --argument-names what
     set -l operands (__fltstack_operands explain); or return 1
     for operand in $operands
-        set -l name (string upper -- (string sub -l 1 -- $operand))(string sub -s 2 -- $operand)
+        set -l name (string replace -r '^[rwve]' (string upper -- (string sub -l 1 -- $operand)) -- $operand)
         if string match -q -- $name\t'*' (__fltstack_pages)
             test $what = names; or return 1
         else
