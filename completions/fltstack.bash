@@ -20,8 +20,8 @@ _fltstack_options() {
     local option other
     for option in $options; do
         [[ " $given " != *" $option "* || " $repeated " == *" $option "* ]] || continue
-        if [[ " $apart " == *" $option "* ]]; then
-            for other in $apart; do [[ " $given " != *" $other "* ]] || continue 2; done
+        if [[ " $exclusive " == *" $option "* ]]; then
+            for other in $exclusive; do [[ " $given " != *" $other "* ]] || continue 2; done
         fi
         _fltstack_words "$option"
     done
@@ -39,7 +39,7 @@ _fltstack_pages_or_files() {
 
 _fltstack() {
     local word=${COMP_WORDS[COMP_CWORD]} command=${COMP_WORDS[1]} given= at=2 is_operand= it=
-    local options= valued= repeated= apart= pages= operands=()
+    local options= valued= repeated= exclusive= pages= operands=()
     COMPREPLY=()
     if ((COMP_CWORD == 1)); then
         if [[ $word == -* ]]; then
@@ -73,6 +73,7 @@ _fltstack() {
             FltReleasePushLock WITH_CALLBACK SYNCHRONIZE NO_CALLBACK COMPLETE PENDING DISALLOW_FASTIO
             FINISHED_PROCESSING MORE_PROCESSING_REQUIRED
         '
+        # names are looked for between blanks
         pages=${pages//$'\n'/ }
         ;;
     run)
@@ -88,7 +89,7 @@ _fltstack() {
         ;;
     format)
         options='--check --write --help'
-        apart='--check --write'
+        exclusive='--check --write'
         ;;
     esac
     # bash takes `--form=short` for three words
