@@ -126,12 +126,12 @@ _fltstack() {
         'analyse 0') _fltstack_files .flt ;;
         'thin 0') _fltstack_files .flt ;;
         'thin 1') _fltstack_files .cert ;;
-        'explain '*) _fltstack_pages_or_files .flt .cert .journal .script ;;
+        'explain '*) _fltstack_pages_or_files .flt .c .h .cc .cpp .cert .journal .script ;;
         'run 0') _fltstack_files .script ;;
         'run '*) _fltstack_files .flt ;;
         'replay 0') _fltstack_files .journal ;;
         'replay '*) _fltstack_files .flt ;;
-        'extract '*) _fltstack_files .c .h ;;
+        'extract '*) _fltstack_files .c .h .cc .cpp ;;
         'format '*) _fltstack_files .flt ;;
         'help 0') _fltstack_words check analyse thin explain run replay extract format help ;;
         esac

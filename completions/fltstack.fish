@@ -179,7 +179,7 @@ complete -c fltstack -n '__fltstack_after explain --journal' -l journal -x -a '(
 complete -c fltstack -n '__fltstack_after explain --strict' -l strict -d 'Exit with 1 where warnings are shown, as where something is found'
 complete -c fltstack -n '__fltstack_after explain' -l allow -x -a 'W00 W01 W02 W03 W04 W05 W06' -d 'Leave a kind of warning out, as `W03`'
 complete -c fltstack -n '__fltstack_after explain --help' -s h -l help -d 'Print help'
-complete -c fltstack -n '__fltstack_takes files' -a '(__fltstack_files .flt .cert .journal .script)'
+complete -c fltstack -n '__fltstack_takes files' -a '(__fltstack_files .flt .c .h .cc .cpp .cert .journal .script)'
 complete -c fltstack -n '__fltstack_takes names' -a '(__fltstack_pages)'
 
 # run
@@ -201,7 +201,7 @@ complete -c fltstack -n '__fltstack_at replay 1+' -a '(__fltstack_files .flt)'
 # extract
 complete -c fltstack -n '__fltstack_after extract --map' -l map -d 'Print where each line of the text begins in its file, as `driver.c:12:8'
 complete -c fltstack -n '__fltstack_after extract --help' -s h -l help -d 'Print help'
-complete -c fltstack -n '__fltstack_at extract 0+' -a '(__fltstack_files .c .h)'
+complete -c fltstack -n '__fltstack_at extract 0+' -a '(__fltstack_files .c .h .cc .cpp)'
 
 # format
 complete -c fltstack -n '__fltstack_after format --check --write' -l check -d 'Say which files differ from their layout, and change none'
