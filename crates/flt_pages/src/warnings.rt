@@ -17,7 +17,8 @@ The bug. The comment looks as if somebody had weighed the warning. If the warnin
     }
 
 W02 is about calls that give an operation away, and line 5 has none. To fix it, remove the comment, or put it on the line before the
-statement that the warning is about. A warning about a lock or a routine is about its declaration.
+statement that the warning is about. A warning about a lock is about its declaration, and one
+about a whole callback is about its head.
 ";
 
 pub(crate) const W01: &str = "W01: locks that no order allows
@@ -342,10 +343,13 @@ understood.
 
 pub(crate) const W06: &str = "W06: never used or reached
 
-No call names a lock or a routine; no path reaches a statement; or a test asks for a number that its variable never has.
+No call names a lock; nothing starts a callback; no path reaches a statement; or a test asks for a number that its variable never has. A
+`post` callback starts where its `pre` callback returns `WITH_CALLBACK` or `SYNCHRONIZE`, or where a pended operation is completed with
+`WITH_CALLBACK`; `canceled` starts where an operation is inserted into the queue; and a routine starts where a call queues it.
 
-The bug. Something is missing. A routine that isn't queued never completes what waits for it, a lock that isn't taken guards nothing,
-and a branch that isn't reached was meant for a case that now goes another path.
+The bug. Something is missing. A routine that isn't queued never completes what waits for it, a `post` callback that no status asks for
+never sees how its operations ended, a lock that isn't taken guards nothing, and a branch that isn't reached was meant for a case that now
+goes another path.
 
     filter a altitude 100
     lock spin counting
@@ -356,14 +360,21 @@ and a branch that isn't reached was meant for a case that now goes another path.
       return NO_CALLBACK
       n0 = 1
     }
+    post read {
+      if arg != NULL {
+        FltReleaseContext arg
+      }
+      return FINISHED_PROCESSING
+    }
     generic flush {
       if arg != NULL {
         FltReleaseContext arg
       }
     }
 
-W06 names the lock in line 2, the statement in line 8, which no path reaches, and the routine in line 10. It doesn't name the test in
-line 4, since the callback writes `n0`, if only in line 8. To fix it, use what is declared, or remove it:
+W06 names the lock in line 2, the statement in line 8, which no path reaches, the callback in line 10, which no status asks for, and the
+routine in line 16. It doesn't name the test in line 4, since the callback writes `n0`, if only in line 8. To fix it, use what is
+declared, or remove it:
 
     filter a altitude 100
     pre read {
@@ -376,6 +387,9 @@ line 4, since the callback writes `n0`, if only in line 8. To fix it, use what i
       }
       return NO_CALLBACK
     }
+
+What isn't named. A callback that another one asks for, though that one never starts itself. Remove the one that is named, and the next
+report names the other.
 
 When it is wrong. A lock that only other code of the driver takes needn't be in the text. A test `n0 == 1` of a variable that nothing
 writes can't stand for a condition of the driver that the language doesn't have: the variable is 0. Read it from the value of a context

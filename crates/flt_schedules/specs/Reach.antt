@@ -13,8 +13,8 @@ use Rattle.flt_explain.specs.Mending.{is_fine}
 use Rattle.flt_explain.specs.declared.finding.Finding.{Finding}
 use Rattle.flt_explain.specs.declared.finding.Subject.{Subject}
 use Rattle.flt_explain.specs.declared.finding.Subject.TheVariants as about
+use Rattle.flt_triggers.specs.Triggers.{is_started_alone, is_started_by}
 use Rattle.flt_schedules.specs.Possible.{nothing, is_some, is_within, entered, after}
-use Rattle.flt_schedules.specs.Starts.{is_started_alone, is_started_by}
 use Rattle.flt_schedules.specs.Unset.{AreUnset, is_barren, nothing_unset}
 use Rattle.flt_schedules.specs.declared.outlook.Surveyed.{Surveyed}
 use Rattle.flt_schedules.specs.declared.possible.Possible.{Possible}

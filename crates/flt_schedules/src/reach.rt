@@ -6,12 +6,12 @@ ghost use Rattle.flt_graph.specs.Graph.{place_at, points_at};
 ghost use Rattle.flt_graph.specs.Points.{successor as successor_of};
 ghost use Rattle.flt_schedules.specs.Reach as spec;
 ghost use Rattle.flt_schedules.specs.Possible.{nothing};
-ghost use Rattle.flt_schedules.specs.Starts.{is_started_alone as is_started_alone_at};
+ghost use Rattle.flt_triggers.specs.Triggers.{is_started_alone as is_started_alone_at};
 
 use crate::possible::Possible;
-use crate::starts::{is_started_alone, is_started_by};
 use crate::unset::Unset;
 use flt_graph::{ContextVariable, Graph, Instruction};
+use flt_triggers::{is_started_alone, is_started_by};
 use sqlite_items::Items;
 use std::alloc::{AllocError, Global};
 

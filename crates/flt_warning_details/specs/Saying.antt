@@ -32,7 +32,7 @@ marks_of x (warning.LeftPended s q) = marks_at x s (about.Operation Data)
 marks_of x (warning.ChangedUnlocked s o) = context_marks x s
 marks_of x (warning.LostContext s q) = context_marks x s
 marks_of x (warning.UnusedLock l) = marks_of_lock x l
-marks_of x (warning.UnusedRoutine n) = marks_of_head x n
+marks_of x (warning.UnusedCallback n) = marks_of_head x n
 marks_of x (warning.Unreached s) = marks_at x s about.Call
 marks_of x (warning.NeverHolds s) = marks_at x s about.Call
 
@@ -44,7 +44,7 @@ line_at x None = 0
 -- the line where its statement begins, or its declaration
 abbrev pub line_of : Parsed → Warning → ℕ
 line_of x (warning.UnusedLock l) = (marks_of_lock x l).statement.first.line
-line_of x (warning.UnusedRoutine n) = (marks_of_head x n).statement.first.line
+line_of x (warning.UnusedCallback n) = (marks_of_head x n).statement.first.line
 line_of x w = line_at x (site_of w)
 
 -- the head of the callback of a point, if there is one
@@ -54,7 +54,7 @@ head_at x None = []
 
 -- the head of its callback; nothing where it is in none
 abbrev pub head_of : Parsed → Warning → Text
-head_of x (warning.UnusedRoutine n) = head x n
+head_of x (warning.UnusedCallback n) = head x n
 head_of x w = head_at x (site_of w)
 
 -- the other places that it is about
@@ -81,7 +81,7 @@ title_of x (warning.LeftPended s q) = queue.left_title
 title_of x (warning.ChangedUnlocked s o) = contexts.changed_title x s
 title_of x (warning.LostContext s q) = contexts.lost_title x s
 title_of x (warning.UnusedLock l) = unused.lock_title x l
-title_of x (warning.UnusedRoutine n) = unused.routine_title x n
+title_of x (warning.UnusedCallback n) = unused.callback_title x n
 title_of x (warning.Unreached s) = unused.unreached_title
 title_of x (warning.NeverHolds s) = unused.never_title x s
 
@@ -94,7 +94,7 @@ help_of x (warning.LeftPended s q) = queue.left_help
 help_of x (warning.ChangedUnlocked s o) = contexts.changed_help
 help_of x (warning.LostContext s q) = contexts.lost_help x s
 help_of x (warning.UnusedLock l) = unused.lock_help
-help_of x (warning.UnusedRoutine n) = unused.routine_help x n
+help_of x (warning.UnusedCallback n) = unused.callback_help x n
 help_of x (warning.Unreached s) = unused.unreached_help
 help_of x (warning.NeverHolds s) = unused.never_help x s
 

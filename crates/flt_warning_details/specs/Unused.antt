@@ -1,10 +1,12 @@
--- What is never used (W06): locks, routines, statements and tests. This project's own program.
+-- What is never used (W06): locks, callbacks, statements and tests. This project's own program.
 use Rattle.std.specs.Prelude.{ℕ, [], ◌∷◌, ◌++◌, codes, Option, Some, None}
 use Rattle.std.specs.Fmt.{decimal}
 use Rattle.std.specs.List.{concat}
 use Rattle.flt_rules.specs.declared.call.LockNumber.{LockNumber}
+use Rattle.flt_rules.specs.declared.place.Operation.{Operation}
+use Rattle.flt_rules.specs.declared.place.Operation.TheVariants.{Create}
 use Rattle.flt_rules.specs.declared.place.Place.{Place}
-use Rattle.flt_rules.specs.declared.place.Place.TheVariants.{Generic}
+use Rattle.flt_rules.specs.declared.place.Place.TheVariants.{Post, Canceled, Generic}
 use Rattle.flt_tree.specs.Names.{Text}
 use Rattle.flt_tree.specs.Variable.{number_place}
 use Rattle.flt_tree.specs.declared.filter.Test.TheVariants.{Equal, Less}
@@ -24,19 +26,41 @@ lock_title x l = quoted (lock x l) ++ codes " is declared and never taken"
 abbrev pub lock_help : Text
 lock_help = codes "remove the declaration, or take the lock where callbacks share a value"
 
--- ---- routines
+-- ---- callbacks
 
-unfoldable pub routine_title : Parsed → ℕ → Text
-routine_title x callback = quoted (head x callback) ++ codes " never runs: no call queues it"
+-- that a callback at a place never runs, and why
+abbrev pub never_runs : Place → Text
+never_runs (Post kind) = codes " never runs: no status asks for it"
+never_runs Canceled = codes " never runs: no operation is queued"
+never_runs _ = codes " never runs: no call queues it"
+
+unfoldable pub callback_title : Parsed → ℕ → Text
+callback_title x callback = quoted (head x callback) ++ never_runs (place_at x.graph callback)
+
+-- what to do with a post callback; a create can't be synchronized
+abbrev pub post_help : Operation → Text
+post_help Create = codes "return `WITH_CALLBACK` in its `pre` callback, or remove it"
+post_help _ = codes "return `WITH_CALLBACK` or `SYNCHRONIZE` in its `pre` callback, or remove it"
+
+abbrev pub canceled_help : Text
+canceled_help = codes "queue operations by `FltCbdqInsertIo`, or remove it and the queue"
 
 -- the call that queues a routine of a place
 abbrev pub queueing : Place → Text
 queueing Generic = codes "FltQueueGenericWorkItem"
 queueing _ = codes "FltQueueDeferredIoWorkItem"
 
-unfoldable pub routine_help : Parsed → ℕ → Text
-routine_help x callback =
-    concat (codes "queue it by " ∷ marked (queueing (place_at x.graph callback)) ∷ codes ", or remove it" ∷ [])
+unfoldable pub routine_help : Place → Text
+routine_help place = concat (codes "queue it by " ∷ marked (queueing place) ∷ codes ", or remove it" ∷ [])
+
+-- what to do with a callback at a place
+abbrev pub help_at : Place → Text
+help_at (Post kind) = post_help kind
+help_at Canceled = canceled_help
+help_at place = routine_help place
+
+abbrev pub callback_help : Parsed → ℕ → Text
+callback_help x callback = help_at (place_at x.graph callback)
 
 -- ---- statements
 

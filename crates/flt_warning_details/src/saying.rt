@@ -21,8 +21,8 @@ use crate::queue::{
     tell_left_title,
 };
 use crate::unused::{
-    tell_lock_help, tell_lock_title, tell_never_help, tell_never_note, tell_never_title,
-    tell_routine_help, tell_routine_title, tell_unreached_help, tell_unreached_title,
+    tell_callback_help, tell_callback_title, tell_lock_help, tell_lock_title, tell_never_help,
+    tell_never_note, tell_never_title, tell_unreached_help, tell_unreached_title,
 };
 use flt_details::{Marks, Page};
 use flt_explain::Subject;
@@ -61,7 +61,7 @@ pub(crate) fn marks_of(
             context_marks(alloc, text, *site)
         }
         Warning::UnusedLock(lock) => Ok(marks_of_lock(text, *lock)),
-        Warning::UnusedRoutine(callback) => Ok(marks_of_head(text, *callback)),
+        Warning::UnusedCallback(callback) => Ok(marks_of_head(text, *callback)),
         Warning::Unreached(site) | Warning::NeverHolds(site) => {
             marks_at(alloc, text, *site, Subject::Call)
         }
@@ -74,7 +74,7 @@ pub(crate) fn line_of(text: &ParsedText<'_>, warning: &Warning) -> usize
 {
     match warning {
         Warning::UnusedLock(lock) => marks_of_lock(text, *lock).statement.first.line,
-        Warning::UnusedRoutine(callback) => marks_of_head(text, *callback).statement.first.line,
+        Warning::UnusedCallback(callback) => marks_of_head(text, *callback).statement.first.line,
         _ => match warning.site() {
             Some(site) => text.line(site),
             None => 0,
@@ -87,7 +87,7 @@ pub(crate) fn head_of<'a>(text: &ParsedText<'a>, warning: &Warning) -> &'a [u8]
     ensures { result.now ≡ spec.head_of (of_parsed text.now) warning.now }
 {
     match warning {
-        Warning::UnusedRoutine(callback) => text.head(*callback),
+        Warning::UnusedCallback(callback) => text.head(*callback),
         _ => match warning.site() {
             Some(site) => text.head(site.callback),
             None => &[],
@@ -151,7 +151,7 @@ fn tell_title(page: &mut Page, text: &ParsedText<'_>, warning: &Warning) -> Resu
         Warning::ChangedUnlocked(site, _) => tell_changed_title(page, text, *site),
         Warning::LostContext(site, _) => tell_lost_title(page, text, *site),
         Warning::UnusedLock(lock) => tell_lock_title(page, text, *lock),
-        Warning::UnusedRoutine(callback) => tell_routine_title(page, text, *callback),
+        Warning::UnusedCallback(callback) => tell_callback_title(page, text, *callback),
         Warning::Unreached(_) => tell_unreached_title(page),
         Warning::NeverHolds(site) => tell_never_title(page, text, *site),
     }
@@ -169,7 +169,7 @@ fn tell_help(page: &mut Page, text: &ParsedText<'_>, warning: &Warning) -> Resul
         Warning::ChangedUnlocked(_, _) => tell_changed_help(page),
         Warning::LostContext(site, _) => tell_lost_help(page, text, *site),
         Warning::UnusedLock(_) => tell_lock_help(page),
-        Warning::UnusedRoutine(callback) => tell_routine_help(page, text, *callback),
+        Warning::UnusedCallback(callback) => tell_callback_help(page, text, *callback),
         Warning::Unreached(_) => tell_unreached_help(page),
         Warning::NeverHolds(site) => tell_never_help(page, text, *site),
     }

@@ -1,4 +1,4 @@
-//! What is never used (W06): locks, routines, statements and tests.
+//! What is never used (W06): locks, callbacks, statements and tests.
 
 ghost use Rattle.std.specs.Prelude.{◌≡◌, option_map};
 ghost use Rattle.flt_details.specs.Page.{Writes};
@@ -8,7 +8,7 @@ ghost use Rattle.flt_warning_details.specs.Unused as spec;
 
 use crate::parsed::ParsedText;
 use flt_details::{Page, Part};
-use flt_graph::{Instruction, LockNumber, NumberVariable, Place, Test};
+use flt_graph::{Instruction, LockNumber, NumberVariable, Operation, Place, Test};
 use flt_warnings::Site;
 use std::alloc::AllocError;
 
@@ -36,21 +36,46 @@ pub(crate) fn tell_lock_help(page: &mut Page) -> Result<(), AllocError>
     page.texts(&["remove the declaration, or take the lock where callbacks share a value"])
 }
 
-// ---- routines
+// ---- callbacks
 
-/// Writes that no call queues a routine.
-#[tactic(auto, unfolding(crate::specs::Unused::routine_title))]
-pub(crate) fn tell_routine_title(
+/// That a callback at a place never runs, and why.
+fn never_runs(place: Place) -> &'static str
+    ensures { result.now ≡ spec.never_runs place }
+{
+    match place {
+        Place::Post(_) => " never runs: no status asks for it",
+        Place::Canceled => " never runs: no operation is queued",
+        _ => " never runs: no call queues it",
+    }
+}
+
+/// Writes that nothing starts a callback.
+#[tactic(auto, unfolding(crate::specs::Unused::callback_title))]
+pub(crate) fn tell_callback_title(
     page: &mut Page,
     text: &ParsedText<'_>,
     callback: usize,
 ) -> Result<(), AllocError>
-    ensures { Writes result page.old page.new (spec.routine_title (of_parsed text.now) callback) }
+    ensures { Writes result page.old page.new (spec.callback_title (of_parsed text.now) callback) }
 {
     page.say(&[
         Part::Quoted(text.head(callback)),
-        Part::Text(" never runs: no call queues it"),
+        Part::Text(never_runs(text.scene.graph.place(callback))),
     ])
+}
+
+/// Writes what to do with a post callback. A create can't be synchronized.
+fn tell_post_help(page: &mut Page, operation: Operation) -> Result<(), AllocError>
+    ensures { Writes result page.old page.new (spec.post_help operation) }
+{
+    match operation {
+        Operation::Create => {
+            page.texts(&["return `WITH_CALLBACK` in its `pre` callback, or remove it"])
+        }
+        _ => page.texts(&[
+            "return `WITH_CALLBACK` or `SYNCHRONIZE` in its `pre` callback, or remove it",
+        ]),
+    }
 }
 
 /// The call that queues a routine of a place.
@@ -63,20 +88,33 @@ fn queueing(place: Place) -> &'static str
     }
 }
 
-/// Writes what to do with it.
+/// Writes what to do with a routine.
 #[tactic(auto, unfolding(crate::specs::Unused::routine_help))]
-pub(crate) fn tell_routine_help(
+fn tell_routine_help(page: &mut Page, place: Place) -> Result<(), AllocError>
+    ensures { Writes result page.old page.new (spec.routine_help place) }
+{
+    page.say(&[
+        Part::Text("queue it by "),
+        Part::Word(queueing(place)),
+        Part::Text(", or remove it"),
+    ])
+}
+
+/// Writes what to do with a callback that nothing starts.
+pub(crate) fn tell_callback_help(
     page: &mut Page,
     text: &ParsedText<'_>,
     callback: usize,
 ) -> Result<(), AllocError>
-    ensures { Writes result page.old page.new (spec.routine_help (of_parsed text.now) callback) }
+    ensures { Writes result page.old page.new (spec.callback_help (of_parsed text.now) callback) }
 {
-    page.say(&[
-        Part::Text("queue it by "),
-        Part::Word(queueing(text.scene.graph.place(callback))),
-        Part::Text(", or remove it"),
-    ])
+    match text.scene.graph.place(callback) {
+        Place::Post(operation) => tell_post_help(page, operation),
+        Place::Canceled => {
+            page.texts(&["queue operations by `FltCbdqInsertIo`, or remove it and the queue"])
+        }
+        place => tell_routine_help(page, place),
+    }
 }
 
 // ---- statements

@@ -1,21 +1,20 @@
--- W06: locks and routines that no call names. Callbacks that are registered may always start, so only routines are asked for. This
--- project's own check.
+-- W06: locks that no call names, and callbacks that nothing starts. The system starts pre callbacks by itself, and all others only where
+-- a callback of the filter asks for them. This project's own check.
 use Rattle.std.specs.Prelude.{ℕ, Bool, false, not, ◌==◌, ◌&&◌, nat_lt, if◌then◌else◌, List, [], ◌∷◌, length, Option, Some, None}
 use Rattle.std.specs.List.{list_any}
 use Rattle.flt_rules.specs.Call.{place_of}
 use Rattle.flt_rules.specs.Held.{same_lock}
 use Rattle.flt_rules.specs.declared.call.LockNumber.{LockNumber}
 use Rattle.flt_rules.specs.declared.call.LockNumber.TheVariants.{L0, L1, L2, L3, L4, L5, L6, L7}
-use Rattle.flt_graph.specs.Graph.{place_at}
 use Rattle.flt_graph.specs.declared.graph.CallbackGraph.{CallbackGraph}
 use Rattle.flt_graph.specs.declared.graph.Graph.{Graph}
 use Rattle.flt_graph.specs.declared.graph.Point.{Point}
 use Rattle.flt_graph.specs.declared.instruction.Instruction.{Instruction}
 use Rattle.flt_graph.specs.declared.instruction.Instruction.TheVariants as instruction
-use Rattle.flt_warnings.specs.Reading.{is_routine}
+use Rattle.flt_triggers.specs.Triggers.{is_started}
 use Rattle.flt_warnings.specs.declared.warning.Site.{Site}
 use Rattle.flt_warnings.specs.declared.warning.Warning.{Warning}
-use Rattle.flt_warnings.specs.declared.warning.Warning.TheVariants.{UnusedLock, UnusedRoutine}
+use Rattle.flt_warnings.specs.declared.warning.Warning.TheVariants.{UnusedCallback, UnusedLock}
 
 -- ---- locks
 
@@ -54,27 +53,8 @@ unused_among g (l ∷ ls) = if is_unused g l then UnusedLock l ∷ unused_among 
 abbrev pub unused_locks : Graph → List Warning
 unused_locks g = unused_among g (L0 ∷ L1 ∷ L2 ∷ L3 ∷ L4 ∷ L5 ∷ L6 ∷ L7 ∷ [])
 
--- ---- routines
+-- ---- callbacks
 
--- a callback is the one that is named
-abbrev pub is_callback : Option ℕ → ℕ → Bool
-is_callback (Some named) n = named == n
-is_callback None n = false
-
--- an instruction calls with the routine
-abbrev pub names_routine : ℕ → Instruction → Bool
-names_routine n (instruction.Call c granted refused) = is_callback c.routine n
-names_routine n _ = false
-
--- some instruction of the callback does
-abbrev pub names_routine_in : ℕ → CallbackGraph → Bool
-names_routine_in n c = list_any (λ (p : Point). names_routine n p.instruction) c.points
-
--- some call of the text names the routine
-abbrev pub is_queued : Graph → ℕ → Bool
-is_queued g n = list_any (names_routine_in n) g.callbacks
-
--- the warning, at the first point of a callback: it is a routine, and no call names it
-abbrev pub unused_routine : Graph → Site → Option Warning
-unused_routine g s =
-    if (s.point == 0) && (is_routine (place_at g s.callback) && not (is_queued g s.callback)) then Some (UnusedRoutine s.callback) else None
+-- the warning, at the first point of a callback: nothing starts it
+abbrev pub unused_callback : Graph → Site → Option Warning
+unused_callback g s = if (s.point == 0) && not (is_started g s.callback) then Some (UnusedCallback s.callback) else None

@@ -20,7 +20,7 @@ kind_of (warning.LeftPended s q) = W03
 kind_of (warning.ChangedUnlocked s q) = W04
 kind_of (warning.LostContext s q) = W05
 kind_of (warning.UnusedLock l) = W06
-kind_of (warning.UnusedRoutine n) = W06
+kind_of (warning.UnusedCallback n) = W06
 kind_of (warning.Unreached s) = W06
 kind_of (warning.NeverHolds s) = W06
 
@@ -38,6 +38,6 @@ site_of (warning.LeftPended s q) = Some s
 site_of (warning.ChangedUnlocked s q) = Some s
 site_of (warning.LostContext s q) = Some s
 site_of (warning.UnusedLock l) = None
-site_of (warning.UnusedRoutine n) = None
+site_of (warning.UnusedCallback n) = None
 site_of (warning.Unreached s) = Some s
 site_of (warning.NeverHolds s) = Some s

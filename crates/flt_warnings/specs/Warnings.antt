@@ -15,7 +15,7 @@ use Rattle.flt_warnings.specs.Never.{never_holds}
 use Rattle.flt_warnings.specs.Pended.{never_removed, left_pended}
 use Rattle.flt_warnings.specs.Shared.{shared_uses}
 use Rattle.flt_warnings.specs.Unreached.{unreached}
-use Rattle.flt_warnings.specs.Unused.{unused_locks, unused_routine}
+use Rattle.flt_warnings.specs.Unused.{unused_callback, unused_locks}
 use Rattle.flt_warnings.specs.Warning.{site}
 use Rattle.flt_warnings.specs.declared.shared.SharedUse.{SharedUse}
 use Rattle.flt_warnings.specs.declared.warning.Kind.{Kind}
@@ -32,7 +32,7 @@ pended_at g k s = option_to_list (never_removed g k s) ++ option_to_list (left_p
 
 -- what nothing reaches
 abbrev pub unreached_at : Graph → Certificate → Site → List Warning
-unreached_at g k s = option_to_list (unused_routine g s) ++ (option_to_list (unreached g k s) ++ option_to_list (never_holds g k s))
+unreached_at g k s = option_to_list (unused_callback g s) ++ (option_to_list (unreached g k s) ++ option_to_list (never_holds g k s))
 
 -- the warnings of a kind, by the uses of contexts that others may have; no finder makes W00, and W01 isn't about a point
 abbrev pub warned_at : Graph → Certificate → List SharedUse → Kind → Site → List Warning

@@ -12,7 +12,7 @@ use crate::never::never_holds;
 use crate::pended::{left_pended, never_removed};
 use crate::shared::{SharedUse, shared_uses};
 use crate::unreached::unreached;
-use crate::unused::{unused_locks, unused_routine};
+use crate::unused::{unused_callback, unused_locks};
 use crate::warning::{Kind, Site, Warning};
 use flt_cert::FullCert;
 use flt_graph::Graph;
@@ -68,7 +68,7 @@ fn add_unreached(
 ) -> Result<(), AllocError>
     ensures { OnOk result (warnings.new ≡ warnings.old ++ spec.unreached_at graph.now cert.now site) }
 {
-    push(warnings, unused_routine(graph, site))?;
+    push(warnings, unused_callback(graph, site))?;
     push(warnings, unreached(graph, cert, site))?;
     push(warnings, never_holds(graph, cert, site))?;
     Ok(())

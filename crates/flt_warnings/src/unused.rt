@@ -1,11 +1,11 @@
-//! W06: locks and routines that no call names.
+//! W06: locks that no call names, and callbacks that nothing starts.
 
 ghost use Rattle.std.specs.Prelude.{◌≡◌, ◌++◌, OnOk};
 ghost use Rattle.flt_warnings.specs.Unused as spec;
 
-use crate::reading::is_routine;
 use crate::warning::{Site, Warning};
 use flt_graph::{CallbackGraph, Graph, Instruction, LockNumber};
+use flt_triggers::is_started;
 use sqlite_items::Items;
 use std::alloc::AllocError;
 
@@ -101,56 +101,14 @@ pub(crate) fn unused_locks(warnings: &mut Items<Warning>, graph: &Graph) -> Resu
     Ok(())
 }
 
-// ---- routines
+// ---- callbacks
 
-/// Whether a callback is the one that is named.
-fn is_callback(named: Option<usize>, callback: usize) -> bool
-    ensures { result ≡ spec.is_callback named callback }
+/// The warning, at the first point of a callback, that nothing starts it.
+pub(crate) fn unused_callback(graph: &Graph, site: Site) -> Option<Warning>
+    ensures { result ≡ spec.unused_callback graph.now site }
 {
-    match named {
-        Some(named) => named == callback,
-        None => false,
-    }
-}
-
-fn names_routine(instruction: &Instruction, callback: usize) -> bool
-    ensures { result ≡ spec.names_routine callback instruction.now }
-{
-    match instruction {
-        Instruction::Call(call, _, _) => is_callback(call.routine, callback),
-        _ => false,
-    }
-}
-
-fn names_routine_in(own: &CallbackGraph, callback: usize) -> bool
-    ensures { result ≡ spec.names_routine_in callback own.now }
-{
-    own.points
-        .as_slice()
-        .iter()
-        .any(|point| names_routine(&point.instruction, callback))
-}
-
-/// Whether some call names the routine that is the callback of a number.
-fn is_queued(graph: &Graph, callback: usize) -> bool
-    ensures { result ≡ spec.is_queued graph.now callback }
-{
-    graph
-        .callbacks
-        .as_slice()
-        .iter()
-        .any(|own| names_routine_in(own, callback))
-}
-
-/// The warning, at the first point of a routine, that no call names it.
-pub(crate) fn unused_routine(graph: &Graph, site: Site) -> Option<Warning>
-    ensures { result ≡ spec.unused_routine graph.now site }
-{
-    if site.point == 0
-        && is_routine(graph.place(site.callback))
-        && !is_queued(graph, site.callback)
-    {
-        Some(Warning::UnusedRoutine(site.callback))
+    if site.point == 0 && !is_started(graph, site.callback) {
+        Some(Warning::UnusedCallback(site.callback))
     } else {
         None
     }

@@ -46,8 +46,8 @@ pub enum Warning {
     LostContext(Site, usize),
     /// W06: a lock that no call names.
     UnusedLock(LockNumber),
-    /// W06: a routine, by its callback from 0, that no call names.
-    UnusedRoutine(usize),
+    /// W06: a callback, by its number from 0, that nothing starts: a routine, a post callback or `canceled`.
+    UnusedCallback(usize),
     /// W06: the first of some statements that follow one another and that no path reaches.
     Unreached(Site),
     /// W06: a test that no run passes, since it compares a variable of numbers that nothing writes.
@@ -65,14 +65,14 @@ impl Warning {
             Warning::ChangedUnlocked(_, _) => Kind::W04,
             Warning::LostContext(_, _) => Kind::W05,
             Warning::UnusedLock(_)
-            | Warning::UnusedRoutine(_)
+            | Warning::UnusedCallback(_)
             | Warning::Unreached(_)
             | Warning::NeverHolds(_) => Kind::W06,
         }
     }
 
     /// The point that the warning is about: of a circle its first acquisition. None where it is about a declaration, of a lock or of a
-    /// routine.
+    /// callback.
     pub fn site(&self) -> Option<Site>
         ensures { result ≡ spec.site_of self.now }
     {
@@ -85,7 +85,7 @@ impl Warning {
             | Warning::LostContext(site, _)
             | Warning::Unreached(site)
             | Warning::NeverHolds(site) => Some(*site),
-            Warning::UnusedLock(_) | Warning::UnusedRoutine(_) => None,
+            Warning::UnusedLock(_) | Warning::UnusedCallback(_) => None,
         }
     }
 }

@@ -1,5 +1,6 @@
 -- What starts a callback. This project's own definitions.
-use Rattle.std.specs.Prelude.{ℕ, ◌==◌, Bool, true, false, ◌&&◌, Option, Some}
+use Rattle.std.specs.Prelude.{ℕ, ◌==◌, Bool, true, false, ◌&&◌, ◌||◌, Option, Some}
+use Rattle.std.specs.List.{list_any}
 use Rattle.std.specs.Option.{option_map_or}
 use Rattle.flt_rules.specs.Place.{same_operation}
 use Rattle.flt_rules.specs.declared.call.Call.{Call}
@@ -8,6 +9,10 @@ use Rattle.flt_rules.specs.declared.place.Place.{Place}
 use Rattle.flt_rules.specs.declared.place.Place.TheVariants as place
 use Rattle.flt_tree.specs.declared.filter.Status.{Status}
 use Rattle.flt_tree.specs.declared.filter.Status.TheVariants as status
+use Rattle.flt_graph.specs.Graph.{place_at}
+use Rattle.flt_graph.specs.declared.graph.CallbackGraph.{CallbackGraph}
+use Rattle.flt_graph.specs.declared.graph.Graph.{Graph}
+use Rattle.flt_graph.specs.declared.graph.Point.{Point}
 use Rattle.flt_graph.specs.declared.instruction.Instruction.{Instruction}
 use Rattle.flt_graph.specs.declared.instruction.Instruction.TheVariants as instruction
 use Rattle.flt_graph.specs.declared.instruction.Invocation.{Invocation}
@@ -50,3 +55,15 @@ abbrev pub is_started_by : Place → Instruction → ℕ → Place → Bool
 is_started_by from (instruction.Call c granted failed) n p = is_started_to c.call c n p
 is_started_by from (instruction.Return st) n p = is_started_by_status from st p
 is_started_by from _ n p = false
+
+-- some point of a callback starts the callback of a number
+abbrev pub is_started_in : Graph → ℕ → CallbackGraph → Bool
+is_started_in g n c = list_any (λ (p : Point). is_started_by c.place p.instruction n (place_at g n)) c.points
+
+-- some callback of the text does so
+abbrev pub is_started_within : Graph → ℕ → Bool
+is_started_within g n = list_any (is_started_in g n) g.callbacks
+
+-- the system or some callback of the text starts it
+abbrev pub is_started : Graph → ℕ → Bool
+is_started g n = is_started_alone (place_at g n) || is_started_within g n

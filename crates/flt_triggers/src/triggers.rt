@@ -1,12 +1,12 @@
 //! What starts a callback.
 
 ghost use Rattle.std.specs.Prelude.{◌≡◌};
-ghost use Rattle.flt_schedules.specs.Starts as spec;
+ghost use Rattle.flt_triggers.specs.Triggers as spec;
 
-use flt_graph::{Call, Instruction, Invocation, Place, Status};
+use flt_graph::{Call, CallbackGraph, Graph, Instruction, Invocation, Place, Status};
 
 /// Whether the system itself starts a callback at this place.
-pub(crate) fn is_started_alone(place: Place) -> bool
+pub fn is_started_alone(place: Place) -> bool
     ensures { result ≡ spec.is_started_alone place }
 {
     matches!(place, Place::Pre(_))
@@ -50,12 +50,7 @@ fn is_started_by_status(from: Place, status: Option<Status>, place: Place) -> bo
 }
 
 /// Whether what is done at a point of a callback starts the callback of a number, which is at this place.
-pub(crate) fn is_started_by(
-    from: Place,
-    instruction: &Instruction,
-    number: usize,
-    place: Place,
-) -> bool
+pub fn is_started_by(from: Place, instruction: &Instruction, number: usize, place: Place) -> bool
     ensures { result ≡ spec.is_started_by from instruction.now number place }
 {
     match instruction {
@@ -63,4 +58,34 @@ pub(crate) fn is_started_by(
         Instruction::Return(status) => is_started_by_status(from, *status, place),
         _ => false,
     }
+}
+
+/// Whether some point of a callback starts the callback of a number.
+fn is_started_in(graph: &Graph, number: usize, own: &CallbackGraph) -> bool
+    ensures { result ≡ spec.is_started_in graph.now number own.now }
+{
+    own.points.as_slice().iter().any(|point| is_started_by(
+        own.place,
+        &point.instruction,
+        number,
+        graph.place(number),
+    ))
+}
+
+/// Whether some callback starts the callback of a number.
+fn is_started_within(graph: &Graph, number: usize) -> bool
+    ensures { result ≡ spec.is_started_within graph.now number }
+{
+    graph
+        .callbacks
+        .as_slice()
+        .iter()
+        .any(|own| is_started_in(graph, number, own))
+}
+
+/// Whether the system or some callback starts the callback of a number, from 0. A point that no path reaches counts, too.
+pub fn is_started(graph: &Graph, number: usize) -> bool
+    ensures { result ≡ spec.is_started graph.now number }
+{
+    is_started_alone(graph.place(number)) || is_started_within(graph, number)
 }
