@@ -10,4 +10,4 @@ pub reports_more : (x : Warned) (ds : List WarningDetail) (i : ℕ) (d : Warning
     d ≡ get_or ds i d → AreShownReports x (take i ds) printed → IsShownReport x d own → new ≡ printed ++ own →
     AreShownReports x (take (i + 1) ds) new
 reports_more x ds i d printed own new h is all one added =
-    rw (take_more ds i d h ∙ ap (λ z. take i ds ++ z ∷ []) (sym is), added) (one_report_more all one)
+    rw (take_more ds i d h ∙ ap (λ z. take i ds ++ z ∷ []) (sym is), added) (one_report_more d own all one)

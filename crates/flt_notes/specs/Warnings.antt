@@ -27,7 +27,7 @@ IsShownReport x d printed = IsReportIf (is_shown d) x d printed
 -- the reports of the warnings that no comment allows, one below the other
 pub data AreShownReports (x : Warned) : List WarningDetail → List ℕ → Type 0 where
   no_report : AreShownReports x [] []
-  one_report_more : {ds : List WarningDetail} {printed : List ℕ} {d : WarningDetail} {own : List ℕ} →
+  one_report_more : {ds : List WarningDetail} {printed : List ℕ} (d : WarningDetail) (own : List ℕ) →
       AreShownReports x ds printed → IsShownReport x d own → AreShownReports x (ds ++ d ∷ []) (printed ++ own)
 
 -- how many warnings there are
