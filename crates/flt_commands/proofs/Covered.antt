@@ -1,6 +1,7 @@
 -- What is covered breaks nothing, and an exit status 0 says that something is covered.
 use Rattle.std.proofs.Common.{◌⊎◌, inl, inr, ◌≡◌, ℕ, zero, suc, List, [], ◌∷◌, ◌++◌, Bool, None, Option, Result, Ok, Err, take, drop, max, refl, sym, ◌∙◌, arith}
 use Rattle.std.proofs.Math.Path.{subst}
+use Rattle.std.specs.Borrow.{Bor}
 use Rattle.flt_syntax.specs.declared.fault.SyntaxFault.{SyntaxFault}
 use Rattle.flt_syntax.specs.Spelling.{SpellsAtMostOne, SpelledIsWellFormed}
 use Rattle.flt_syntax.specs.TextFails.{Fails, SpelledFailsNowhere}
@@ -220,13 +221,13 @@ module _ (law : Law) (runs : LawOfRuns) (nowhere : SpelledFailsNowhere) where
         in_lines style options ss (before ++ part) printed others rest zeros.1,
       )
 
-  in_results : (options : WarningOptions) (sources : List Source) (tokens : List Token) (status : ℕ) → AreResults options sources tokens status → status ≡ 0 →
-      EachBreaksNothing (texts_of sources)
-  in_results options [] tokens status said good = tt
-  in_results options (s ∷ ss) tokens status (part, others_tokens, first, others, own, rest, joined, greatest) good =
+  in_results : (options : WarningOptions) (names : List (Bor (List ℕ))) (sources : List Source) (tokens : List Token) (status : ℕ) →
+      AreResults options names sources tokens status → status ≡ 0 → EachBreaksNothing (texts_of sources)
+  in_results options names [] tokens status said good = tt
+  in_results options names (s ∷ ss) tokens status (part, others_tokens, first, others, own, rest, joined, greatest) good =
       let zeros = both_zero first others (sym greatest ∙ good) in (
         found_well s.text.now own.judged options.is_strict own.warned own.is (sym own.own ∙ zeros.0),
-        in_results options ss others_tokens others rest zeros.1,
+        in_results options names ss others_tokens others rest zeros.1,
       )
 
   -- of all files
@@ -243,7 +244,7 @@ module _ (law : Law) (runs : LawOfRuns) (nowhere : SpelledFailsNowhere) where
   told_well Human options sources missed e told good = all_reported options told.filters (texts_of sources) e.output.items e.status told.are good
   told_well Short options sources missed e told good = in_lines Sentence options sources [] e.output.items e.status told good
   told_well Lines options sources missed e told good = in_lines Object options sources [] e.output.items e.status told good
-  told_well Sarif options sources missed e told good = in_results options sources told.0 e.status told.1 good
+  told_well Sarif options sources missed e told good = in_results options _ sources told.1.results e.status told.1.found good
 
   -- where a file isn't read, the status isn't 0
   own_zero : (status : ℕ) (missed : List UnreadFile) → told_status status missed ≡ 0 → status ≡ 0

@@ -1,6 +1,7 @@
 -- Several texts, one behind the other.
 use Rattle.std.proofs.Common.{◌≡◌, ℕ, suc, ◌+◌, ◌<◌, List, [], ◌∷◌, ◌++◌, length, take, get_or, max, refl, ap, sym, ◌∙◌, append_assoc, append-nil, arith}
 use Rattle.std.proofs.Math.Seq.{take-suc}
+use Rattle.std.specs.Borrow.{Bor}
 use Rattle.json.specs.Token.{Token}
 use Rattle.flt_details.specs.declared.sources.Source.{Source}
 use Rattle.flt_warning_details.specs.declared.options.WarningOptions.{WarningOptions}
@@ -30,9 +31,10 @@ lines_push style options (t ∷ ss) s before printed part status own (first, one
 )
 
 -- the results of one text more
-results_push : (options : WarningOptions) (ss : List Source) (s : Source) (tokens part : List Token) (status own : ℕ) → sarif.AreResults options ss tokens status →
-    sarif.IsPart options s part own → sarif.AreResults options (ss ++ s ∷ []) (tokens ++ part) (max status own)
-results_push options [] s tokens part status own (same, none) is = (
+results_push : (options : WarningOptions) (names : List (Bor (List ℕ))) (ss : List Source) (s : Source) (tokens part : List Token) (status own : ℕ) →
+    sarif.AreResults options names ss tokens status → sarif.IsPart options names s part own →
+    sarif.AreResults options names (ss ++ s ∷ []) (tokens ++ part) (max status own)
+results_push options names [] s tokens part status own (same, none) is = (
   part,
   [],
   own,
@@ -42,13 +44,13 @@ results_push options [] s tokens part status own (same, none) is = (
   ap (λ ts. ts ++ part) same ∙ sym (append-nil part),
   none_or own _ none,
 )
-results_push options (t ∷ ss) s tokens part status own (first, rest, one, others, is_first, are, both, greatest) is = (
+results_push options names (t ∷ ss) s tokens part status own (first, rest, one, others, is_first, are, both, greatest) is = (
   first,
   rest ++ part,
   one,
   max others own,
   is_first,
-  results_push options ss s rest part others own are is,
+  results_push options names ss s rest part others own are is,
   ap (λ ts. ts ++ part) both ∙ append_assoc first rest part,
   ap (λ n. max n own) greatest ∙ max_assoc one others own,
 )
@@ -68,7 +70,8 @@ module _ (all : List Source) (i : ℕ) (d : Source) (within : i < length all) wh
       rw (one_source_more, added, most) (lines_push style options (take i all) (get_or all i d) before printed part status own are part_is)
 
   -- the results of the texts so far and of the next one
-  pub one_more_shown : (options : WarningOptions) (tokens part : List Token) (status own greatest : ℕ) → sarif.AreResults options (take i all) tokens status →
-      sarif.IsPart options (get_or all i d) part own → greatest ≡ max status own → sarif.AreResults options (take (i + 1) all) (tokens ++ part) greatest
-  one_more_shown options tokens part status own greatest are part_is most =
-      rw (one_source_more, most) (results_push options (take i all) (get_or all i d) tokens part status own are part_is)
+  pub one_more_shown : (options : WarningOptions) (names : List (Bor (List ℕ))) (tokens part : List Token) (status own greatest : ℕ) →
+      sarif.AreResults options names (take i all) tokens status → sarif.IsPart options names (get_or all i d) part own → greatest ≡ max status own →
+      sarif.AreResults options names (take (i + 1) all) (tokens ++ part) greatest
+  one_more_shown options names tokens part status own greatest are part_is most =
+      rw (one_source_more, most) (results_push options names (take i all) (get_or all i d) tokens part status own are part_is)

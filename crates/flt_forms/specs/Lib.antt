@@ -1,8 +1,11 @@
+pub mod Columns
 pub mod Fault
+pub mod Files
 pub mod Finding
 pub mod Lines
 pub mod Members
 pub mod Results
+pub mod Rules
 pub mod Sarif
 pub mod Short
 pub mod Steps

@@ -1,6 +1,5 @@
 -- Results of SARIF 2.1.0 (OASIS): findings and faults of texts.
-use Rattle.std.specs.Prelude.{ℕ, List, [], ◌∷◌, ◌++◌, Option, Some, None, codes, flat_map}
-use Rattle.flt_details.specs.Closing.{fault_name, rule_name}
+use Rattle.std.specs.Prelude.{ℕ, List, [], ◌∷◌, ◌++◌, Bool, Option, Some, None, codes, flat_map, if◌then◌else◌, length}
 use Rattle.flt_details.specs.declared.operands.Marks.{Marks}
 use Rattle.flt_details.specs.declared.study.Detail.{Detail}
 use Rattle.flt_details.specs.declared.study.Maker.{Maker}
@@ -9,8 +8,15 @@ use Rattle.flt_details.specs.declared.study.WayKind.{WayKind}
 use Rattle.flt_details.specs.declared.study.WayKind.TheVariants.{Clean, Behind, Unreached, Unknown}
 use Rattle.flt_places.specs.declared.places.Region.{Region}
 use Rattle.flt_syntax.specs.declared.fault.SyntaxFault.{SyntaxFault}
+use Rattle.flt_tree.specs.Names.{Text}
+use Rattle.flt_tree.specs.declared.filter.Position.{Position}
 use Rattle.json.specs.Token.{Token, begin_object, end_object, key}
+use Rattle.flt_forms.specs.Columns.{column_behind, column_of}
 use Rattle.flt_forms.specs.Members.{array_member, filled_member, number_member, object_member, string_member, text_member}
+use Rattle.flt_forms.specs.Rules.{of_rule}
+use Rattle.flt_forms.specs.declared.file.File.{File}
+use Rattle.flt_forms.specs.declared.rules.Reported.TheVariants.{Broken, Unread}
+use Rattle.flt_forms.specs.declared.uri.Reference.{Reference}
 
 -- an object with these members, in an array
 abbrev pub item : List Token → List Token
@@ -22,95 +28,107 @@ item members = begin_object ∷ (members ++ end_object ∷ [])
 abbrev pub message : List ℕ → List Token
 message words = object_member (codes "message") (text_member (codes "text") words)
 
--- a place in a file, from 1
-abbrev pub region : ℕ → ℕ → List Token
-region line column =
-    object_member (codes "region") (number_member (codes "startLine") line ++ number_member (codes "startColumn") column)
+-- the folder that a relative name is from
+abbrev pub base : Bool → List Token
+base is_absolute = if is_absolute then [] else string_member (codes "uriBaseId") (codes "%SRCROOT%")
 
-abbrev pub physical : List ℕ → ℕ → ℕ → List Token
-physical uri line column =
-    object_member (codes "physicalLocation") (object_member (codes "artifactLocation") (text_member (codes "uri") uri)
-    ++ region line column)
+-- how a file is named
+abbrev pub reference : Reference → List Token
+reference r = text_member (codes "uri") r.uri ++ base r.is_absolute
+
+-- a file, by its name and its number
+abbrev pub artifact_location : File → List Token
+artifact_location file =
+    key (codes "artifactLocation") ∷ begin_object ∷ (reference file.reference ++ (number_member (codes "index") file.number ++ end_object ∷ []))
+
+-- a place in a text, from 1
+abbrev pub region : Text → Position → List Token
+region text at =
+    object_member (codes "region") (number_member (codes "startLine") at.line ++ number_member (codes "startColumn") (column_of text at))
+
+abbrev pub physical : File → Position → List Token
+physical file at =
+    key (codes "physicalLocation") ∷ begin_object ∷ (artifact_location file ++ (region file.lines at ++ end_object ∷ []))
 
 -- the same with words
-abbrev pub location : List ℕ → ℕ → ℕ → List ℕ → List Token
-location uri line column words = item (physical uri line column ++ message words)
+abbrev pub location : File → Position → List ℕ → List Token
+location file at words = begin_object ∷ (physical file at ++ (message words ++ end_object ∷ []))
 
--- where something in a file begins and ends, from 1; the last column is one behind its last byte
-abbrev pub whole_region : List ℕ → Region → List Token
-whole_region name r =
-    object_member name (number_member (codes "startLine") r.first.line ++ (number_member (codes "startColumn") r.first.column
-    ++ (number_member (codes "endLine") r.end.line ++ number_member (codes "endColumn") r.end.column)))
+-- where something in a text begins and ends, from 1; the last column is one behind its last byte
+abbrev pub whole_region : List ℕ → Text → Region → List Token
+whole_region name text r =
+    object_member name (number_member (codes "startLine") r.first.line ++ (number_member (codes "startColumn") (column_of text r.first)
+    ++ (number_member (codes "endLine") r.end.line ++ number_member (codes "endColumn") (column_of text r.end))))
 
 -- what is marked: what a finding names, with the statement round it, or else the statement
-abbrev pub marked_regions : Region → Option Region → List Token
-marked_regions statement None = whole_region (codes "region") statement
-marked_regions statement (Some operand) = whole_region (codes "region") operand ++ whole_region (codes "contextRegion") statement
+abbrev pub marked_regions : Text → Region → Option Region → List Token
+marked_regions text statement None = whole_region (codes "region") text statement
+marked_regions text statement (Some operand) =
+    whole_region (codes "region") text operand ++ whole_region (codes "contextRegion") text statement
 
-abbrev pub marked_physical : List ℕ → Marks → List Token
-marked_physical uri m =
-    object_member (codes "physicalLocation") (object_member (codes "artifactLocation") (text_member (codes "uri") uri)
-    ++ marked_regions m.statement m.operand)
+abbrev pub marked_physical : File → Marks → List Token
+marked_physical file m =
+    key (codes "physicalLocation") ∷ begin_object ∷ (artifact_location file ++ (marked_regions file.lines m.statement m.operand ++ end_object ∷ []))
 
 -- the same with words
-abbrev pub marked_location : List ℕ → Marks → List ℕ → List Token
-marked_location uri m words = begin_object ∷ (marked_physical uri m ++ (message words ++ end_object ∷ []))
+abbrev pub marked_location : File → Marks → List ℕ → List Token
+marked_location file m words = begin_object ∷ (marked_physical file m ++ (message words ++ end_object ∷ []))
 
 -- the places of a result: what is marked, with what is said of it
-abbrev pub locations : List ℕ → Marks → List ℕ → List Token
-locations uri m words = array_member (codes "locations") (marked_location uri m words)
+abbrev pub locations : File → Marks → List ℕ → List Token
+locations file m words = array_member (codes "locations") (marked_location file m words)
 
 -- ---- ways
 
 -- a place on a way
-abbrev pub flow_location : List ℕ → ℕ → ℕ → List ℕ → List Token
-flow_location uri line column words = item (key (codes "location") ∷ location uri line column words)
+abbrev pub flow_location : File → Position → List ℕ → List Token
+flow_location file at words = item (key (codes "location") ∷ location file at words)
 
 -- a step at which nothing is asked isn't shown
-abbrev pub flow_step_by : List ℕ → Stage → List ℕ → List Token
-flow_step_by uri s [] = []
-flow_step_by uri s (b ∷ words) = flow_location uri s.place.line s.place.column (b ∷ words)
+abbrev pub flow_step_by : File → Stage → List ℕ → List Token
+flow_step_by file s [] = []
+flow_step_by file s (b ∷ words) = flow_location file s.place (b ∷ words)
 
-abbrev pub flow_step : List ℕ → Stage → List Token
-flow_step uri s = flow_step_by uri s s.words.items
+abbrev pub flow_step : File → Stage → List Token
+flow_step file s = flow_step_by file s s.words.items
 
 -- the end of a way
-abbrev pub finding_place : List ℕ → Detail → List Token
-finding_place uri d = item (key (codes "location") ∷ marked_location uri d.marks d.words.title.items)
+abbrev pub finding_place : File → Detail → List Token
+finding_place file d = item (key (codes "location") ∷ marked_location file d.marks d.words.title.items)
 
 -- the places of a way to a finding, with the finding last
-abbrev pub thread_places : List ℕ → Detail → List Stage → List Token
-thread_places uri d stages = flat_map (flow_step uri) stages ++ finding_place uri d
+abbrev pub thread_places : File → Detail → List Stage → List Token
+thread_places file d stages = flat_map (flow_step file) stages ++ finding_place file d
 
-abbrev pub thread : List ℕ → Detail → List Stage → List Token
-thread uri d stages = item (array_member (codes "locations") (thread_places uri d stages))
+abbrev pub thread : File → Detail → List Stage → List Token
+thread file d stages = item (array_member (codes "locations") (thread_places file d stages))
 
 -- a way to a finding
-abbrev pub flow : List ℕ → Detail → List Stage → List Token
-flow uri d stages = item (array_member (codes "threadFlows") (thread uri d stages))
+abbrev pub flow : File → Detail → List Stage → List Token
+flow file d stages = item (array_member (codes "threadFlows") (thread file d stages))
 
 -- the other way, if there is one
-abbrev pub other_flow : List ℕ → Detail → Option (List Stage) → List Token
-other_flow uri d None = []
-other_flow uri d (Some stages) = flow uri d stages
+abbrev pub other_flow : File → Detail → Option (List Stage) → List Token
+other_flow file d None = []
+other_flow file d (Some stages) = flow file d stages
 
-abbrev pub both_flows : List ℕ → Detail → List Token
-both_flows uri d = flow uri d d.route.stages ++ other_flow uri d d.route.other
+abbrev pub both_flows : File → Detail → List Token
+both_flows file d = flow file d d.route.stages ++ other_flow file d d.route.other
 
 -- the ways, where one was found
-abbrev pub flows_by : WayKind → List ℕ → Detail → List Token
-flows_by Clean uri d = both_flows uri d
-flows_by Behind uri d = both_flows uri d
-flows_by Unreached uri d = []
-flows_by Unknown uri d = []
+abbrev pub flows_by : WayKind → File → Detail → List Token
+flows_by Clean file d = both_flows file d
+flows_by Behind file d = both_flows file d
+flows_by Unreached file d = []
+flows_by Unknown file d = []
 
 -- none where another finding's serve
-abbrev pub own_flows : Option ℕ → List ℕ → Detail → List Token
-own_flows None uri d = flows_by d.route.kind uri d
-own_flows (Some n) uri d = []
+abbrev pub own_flows : Option ℕ → File → Detail → List Token
+own_flows None file d = flows_by d.route.kind file d
+own_flows (Some n) file d = []
 
-abbrev pub flows : List ℕ → Detail → List Token
-flows uri d = own_flows d.route.like uri d
+abbrev pub flows : File → Detail → List Token
+flows file d = own_flows d.route.like file d
 
 -- ---- results
 
@@ -123,12 +141,12 @@ abbrev pub not_suppressed : List Token
 not_suppressed = array_member (codes "suppressions") []
 
 -- where what is found comes from
-abbrev pub origin : List ℕ → Maker → List Token
-origin uri m = marked_location uri m.marks (codes "this makes it so")
+abbrev pub origin : File → Maker → List Token
+origin file m = marked_location file m.marks (codes "this makes it so")
 
-abbrev pub related : List ℕ → Option Maker → List Token
-related uri None = []
-related uri (Some m) = origin uri m
+abbrev pub related : File → Option Maker → List Token
+related file None = []
+related file (Some m) = origin file m
 
 -- what stays the same when lines move: the head of a callback, and what is said of it
 abbrev pub fingerprints : List ℕ → List ℕ → List Token
@@ -142,25 +160,45 @@ properties d =
     ++ filled_member (codes "note") d.words.note.items)))
 
 -- a finding
-abbrev pub result_members : List ℕ → Detail → List Token
-result_members uri d =
-    string_member (codes "ruleId") (rule_name d.finding.rule) ++ (level ++ (message d.words.title.items ++ (locations uri d.marks d.words.title.items
-    ++ (array_member (codes "relatedLocations") (related uri d.route.origin)
-    ++ (array_member (codes "codeFlows") (flows uri d) ++ (fingerprints d.words.head.items d.words.subject.items
+abbrev pub result_members : File → Detail → List Token
+result_members file d =
+    of_rule (Broken d.finding.rule) ++ (level ++ (message d.words.title.items ++ (locations file d.marks d.words.title.items
+    ++ (array_member (codes "relatedLocations") (related file d.route.origin)
+    ++ (array_member (codes "codeFlows") (flows file d) ++ (fingerprints d.words.head.items d.words.subject.items
     ++ (properties d ++ not_suppressed)))))))
 
-abbrev pub result : List ℕ → Detail → List Token
-result uri d = item (result_members uri d)
+abbrev pub result : File → Detail → List Token
+result file d = item (result_members file d)
 
 -- how to mend a fault of a text
 abbrev pub fault_properties : List ℕ → List Token
 fault_properties help = object_member (codes "properties") (filled_member (codes "help") help)
 
--- a fault of a text, with its words
-abbrev pub fault_members : List ℕ → SyntaxFault → List ℕ → List ℕ → List Token
-fault_members uri f words help =
-    string_member (codes "ruleId") (fault_name f.kind) ++ (level ++ (message words
-    ++ (array_member (codes "locations") (location uri f.line f.column words) ++ (fault_properties help ++ not_suppressed))))
+abbrev pub place_of : SyntaxFault → Position
+place_of f = record { line = f.line; column = f.column }
 
-abbrev pub fault_result : List ℕ → SyntaxFault → List ℕ → List ℕ → List Token
-fault_result uri f words help = item (fault_members uri f words help)
+-- where a text is refused, up to behind what stands there
+abbrev pub fault_region : Text → Position → List ℕ → List Token
+fault_region text at found =
+    object_member (codes "region") (number_member (codes "startLine") at.line ++ (number_member (codes "startColumn") (column_of text at)
+    ++ (number_member (codes "endLine") at.line ++ number_member (codes "endColumn") (column_behind text at (length found)))))
+
+abbrev pub fault_physical : File → SyntaxFault → List ℕ → List Token
+fault_physical file f found =
+    key (codes "physicalLocation") ∷ begin_object ∷ (artifact_location file ++ (fault_region file.lines (place_of f) found ++ end_object ∷ []))
+
+abbrev pub fault_location : File → SyntaxFault → List ℕ → List ℕ → List Token
+fault_location file f found words = begin_object ∷ (fault_physical file f found ++ (message words ++ end_object ∷ []))
+
+-- the places of a fault: what stands there, with what is said of it
+abbrev pub fault_locations : File → SyntaxFault → List ℕ → List ℕ → List Token
+fault_locations file f found words = array_member (codes "locations") (fault_location file f found words)
+
+-- a fault of a text at what is found there, with its words
+abbrev pub fault_members : File → SyntaxFault → List ℕ → List ℕ → List ℕ → List Token
+fault_members file f found words help =
+    of_rule (Unread f.kind) ++ (level ++ (message words
+    ++ (fault_locations file f found words ++ (fault_properties help ++ not_suppressed))))
+
+abbrev pub fault_result : File → SyntaxFault → List ℕ → List ℕ → List ℕ → List Token
+fault_result file f found words help = item (fault_members file f found words help)

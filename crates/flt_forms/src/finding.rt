@@ -35,7 +35,7 @@ fn put_rule_name(alloc: Global, writer: &mut Writer, rule: Rule) -> Result<(), A
 }
 
 /// What a rule says.
-pub(crate) fn put_rule_text(writer: &mut Writer, rule: Rule) -> Result<(), AllocError>
+fn put_rule_text(writer: &mut Writer, rule: Rule) -> Result<(), AllocError>
     ensures { Adds result writer.old writer.new (string_member (codes "text") (rule_text rule)) }
 {
     put_string(writer, "text", text(rule))

@@ -2,12 +2,16 @@
 //! `UnreadFile`, by which SARIF tells of a file that isn't read.
 #![tactic(auto)]
 
+mod artifacts;
 mod as_lines;
 mod as_sarif;
+mod columns;
 mod fault;
+mod file;
 mod finding;
 mod members;
 mod results;
+mod rules;
 mod short;
 mod steps;
 mod unread;
@@ -15,7 +19,6 @@ mod uri;
 mod warned;
 mod warning;
 mod warning_results;
-mod warning_rules;
 
 pub use as_lines::{Style, lines};
 pub use as_sarif::sarif;

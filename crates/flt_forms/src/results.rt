@@ -1,18 +1,22 @@
 //! Results of SARIF: findings and faults of texts.
 
-ghost use Rattle.std.specs.Prelude.{◌≡◌, ◌++◌, codes, flat_map};
-ghost use Rattle.flt_forms.specs.Members.{Adds, array_member, object_member, string_member, text_member};
+ghost use Rattle.std.specs.Prelude.{◌≡◌, codes, flat_map, length};
+ghost use Rattle.flt_forms.specs.Columns.{column_behind, column_of};
+ghost use Rattle.flt_forms.specs.Members.{Adds, array_member, number_member};
 ghost use Rattle.flt_forms.specs.Results as spec;
-ghost use Rattle.flt_details.specs.Closing.{fault_name as fault_words, rule_name};
 
+use crate::columns::{column_behind, column_of};
+use crate::file::File;
 use crate::members::{
-    close_array, close_object, open_array, open_object, put_filled, put_key, put_number,
+    close_array, close_object, open_array, open_object, put_filled, put_items, put_key, put_number,
     put_string, put_text,
 };
-use flt_details::{Detail, Maker, Marks, RuleName, Stage, WayKind, fault_name};
-use flt_places::Region;
-use flt_rules::Rule;
+use crate::rules::{Reported, put_of_rule};
+use crate::uri::Reference;
+use flt_details::{Detail, Maker, Marks, Stage, WayKind};
+use flt_places::{Lines, Region};
 use flt_syntax::SyntaxFault;
+use flt_tree::Position;
 use json::Writer;
 use sqlite_items::Items;
 use std::alloc::{AllocError, Global};
@@ -32,27 +36,58 @@ pub(crate) fn put_message(
     close_object(writer)
 }
 
-pub(crate) fn put_artifact(
+/// The folder that a relative name is from, by its name in the document.
+fn put_base(writer: &mut Writer, is_absolute: bool) -> Result<(), AllocError>
+    ensures { Adds result writer.old writer.new (spec.base is_absolute) }
+{
+    if is_absolute {
+        return Ok(());
+    }
+    put_string(writer, "uriBaseId", "%SRCROOT%")
+}
+
+/// How a file is named.
+pub(crate) fn put_reference(
     alloc: Global,
     writer: &mut Writer,
-    uri: &Vec<u8>,
+    reference: &Reference,
 ) -> Result<(), AllocError>
-    ensures { Adds result writer.old writer.new
-        (object_member (codes "artifactLocation") (text_member (codes "uri") uri.now.items)) }
+    ensures { Adds result writer.old writer.new (spec.reference reference.now) }
+{
+    put_items(alloc, writer, "uri", &reference.uri)?;
+    put_base(writer, reference.is_absolute)
+}
+
+/// A file, by its name and its number.
+fn put_artifact(alloc: Global, writer: &mut Writer, file: &File<'_>) -> Result<(), AllocError>
+    ensures { Adds result writer.old writer.new (spec.artifact_location file.now) }
 {
     put_key(writer, "artifactLocation")?;
     open_object(writer)?;
-    put_text(alloc, writer, "uri", uri)?;
+    put_reference(alloc, writer, &file.reference)?;
+    put_number(writer, "index", file.number)?;
     close_object(writer)
 }
 
-fn put_region(writer: &mut Writer, line: usize, column: usize) -> Result<(), AllocError>
-    ensures { Adds result writer.old writer.new (spec.region line column) }
+/// The column of a place, in UTF-16 units.
+fn put_column(
+    writer: &mut Writer,
+    name: &str,
+    lines: &Lines<'_>,
+    place: Position,
+) -> Result<(), AllocError>
+    ensures { Adds result writer.old writer.new (number_member name.now (column_of lines.now place)) }
+{
+    put_number(writer, name, column_of(lines, place))
+}
+
+fn put_region(writer: &mut Writer, lines: &Lines<'_>, place: Position) -> Result<(), AllocError>
+    ensures { Adds result writer.old writer.new (spec.region lines.now place) }
 {
     put_key(writer, "region")?;
     open_object(writer)?;
-    put_number(writer, "startLine", line)?;
-    put_number(writer, "startColumn", column)?;
+    put_number(writer, "startLine", place.line)?;
+    put_column(writer, "startColumn", lines, place)?;
     close_object(writer)
 }
 
@@ -60,16 +95,15 @@ fn put_region(writer: &mut Writer, line: usize, column: usize) -> Result<(), All
 fn put_physical(
     alloc: Global,
     writer: &mut Writer,
-    uri: &Vec<u8>,
-    line: usize,
-    column: usize,
+    file: &File<'_>,
+    place: Position,
 ) -> Result<(), AllocError>
-    ensures { Adds result writer.old writer.new (spec.physical uri.now.items line column) }
+    ensures { Adds result writer.old writer.new (spec.physical file.now place) }
 {
     put_key(writer, "physicalLocation")?;
     open_object(writer)?;
-    put_artifact(alloc, writer, uri)?;
-    put_region(writer, line, column)?;
+    put_artifact(alloc, writer, file)?;
+    put_region(writer, &file.lines, place)?;
     close_object(writer)
 }
 
@@ -77,63 +111,50 @@ fn put_physical(
 fn put_location(
     alloc: Global,
     writer: &mut Writer,
-    uri: &Vec<u8>,
-    line: usize,
-    column: usize,
+    file: &File<'_>,
+    place: Position,
     words: &Vec<u8>,
 ) -> Result<(), AllocError>
-    ensures { Adds result writer.old writer.new (spec.location uri.now.items line column words.now.items) }
+    ensures { Adds result writer.old writer.new (spec.location file.now place words.now.items) }
 {
     open_object(writer)?;
-    put_physical(alloc, writer, uri, line, column)?;
+    put_physical(alloc, writer, file, place)?;
     put_message(alloc, writer, words)?;
     close_object(writer)
 }
 
-/// The places of a result: one.
-fn put_locations(
-    alloc: Global,
-    writer: &mut Writer,
-    uri: &Vec<u8>,
-    line: usize,
-    column: usize,
-    words: &Vec<u8>,
-) -> Result<(), AllocError>
-    ensures { Adds result writer.old writer.new
-        (array_member (codes "locations") (spec.location uri.now.items line column words.now.items)) }
-{
-    put_key(writer, "locations")?;
-    open_array(writer)?;
-    put_location(alloc, writer, uri, line, column, words)?;
-    close_array(writer)
-}
-
 /// Where something begins and ends.
-fn put_whole_region(writer: &mut Writer, name: &str, region: Region) -> Result<(), AllocError>
-    ensures { Adds result writer.old writer.new (spec.whole_region name.now region) }
+fn put_whole_region(
+    writer: &mut Writer,
+    name: &str,
+    lines: &Lines<'_>,
+    region: Region,
+) -> Result<(), AllocError>
+    ensures { Adds result writer.old writer.new (spec.whole_region name.now lines.now region) }
 {
     put_key(writer, name)?;
     open_object(writer)?;
     put_number(writer, "startLine", region.first.line)?;
-    put_number(writer, "startColumn", region.first.column)?;
+    put_column(writer, "startColumn", lines, region.first)?;
     put_number(writer, "endLine", region.end.line)?;
-    put_number(writer, "endColumn", region.end.column)?;
+    put_column(writer, "endColumn", lines, region.end)?;
     close_object(writer)
 }
 
 /// What is marked, and what stands round it.
 fn put_marked_regions(
     writer: &mut Writer,
+    lines: &Lines<'_>,
     statement: Region,
     operand: Option<Region>,
 ) -> Result<(), AllocError>
-    ensures { Adds result writer.old writer.new (spec.marked_regions statement operand) }
+    ensures { Adds result writer.old writer.new (spec.marked_regions lines.now statement operand) }
 {
     match operand {
-        None => put_whole_region(writer, "region", statement),
+        None => put_whole_region(writer, "region", lines, statement),
         Some(operand) => {
-            put_whole_region(writer, "region", operand)?;
-            put_whole_region(writer, "contextRegion", statement)
+            put_whole_region(writer, "region", lines, operand)?;
+            put_whole_region(writer, "contextRegion", lines, statement)
         }
     }
 }
@@ -141,15 +162,15 @@ fn put_marked_regions(
 fn put_marked_physical(
     alloc: Global,
     writer: &mut Writer,
-    uri: &Vec<u8>,
+    file: &File<'_>,
     marks: Marks,
 ) -> Result<(), AllocError>
-    ensures { Adds result writer.old writer.new (spec.marked_physical uri.now.items marks) }
+    ensures { Adds result writer.old writer.new (spec.marked_physical file.now marks) }
 {
     put_key(writer, "physicalLocation")?;
     open_object(writer)?;
-    put_artifact(alloc, writer, uri)?;
-    put_marked_regions(writer, marks.statement, marks.operand)?;
+    put_artifact(alloc, writer, file)?;
+    put_marked_regions(writer, &file.lines, marks.statement, marks.operand)?;
     close_object(writer)
 }
 
@@ -157,14 +178,14 @@ fn put_marked_physical(
 pub(crate) fn put_marked_location(
     alloc: Global,
     writer: &mut Writer,
-    uri: &Vec<u8>,
+    file: &File<'_>,
     marks: Marks,
     words: &Vec<u8>,
 ) -> Result<(), AllocError>
-    ensures { Adds result writer.old writer.new (spec.marked_location uri.now.items marks words.now.items) }
+    ensures { Adds result writer.old writer.new (spec.marked_location file.now marks words.now.items) }
 {
     open_object(writer)?;
-    put_marked_physical(alloc, writer, uri, marks)?;
+    put_marked_physical(alloc, writer, file, marks)?;
     put_message(alloc, writer, words)?;
     close_object(writer)
 }
@@ -173,15 +194,15 @@ pub(crate) fn put_marked_location(
 pub(crate) fn put_marked_locations(
     alloc: Global,
     writer: &mut Writer,
-    uri: &Vec<u8>,
+    file: &File<'_>,
     marks: Marks,
     words: &Vec<u8>,
 ) -> Result<(), AllocError>
-    ensures { Adds result writer.old writer.new (spec.locations uri.now.items marks words.now.items) }
+    ensures { Adds result writer.old writer.new (spec.locations file.now marks words.now.items) }
 {
     put_key(writer, "locations")?;
     open_array(writer)?;
-    put_marked_location(alloc, writer, uri, marks, words)?;
+    put_marked_location(alloc, writer, file, marks, words)?;
     close_array(writer)
 }
 
@@ -191,16 +212,15 @@ pub(crate) fn put_marked_locations(
 fn put_flow_location(
     alloc: Global,
     writer: &mut Writer,
-    uri: &Vec<u8>,
-    line: usize,
-    column: usize,
+    file: &File<'_>,
+    place: Position,
     words: &Vec<u8>,
 ) -> Result<(), AllocError>
-    ensures { Adds result writer.old writer.new (spec.flow_location uri.now.items line column words.now.items) }
+    ensures { Adds result writer.old writer.new (spec.flow_location file.now place words.now.items) }
 {
     open_object(writer)?;
     put_key(writer, "location")?;
-    put_location(alloc, writer, uri, line, column, words)?;
+    put_location(alloc, writer, file, place, words)?;
     close_object(writer)
 }
 
@@ -208,36 +228,27 @@ fn put_flow_location(
 fn put_flow_step(
     alloc: Global,
     writer: &mut Writer,
-    uri: &Vec<u8>,
+    file: &File<'_>,
     stage: &Stage,
 ) -> Result<(), AllocError>
-    ensures { Adds result writer.old writer.new (spec.flow_step uri.now.items stage.now) }
+    ensures { Adds result writer.old writer.new (spec.flow_step file.now stage.now) }
 {
     match stage.words.as_slice() {
         [] => Ok(()),
-        [_, ..] => {
-            put_flow_location(
-                alloc,
-                writer,
-                uri,
-                stage.place.line,
-                stage.place.column,
-                &stage.words,
-            )
-        }
+        [_, ..] => { put_flow_location(alloc, writer, file, stage.place, &stage.words) }
     }
 }
 
 fn put_flow_steps(
     alloc: Global,
     writer: &mut Writer,
-    uri: &Vec<u8>,
+    file: &File<'_>,
     stages: &Items<Stage>,
 ) -> Result<(), AllocError>
-    ensures { Adds result writer.old writer.new (flat_map (spec.flow_step uri.now.items) stages.now) }
+    ensures { Adds result writer.old writer.new (flat_map (spec.flow_step file.now) stages.now) }
 {
     for stage in stages.as_slice() {
-        put_flow_step(alloc, writer, uri, stage)?;
+        put_flow_step(alloc, writer, file, stage)?;
     }
     Ok(())
 }
@@ -245,14 +256,14 @@ fn put_flow_steps(
 fn put_finding_place(
     alloc: Global,
     writer: &mut Writer,
-    uri: &Vec<u8>,
+    file: &File<'_>,
     detail: &Detail,
 ) -> Result<(), AllocError>
-    ensures { Adds result writer.old writer.new (spec.finding_place uri.now.items detail.now) }
+    ensures { Adds result writer.old writer.new (spec.finding_place file.now detail.now) }
 {
     open_object(writer)?;
     put_key(writer, "location")?;
-    put_marked_location(alloc, writer, uri, detail.marks, &detail.words.title)?;
+    put_marked_location(alloc, writer, file, detail.marks, &detail.words.title)?;
     close_object(writer)
 }
 
@@ -260,59 +271,59 @@ fn put_finding_place(
 fn put_thread_places(
     alloc: Global,
     writer: &mut Writer,
-    uri: &Vec<u8>,
+    file: &File<'_>,
     detail: &Detail,
     stages: &Items<Stage>,
 ) -> Result<(), AllocError>
-    ensures { Adds result writer.old writer.new (spec.thread_places uri.now.items detail.now stages.now) }
+    ensures { Adds result writer.old writer.new (spec.thread_places file.now detail.now stages.now) }
 {
-    put_flow_steps(alloc, writer, uri, stages)?;
-    put_finding_place(alloc, writer, uri, detail)
+    put_flow_steps(alloc, writer, file, stages)?;
+    put_finding_place(alloc, writer, file, detail)
 }
 
 fn put_thread_locations(
     alloc: Global,
     writer: &mut Writer,
-    uri: &Vec<u8>,
+    file: &File<'_>,
     detail: &Detail,
     stages: &Items<Stage>,
 ) -> Result<(), AllocError>
     ensures { Adds result writer.old writer.new
-        (array_member (codes "locations") (spec.thread_places uri.now.items detail.now stages.now)) }
+        (array_member (codes "locations") (spec.thread_places file.now detail.now stages.now)) }
 {
     put_key(writer, "locations")?;
     open_array(writer)?;
-    put_thread_places(alloc, writer, uri, detail, stages)?;
+    put_thread_places(alloc, writer, file, detail, stages)?;
     close_array(writer)
 }
 
 fn put_thread(
     alloc: Global,
     writer: &mut Writer,
-    uri: &Vec<u8>,
+    file: &File<'_>,
     detail: &Detail,
     stages: &Items<Stage>,
 ) -> Result<(), AllocError>
-    ensures { Adds result writer.old writer.new (spec.thread uri.now.items detail.now stages.now) }
+    ensures { Adds result writer.old writer.new (spec.thread file.now detail.now stages.now) }
 {
     open_object(writer)?;
-    put_thread_locations(alloc, writer, uri, detail, stages)?;
+    put_thread_locations(alloc, writer, file, detail, stages)?;
     close_object(writer)
 }
 
 fn put_threads(
     alloc: Global,
     writer: &mut Writer,
-    uri: &Vec<u8>,
+    file: &File<'_>,
     detail: &Detail,
     stages: &Items<Stage>,
 ) -> Result<(), AllocError>
     ensures { Adds result writer.old writer.new
-        (array_member (codes "threadFlows") (spec.thread uri.now.items detail.now stages.now)) }
+        (array_member (codes "threadFlows") (spec.thread file.now detail.now stages.now)) }
 {
     put_key(writer, "threadFlows")?;
     open_array(writer)?;
-    put_thread(alloc, writer, uri, detail, stages)?;
+    put_thread(alloc, writer, file, detail, stages)?;
     close_array(writer)
 }
 
@@ -320,14 +331,14 @@ fn put_threads(
 fn put_flow(
     alloc: Global,
     writer: &mut Writer,
-    uri: &Vec<u8>,
+    file: &File<'_>,
     detail: &Detail,
     stages: &Items<Stage>,
 ) -> Result<(), AllocError>
-    ensures { Adds result writer.old writer.new (spec.flow uri.now.items detail.now stages.now) }
+    ensures { Adds result writer.old writer.new (spec.flow file.now detail.now stages.now) }
 {
     open_object(writer)?;
-    put_threads(alloc, writer, uri, detail, stages)?;
+    put_threads(alloc, writer, file, detail, stages)?;
     close_object(writer)
 }
 
@@ -335,15 +346,15 @@ fn put_flow(
 fn put_other_flow(
     alloc: Global,
     writer: &mut Writer,
-    uri: &Vec<u8>,
+    file: &File<'_>,
     detail: &Detail,
     stages: &Option<Items<Stage>>,
 ) -> Result<(), AllocError>
-    ensures { Adds result writer.old writer.new (spec.other_flow uri.now.items detail.now stages.now) }
+    ensures { Adds result writer.old writer.new (spec.other_flow file.now detail.now stages.now) }
 {
     match stages {
         None => Ok(()),
-        Some(stages) => put_flow(alloc, writer, uri, detail, stages),
+        Some(stages) => put_flow(alloc, writer, file, detail, stages),
     }
 }
 
@@ -351,26 +362,26 @@ fn put_other_flow(
 fn put_both_flows(
     alloc: Global,
     writer: &mut Writer,
-    uri: &Vec<u8>,
+    file: &File<'_>,
     detail: &Detail,
 ) -> Result<(), AllocError>
-    ensures { Adds result writer.old writer.new (spec.both_flows uri.now.items detail.now) }
+    ensures { Adds result writer.old writer.new (spec.both_flows file.now detail.now) }
 {
-    put_flow(alloc, writer, uri, detail, &detail.route.stages)?;
-    put_other_flow(alloc, writer, uri, detail, &detail.route.other)
+    put_flow(alloc, writer, file, detail, &detail.route.stages)?;
+    put_other_flow(alloc, writer, file, detail, &detail.route.other)
 }
 
 fn put_found_flows(
     alloc: Global,
     writer: &mut Writer,
-    uri: &Vec<u8>,
+    file: &File<'_>,
     detail: &Detail,
     kind: WayKind,
 ) -> Result<(), AllocError>
-    ensures { Adds result writer.old writer.new (spec.flows_by kind uri.now.items detail.now) }
+    ensures { Adds result writer.old writer.new (spec.flows_by kind file.now detail.now) }
 {
     match kind {
-        WayKind::Clean | WayKind::Behind => put_both_flows(alloc, writer, uri, detail),
+        WayKind::Clean | WayKind::Behind => put_both_flows(alloc, writer, file, detail),
         WayKind::Unreached | WayKind::Unknown => Ok(()),
     }
 }
@@ -379,13 +390,13 @@ fn put_found_flows(
 fn put_own_flows(
     alloc: Global,
     writer: &mut Writer,
-    uri: &Vec<u8>,
+    file: &File<'_>,
     detail: &Detail,
 ) -> Result<(), AllocError>
-    ensures { Adds result writer.old writer.new (spec.flows uri.now.items detail.now) }
+    ensures { Adds result writer.old writer.new (spec.flows file.now detail.now) }
 {
     match detail.route.like {
-        None => put_found_flows(alloc, writer, uri, detail, detail.route.kind),
+        None => put_found_flows(alloc, writer, file, detail, detail.route.kind),
         Some(_) => Ok(()),
     }
 }
@@ -394,15 +405,15 @@ fn put_own_flows(
 fn put_flows(
     alloc: Global,
     writer: &mut Writer,
-    uri: &Vec<u8>,
+    file: &File<'_>,
     detail: &Detail,
 ) -> Result<(), AllocError>
     ensures { Adds result writer.old writer.new
-        (array_member (codes "codeFlows") (spec.flows uri.now.items detail.now)) }
+        (array_member (codes "codeFlows") (spec.flows file.now detail.now)) }
 {
     put_key(writer, "codeFlows")?;
     open_array(writer)?;
-    put_own_flows(alloc, writer, uri, detail)?;
+    put_own_flows(alloc, writer, file, detail)?;
     close_array(writer)
 }
 
@@ -423,43 +434,29 @@ pub(crate) fn put_not_suppressed(writer: &mut Writer) -> Result<(), AllocError>
     close_array(writer)
 }
 
-/// The rule's number under a name.
-pub(crate) fn put_rule_name(
-    alloc: Global,
-    writer: &mut Writer,
-    name: &str,
-    rule: Rule,
-) -> Result<(), AllocError>
-    ensures { Adds result writer.old writer.new (string_member name.now (rule_name rule)) }
-{
-    let rule = RuleName(rule);
-    let text = format!(in alloc; "{rule}")?;
-    put_string(writer, name, text.as_str())
-}
-
 fn put_origin(
     alloc: Global,
     writer: &mut Writer,
-    uri: &Vec<u8>,
+    file: &File<'_>,
     maker: &Maker,
 ) -> Result<(), AllocError>
-    ensures { Adds result writer.old writer.new (spec.origin uri.now.items maker.now) }
+    ensures { Adds result writer.old writer.new (spec.origin file.now maker.now) }
 {
     let words = Vec::from_slice(alloc, b"this makes it so")?;
-    put_marked_location(alloc, writer, uri, maker.marks, &words)
+    put_marked_location(alloc, writer, file, maker.marks, &words)
 }
 
 fn put_related_origin(
     alloc: Global,
     writer: &mut Writer,
-    uri: &Vec<u8>,
+    file: &File<'_>,
     origin: &Option<Maker>,
 ) -> Result<(), AllocError>
-    ensures { Adds result writer.old writer.new (spec.related uri.now.items origin.now) }
+    ensures { Adds result writer.old writer.new (spec.related file.now origin.now) }
 {
     match origin {
         None => Ok(()),
-        Some(maker) => put_origin(alloc, writer, uri, maker),
+        Some(maker) => put_origin(alloc, writer, file, maker),
     }
 }
 
@@ -467,15 +464,15 @@ fn put_related_origin(
 fn put_related(
     alloc: Global,
     writer: &mut Writer,
-    uri: &Vec<u8>,
+    file: &File<'_>,
     origin: &Option<Maker>,
 ) -> Result<(), AllocError>
     ensures { Adds result writer.old writer.new
-        (array_member (codes "relatedLocations") (spec.related uri.now.items origin.now)) }
+        (array_member (codes "relatedLocations") (spec.related file.now origin.now)) }
 {
     put_key(writer, "relatedLocations")?;
     open_array(writer)?;
-    put_related_origin(alloc, writer, uri, origin)?;
+    put_related_origin(alloc, writer, file, origin)?;
     close_array(writer)
 }
 
@@ -510,17 +507,17 @@ fn put_properties(alloc: Global, writer: &mut Writer, detail: &Detail) -> Result
 fn put_result_members(
     alloc: Global,
     writer: &mut Writer,
-    uri: &Vec<u8>,
+    file: &File<'_>,
     detail: &Detail,
 ) -> Result<(), AllocError>
-    ensures { Adds result writer.old writer.new (spec.result_members uri.now.items detail.now) }
+    ensures { Adds result writer.old writer.new (spec.result_members file.now detail.now) }
 {
-    put_rule_name(alloc, writer, "ruleId", detail.finding.rule)?;
+    put_of_rule(alloc, writer, Reported::Broken(detail.finding.rule))?;
     put_level(writer)?;
     put_message(alloc, writer, &detail.words.title)?;
-    put_marked_locations(alloc, writer, uri, detail.marks, &detail.words.title)?;
-    put_related(alloc, writer, uri, &detail.route.origin)?;
-    put_flows(alloc, writer, uri, detail)?;
+    put_marked_locations(alloc, writer, file, detail.marks, &detail.words.title)?;
+    put_related(alloc, writer, file, &detail.route.origin)?;
+    put_flows(alloc, writer, file, detail)?;
     put_fingerprints(alloc, writer, &detail.words.head, &detail.words.subject)?;
     put_properties(alloc, writer, detail)?;
     put_not_suppressed(writer)
@@ -530,13 +527,13 @@ fn put_result_members(
 fn put_result(
     alloc: Global,
     writer: &mut Writer,
-    uri: &Vec<u8>,
+    file: &File<'_>,
     detail: &Detail,
 ) -> Result<(), AllocError>
-    ensures { Adds result writer.old writer.new (spec.result uri.now.items detail.now) }
+    ensures { Adds result writer.old writer.new (spec.result file.now detail.now) }
 {
     open_object(writer)?;
-    put_result_members(alloc, writer, uri, detail)?;
+    put_result_members(alloc, writer, file, detail)?;
     close_object(writer)
 }
 
@@ -544,23 +541,110 @@ fn put_result(
 pub(crate) fn put_results(
     alloc: Global,
     writer: &mut Writer,
-    uri: &Vec<u8>,
+    file: &File<'_>,
     details: &[Detail],
 ) -> Result<(), AllocError>
-    ensures { Adds result writer.old writer.new (flat_map (spec.result uri.now.items) details.now) }
+    ensures { Adds result writer.old writer.new (flat_map (spec.result file.now) details.now) }
 {
     for detail in details {
-        put_result(alloc, writer, uri, detail)?;
+        put_result(alloc, writer, file, detail)?;
     }
     Ok(())
 }
 
 // ---- faults
 
-fn put_fault_rule(writer: &mut Writer, fault: SyntaxFault) -> Result<(), AllocError>
-    ensures { Adds result writer.old writer.new (string_member (codes "ruleId") (fault_words fault.kind)) }
+/// The column behind what stands where a text is refused.
+fn put_fault_end(
+    writer: &mut Writer,
+    lines: &Lines<'_>,
+    place: Position,
+    found: &[u8],
+) -> Result<(), AllocError>
+    ensures { Adds result writer.old writer.new
+        (number_member (codes "endColumn") (column_behind lines.now place (length found.now))) }
 {
-    put_string(writer, "ruleId", fault_name(fault.kind))
+    put_number(
+        writer,
+        "endColumn",
+        column_behind(lines, place, found.len()),
+    )
+}
+
+/// Where a text is refused, up to behind what stands there.
+fn put_fault_region(
+    writer: &mut Writer,
+    lines: &Lines<'_>,
+    place: Position,
+    found: &[u8],
+) -> Result<(), AllocError>
+    ensures { Adds result writer.old writer.new (spec.fault_region lines.now place found.now) }
+{
+    put_key(writer, "region")?;
+    open_object(writer)?;
+    put_number(writer, "startLine", place.line)?;
+    put_column(writer, "startColumn", lines, place)?;
+    put_number(writer, "endLine", place.line)?;
+    put_fault_end(writer, lines, place, found)?;
+    close_object(writer)
+}
+
+fn place_of(fault: SyntaxFault) -> Position
+    ensures { result ≡ spec.place_of fault }
+{
+    Position {
+        line: fault.line,
+        column: fault.column,
+    }
+}
+
+fn put_fault_physical(
+    alloc: Global,
+    writer: &mut Writer,
+    file: &File<'_>,
+    fault: SyntaxFault,
+    found: &[u8],
+) -> Result<(), AllocError>
+    ensures { Adds result writer.old writer.new (spec.fault_physical file.now fault found.now) }
+{
+    put_key(writer, "physicalLocation")?;
+    open_object(writer)?;
+    put_artifact(alloc, writer, file)?;
+    put_fault_region(writer, &file.lines, place_of(fault), found)?;
+    close_object(writer)
+}
+
+fn put_fault_location(
+    alloc: Global,
+    writer: &mut Writer,
+    file: &File<'_>,
+    fault: SyntaxFault,
+    found: &[u8],
+    words: &Vec<u8>,
+) -> Result<(), AllocError>
+    ensures { Adds result writer.old writer.new (spec.fault_location file.now fault found.now words.now.items) }
+{
+    open_object(writer)?;
+    put_fault_physical(alloc, writer, file, fault, found)?;
+    put_message(alloc, writer, words)?;
+    close_object(writer)
+}
+
+/// The places of a fault: one.
+fn put_fault_locations(
+    alloc: Global,
+    writer: &mut Writer,
+    file: &File<'_>,
+    fault: SyntaxFault,
+    found: &[u8],
+    words: &Vec<u8>,
+) -> Result<(), AllocError>
+    ensures { Adds result writer.old writer.new (spec.fault_locations file.now fault found.now words.now.items) }
+{
+    put_key(writer, "locations")?;
+    open_array(writer)?;
+    put_fault_location(alloc, writer, file, fault, found, words)?;
+    close_array(writer)
 }
 
 fn put_fault_properties(
@@ -579,18 +663,19 @@ fn put_fault_properties(
 fn put_fault_members(
     alloc: Global,
     writer: &mut Writer,
-    uri: &Vec<u8>,
+    file: &File<'_>,
     fault: SyntaxFault,
+    found: &[u8],
     words: &Vec<u8>,
     help: &Vec<u8>,
 ) -> Result<(), AllocError>
     ensures { Adds result writer.old writer.new
-        (spec.fault_members uri.now.items fault words.now.items help.now.items) }
+        (spec.fault_members file.now fault found.now words.now.items help.now.items) }
 {
-    put_fault_rule(writer, fault)?;
+    put_of_rule(alloc, writer, Reported::Unread(fault.kind))?;
     put_level(writer)?;
     put_message(alloc, writer, words)?;
-    put_locations(alloc, writer, uri, fault.line, fault.column, words)?;
+    put_fault_locations(alloc, writer, file, fault, found, words)?;
     put_fault_properties(alloc, writer, help)?;
     put_not_suppressed(writer)
 }
@@ -599,15 +684,16 @@ fn put_fault_members(
 pub(crate) fn put_fault_result(
     alloc: Global,
     writer: &mut Writer,
-    uri: &Vec<u8>,
+    file: &File<'_>,
     fault: SyntaxFault,
+    found: &[u8],
     words: &Vec<u8>,
     help: &Vec<u8>,
 ) -> Result<(), AllocError>
     ensures { Adds result writer.old writer.new
-        (spec.fault_result uri.now.items fault words.now.items help.now.items) }
+        (spec.fault_result file.now fault found.now words.now.items help.now.items) }
 {
     open_object(writer)?;
-    put_fault_members(alloc, writer, uri, fault, words, help)?;
+    put_fault_members(alloc, writer, file, fault, found, words, help)?;
     close_object(writer)
 }

@@ -1,9 +1,18 @@
-//! Names of files as relative references.
+//! Names of files as references.
 
 ghost use Rattle.std.specs.Prelude.{◌≡◌, ◌<◌, ◌++◌, IfOk, OnOk};
 ghost use Rattle.flt_forms.specs.Uri as spec;
 
+use sqlite_items::Items;
 use std::alloc::{AllocError, Global};
+
+/// The name of a file, as a reference.
+#[derive(Drop)]
+pub struct Reference {
+    pub uri: Items<u8>,
+    /// Of a name from the root; any other is one from the folder in which the program runs.
+    pub is_absolute: bool,
+}
 
 /// Whether a byte stands for itself in a reference.
 fn is_plain(byte: u8) -> bool
@@ -37,13 +46,42 @@ fn put_byte(out: &mut Vec<u8>, byte: u8) -> Result<(), AllocError>
     Ok(())
 }
 
-/// A name as a reference: each byte that doesn't stand for itself is `%` and its two digits.
-pub(crate) fn uri(alloc: Global, name: &str) -> Result<Vec<u8>, AllocError>
-    ensures { IfOk result (λ v. v.items ≡ spec.uri_of name.now) }
+/// Whether a name is one from the root.
+fn is_absolute(name: &[u8]) -> bool
+    ensures { result ≡ spec.is_absolute name.now }
 {
-    let mut out = Vec::new(alloc);
-    for byte in name.as_bytes() {
+    match name {
+        [first, ..] => *first == b'/',
+        [] => false,
+    }
+}
+
+/// What stands before the bytes of a name.
+fn scheme(is_absolute: bool) -> &'static [u8]
+    ensures { result.now ≡ spec.scheme is_absolute }
+{
+    if is_absolute { b"file://" } else { b"" }
+}
+
+/// A name behind a scheme: each byte that doesn't stand for itself is `%` and its two digits.
+fn uri(alloc: Global, scheme: &[u8], name: &[u8]) -> Result<Vec<u8>, AllocError>
+    ensures { IfOk result (λ v. v.items ≡ scheme.now ++ spec.uri_of name.now) }
+{
+    let mut out = Vec::from_slice(alloc, scheme)?;
+    for byte in name {
         put_byte(&mut out, *byte)?;
     }
     Ok(out)
+}
+
+/// A name as a reference.
+pub(crate) fn reference_to(alloc: Global, name: &str) -> Result<Reference, AllocError>
+    ensures { IfOk result (λ r. r ≡ spec.reference_of name.now) }
+{
+    let is_absolute = is_absolute(name.as_bytes());
+    let uri = uri(alloc, scheme(is_absolute), name.as_bytes())?;
+    Ok(Reference {
+        uri: Items::from_vec(uri),
+        is_absolute,
+    })
 }

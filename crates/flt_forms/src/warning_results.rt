@@ -4,6 +4,7 @@ ghost use Rattle.std.specs.Prelude.{◌≡◌, IfOk, codes, flat_map};
 ghost use Rattle.flt_forms.specs.Members.{Adds, array_member};
 ghost use Rattle.flt_forms.specs.WarningResults as spec;
 
+use crate::file::File;
 use crate::members::{
     close_array, close_object, open_array, open_object, put_filled_items, put_items, put_key,
     put_string,
@@ -11,7 +12,8 @@ use crate::members::{
 use crate::results::{
     put_fingerprints, put_marked_location, put_marked_locations, put_message, put_not_suppressed,
 };
-use crate::warning::{put_kind_name, put_numbers, put_warning_level};
+use crate::rules::{Reported, put_of_rule};
+use crate::warning::{put_numbers, put_warning_level};
 use flt_warning_details::{RelatedPlace, WarningDetail};
 use flt_warnings::Site;
 use json::Writer;
@@ -30,25 +32,25 @@ fn vec_of(alloc: Global, bytes: &Items<u8>) -> Result<Vec<u8>, AllocError>
 fn put_related_place(
     alloc: Global,
     writer: &mut Writer,
-    uri: &Vec<u8>,
+    file: &File<'_>,
     place: &RelatedPlace,
 ) -> Result<(), AllocError>
-    ensures { Adds result writer.old writer.new (spec.related_place uri.now.items place.now) }
+    ensures { Adds result writer.old writer.new (spec.related_place file.now place.now) }
 {
     let words = vec_of(alloc, &place.words)?;
-    put_marked_location(alloc, writer, uri, place.marks, &words)
+    put_marked_location(alloc, writer, file, place.marks, &words)
 }
 
 fn put_related_places(
     alloc: Global,
     writer: &mut Writer,
-    uri: &Vec<u8>,
+    file: &File<'_>,
     places: &Items<RelatedPlace>,
 ) -> Result<(), AllocError>
-    ensures { Adds result writer.old writer.new (flat_map (spec.related_place uri.now.items) places.now) }
+    ensures { Adds result writer.old writer.new (flat_map (spec.related_place file.now) places.now) }
 {
     for place in places.as_slice() {
-        put_related_place(alloc, writer, uri, place)?;
+        put_related_place(alloc, writer, file, place)?;
     }
     Ok(())
 }
@@ -57,14 +59,14 @@ fn put_related_places(
 fn put_related(
     alloc: Global,
     writer: &mut Writer,
-    uri: &Vec<u8>,
+    file: &File<'_>,
     detail: &WarningDetail,
 ) -> Result<(), AllocError>
-    ensures { Adds result writer.old writer.new (spec.related uri.now.items detail.now) }
+    ensures { Adds result writer.old writer.new (spec.related file.now detail.now) }
 {
     put_key(writer, "relatedLocations")?;
     open_array(writer)?;
-    put_related_places(alloc, writer, uri, &detail.related)?;
+    put_related_places(alloc, writer, file, &detail.related)?;
     close_array(writer)
 }
 
@@ -148,19 +150,19 @@ fn put_suppressions(
 fn put_result_members(
     alloc: Global,
     writer: &mut Writer,
-    uri: &Vec<u8>,
+    file: &File<'_>,
     detail: &WarningDetail,
     title: &Vec<u8>,
     head: &Vec<u8>,
 ) -> Result<(), AllocError>
     ensures { Adds result writer.old writer.new
-        (spec.result_members uri.now.items detail.now title.now.items head.now.items) }
+        (spec.result_members file.now detail.now title.now.items head.now.items) }
 {
-    put_kind_name(writer, "ruleId", detail.kind)?;
+    put_of_rule(alloc, writer, Reported::Warned(detail.kind))?;
     put_warning_level(writer)?;
     put_message(alloc, writer, title)?;
-    put_marked_locations(alloc, writer, uri, detail.marks, title)?;
-    put_related(alloc, writer, uri, detail)?;
+    put_marked_locations(alloc, writer, file, detail.marks, title)?;
+    put_related(alloc, writer, file, detail)?;
     put_fingerprints(alloc, writer, head, title)?;
     put_properties(alloc, writer, detail)?;
     put_suppressions(alloc, writer, &detail.reason)
@@ -170,15 +172,15 @@ fn put_result_members(
 fn put_result(
     alloc: Global,
     writer: &mut Writer,
-    uri: &Vec<u8>,
+    file: &File<'_>,
     detail: &WarningDetail,
 ) -> Result<(), AllocError>
-    ensures { Adds result writer.old writer.new (spec.result uri.now.items detail.now) }
+    ensures { Adds result writer.old writer.new (spec.result file.now detail.now) }
 {
     let title = vec_of(alloc, &detail.title)?;
     let head = vec_of(alloc, &detail.head)?;
     open_object(writer)?;
-    put_result_members(alloc, writer, uri, detail, &title, &head)?;
+    put_result_members(alloc, writer, file, detail, &title, &head)?;
     close_object(writer)
 }
 
@@ -186,13 +188,13 @@ fn put_result(
 pub(crate) fn put_warning_results(
     alloc: Global,
     writer: &mut Writer,
-    uri: &Vec<u8>,
+    file: &File<'_>,
     warned: &[WarningDetail],
 ) -> Result<(), AllocError>
-    ensures { Adds result writer.old writer.new (flat_map (spec.result uri.now.items) warned.now) }
+    ensures { Adds result writer.old writer.new (flat_map (spec.result file.now) warned.now) }
 {
     for detail in warned {
-        put_result(alloc, writer, uri, detail)?;
+        put_result(alloc, writer, file, detail)?;
     }
     Ok(())
 }

@@ -1,6 +1,5 @@
 use Rattle.std.proofs.Common.{◌≡◌, ◌++◌, flat_map, ap, ◌∙◌, refl}
 use Rattle.flt_forms.specs.Sarif.{IsPart}
-use Rattle.flt_forms.specs.Uri.{uri_of}
 use Rattle.flt_forms.specs.Warned.{status_of}
 use Rattle.flt_forms.specs.WarningResults.{result}
 use Rattle.flt_forms.proofs.Adding.{both}
@@ -9,8 +8,10 @@ use Rattle.flt_forms.proofs.as_sarif.put_source.Goals as goal
 pub returns : goal.returns
 returns c =
     let first = c.in_ok-put_judged.ensures in
-    let shown = flat_map (result (uri_of c.args.source.name.now)) c.in_ok-warned.warned in
-    let is : IsPart c.args.options c.args.source (first.0 ++ shown) c.status_of.result = record {
+    let shown = flat_map (result c.in_ok-file.file) c.in_ok-warned.warned in
+    let is : IsPart c.args.options c.args.names.now c.args.source (first.0 ++ shown) c.status_of.result = record {
+      file = c.in_ok-file.file;
+      of = c.in_ok-file.ensures;
       judged = c.in_ok-judged.judged;
       is = c.in_ok-judged.ensures;
       warned = c.in_ok-warned.warned;
@@ -20,4 +21,4 @@ returns c =
       results = first.1;
       all = refl;
     } in
-    (first.0 ++ shown, is, both first.2 (rw c.as_slice.ensures at c.in_ok-put_warned.ensures.ok))
+    (first.0 ++ shown, is, both first.2 (rw c.as_slice.ensures at c.in_ok-put_warning_results.ensures.ok))

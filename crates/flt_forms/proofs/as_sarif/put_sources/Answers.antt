@@ -8,7 +8,7 @@ loop-source-preserved c =
     let sofar = c.loop-source.invariant in
     let one = c.in_ok-own.ensures in (
       sofar.0 ++ one.0,
-      one_more_shown c.args.sources.now c.loop-source.source-index _ (omega (arith, c.loop-source-test.true)) c.args.options sofar.0 one.0 _ _ _ sofar.1 one.1
+      one_more_shown c.args.sources.now c.loop-source.source-index _ (omega (arith, c.loop-source-test.true)) c.args.options c.args.names.now sofar.0 one.0 _ _ _ sofar.1 one.1
           c.greater-status.ensures,
       both sofar.2 one.2,
     )

@@ -6,4 +6,4 @@ use Rattle.flt_forms.proofs.as_sarif.put_sources.Given as goal
 
 abbrev pub invariant-loop-source : goal.invariant-loop-source
 invariant-loop-source l =
-    (ts : List Token) × AreResults l.options (take l.source-index l.sources) ts l.status × Added l.initial.writer l.writer ts
+    (ts : List Token) × AreResults l.options l.names (take l.source-index l.sources) ts l.status × Added l.initial.writer l.writer ts

@@ -8,13 +8,13 @@ use Rattle.flt_forms.proofs.as_sarif.put_unread.Goals as goal
 pub returns : goal.returns
 unfolding help_of
 returns c =
-    let described : IsDescribed c.args.source.text.now (Some c.in-Some.trouble) = rw c.in-Some.is at c.in_ok-trouble.ensures in
+    let described : IsDescribed c.args.text.now (Some c.in-Some.trouble) = rw c.in-Some.is at c.in_ok-trouble.ensures in
     let help : c.in_ok-help.help.items ≡ help_of c.in-Some.trouble =
     c.in_ok-help.ensures ∙ ap help_in c.in_ok-told.ensures.notes in
-    let is : IsFaultResult c.args.source.name.now c.args.source.text.now
-    (fault_result c.in_ok-uri.uri.items c.in-Some.trouble.spot.fault c.in_ok-told.told.title.items c.in_ok-help.help.items) = record {
+    let is : IsFaultResult c.args.file.now c.args.text.now
+    (fault_result c.args.file.now c.in-Some.trouble.spot.fault c.in-Some.trouble.spot.bytes.now c.in_ok-told.told.title.items c.in_ok-help.help.items) = record {
       trouble = c.in-Some.trouble;
       described = described;
-      result = λ i. fault_result (c.in_ok-uri.ensures i) c.in-Some.trouble.spot.fault (c.in_ok-told.ensures.title i) (help i);
+      result = λ i. fault_result c.args.file.now c.in-Some.trouble.spot.fault c.in-Some.trouble.spot.bytes.now (c.in_ok-told.ensures.title i) (help i);
     } in
     (_, is, c.in_ok-put_fault_result.ensures.ok)

@@ -4,4 +4,4 @@ use Rattle.flt_forms.specs.Results.{flow_step}
 use Rattle.flt_forms.proofs.results.put_flow_steps.Given as goal
 
 abbrev pub invariant-loop-stage : goal.invariant-loop-stage
-invariant-loop-stage l = Added l.initial.writer l.writer (flat_map (flow_step l.uri.items) (take l.stage-index l.stages))
+invariant-loop-stage l = Added l.initial.writer l.writer (flat_map (flow_step l.file) (take l.stage-index l.stages))

@@ -5,5 +5,5 @@ use Rattle.flt_forms.proofs.results.put_results.Goals as goal
 
 pub loop-detail-preserved : goal.loop-detail-preserved
 loop-detail-preserved c =
-    one_more (result c.args.uri.now.items) c.args.details.now c.loop-detail.detail-index c.detail-item.result
+    one_more (result c.args.file.now) c.args.details.now c.loop-detail.detail-index c.detail-item.result
     (omega (arith, c.loop-detail-test.true)) c.detail-item.is c.loop-detail.invariant c.in_ok-put_result.ensures.ok

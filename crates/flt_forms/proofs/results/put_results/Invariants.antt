@@ -4,4 +4,4 @@ use Rattle.flt_forms.specs.Results.{result}
 use Rattle.flt_forms.proofs.results.put_results.Given as goal
 
 abbrev pub invariant-loop-detail : goal.invariant-loop-detail
-invariant-loop-detail l = Added l.initial.writer l.writer (flat_map (result l.uri.items) (take l.detail-index l.details))
+invariant-loop-detail l = Added l.initial.writer l.writer (flat_map (result l.file) (take l.detail-index l.details))

@@ -1,0 +1,32 @@
+-- The files of a document. This project's own program.
+use Rattle.std.specs.Prelude.{ℕ, List, [], ◌∷◌, ◌++◌, ◌==◌, Bool, if◌then◌else◌, length, map, position}
+use Rattle.std.specs.Borrow.{Bor}
+use Rattle.std.specs.Option.{unwrap_or}
+use Rattle.std.specs.Str.{bytes_eq}
+use Rattle.flt_details.specs.declared.sources.Source.{Source}
+use Rattle.flt_forms.specs.Uri.{reference_of}
+use Rattle.flt_forms.specs.declared.file.File.{File}
+
+abbrev pub is_same : List ℕ → List ℕ → Bool
+is_same name other = bytes_eq name other
+
+-- the number of a name among others, from 0; their number where it isn't there
+abbrev pub number_of : List (Bor (List ℕ)) → List ℕ → ℕ
+number_of names name = unwrap_or (position (λ n. is_same name n.now) names) (length names)
+
+-- with one name more, if it isn't there
+abbrev pub with_name : List (Bor (List ℕ)) → Bor (List ℕ) → List (Bor (List ℕ))
+with_name names name = if number_of names name.now == length names then names ++ name ∷ [] else names
+
+-- the same of several, in their order
+abbrev pub with_names : List (Bor (List ℕ)) → List (Bor (List ℕ)) → List (Bor (List ℕ))
+with_names names [] = names
+with_names names (name ∷ others) = with_names (with_name names name) others
+
+-- the names of texts, each once, in their order
+abbrev pub names_of : List Source → List (Bor (List ℕ))
+names_of sources = with_names [] (map (λ s. s.name) sources)
+
+-- the file of a text, in a document of files of these names
+abbrev pub file_of : List (Bor (List ℕ)) → Source → File
+file_of names s = record { reference = reference_of s.name.now; number = number_of names s.name.now; lines = s.text.now }

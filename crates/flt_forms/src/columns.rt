@@ -1,0 +1,67 @@
+//! Columns in UTF-16 units.
+
+ghost use Rattle.std.specs.Prelude.{◌≡◌, ◌<◌, ◌≤◌, ◌+◌, ◌-◌, ◌^◌, length, min, take};
+ghost use Rattle.flt_forms.specs.Columns as spec;
+
+use flt_places::Lines;
+use flt_tree::Position;
+
+/// How many units a byte of UTF-8 brings.
+fn units_of(byte: u8) -> usize
+    ensures value { result ≡ spec.units_of byte }
+    ensures few { result ≤ 2 }
+{
+    if byte < 128 {
+        1
+    } else if byte < 192 {
+        0
+    } else if byte < 240 {
+        1
+    } else {
+        2
+    }
+}
+
+/// How many units some bytes of UTF-8 have.
+fn units(bytes: &[u8]) -> usize
+    ensures value { result ≡ spec.units bytes.now }
+    ensures few { result < 2 ^ 64 - 1 }
+{
+    let mut units = 0;
+    for byte in bytes {
+        units += units_of(*byte);
+    }
+    units
+}
+
+/// How many bytes stand before the one so many behind a column; all where there are no more.
+fn count_before(line: &[u8], column: usize, count: usize) -> usize
+    ensures { result ≡ min (column - 1 + count) (length line.now) }
+{
+    column
+        .saturating_sub(1)
+        .saturating_add(count)
+        .min(line.len())
+}
+
+/// The bytes before the one so many behind a column.
+#[tactic(auto, using(crate::proofs::Fronts::within))]
+fn front(line: &[u8], column: usize, count: usize) -> &[u8]
+    ensures { result.now ≡ take (column - 1 + count) line.now }
+{
+    &line[..count_before(line, column, count)]
+}
+
+/// The column so many bytes behind a place in its line.
+pub(crate) fn column_behind(lines: &Lines<'_>, place: Position, count: usize) -> usize
+    ensures { result ≡ spec.column_behind lines.now place count }
+{
+    units(front(lines.line(place.line), place.column, count)) + 1
+}
+
+/// The column of a place.
+pub(crate) fn column_of(lines: &Lines<'_>, place: Position) -> usize
+    ensures { result ≡ spec.column_of lines.now place }
+{
+    column_behind(lines, place, 0)
+}

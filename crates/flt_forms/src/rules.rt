@@ -1,0 +1,415 @@
+//! The rules of a document of SARIF, each with its page.
+
+ghost use Rattle.std.specs.Prelude.{◌≡◌, ◌∷◌, [], IfOk, List, codes, string_bytes};
+ghost use Rattle.json.specs.Token.{Token, string};
+ghost use Rattle.flt_forms.specs.Members.{Added, Adds, array_member, number_member, object_member, string_member};
+ghost use Rattle.flt_forms.specs.Rules as spec;
+
+use crate::members::{
+    close_array, close_object, open_array, open_object, put_key, put_number, put_string,
+};
+use flt_details::{RuleName, fault_name};
+use flt_pages::page;
+use flt_rules::{Rule, text};
+use flt_syntax::FaultKind;
+use flt_warnings::Kind;
+use json::Writer;
+use std::alloc::{AllocError, Global};
+
+/// What a result is of.
+#[derive(Clone, Copy)]
+pub enum Reported {
+    Broken(Rule),
+    Unread(FaultKind),
+    Warned(Kind),
+}
+
+const REPORTED: [Reported; 30] = [
+    Reported::Broken(Rule::R01),
+    Reported::Broken(Rule::R02),
+    Reported::Broken(Rule::R03),
+    Reported::Broken(Rule::R04),
+    Reported::Broken(Rule::R05),
+    Reported::Broken(Rule::R06),
+    Reported::Broken(Rule::R07),
+    Reported::Broken(Rule::R08),
+    Reported::Broken(Rule::R09),
+    Reported::Broken(Rule::R10),
+    Reported::Broken(Rule::R11),
+    Reported::Broken(Rule::R12),
+    Reported::Broken(Rule::R13),
+    Reported::Broken(Rule::R14),
+    Reported::Broken(Rule::R15),
+    Reported::Unread(FaultKind::E01),
+    Reported::Unread(FaultKind::E02),
+    Reported::Unread(FaultKind::E03),
+    Reported::Unread(FaultKind::E04),
+    Reported::Unread(FaultKind::E05),
+    Reported::Unread(FaultKind::E06),
+    Reported::Unread(FaultKind::E07),
+    Reported::Unread(FaultKind::E08),
+    Reported::Warned(Kind::W00),
+    Reported::Warned(Kind::W01),
+    Reported::Warned(Kind::W02),
+    Reported::Warned(Kind::W03),
+    Reported::Warned(Kind::W04),
+    Reported::Warned(Kind::W05),
+    Reported::Warned(Kind::W06),
+];
+
+fn all() -> &'static [Reported]
+    ensures { result.now ≡ spec.all }
+{
+    &REPORTED
+}
+
+// ---- what is said of a rule
+
+/// Its number, as `R02`.
+fn id_of(alloc: Global, reported: Reported) -> Result<String, AllocError>
+    ensures { IfOk result (λ id. string_bytes id ≡ spec.id_of reported) }
+{
+    match reported {
+        Reported::Broken(rule) => {
+            let name = RuleName(rule);
+            format!(in alloc; "{name}")
+        }
+        Reported::Unread(kind) => String::from_str(alloc, fault_name(kind)),
+        Reported::Warned(kind) => String::from_str(alloc, kind.name()),
+    }
+}
+
+fn fault_words(kind: FaultKind) -> &'static str
+    ensures { result.now ≡ spec.fault_words kind }
+{
+    match kind {
+        FaultKind::E01 => "a byte that begins no token",
+        FaultKind::E02 => "no word and no number",
+        FaultKind::E03 => "an unexpected token",
+        FaultKind::E04 => "an unknown name",
+        FaultKind::E05 => "declared twice",
+        FaultKind::E06 => "a limit is exceeded",
+        FaultKind::E07 => "a callback is missing",
+        FaultKind::E08 => "a variable twice in a call",
+    }
+}
+
+fn kind_words(kind: Kind) -> &'static str
+    ensures { result.now ≡ spec.kind_words kind }
+{
+    match kind {
+        Kind::W00 => "comment that allows nothing",
+        Kind::W01 => "locks that no order allows",
+        Kind::W02 => "operation given away while a lock is held",
+        Kind::W03 => "operation pended and left",
+        Kind::W04 => "value changed without a lock",
+        Kind::W05 => "context used that isn't the linked one",
+        Kind::W06 => "something that is never used or reached",
+    }
+}
+
+/// Its words.
+fn words_of(reported: Reported) -> &'static str
+    ensures { result.now ≡ spec.words_of reported }
+{
+    match reported {
+        Reported::Broken(rule) => text(rule),
+        Reported::Unread(kind) => fault_words(kind),
+        Reported::Warned(kind) => kind_words(kind),
+    }
+}
+
+fn level_of(reported: Reported) -> &'static str
+    ensures { result.now ≡ spec.level_of reported }
+{
+    match reported {
+        Reported::Broken(_) | Reported::Unread(_) => "error",
+        Reported::Warned(_) => "warning",
+    }
+}
+
+/// How often what is said is so.
+fn precision_of(reported: Reported) -> &'static str
+    ensures { result.now ≡ spec.precision_of reported }
+{
+    match reported {
+        Reported::Broken(_) => "high",
+        Reported::Unread(_) => "very-high",
+        Reported::Warned(_) => "medium",
+    }
+}
+
+fn tag_of(reported: Reported) -> &'static str
+    ensures { result.now ≡ spec.tag_of reported }
+{
+    match reported {
+        Reported::Broken(_) => "correctness",
+        Reported::Unread(_) => "syntax",
+        Reported::Warned(_) => "maintainability",
+    }
+}
+
+fn index_of_kind(kind: Kind) -> usize
+    ensures { result ≡ spec.index_of_kind kind }
+{
+    match kind {
+        Kind::W00 => 23,
+        Kind::W01 => 24,
+        Kind::W02 => 25,
+        Kind::W03 => 26,
+        Kind::W04 => 27,
+        Kind::W05 => 28,
+        Kind::W06 => 29,
+    }
+}
+
+fn index_of_fault(kind: FaultKind) -> usize
+    ensures { result ≡ spec.index_of_fault kind }
+{
+    match kind {
+        FaultKind::E01 => 15,
+        FaultKind::E02 => 16,
+        FaultKind::E03 => 17,
+        FaultKind::E04 => 18,
+        FaultKind::E05 => 19,
+        FaultKind::E06 => 20,
+        FaultKind::E07 => 21,
+        FaultKind::E08 => 22,
+    }
+}
+
+fn index_of_rule(rule: Rule) -> usize
+    ensures { result ≡ spec.index_of_rule rule }
+{
+    match rule {
+        Rule::R01 => 0,
+        Rule::R02 => 1,
+        Rule::R03 => 2,
+        Rule::R04 => 3,
+        Rule::R05 => 4,
+        Rule::R06 => 5,
+        Rule::R07 => 6,
+        Rule::R08 => 7,
+        Rule::R09 => 8,
+        Rule::R10 => 9,
+        Rule::R11 => 10,
+        Rule::R12 => 11,
+        Rule::R13 => 12,
+        Rule::R14 => 13,
+        Rule::R15 => 14,
+    }
+}
+
+/// Its place among all, from 0.
+fn index_of(reported: Reported) -> usize
+    ensures { result ≡ spec.index_of reported }
+{
+    match reported {
+        Reported::Broken(rule) => index_of_rule(rule),
+        Reported::Unread(kind) => index_of_fault(kind),
+        Reported::Warned(kind) => index_of_kind(kind),
+    }
+}
+
+// ---- the members
+
+fn put_words(writer: &mut Writer, name: &str, reported: Reported) -> Result<(), AllocError>
+    ensures { Adds result writer.old writer.new (string_member name.now (spec.words_of reported)) }
+{
+    put_string(writer, name, words_of(reported))
+}
+
+/// The words, as a message of this name.
+fn put_words_member(writer: &mut Writer, name: &str, reported: Reported) -> Result<(), AllocError>
+    ensures { Adds result writer.old writer.new (spec.words_member name.now reported) }
+{
+    put_key(writer, name)?;
+    open_object(writer)?;
+    put_words(writer, "text", reported)?;
+    close_object(writer)
+}
+
+fn put_names(writer: &mut Writer, reported: Reported) -> Result<(), AllocError>
+    ensures { Adds result writer.old writer.new (spec.names reported) }
+{
+    put_words(writer, "name", reported)?;
+    put_words_member(writer, "shortDescription", reported)?;
+    put_words_member(writer, "fullDescription", reported)
+}
+
+fn put_level(writer: &mut Writer, name: &str, reported: Reported) -> Result<(), AllocError>
+    ensures { Adds result writer.old writer.new (string_member name.now (spec.level_of reported)) }
+{
+    put_string(writer, name, level_of(reported))
+}
+
+fn put_configuration(writer: &mut Writer, reported: Reported) -> Result<(), AllocError>
+    ensures { Adds result writer.old writer.new (spec.configuration reported) }
+{
+    put_key(writer, "defaultConfiguration")?;
+    open_object(writer)?;
+    put_level(writer, "level", reported)?;
+    close_object(writer)
+}
+
+fn put_tag(writer: &mut Writer, reported: Reported) -> Result<(), AllocError>
+    ensures { Adds result writer.old writer.new (string (spec.tag_of reported) ∷ []) }
+{
+    writer.string(tag_of(reported))
+}
+
+fn put_tags(writer: &mut Writer, reported: Reported) -> Result<(), AllocError>
+    ensures { Adds result writer.old writer.new (spec.tags reported) }
+{
+    put_key(writer, "tags")?;
+    open_array(writer)?;
+    put_tag(writer, reported)?;
+    close_array(writer)
+}
+
+fn put_precision(writer: &mut Writer, reported: Reported) -> Result<(), AllocError>
+    ensures { Adds result writer.old writer.new (string_member (codes "precision") (spec.precision_of reported)) }
+{
+    put_string(writer, "precision", precision_of(reported))
+}
+
+fn put_properties(writer: &mut Writer, reported: Reported) -> Result<(), AllocError>
+    ensures { Adds result writer.old writer.new (spec.properties reported) }
+{
+    put_key(writer, "properties")?;
+    open_object(writer)?;
+    put_tags(writer, reported)?;
+    put_precision(writer, reported)?;
+    put_level(writer, "problem.severity", reported)?;
+    close_object(writer)
+}
+
+fn put_page(writer: &mut Writer, page: &str) -> Result<(), AllocError>
+    ensures { Adds result writer.old writer.new (object_member (codes "help") (spec.page_members page.now)) }
+{
+    put_key(writer, "help")?;
+    open_object(writer)?;
+    put_string(writer, "text", page)?;
+    put_string(writer, "markdown", page)?;
+    close_object(writer)
+}
+
+/// A page, if there is one.
+fn put_help(writer: &mut Writer, page: Option<&str>) -> Result<(), AllocError>
+    ensures { Adds result writer.old writer.new (spec.help page.entry) }
+{
+    match page {
+        None => Ok(()),
+        Some(page) => put_page(writer, page),
+    }
+}
+
+fn put_rule_item(
+    writer: &mut Writer,
+    id: &str,
+    reported: Reported,
+    page: Option<&str>,
+) -> Result<(), AllocError>
+    ensures { Adds result writer.old writer.new (spec.rule_item id.now reported page.entry) }
+{
+    open_object(writer)?;
+    put_string(writer, "id", id)?;
+    put_names(writer, reported)?;
+    put_help(writer, page)?;
+    put_configuration(writer, reported)?;
+    put_properties(writer, reported)?;
+    close_object(writer)
+}
+
+/// A rule with its page.
+fn put_rule(alloc: Global, writer: &mut Writer, reported: Reported) -> Result<(), AllocError>
+    ensures { IfOk result (λ _. (ts : List Token) × spec.IsRule reported ts × Added writer.old writer.new ts) }
+{
+    let id = id_of(alloc, reported)?;
+    let page = page(id.as_str());
+    put_rule_item(writer, id.as_str(), reported, page)?;
+    Ok(())
+}
+
+/// Rules, in their order.
+fn put_rules(alloc: Global, writer: &mut Writer, rules: &[Reported]) -> Result<(), AllocError>
+    ensures { IfOk result (λ _. (ts : List Token) × spec.AreRules rules.now ts × Added writer.old writer.new ts) }
+{
+    for reported in rules {
+        put_rule(alloc, writer, *reported)?;
+    }
+    Ok(())
+}
+
+fn put_rules_member(alloc: Global, writer: &mut Writer) -> Result<(), AllocError>
+    ensures { IfOk result (λ _. (ts : List Token) × spec.AreRules spec.all ts
+        × Added writer.old writer.new (array_member (codes "rules") ts)) }
+{
+    put_key(writer, "rules")?;
+    open_array(writer)?;
+    put_rules(alloc, writer, all())?;
+    close_array(writer)?;
+    Ok(())
+}
+
+// ---- the tool
+
+/// What `fltstack --version` prints behind the program's name, too.
+const VERSION: &str = "0.1.0";
+
+fn put_versions(writer: &mut Writer) -> Result<(), AllocError>
+    ensures { Adds result writer.old writer.new spec.versions }
+{
+    put_string(writer, "name", "fltstack")?;
+    put_string(writer, "version", VERSION)?;
+    put_string(writer, "semanticVersion", VERSION)
+}
+
+fn put_driver(alloc: Global, writer: &mut Writer) -> Result<(), AllocError>
+    ensures { IfOk result (λ _. (ts : List Token) × spec.AreRules spec.all ts × Added writer.old writer.new (spec.driver ts)) }
+{
+    put_key(writer, "driver")?;
+    open_object(writer)?;
+    put_versions(writer)?;
+    put_rules_member(alloc, writer)?;
+    close_object(writer)?;
+    Ok(())
+}
+
+/// What made the results, with all rules.
+pub(crate) fn put_tool(alloc: Global, writer: &mut Writer) -> Result<(), AllocError>
+    ensures { IfOk result (λ _. (ts : List Token) × spec.AreRules spec.all ts × Added writer.old writer.new (spec.tool ts)) }
+{
+    put_key(writer, "tool")?;
+    open_object(writer)?;
+    put_driver(alloc, writer)?;
+    close_object(writer)?;
+    Ok(())
+}
+
+// ---- of a result
+
+fn put_id(alloc: Global, writer: &mut Writer, reported: Reported) -> Result<(), AllocError>
+    ensures { Adds result writer.old writer.new (string_member (codes "ruleId") (spec.id_of reported)) }
+{
+    let id = id_of(alloc, reported)?;
+    put_string(writer, "ruleId", id.as_str())
+}
+
+fn put_index(writer: &mut Writer, reported: Reported) -> Result<(), AllocError>
+    ensures { Adds result writer.old writer.new (number_member (codes "ruleIndex") (spec.index_of reported)) }
+{
+    put_number(writer, "ruleIndex", index_of(reported))
+}
+
+/// Which rule a result is of.
+pub(crate) fn put_of_rule(
+    alloc: Global,
+    writer: &mut Writer,
+    reported: Reported,
+) -> Result<(), AllocError>
+    ensures { Adds result writer.old writer.new (spec.of_rule reported) }
+{
+    put_id(alloc, writer, reported)?;
+    put_index(writer, reported)
+}
