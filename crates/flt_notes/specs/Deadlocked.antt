@@ -26,9 +26,13 @@ wait_words f b =
     concat (codes "    activation " ∷ decimal b.activation ∷ codes " waits for " ∷ quoted (lock_name f.locks b.lock) ∷ codes " on line "
     ∷ decimal b.span.line ∷ [])
 
--- which activation holds that lock, if one is named
+-- that an activation holds that lock
+unfoldable pub held_by : ℕ → List ℕ
+held_by number = concat (codes ", held by activation " ∷ decimal number ∷ [])
+
+-- which activation does, if one is named
 abbrev pub holder_words : Option ℕ → List ℕ
-holder_words (Some number) = codes ", held by activation " ++ decimal number
+holder_words (Some number) = held_by number
 holder_words None = []
 
 -- the line of an activation that waits

@@ -35,12 +35,23 @@ fn tell_wait(page: &mut Page, tree: &Tree, wait: &Blocked) -> Result<(), AllocEr
     ])
 }
 
+/// Writes that an activation holds that lock.
+#[tactic(auto, unfolding(crate::specs::Deadlocked::held_by))]
+fn tell_held(page: &mut Page, number: usize) -> Result<(), AllocError>
+    ensures { Writes result page.old page.new (spec.held_by number) }
+{
+    page.say(&[
+        Part::Text(", held by activation "),
+        Part::Number(number),
+    ])
+}
+
 /// Writes which activation holds that lock, if one is named.
 fn tell_holder(page: &mut Page, holder: Option<usize>) -> Result<(), AllocError>
     ensures { Writes result page.old page.new (spec.holder_words holder) }
 {
     match holder {
-        Some(number) => page.numbers(&[", held by activation "], &[number]),
+        Some(number) => tell_held(page, number),
         None => Ok(()),
     }
 }
@@ -148,7 +159,8 @@ fn search_lines<W: SearchWatch>(
     };
     let mut watched = Watched::new(watch);
     let answer = find_deadlock(text.alloc, text.own, 0, circle, bounds, &mut watched)?;
-    answer_lines(text, &answer)
+    let lines = answer_lines(text, &answer)?;
+    Ok(lines)
 }
 
 /// What stands below the report of a warning that is about a circle of locks; nothing, where it is about none.

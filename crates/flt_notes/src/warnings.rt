@@ -22,8 +22,8 @@ fn report_with_run<W: SearchWatch>(
     ensures { IfOk result (λ printed. spec.IsReportWithRun (warned_of text.now) detail.now printed.items) }
 {
     let mut printed = report_warning(text.alloc, text.coloured, text.name, text.lines, detail)?;
-    let run = run_lines(text, detail.circle.as_slice(), watch)?;
-    printed.extend_from_slice(run.as_slice())?;
+    let below = run_lines(text, detail.circle.as_slice(), watch)?;
+    printed.extend_from_slice(below.as_slice())?;
     Ok(printed)
 }
 

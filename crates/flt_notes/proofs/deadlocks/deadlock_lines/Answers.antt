@@ -1,3 +1,4 @@
+use Rattle.std.proofs.Common.{rules}
 use Rattle.flt_notes.proofs.deadlocks.deadlock_lines.Goals as goal
 
 pub returns : goal.returns

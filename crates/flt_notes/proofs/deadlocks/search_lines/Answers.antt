@@ -4,5 +4,5 @@ pub returns : goal.returns
 returns g c = record {
   answer = c.in_ok-answer.answer;
   is = c.in_ok-answer.ensures;
-  are = c.in_ok-answer_lines.ensures;
+  are = c.in_ok-lines.ensures;
 }

@@ -4,4 +4,4 @@ use Rattle.flt_notes.specs.Warnings.{AreShownReports}
 use Rattle.flt_notes.proofs.warnings.shown_reports.Given as goal
 
 abbrev pub invariant-loop-detail : goal.invariant-loop-detail
-invariant-loop-detail l = AreShownReports (warned_of l.text) (take l.detail-index l.details) l.out.items
+invariant-loop-detail g l = AreShownReports (warned_of l.text) (take l.detail-index l.details) l.out.items
