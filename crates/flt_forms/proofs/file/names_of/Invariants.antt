@@ -1,4 +1,4 @@
-use Rattle.std.proofs.Common.{◌≡◌, [], map, take}
+use Rattle.std.proofs.Common.{◌≡◌, take}
 use Rattle.flt_forms.specs.Files.{names_of}
 use Rattle.flt_forms.proofs.file.names_of.Given as goal
 
