@@ -256,10 +256,10 @@ done
 
 # Each text has its own layout.
 runs=$((runs + 1))
-laid=$("$program" format --check ./*.flt warnings/*.flt 2>&1) || true
+laid=$("$program" format --check ./*.flt samples/*.flt warnings/*.flt 2>&1) || true
 [ -z "$laid" ] || differs "format --check: $laid"
 
-for file in * c/*; do
+for file in * c/* samples/*; do
     case $file in
     README.md | expected | verdicts | cases | c) ;;
     *) grep -qF " $file " "$work/named" || differs "$file: no line of expected has it" ;;
