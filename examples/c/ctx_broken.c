@@ -77,7 +77,8 @@ PostCreate(PFLT_CALLBACK_DATA Data, PCFLT_RELATED_OBJECTS FltObjects, PVOID Comp
     }                                                                  //@flt   }
 
     /* A text can't ask how the create went: the file gives a number in place of the answer. */
-    if (!NT_SUCCESS(Data->IoStatus.Status)) {                          //@flt   n0 = file data if n0 == 0 {
+    if (!NT_SUCCESS(Data->IoStatus.Status)
+        || Data->IoStatus.Status == STATUS_REPARSE) {                  //@flt   n0 = file data if n0 == 0 {
         goto Cleanup;                                                  //@flt     return FINISHED_PROCESSING
     }                                                                  //@flt   }
 

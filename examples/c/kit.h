@@ -10,8 +10,10 @@
 #define UNREFERENCED_PARAMETER(P) ((void)(P))
 #define FlagOn(F, FLAG) (((F) & (FLAG)) != 0)
 
-typedef int NTSTATUS;
+typedef int NTSTATUS, LONG;
 typedef unsigned char BOOLEAN, KIRQL;
+#define TRUE 1
+#define FALSE 0
 typedef unsigned short USHORT;
 typedef unsigned int ULONG;
 typedef void *PVOID;
@@ -28,11 +30,14 @@ BOOLEAN RemoveEntryList(LIST_ENTRY *Entry);
 #define STATUS_REPARSE 1
 #define STATUS_CANCELLED (-1)
 #define STATUS_INSUFFICIENT_RESOURCES (-2)
+#define STATUS_ACCESS_DENIED (-3)
+#define STATUS_FILE_DELETED (-4)
 
-typedef struct _UNICODE_STRING *PUNICODE_STRING;
+typedef struct { USHORT Length; USHORT *Buffer; } UNICODE_STRING, *PUNICODE_STRING;
 typedef struct _DRIVER_OBJECT *PDRIVER_OBJECT;
-typedef struct _FILE_OBJECT *PFILE_OBJECT;
+typedef struct { BOOLEAN WriteAccess; } FILE_OBJECT, *PFILE_OBJECT;
 typedef struct _FLT_FILTER *PFLT_FILTER;
+typedef struct _FLT_VOLUME *PFLT_VOLUME;
 typedef struct _FLT_INSTANCE *PFLT_INSTANCE;
 typedef struct _FLT_GENERIC_WORKITEM *PFLT_GENERIC_WORKITEM;
 typedef PVOID PFLT_CONTEXT;
@@ -46,19 +51,32 @@ void FltInitializePushLock(EX_PUSH_LOCK *Lock);
 void FltAcquirePushLockExclusive(EX_PUSH_LOCK *Lock);
 void FltReleasePushLock(EX_PUSH_LOCK *Lock);
 void FltDeletePushLock(EX_PUSH_LOCK *Lock);
+LONG InterlockedIncrement(volatile LONG *Number);
+LONG InterlockedDecrement(volatile LONG *Number);
 
 /* Operations and what callbacks are given. */
-typedef struct { NTSTATUS Status; } IO_STATUS_BLOCK;
-typedef struct { ULONG IrpFlags; } FLT_IO_PARAMETER_BLOCK;
+typedef struct { NTSTATUS Status; ULONG Information; } IO_STATUS_BLOCK;
+typedef enum { FileStandardInformation, FileDispositionInformation } FILE_INFORMATION_CLASS;
+typedef struct { ULONG Size; } FILE_STANDARD_INFORMATION;
+typedef struct {
+    ULONG IrpFlags;
+    union {
+        struct { ULONG Options; } Create;
+        struct { ULONG Length; PVOID ReadBuffer; } Read;
+        struct { FILE_INFORMATION_CLASS FileInformationClass; } SetFileInformation;
+    } Parameters;
+} FLT_IO_PARAMETER_BLOCK;
+#define FILE_DELETE_ON_CLOSE 0x1000
+#define IO_REPARSE 0
 #define IRP_PAGING_IO 0x2
 #define IRP_SYNCHRONOUS_PAGING_IO 0x40
 typedef struct {
     ULONG Flags;
-    const FLT_IO_PARAMETER_BLOCK *Iopb;
+    FLT_IO_PARAMETER_BLOCK *Iopb;
     IO_STATUS_BLOCK IoStatus;
     LIST_ENTRY QueueLinks;
 } FLT_CALLBACK_DATA, *PFLT_CALLBACK_DATA;
-typedef struct { PFLT_FILTER Filter; PFLT_INSTANCE Instance; PFILE_OBJECT FileObject; } FLT_RELATED_OBJECTS;
+typedef struct { PFLT_FILTER Filter; PFLT_VOLUME Volume; PFLT_INSTANCE Instance; PFILE_OBJECT FileObject; } FLT_RELATED_OBJECTS;
 typedef const FLT_RELATED_OBJECTS *PCFLT_RELATED_OBJECTS;
 #define FLT_IS_IRP_OPERATION(D) (FlagOn((D)->Flags, 1))
 
@@ -67,20 +85,44 @@ typedef enum {
     FLT_PREOP_SUCCESS_NO_CALLBACK,
     FLT_PREOP_PENDING,
     FLT_PREOP_DISALLOW_FASTIO,
-    FLT_PREOP_COMPLETE
+    FLT_PREOP_COMPLETE,
+    FLT_PREOP_SYNCHRONIZE
 } FLT_PREOP_CALLBACK_STATUS;
-typedef enum { FLT_POSTOP_FINISHED_PROCESSING } FLT_POSTOP_CALLBACK_STATUS;
+typedef enum { FLT_POSTOP_FINISHED_PROCESSING, FLT_POSTOP_MORE_PROCESSING_REQUIRED } FLT_POSTOP_CALLBACK_STATUS;
 typedef ULONG FLT_POST_OPERATION_FLAGS;
 #define FLTFL_POST_OPERATION_DRAINING 1
 void FltCompletePendedPreOperation(PFLT_CALLBACK_DATA Data, FLT_PREOP_CALLBACK_STATUS Status, PVOID Context);
+BOOLEAN FltDoCompletionProcessingWhenSafe(PFLT_CALLBACK_DATA Data, PCFLT_RELATED_OBJECTS FltObjects, PVOID CompletionContext,
+                                          FLT_POST_OPERATION_FLAGS Flags,
+                                          FLT_POSTOP_CALLBACK_STATUS (*WhenSafe)(PFLT_CALLBACK_DATA Data, PCFLT_RELATED_OBJECTS FltObjects,
+                                                                                 PVOID CompletionContext, FLT_POST_OPERATION_FLAGS Flags),
+                                          FLT_POSTOP_CALLBACK_STATUS *Answer);
+void FltSetCallbackDataDirty(PFLT_CALLBACK_DATA Data);
+NTSTATUS FltLockUserBuffer(PFLT_CALLBACK_DATA Data);
+void FltCancelFileOpen(PFLT_INSTANCE Instance, PFILE_OBJECT File);
+NTSTATUS FltQueryInformationFile(PFLT_INSTANCE Instance, PFILE_OBJECT File, PVOID Information, ULONG Length, FILE_INFORMATION_CLASS Class,
+                                 ULONG *Returned);
+void RtlCopyMemory(PVOID To, const void *From, size_t Length);
+PVOID FltAllocatePoolAlignedWithTag(PFLT_INSTANCE Instance, int Pool, size_t Length, ULONG Tag);
+void FltFreePoolAlignedWithTag(PFLT_INSTANCE Instance, PVOID Buffer, ULONG Tag);
+
+/* Names, which are references too. */
+typedef struct { UNICODE_STRING Name; } FLT_FILE_NAME_INFORMATION, *PFLT_FILE_NAME_INFORMATION;
+#define FLT_FILE_NAME_OPENED 1
+#define FLT_FILE_NAME_QUERY_DEFAULT 0x100
+NTSTATUS FltGetFileNameInformation(PFLT_CALLBACK_DATA Data, ULONG Options, PFLT_FILE_NAME_INFORMATION *Name);
+void FltReleaseFileNameInformation(PFLT_FILE_NAME_INFORMATION Name);
+NTSTATUS IoReplaceFileObjectName(PFILE_OBJECT File, const USHORT *Name, USHORT Length);
 
 /* Contexts. */
 typedef USHORT FLT_CONTEXT_TYPE;
 typedef USHORT FLT_CONTEXT_REGISTRATION_FLAGS;
 typedef enum { NonPagedPool } POOL_TYPE;
 typedef enum { FLT_SET_CONTEXT_REPLACE_IF_EXISTS, FLT_SET_CONTEXT_KEEP_IF_EXISTS } FLT_SET_CONTEXT_OPERATION;
+#define FLT_VOLUME_CONTEXT 1
 #define FLT_INSTANCE_CONTEXT 2
 #define FLT_STREAM_CONTEXT 8
+#define FLT_STREAMHANDLE_CONTEXT 16
 #define FLT_CONTEXT_END 0xffff
 typedef void (*PFLT_CONTEXT_CLEANUP_CALLBACK)(PFLT_CONTEXT Context, FLT_CONTEXT_TYPE Type);
 typedef struct {
@@ -93,8 +135,13 @@ typedef struct {
 NTSTATUS FltAllocateContext(PFLT_FILTER Filter, FLT_CONTEXT_TYPE Type, size_t Size, POOL_TYPE Pool, PFLT_CONTEXT *Context);
 NTSTATUS FltGetStreamContext(PFLT_INSTANCE Instance, PFILE_OBJECT File, PFLT_CONTEXT *Context);
 NTSTATUS FltSetStreamContext(PFLT_INSTANCE Instance, PFILE_OBJECT File, FLT_SET_CONTEXT_OPERATION How, PFLT_CONTEXT New, PFLT_CONTEXT *Old);
+NTSTATUS FltGetStreamHandleContext(PFLT_INSTANCE Instance, PFILE_OBJECT File, PFLT_CONTEXT *Context);
+NTSTATUS FltSetStreamHandleContext(PFLT_INSTANCE Instance, PFILE_OBJECT File, FLT_SET_CONTEXT_OPERATION How, PFLT_CONTEXT New,
+                                   PFLT_CONTEXT *Old);
+NTSTATUS FltGetVolumeContext(PFLT_FILTER Filter, PFLT_VOLUME Volume, PFLT_CONTEXT *Context);
 NTSTATUS FltGetInstanceContext(PFLT_INSTANCE Instance, PFLT_CONTEXT *Context);
 NTSTATUS FltSetInstanceContext(PFLT_INSTANCE Instance, FLT_SET_CONTEXT_OPERATION How, PFLT_CONTEXT New, PFLT_CONTEXT *Old);
+void FltReferenceContext(PFLT_CONTEXT Context);
 void FltReleaseContext(PFLT_CONTEXT Context);
 
 /* Cancel-safe queues of callback data: a driver gives each the callbacks that keep its list. */
