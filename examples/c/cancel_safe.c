@@ -171,7 +171,7 @@ PreRead(PFLT_CALLBACK_DATA Data, PCFLT_RELATED_OBJECTS FltObjects, PVOID *Comple
         }                                                              //@flt         }
     }                                                                  //@flt       }
 
-    /* A status of a text is a word and no variable. So what stands below this label is in the text once for each answer. */
+    /* A status of a text is a word and no variable. So the text has the lines below this label once for each answer. */
 Cleanup:                                                               //@flt       if c0 != NULL { FltReleaseContext c0 }
                                                                        //@flt       return PENDING
                                                                        //@flt   } }

@@ -25,8 +25,8 @@ typedef struct _INSTANCE_CONTEXT {
 static PFLT_FILTER Filter;
 
 /*
- * A text has no InstanceSetup. Its statements stand at the head of the first callback that an instance has, which finds the context where
- * a create before it has set one.
+ * A text has no InstanceSetup. Its statements begin the callback of a create in the text: each create looks for the context, and the first
+ * one sets it.
  */
 static NTSTATUS
 InstanceSetup(PCFLT_RELATED_OBJECTS FltObjects, FLT_INSTANCE_SETUP_FLAGS Flags,

@@ -1,6 +1,6 @@
 /*
  * The names of the driver kit that the drivers in this folder use, so that a compiler can read them where there is no driver kit. Types,
- * layouts and numbers are not those of Windows, and nothing here can be linked or loaded. In a driver, <fltKernel.h> stands in its place.
+ * layouts and numbers are not those of Windows, and nothing here can be linked or loaded. A driver includes <fltKernel.h> instead.
  */
 #ifndef KIT_H
 #define KIT_H
