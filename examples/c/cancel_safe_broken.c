@@ -135,7 +135,7 @@ PreRead(PFLT_CALLBACK_DATA Data, PCFLT_RELATED_OBJECTS FltObjects, PVOID *Comple
 
     /* The memory manager can't wait. A text can't ask for flags: the file gives a number in place of the answer. */
     if (FlagOn(Data->Iopb->IrpFlags, IRP_PAGING_IO | IRP_SYNCHRONOUS_PAGING_IO)) {
-                                                                       //@flt   n0 = file data if n0 == 0 {
+                                                                       //@flt   n0 = file data if n0 == 1 {
         return FLT_PREOP_SUCCESS_NO_CALLBACK;                          //@flt     return NO_CALLBACK
     }                                                                  //@flt   }
 

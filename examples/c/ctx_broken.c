@@ -78,7 +78,7 @@ PostCreate(PFLT_CALLBACK_DATA Data, PCFLT_RELATED_OBJECTS FltObjects, PVOID Comp
 
     /* A text can't ask how the create went: the file gives a number in place of the answer. */
     if (!NT_SUCCESS(Data->IoStatus.Status)
-        || Data->IoStatus.Status == STATUS_REPARSE) {                  //@flt   n0 = file data if n0 == 0 {
+        || Data->IoStatus.Status == STATUS_REPARSE) {                  //@flt   n0 = file data if n0 == 1 {
         goto Cleanup;                                                  //@flt     return FINISHED_PROCESSING
     }                                                                  //@flt   }
 
