@@ -37,6 +37,7 @@ typedef struct { USHORT Length; USHORT *Buffer; } UNICODE_STRING, *PUNICODE_STRI
 typedef struct _DRIVER_OBJECT *PDRIVER_OBJECT;
 typedef struct { BOOLEAN WriteAccess; } FILE_OBJECT, *PFILE_OBJECT;
 typedef struct _FLT_FILTER *PFLT_FILTER;
+typedef struct _MDL *PMDL;
 typedef struct _FLT_VOLUME *PFLT_VOLUME;
 typedef struct _FLT_INSTANCE *PFLT_INSTANCE;
 typedef struct _FLT_GENERIC_WORKITEM *PFLT_GENERIC_WORKITEM;
@@ -62,7 +63,7 @@ typedef struct {
     ULONG IrpFlags;
     union {
         struct { ULONG Options; } Create;
-        struct { ULONG Length; PVOID ReadBuffer; } Read;
+        struct { ULONG Length; PVOID ReadBuffer; PMDL MdlAddress; } Read;
         struct { FILE_INFORMATION_CLASS FileInformationClass; } SetFileInformation;
     } Parameters;
 } FLT_IO_PARAMETER_BLOCK;
@@ -105,6 +106,10 @@ NTSTATUS FltQueryInformationFile(PFLT_INSTANCE Instance, PFILE_OBJECT File, PVOI
 void RtlCopyMemory(PVOID To, const void *From, size_t Length);
 PVOID FltAllocatePoolAlignedWithTag(PFLT_INSTANCE Instance, int Pool, size_t Length, ULONG Tag);
 void FltFreePoolAlignedWithTag(PFLT_INSTANCE Instance, PVOID Buffer, ULONG Tag);
+PMDL IoAllocateMdl(PVOID Buffer, ULONG Length, BOOLEAN Secondary, BOOLEAN ChargeQuota, PVOID Irp);
+void MmBuildMdlForNonPagedPool(PMDL Mdl);
+PVOID MmGetSystemAddressForMdlSafe(PMDL Mdl, ULONG Priority);
+#define NormalPagePriority 16
 
 /* Names, which are references too. */
 typedef struct { UNICODE_STRING Name; } FLT_FILE_NAME_INFORMATION, *PFLT_FILE_NAME_INFORMATION;

@@ -2,83 +2,82 @@
 
 #include "../c/kit.h"
 
-#define SWAP_TAG 0x62777353
+/* `Swb` in a listing of pool. */
+#define SWAP_TAG 0x20627753
 
 typedef struct _VOLUME_CONTEXT {
     ULONG SectorSize;
 } VOLUME_CONTEXT, *PVOLUME_CONTEXT;
 
-/* What the pre callback of a read leaves for its post callback. */
-typedef struct _SWAP {
-    PVOID Buffer;
-    PVOID UserBuffer;
-} SWAP, *PSWAP;
-
-extern PFLT_FILTER Filter;
-
-PSWAP NewSwap(void);
-void FreeSwap(PSWAP Swap);
-
 FLT_PREOP_CALLBACK_STATUS
 SwapPreRead(PFLT_CALLBACK_DATA Data, PCFLT_RELATED_OBJECTS FltObjects, PVOID *CompletionContext)
 {
-    ULONG length = Data->Iopb->Parameters.Read.Length;
+    ULONG length = Data->Iopb->Parameters.Read.Length, sector;
     PFLT_CONTEXT volume;
-    PSWAP swap;
+    PVOID buffer;
+    PMDL mdl;
     NTSTATUS status;
 
     status = FltGetVolumeContext(FltObjects->Filter, FltObjects->Volume, &volume);
     if (!NT_SUCCESS(status)) {
         return FLT_PREOP_SUCCESS_NO_CALLBACK;
     }
-    length += ((PVOLUME_CONTEXT)volume)->SectorSize;
+    sector = ((PVOLUME_CONTEXT)volume)->SectorSize;
     FltReleaseContext(volume);
 
-    swap = NewSwap();
-    if (swap == NULL) {
+    /* Whole sectors. */
+    length = (length + sector - 1) / sector * sector;
+    buffer = length == 0 ? NULL : FltAllocatePoolAlignedWithTag(FltObjects->Instance, NonPagedPool, length, SWAP_TAG);
+    if (buffer == NULL) {
         return FLT_PREOP_SUCCESS_NO_CALLBACK;
     }
-    swap->UserBuffer = Data->Iopb->Parameters.Read.ReadBuffer;
-    swap->Buffer = FltAllocatePoolAlignedWithTag(FltObjects->Instance, NonPagedPool, length, SWAP_TAG);
-    if (swap->Buffer == NULL) {
-        FreeSwap(swap);
+    mdl = IoAllocateMdl(buffer, length, FALSE, FALSE, NULL);
+    if (mdl == NULL) {
+        FltFreePoolAlignedWithTag(FltObjects->Instance, buffer, SWAP_TAG);
         return FLT_PREOP_SUCCESS_NO_CALLBACK;
     }
-    Data->Iopb->Parameters.Read.ReadBuffer = swap->Buffer;
+    MmBuildMdlForNonPagedPool(mdl);
+    Data->Iopb->Parameters.Read.ReadBuffer = buffer;
+    Data->Iopb->Parameters.Read.MdlAddress = mdl; /* the filter manager frees it */
     FltSetCallbackDataDirty(Data);
-    *CompletionContext = swap;
+    *CompletionContext = buffer;
     return FLT_PREOP_SUCCESS_WITH_CALLBACK;
 }
 
+/* Its Data has the parameters of the user again. */
 FLT_POSTOP_CALLBACK_STATUS
 SwapPostReadWhenSafe(PFLT_CALLBACK_DATA Data, PCFLT_RELATED_OBJECTS FltObjects, PVOID CompletionContext,
                      FLT_POST_OPERATION_FLAGS Flags)
 {
-    PSWAP swap = CompletionContext;
+    PVOID user = NULL;
 
     UNREFERENCED_PARAMETER(Flags);
-    if (NT_SUCCESS(Data->IoStatus.Status) && NT_SUCCESS(FltLockUserBuffer(Data))) {
-        RtlCopyMemory(swap->UserBuffer, swap->Buffer, Data->IoStatus.Information);
+    if (NT_SUCCESS(Data->IoStatus.Status)) {
+        if (NT_SUCCESS(FltLockUserBuffer(Data))) {
+            user = MmGetSystemAddressForMdlSafe(Data->Iopb->Parameters.Read.MdlAddress, NormalPagePriority);
+        }
+        if (user != NULL) {
+            RtlCopyMemory(user, CompletionContext, Data->IoStatus.Information);
+        } else {
+            Data->IoStatus.Status = STATUS_INSUFFICIENT_RESOURCES;
+            Data->IoStatus.Information = 0;
+        }
     }
-    FltFreePoolAlignedWithTag(FltObjects->Instance, swap->Buffer, SWAP_TAG);
-    FreeSwap(swap);
+    FltFreePoolAlignedWithTag(FltObjects->Instance, CompletionContext, SWAP_TAG);
     return FLT_POSTOP_FINISHED_PROCESSING;
 }
 
 FLT_POSTOP_CALLBACK_STATUS
 SwapPostRead(PFLT_CALLBACK_DATA Data, PCFLT_RELATED_OBJECTS FltObjects, PVOID CompletionContext, FLT_POST_OPERATION_FLAGS Flags)
 {
-    PSWAP swap = CompletionContext;
     FLT_POSTOP_CALLBACK_STATUS answer = FLT_POSTOP_FINISHED_PROCESSING;
 
     if (FlagOn(Flags, FLTFL_POST_OPERATION_DRAINING)) {
-        FltFreePoolAlignedWithTag(FltObjects->Instance, swap->Buffer, SWAP_TAG);
-        FreeSwap(swap);
+        FltFreePoolAlignedWithTag(FltObjects->Instance, CompletionContext, SWAP_TAG);
         return FLT_POSTOP_FINISHED_PROCESSING;
     }
-    if (!FltDoCompletionProcessingWhenSafe(Data, FltObjects, swap, Flags, SwapPostReadWhenSafe, &answer)) {
-        FltFreePoolAlignedWithTag(FltObjects->Instance, swap->Buffer, SWAP_TAG);
-        FreeSwap(swap);
+    if (!FltDoCompletionProcessingWhenSafe(Data, FltObjects, CompletionContext, Flags, SwapPostReadWhenSafe, &answer)) {
+        FltFreePoolAlignedWithTag(FltObjects->Instance, CompletionContext, SWAP_TAG);
         Data->IoStatus.Status = STATUS_INSUFFICIENT_RESOURCES;
         Data->IoStatus.Information = 0;
     }
