@@ -8,7 +8,8 @@
 #       examples/verdicts/ must have the verdict that stands above it. `tools/run-cases` runs those of examples/cases/. Each text is its own
 #       layout. Each report of a broken filter has a run, and `replay` says the same of the journal that `explain --journal` writes of it;
 #       of an accepted filter there is none. Ends with status 1 at any difference: another exit status, another output, a byte on the standard
-#       error, a journal that isn't legal, or a file of examples/ that no line of `expected` names.
+#       error, a journal that isn't legal, or a file of examples/ that no line of `expected` names and no compiler reads by
+#       `tools/compile-examples`.
 set -euo pipefail
 
 top=$(cd "$(dirname "$0")/.." && pwd)
@@ -256,12 +257,12 @@ done
 
 # Each text has its own layout.
 runs=$((runs + 1))
-laid=$("$program" format --check ./*.flt warnings/*.flt 2>&1) || true
+laid=$("$program" format --check ./*.flt samples/*.flt warnings/*.flt 2>&1) || true
 [ -z "$laid" ] || differs "format --check: $laid"
 
-for file in * c/*; do
+for file in * c/* samples/*; do
     case $file in
-    README.md | expected | verdicts | cases | c) ;;
+    README.md | expected | verdicts | cases | c | c/kit.h | samples/*.c) ;;
     *) grep -qF " $file " "$work/named" || differs "$file: no line of expected has it" ;;
     esac
 done
