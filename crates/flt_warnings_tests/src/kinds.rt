@@ -1,5 +1,7 @@
 //! The warnings of a text, by kind and point.
 
+ghost use Rattle.std.specs.Prelude.{◌≡◌, ◌<◌};
+
 use flt_analyse::{AnalyseFault, Ticks, analyse};
 use flt_cert::FullCert;
 use flt_graph::{Graph, lower};
@@ -7,7 +9,7 @@ use flt_syntax::parse;
 use flt_warnings::{Site, Warning, warnings};
 use std::alloc::{AllocError, Global};
 use std::marker::Brand;
-use std::sync::ledger::Blank;
+use std::sync::ledger::{Blank, Ledger};
 use std::test::Fail;
 
 /// A read takes x and then y, a write takes y and then x.
@@ -29,13 +31,25 @@ static LEFT_ROWS: [Row<'static>; 4] = [
 ];
 
 /// The least certificate of a text that is accepted.
-fn certificate(alloc: Global, graph: &Graph) -> Result<Option<FullCert>, AllocError> {
-    let mut ticks = Ticks::<Brand, 0, 0>::new(Blank::new(1));
+fn certificate_with<L: Ledger>(
+    alloc: Global,
+    graph: &Graph,
+    blank: Blank,
+) -> Result<Option<FullCert>, AllocError>
+    requires name { blank.name ≡ L.name }
+    requires parts { blank.parts ≡ L.parts }
+    requires some { 0 < blank.parts }
+{
+    let mut ticks = Ticks::<L, 0, 0>::new(blank);
     match analyse(alloc, graph, &mut ticks) {
         Ok(certificate) => Ok(Some(certificate)),
         Err(AnalyseFault::Refused(_)) => Ok(None),
         Err(AnalyseFault::OutOfMemory) => Err(AllocError),
     }
+}
+
+fn certificate(alloc: Global, graph: &Graph) -> Result<Option<FullCert>, AllocError> {
+    certificate_with::<Brand>(alloc, graph, Blank::new(1))
 }
 
 /// Whether a warning is at a point, or at none.
@@ -60,13 +74,19 @@ fn are_rows(found: &[Warning], rows: &[Row<'_>]) -> bool {
     true
 }
 
+/// Whether a warning is of a circle of two acquisitions.
+fn is_of_two(warning: &Warning) -> bool {
+    match warning {
+        Warning::LockCircle(circle) => circle.acquisitions().len() == 2,
+        _ => false,
+    }
+}
+
 /// Whether there is one warning, of a circle, at one of its points: the second lock is taken at point 1 of both callbacks.
 fn is_circle(found: &[Warning]) -> bool {
     match found {
-        [Warning::LockCircle(circle)] => {
-            circle.acquisitions().len() == 2
-                && (is_at(found[0].site(), Some((0, 1))) || is_at(found[0].site(), Some((1, 1))))
-        }
+        [warning] => is_of_two(warning)
+            && (is_at(warning.site(), Some((0, 1))) || is_at(warning.site(), Some((1, 1)))),
         _ => false,
     }
 }
