@@ -438,7 +438,8 @@ impl Stage<'_> {
         if !known.found.is_empty() {
             return self.put_found(output, known, watch);
         }
-        self.put_warnings(output, known, watch)
+        self.put_warnings(output, known, watch)?;
+        Ok(())
     }
 
     /// The report of a text that parses, and the line that ends it.

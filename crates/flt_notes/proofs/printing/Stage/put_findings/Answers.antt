@@ -8,4 +8,4 @@ put_warnings-requires-clause-none g c =
     empty_of c.args.known.found.now c.is_empty.result c.is_empty.ensures (λ h. first_of (cc, grind arith))
 
 pub returns-clause-noted : goal.returns-clause-noted
-returns-clause-noted g c = rw c.put_warnings.ensures.noted no_note
+returns-clause-noted g c = rw c.in_ok-put_warnings.ensures.noted no_note
