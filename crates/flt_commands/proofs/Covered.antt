@@ -15,7 +15,7 @@ use Rattle.flt_crew.specs.Running.{IsRun}
 use Rattle.flt_crew.specs.declared.running.Ran.{Ran}
 use Rattle.flt_explain.specs.declared.finding.Finding.{Finding}
 use Rattle.flt_forms.specs.Lines.{AreLines}
-use Rattle.flt_forms.specs.Sarif.{AreResults}
+use Rattle.flt_forms.specs.Sarif.{AreResults, IsSarif}
 use Rattle.flt_forms.specs.Warned.{status_of as status_of_warned}
 use Rattle.flt_forms.specs.declared.as_lines.Style.{Style}
 use Rattle.flt_forms.specs.declared.unread.UnreadFile.{UnreadFile}
@@ -238,13 +238,18 @@ module _ (law : Law) (runs : LawOfRuns) (nowhere : SpelledFailsNowhere) where
   all_reported options filters (t ∷ []) printed status is good = (report_well options filters t printed status is.count is.is.is good, tt)
   all_reported options filters (t ∷ u ∷ ts) printed status is good = reported options filters (t ∷ u ∷ ts) is.reports status is.findings is.files is.are good
 
+  in_document : (options : WarningOptions) (sources : List Source) (missed : List UnreadFile) (printed : List ℕ) (status : ℕ) →
+      IsSarif options sources missed printed status → status ≡ 0 → EachBreaksNothing (texts_of sources)
+  unfolding IsSarif
+  in_document options sources missed printed status (run, is, same) good = in_results options _ sources is.results status is.found good
+
   told_well : (form : Form) (options : WarningOptions) (sources : List Source) (missed : List UnreadFile) (e : Told) →
       IsTold form options sources missed e → e.status ≡ 0 →
       EachBreaksNothing (texts_of sources)
   told_well Human options sources missed e told good = all_reported options told.filters (texts_of sources) e.output.items e.status told.are good
   told_well Short options sources missed e told good = in_lines Sentence options sources [] e.output.items e.status told good
   told_well Lines options sources missed e told good = in_lines Object options sources [] e.output.items e.status told good
-  told_well Sarif options sources missed e told good = in_results options _ sources told.1.results e.status told.1.found good
+  told_well Sarif options sources missed e told good = in_document options sources missed e.output.items e.status told good
 
   -- where a file isn't read, the status isn't 0
   own_zero : (status : ℕ) (missed : List UnreadFile) → told_status status missed ≡ 0 → status ≡ 0

@@ -5,10 +5,17 @@ use Rattle.flt_c.specs.InPlace.{in_place}
 use Rattle.flt_c.specs.declared.laying.PlaceFlaw.{PlaceFlaw}
 use Rattle.flt_commands.specs.Inputs.{Giving, Text}
 
--- a file is C, by the ending of its name
+-- a file is one of C alone, or a header, by the ending of its name
+abbrev pub is_plain_c_file : Text → Bool
+is_plain_c_file name = ends_with eqb name (codes ".c") || ends_with eqb name (codes ".h")
+
+-- it is C++
+abbrev pub is_cpp_file : Text → Bool
+is_cpp_file name = ends_with eqb name (codes ".cc") || ends_with eqb name (codes ".cpp")
+
+-- it is C or C++
 abbrev pub is_c_file : Text → Bool
-is_c_file name =
-    ends_with eqb name (codes ".c") || ends_with eqb name (codes ".h") || ends_with eqb name (codes ".cc") || ends_with eqb name (codes ".cpp")
+is_c_file name = is_plain_c_file name || is_cpp_file name
 
 -- the annotations of a file where they stand in it, or none where they make no text
 abbrev pub AreLaid : Text → Option Text → Type 0

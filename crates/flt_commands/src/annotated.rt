@@ -10,14 +10,25 @@ use flt_c::{PlaceFlaw, in_place};
 use std::alloc::{AllocError, Global};
 use std::cell::Cell;
 
-/// Whether a file is C, by the ending of its name.
+/// Whether a file is one of C alone, or a header, by the ending of its name.
+fn is_plain_c_file(name: &str) -> bool
+    ensures { result ≡ spec.is_plain_c_file name.now }
+{
+    name.ends_with(".c") || name.ends_with(".h")
+}
+
+/// Whether a file is C++.
+fn is_cpp_file(name: &str) -> bool
+    ensures { result ≡ spec.is_cpp_file name.now }
+{
+    name.ends_with(".cc") || name.ends_with(".cpp")
+}
+
+/// Whether a file is C or C++.
 fn is_c_file(name: &str) -> bool
     ensures { result ≡ spec.is_c_file name.now }
 {
-    name.ends_with(".c")
-        || name.ends_with(".h")
-        || name.ends_with(".cc")
-        || name.ends_with(".cpp")
+    is_plain_c_file(name) || is_cpp_file(name)
 }
 
 /// Inputs in which each C file gives its annotations where they stand in it, and one whose annotations make no text gives nothing.

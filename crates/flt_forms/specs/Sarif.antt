@@ -157,6 +157,6 @@ document run =
     ++ (string_member (codes "version") (codes "2.1.0") ++ (array_member (codes "runs") (item run) ++ end_object ∷ [])))
 
 -- one document for several texts, beside which these files aren't read
-abbrev pub IsSarif : WarningOptions → List Source → List UnreadFile → List ℕ → ℕ → Type 0
+unfoldable pub IsSarif : WarningOptions → List Source → List UnreadFile → List ℕ → ℕ → Type 0
 IsSarif options sources unread printed status =
     (run : List Token) × IsRun options (names_of sources) sources unread run status × (printed ≡ line_of (document run))

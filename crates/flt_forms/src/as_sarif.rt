@@ -237,6 +237,7 @@ fn put_document(
 /// # Errors
 ///
 /// Where a growth was refused.
+#[tactic(auto, unfolding(crate::specs::Sarif::IsSarif))]
 pub fn sarif(
     alloc: Global,
     options: WarningOptions,
