@@ -15,7 +15,6 @@ use crate::unwritten::Unwritten;
 use flt_model::{Journal, Verdict};
 use flt_picture::picture;
 use flt_timeline::Timeline;
-use flt_tree::Tree;
 use std::alloc::{AllocError, Global};
 
 /// The rows of a timeline, if they are asked for.
@@ -28,27 +27,30 @@ fn rows_of(alloc: Global, is_asked: bool, timeline: &Timeline<'_>) -> Result<Vec
     Ok(timeline.text(alloc, 0)?.into_bytes())
 }
 
-/// Draws a journal into a file that is none of the inputs. Why that couldn't be written.
+/// Draws a journal on the filters of some texts into a file that is none of the inputs. Why that couldn't be written.
 fn draw<P: Pictures>(
     alloc: Global,
     inputs: &[&str],
     name: &str,
-    trees: &[Tree],
-    journal: &Journal,
+    replayed: &Replayed,
+    texts: &[Vec<u8>],
     timeline: &Timeline<'_>,
     pictures: &mut P,
 ) -> Result<Result<(), Unwritten>, AllocError> {
-    let drawn = picture(alloc, trees, journal, timeline)?;
+    let trees = replayed.trees.as_slice();
+    let (journal, verdict) = (&replayed.journal, replayed.verdict);
+    let drawn = picture(alloc, trees, texts, journal, verdict, timeline)?;
     pictures.write(alloc, inputs, name, drawn.as_bytes())
 }
 
-/// Shows a journal on some filters, of which the monitor says this.
+/// Shows a journal on the filters of some texts, of which the monitor says this.
 fn show<'a, P: Pictures>(
     alloc: Global,
     is_asked: bool,
     inputs: &[&str],
     name: Option<&'a str>,
     replayed: &Replayed,
+    texts: &[Vec<u8>],
     pictures: &mut P,
 ) -> Result<Answer, Failure<'a>>
     ensures shown { spec.IsShownOf is_asked (option_map (λ name. name.now) name.entry) replayed.now.verdict result }
@@ -57,8 +59,7 @@ fn show<'a, P: Pictures>(
     let trees = replayed.trees.as_slice();
     let timeline = Timeline::of(alloc, trees, &replayed.journal, replayed.verdict)?;
     if let Some(name) = name {
-        let journal = &replayed.journal;
-        if let Err(why) = draw(alloc, inputs, name, trees, journal, &timeline, pictures)? {
+        if let Err(why) = draw(alloc, inputs, name, replayed, texts, &timeline, pictures)? {
             return Err(Failure::CannotWrite(name, why));
         }
     }
@@ -83,7 +84,7 @@ fn show_texts<'a, P: Pictures>(
     ensures untouched { name.entry ≡ None → pictures.new ≡ pictures.old }
 {
     let replayed = replay_all(alloc, written, texts)?;
-    let answer = show(alloc, is_asked, inputs, name, &replayed, pictures)?;
+    let answer = show(alloc, is_asked, inputs, name, &replayed, texts, pictures)?;
     *journal = Some(replayed.journal);
     Ok(answer)
 }

@@ -1,63 +1,49 @@
-//! The lines of a picture, and its lanes.
+//! The lines of a picture.
 
 ghost use Rattle.std.specs.Prelude.{IfOk, string_bytes};
+ghost use Rattle.flt_model.specs.Program.{filters_of};
 ghost use Rattle.flt_picture.specs.Pictures as spec;
+ghost use Rattle.flt_picture.specs.Titles as titles;
 
 use crate::course::Course;
-use crate::drawing::{Drawing, Look};
-use flt_model::{Journal, JournalEntry, Move};
+use crate::drawing::Drawing;
+use crate::element::{Area, Colour, Look};
+use crate::excerpt::{ends_broken, last_in, repeated_in};
+use crate::hints::Sources;
+use crate::plan::{LANE, LANES, Plan};
+use crate::svg::written;
+use crate::title::title_of;
+use crate::words::{entries_words, left_out_words, number_words, repeated_words, row_words};
+use flt_model::{Journal, Verdict};
 use flt_timeline::{Fold, Row, Timeline};
 use flt_tree::Tree;
 use flt_world::Stack;
 use std::alloc::{AllocError, Global};
-use std::fmt::Write;
 
 /// How high a line is.
 const LINE: usize = 22;
 
-/// How wide a lane is.
-const LANE: usize = 24;
-
-/// Where the lanes begin.
-const LANES: usize = 100;
-
-/// How many contexts have lanes, at most.
-const MOST_CONTEXTS: usize = 12;
-
-/// How many lines are drawn, at most; beside them a line stands in each place where some are left out.
-const MOST_LINES: usize = 1_000;
-
-/// How many of these are the first ones, where the line that breaks something stands behind them.
-const FIRST_LINES: usize = 500;
-
-const NOTHING: Row = Row { first: 0, count: 0 };
-
-const BLUE: &str = "#3465a4";
-
-const GREEN: &str = "#4e8a3a";
-
-const ORANGE: &str = "#c07818";
-
-const GREY: &str = "#909090";
-
-const PURPLE: &str = "#7a5a9a";
-
-const PINK: &str = "#fde3e6";
-
 /// What the colours say.
-const KEY: [(&str, &str); 5] = [
-    (BLUE, "a callback is on"),
-    (GREY, "the filter manager is on"),
+const KEY: [(Colour, &str); 5] = [
+    (Colour::Blue, "a callback is running"),
+    (Colour::Grey, "the filter manager is at work"),
     (
-        ORANGE,
+        Colour::Orange,
         "how many operations wait in queues and work items when the row ends",
     ),
     (
-        GREEN,
-        "how many references a context has then, and that it is linked",
+        Colour::Green,
+        "how many references a linked context has when the row ends",
     ),
-    (PURPLE, "the same of a context that isn't linked"),
+    (
+        Colour::Purple,
+        "how many references a context that isn't linked has when the row ends",
+    ),
 ];
+
+/// What the numbers of operations say where columns are shared.
+const SHARED: &str =
+    "the number in a box is its operation's; above a column stands the first operation that has it";
 
 /// What stands above the lanes.
 const HEADS: [&str; 5] = [
@@ -68,67 +54,13 @@ const HEADS: [&str; 5] = [
     "lines that ran, and how calls went",
 ];
 
-/// How many pixels a letter takes, at most.
-const LETTER: usize = 8;
-
-/// How many letters there is room for, at least.
-const LEAST_LETTERS: usize = 40;
-
-/// Up to how many operations each has a column of its own.
-const OWN_COLUMNS: usize = 8;
-
-/// Which lines are drawn: those before `first`, and those from `from` to before `end`. A line is told by its number, from 0.
-#[derive(Clone, Copy)]
-struct Excerpt {
-    first: usize,
-    from: usize,
-    end: usize,
-}
-
-impl Excerpt {
-    /// So many lines, of which one breaks something. If it isn't among the first, it is the last that is drawn.
-    fn of(lines: usize, broken: Option<usize>) -> Excerpt {
-        match broken {
-            Some(number) if number >= MOST_LINES => {
-                let end = number.saturating_add(1);
-                Excerpt {
-                    first: FIRST_LINES,
-                    from: end.saturating_sub(MOST_LINES - FIRST_LINES),
-                    end,
-                }
-            }
-            _ => Excerpt {
-                first: lines.min(MOST_LINES),
-                from: lines,
-                end: lines,
-            },
-        }
-    }
-
-    fn has(&self, number: usize) -> bool {
-        number < self.first || self.from <= number && number < self.end
-    }
-}
-
-/// What is drawn, and how many lanes there are.
-#[derive(Clone, Copy)]
-struct Plan<'b, 'a> {
-    alloc: Global,
-    timeline: &'b Timeline<'a>,
-    excerpt: Excerpt,
-    columns: usize,
-    /// Whether a column is that of one operation alone.
-    is_numbered: bool,
-    contexts: usize,
-    /// How many letters the words of a row have, at most.
-    letters: usize,
-}
-
 /// What is drawn so far.
 #[derive(Drop)]
-struct Sheet<'b, 'a> {
+struct Sheet<'t, 'b, 'a> {
+    alloc: Global,
     drawing: Drawing,
     course: Course<'b, 'a>,
+    sources: Sources<'t>,
     /// The top of the next line.
     top: usize,
     /// The number of the next line of the timeline, drawn or not.
@@ -137,258 +69,155 @@ struct Sheet<'b, 'a> {
     left_out: usize,
 }
 
-/// How many columns the rows of a timeline have.
-fn columns_of(timeline: &Timeline<'_>) -> usize {
-    let mut columns: usize = 0;
-    for row in timeline.rows.as_slice() {
-        if let Some(column) = timeline.column(*row) {
-            columns = columns.max(column.saturating_add(1));
-        }
-    }
-    columns
-}
-
-/// The last row of a block and of what repeats it.
-fn last_in(timeline: &Timeline<'_>, fold: Fold) -> Row {
-    let rows = fold.block.saturating_add(fold.repeated);
-    row_of(timeline, fold.first.saturating_add(rows).saturating_sub(1))
-}
-
-/// Whether the run breaks something by the last row that repeats a block. That row has a line of its own.
-fn ends_broken(timeline: &Timeline<'_>, fold: Fold) -> bool {
-    fold.repeated > 0 && timeline.is_broken(last_in(timeline, fold))
-}
-
-/// How many rows are drawn as repetitions of a block, in one line.
-fn repeated_in(timeline: &Timeline<'_>, fold: Fold) -> usize {
-    fold.repeated
-        .saturating_sub(usize::from(ends_broken(timeline, fold)))
-}
-
-/// How many lines a block and what repeats it have.
-fn lines_in(timeline: &Timeline<'_>, fold: Fold) -> usize {
-    let again = usize::from(repeated_in(timeline, fold) > 0);
-    let broken = usize::from(ends_broken(timeline, fold));
-    fold.block.saturating_add(again).saturating_add(broken)
-}
-
-/// How many lines the blocks of a timeline have.
-fn lines_of(timeline: &Timeline<'_>) -> usize {
-    let mut lines: usize = 0;
-    for fold in timeline.folds.as_slice() {
-        lines = lines.saturating_add(lines_in(timeline, *fold));
-    }
-    lines
-}
-
-/// Which of the lines of a block and of what repeats it breaks something, if one does.
-fn broken_in(timeline: &Timeline<'_>, fold: Fold) -> Option<usize> {
-    for number in 0..fold.block {
-        if timeline.is_broken(row_of(timeline, fold.first.saturating_add(number))) {
-            return Some(number);
-        }
-    }
-    if ends_broken(timeline, fold) {
-        return Some(lines_in(timeline, fold).saturating_sub(1));
-    }
-    None
-}
-
-/// The number of the line that breaks something, if one does.
-fn broken_line(timeline: &Timeline<'_>) -> Option<usize> {
-    let mut lines: usize = 0;
-    for fold in timeline.folds.as_slice() {
-        if let Some(number) = broken_in(timeline, *fold) {
-            return Some(lines.saturating_add(number));
-        }
-        lines = lines.saturating_add(lines_in(timeline, *fold));
-    }
-    None
-}
-
-/// The row of a number; none of its entries where there is none.
-fn row_of(timeline: &Timeline<'_>, number: usize) -> Row {
-    match timeline.rows.get(number) {
-        Some(row) => *row,
-        None => NOTHING,
-    }
-}
-
-/// How many letters the words of a row have.
-fn letters_in(alloc: Global, timeline: &Timeline<'_>, row: Row) -> Result<usize, AllocError> {
-    Ok(timeline.words(alloc, row)?.len())
-}
-
-/// How many letters the longest words of a timeline's blocks have.
-fn letters_of(alloc: Global, timeline: &Timeline<'_>) -> Result<usize, AllocError> {
-    let mut letters: usize = 0;
-    for fold in timeline.folds.as_slice() {
-        for number in 0..fold.block {
-            let row = row_of(timeline, fold.first.saturating_add(number));
-            letters = letters.max(letters_in(alloc, timeline, row)?);
-        }
-    }
-    Ok(letters)
-}
-
-fn is_arrival(entry: &JournalEntry) -> bool {
-    matches!(entry, JournalEntry::Move(Move::Arrive { .. }))
-}
-
-/// How many operations arrive in a journal.
-fn operations_of(journal: &Journal) -> usize {
-    let mut operations: usize = 0;
-    for entry in journal.entries() {
-        if is_arrival(entry) {
-            operations = operations.saturating_add(1);
-        }
-    }
-    operations
-}
-
 /// The number behind a row's last entry.
 fn end_of(row: Row) -> usize {
     row.first.saturating_add(row.count)
 }
 
-impl Sheet<'_, '_> {
+impl Sheet<'_, '_, '_> {
+    /// The height of the words in the next line.
+    fn base(&self) -> usize {
+        self.top.saturating_add(15)
+    }
+
+    /// A box in the next line.
+    fn fill(&mut self, x: usize, width: usize, colour: Colour) -> Result<(), AllocError> {
+        let area = Area {
+            x,
+            y: self.top.saturating_add(2),
+            width,
+            height: LINE - 4,
+        };
+        self.drawing.fill(area, colour)
+    }
+
+    /// A number round a place.
+    fn draw_number(
+        &mut self,
+        x: usize,
+        y: usize,
+        look: Look,
+        number: usize,
+    ) -> Result<(), AllocError> {
+        let words = number_words(self.alloc, number)?;
+        self.drawing.words(x, y, look, words)
+    }
+
     /// A number in a box, in the lane with this left side.
-    fn draw_count(&mut self, lane: usize, colour: &str, count: usize) -> Result<(), AllocError> {
+    fn draw_count(&mut self, lane: usize, colour: Colour, count: usize) -> Result<(), AllocError> {
         let left = lane.saturating_add(2);
-        let top = self.top;
-        self.drawing
-            .fill(left, top.saturating_add(2), LANE - 4, LINE - 4, colour)?;
+        self.fill(left, LANE - 4, colour)?;
         let middle = left.saturating_add(LANE / 2 - 2);
-        self.drawing
-            .number(middle, top.saturating_add(15), Look::Inside, count)
+        self.draw_number(middle, self.base(), Look::Inside, count)
     }
 
     /// Words in the next line, which is then done.
-    fn end_line(&mut self, left: usize, look: Look, words: &str) -> Result<(), AllocError> {
-        let base = self.top.saturating_add(15);
+    fn end_line(&mut self, left: usize, look: Look, words: String) -> Result<(), AllocError> {
+        let base = self.base();
         self.top = self.top.saturating_add(LINE);
         self.drawing.words(left, base, look, words)
+    }
+
+    /// A row's words with its lines as a hint, which end its line.
+    fn end_row(&mut self, left: usize, look: Look, words: String) -> Result<(), AllocError> {
+        let base = self.base();
+        self.top = self.top.saturating_add(LINE);
+        let are_more = self.course.are_more();
+        let hint = self
+            .sources
+            .hint(self.alloc, self.course.named(), are_more)?;
+        self.drawing.hinted(left, base, look, words, hint)
     }
 }
 
 impl<'b, 'a> Plan<'b, 'a> {
-    fn row(&self, number: usize) -> Row {
-        row_of(self.timeline, number)
-    }
-
-    /// The left side of a lane. The first one is that of what concerns no operation.
-    fn lane(&self, number: usize) -> usize {
-        LANES.saturating_add(LANE.saturating_mul(number))
-    }
-
-    /// The left side of an operation's lane.
-    fn operation(&self, column: usize) -> usize {
-        self.lane(column.saturating_add(1))
-    }
-
-    /// The left side of the lane of what waits.
-    fn queue(&self) -> usize {
-        self.operation(self.columns.max(3).saturating_add(1))
-    }
-
-    /// The left side of a context's lane.
-    fn context(&self, number: usize) -> usize {
-        let lanes = number.saturating_add(3);
-        self.queue().saturating_add(LANE.saturating_mul(lanes))
-    }
-
-    /// The left side of the words.
-    fn words(&self) -> usize {
-        self.context(self.contexts.max(3)).saturating_add(LANE)
-    }
-
-    /// How many lines are drawn: those of the timeline, and one in each place where some are left out.
-    fn lines(&self) -> usize {
-        let mut lines: usize = 0;
-        let mut is_drawn = true;
-        for number in 0..lines_of(self.timeline) {
-            let was_drawn = is_drawn;
-            is_drawn = self.excerpt.has(number);
-            if is_drawn || was_drawn {
-                lines = lines.saturating_add(1);
-            }
-        }
-        lines
-    }
-
-    /// How wide the picture is.
-    fn width(&self) -> usize {
-        self.words()
-            .saturating_add(self.letters.saturating_mul(LETTER))
-            .saturating_add(LANE)
-    }
-
     // ---- lanes
 
     /// Who is on in a row, in a lane.
     fn draw_turn(
         &self,
-        sheet: &mut Sheet<'_, '_>,
+        sheet: &mut Sheet<'_, '_, '_>,
         row: Row,
         left: usize,
     ) -> Result<(), AllocError> {
         let colour = if self.timeline.is_running(row) {
-            BLUE
+            Colour::Blue
         } else {
-            GREY
+            Colour::Grey
         };
-        let top = sheet.top.saturating_add(2);
-        let inner = left.saturating_add(4);
-        sheet.drawing.fill(inner, top, LANE - 8, LINE - 4, colour)
+        sheet.fill(left.saturating_add(4), self.lane.saturating_sub(8), colour)
+    }
+
+    /// The middle of a lane.
+    fn middle(&self, left: usize) -> usize {
+        left.saturating_add(self.lane / 2)
     }
 
     /// That the operations of some columns aren't done.
-    fn draw_rules(&self, sheet: &mut Sheet<'_, '_>, row: Row) -> Result<(), AllocError> {
+    fn draw_rules(&self, sheet: &mut Sheet<'_, '_, '_>, row: Row) -> Result<(), AllocError> {
         let top = sheet.top;
         for column in 0..self.columns {
             if self.timeline.is_alive(row, column) {
-                let middle = self.operation(column).saturating_add(LANE / 2);
+                let middle = self.middle(self.operation(column));
                 sheet.drawing.rule(middle, top, top.saturating_add(LINE))?;
             }
         }
         Ok(())
     }
 
-    /// The lanes of the operations.
-    fn draw_operations(&self, sheet: &mut Sheet<'_, '_>, row: Row) -> Result<(), AllocError> {
-        self.draw_rules(sheet, row)?;
-        let left = match self.timeline.column(row) {
-            Some(column) => self.operation(column),
-            None => self.lane(0),
+    /// Who is on in a row about an operation, with its number where its column may be that of others too.
+    fn draw_operation(
+        &self,
+        sheet: &mut Sheet<'_, '_, '_>,
+        row: Row,
+        column: usize,
+    ) -> Result<(), AllocError> {
+        let left = self.operation(column);
+        self.draw_turn(sheet, row, left)?;
+        let Some(operation) = sheet.course.operation() else {
+            return Ok(());
         };
-        self.draw_turn(sheet, row, left)
+        if self.is_shared {
+            let base = sheet.base();
+            sheet.draw_number(self.middle(left), base, Look::Inside, operation)?;
+        }
+        Ok(())
+    }
+
+    /// The lanes of the operations.
+    fn draw_operations(&self, sheet: &mut Sheet<'_, '_, '_>, row: Row) -> Result<(), AllocError> {
+        self.draw_rules(sheet, row)?;
+        match self.timeline.column(row) {
+            Some(column) => self.draw_operation(sheet, row, column),
+            None => self.draw_turn(sheet, row, self.left(0)),
+        }
     }
 
     /// How many visits wait.
-    fn draw_queue(&self, sheet: &mut Sheet<'_, '_>) -> Result<(), AllocError> {
+    fn draw_queue(&self, sheet: &mut Sheet<'_, '_, '_>) -> Result<(), AllocError> {
         let waiting = sheet.course.waiting();
         if waiting == 0 {
             return Ok(());
         }
-        sheet.draw_count(self.queue(), ORANGE, waiting as usize)
+        sheet.draw_count(self.queue(), Colour::Orange, waiting as usize)
     }
 
     /// The references of a context.
-    fn draw_context(&self, sheet: &mut Sheet<'_, '_>, number: usize) -> Result<(), AllocError> {
+    fn draw_context(&self, sheet: &mut Sheet<'_, '_, '_>, number: usize) -> Result<(), AllocError> {
         let references = sheet.course.references(number);
         if references == 0 {
             return Ok(());
         }
         let colour = if sheet.course.is_linked(number) {
-            GREEN
+            Colour::Green
         } else {
-            PURPLE
+            Colour::Purple
         };
         sheet.draw_count(self.context(number), colour, references as usize)
     }
 
     /// What is there when a row ends.
-    fn draw_state(&self, sheet: &mut Sheet<'_, '_>) -> Result<(), AllocError> {
+    fn draw_state(&self, sheet: &mut Sheet<'_, '_, '_>) -> Result<(), AllocError> {
         self.draw_queue(sheet)?;
         for number in 0..self.contexts {
             self.draw_context(sheet, number)?;
@@ -396,33 +225,30 @@ impl<'b, 'a> Plan<'b, 'a> {
         Ok(())
     }
 
-    // ---- lines
+    // ---- heads
 
-    /// The number of a lane, above it.
-    fn draw_number(
-        &self,
-        sheet: &mut Sheet<'_, '_>,
-        left: usize,
-        number: usize,
-    ) -> Result<(), AllocError> {
-        let middle = left.saturating_add(LANE / 2);
-        sheet.drawing.number(middle, 34, Look::Above, number)
+    /// The number of the first operation of a column, above it.
+    fn draw_first(&self, sheet: &mut Sheet<'_, '_, '_>, column: usize) -> Result<(), AllocError> {
+        let middle = self.middle(self.operation(column));
+        match self.firsts.get(column) {
+            Some(Some(first)) => sheet.draw_number(middle, 34 + LINE, Look::Above, *first),
+            _ => Ok(()),
+        }
     }
 
     /// The numbers of operations and contexts.
-    fn draw_numbers(&self, sheet: &mut Sheet<'_, '_>) -> Result<(), AllocError> {
-        if self.is_numbered {
-            for column in 0..self.columns {
-                self.draw_number(sheet, self.operation(column), column)?;
-            }
+    fn draw_numbers(&self, sheet: &mut Sheet<'_, '_, '_>) -> Result<(), AllocError> {
+        for column in 0..self.columns {
+            self.draw_first(sheet, column)?;
         }
         for number in 0..self.contexts {
-            self.draw_number(sheet, self.context(number), number)?;
+            let middle = self.context(number).saturating_add(LANE / 2);
+            sheet.draw_number(middle, 34 + LINE, Look::Above, number)?;
         }
         Ok(())
     }
 
-    fn draw_heads(&self, sheet: &mut Sheet<'_, '_>) -> Result<(), AllocError> {
+    fn draw_heads(&self, sheet: &mut Sheet<'_, '_, '_>) -> Result<(), AllocError> {
         let places = [
             LANES - 65,
             self.operation(0),
@@ -430,58 +256,75 @@ impl<'b, 'a> Plan<'b, 'a> {
             self.context(0),
             self.words(),
         ];
-        sheet.drawing.heads(&places, 16, Look::Faint, &HEADS)?;
+        sheet
+            .drawing
+            .heads(&places, 16 + LINE, Look::Faint, &HEADS)?;
         self.draw_numbers(sheet)
     }
 
     /// What the colours say, below the lines.
-    fn draw_key(&self, sheet: &mut Sheet<'_, '_>) -> Result<(), AllocError> {
-        sheet.top = sheet.top.saturating_add(LINE / 2);
+    fn draw_colours(&self, sheet: &mut Sheet<'_, '_, '_>) -> Result<(), AllocError> {
         for (colour, said) in &KEY {
-            let top = sheet.top.saturating_add(2);
-            sheet
-                .drawing
-                .fill(LANES + 4, top, LANE - 8, LINE - 4, colour)?;
-            sheet.end_line(LANES + LANE + 8, Look::Faint, said)?;
+            sheet.fill(LANES + 4, LANE - 8, *colour)?;
+            let words = String::from_str(self.alloc, said)?;
+            sheet.end_line(LANES + LANE + 8, Look::Faint, words)?;
         }
         Ok(())
     }
+
+    /// What the colours say, and the numbers of operations where columns are shared.
+    fn draw_key(&self, sheet: &mut Sheet<'_, '_, '_>) -> Result<(), AllocError> {
+        sheet.top = sheet.top.saturating_add(LINE / 2);
+        self.draw_colours(sheet)?;
+        if self.is_shared {
+            let words = String::from_str(self.alloc, SHARED)?;
+            sheet.end_line(LANES + LANE + 8, Look::Faint, words)?;
+        }
+        Ok(())
+    }
+
+    // ---- lines
 
     /// The line of some entries begins: the number of the first, and the one behind the last.
     fn begin_line(
         &self,
-        sheet: &mut Sheet<'_, '_>,
+        sheet: &mut Sheet<'_, '_, '_>,
         first: usize,
         end: usize,
     ) -> Result<(), AllocError> {
-        let base = sheet.top.saturating_add(15);
+        sheet.course.go_to(first)?;
         sheet.course.go_to(end)?;
-        sheet
-            .drawing
-            .numbers(LANES - 15, base, first, end.saturating_sub(1))
+        let words = entries_words(self.alloc, first, end.saturating_sub(1))?;
+        let base = sheet.base();
+        sheet.drawing.words(LANES - 15, base, Look::Before, words)
     }
 
     /// The line of a row in which the run breaks something stands out.
-    fn draw_ground(&self, sheet: &mut Sheet<'_, '_>, row: Row) -> Result<(), AllocError> {
-        if self.timeline.is_broken(row) {
-            let top = sheet.top;
-            return sheet.drawing.fill(0, top, self.width(), LINE, PINK);
+    fn draw_ground(&self, sheet: &mut Sheet<'_, '_, '_>, row: Row) -> Result<(), AllocError> {
+        if !self.timeline.is_broken(row) {
+            return Ok(());
         }
-        Ok(())
+        let area = Area {
+            x: 0,
+            y: sheet.top,
+            width: self.width(),
+            height: LINE,
+        };
+        sheet.drawing.fill(area, Colour::Pink)
     }
 
     /// A row's words, which end its line.
-    fn draw_words(&self, sheet: &mut Sheet<'_, '_>, row: Row) -> Result<(), AllocError> {
-        let words = self.timeline.words(self.alloc, row)?;
+    fn draw_words(&self, sheet: &mut Sheet<'_, '_, '_>, row: Row) -> Result<(), AllocError> {
+        let words = row_words(self.alloc, self.timeline, self.verdict, row)?;
         let look = if self.timeline.is_broken(row) {
             Look::Bad
         } else {
             Look::Plain
         };
-        sheet.end_line(self.words(), look, words.as_str())
+        sheet.end_row(self.words(), look, words)
     }
 
-    fn draw_row(&self, sheet: &mut Sheet<'_, '_>, row: Row) -> Result<(), AllocError> {
+    fn draw_row(&self, sheet: &mut Sheet<'_, '_, '_>, row: Row) -> Result<(), AllocError> {
         self.draw_ground(sheet, row)?;
         self.begin_line(sheet, row.first, end_of(row))?;
         self.draw_operations(sheet, row)?;
@@ -492,7 +335,7 @@ impl<'b, 'a> Plan<'b, 'a> {
     /// So many rows that repeat a block, with what is there behind them.
     fn draw_repetition(
         &self,
-        sheet: &mut Sheet<'_, '_>,
+        sheet: &mut Sheet<'_, '_, '_>,
         fold: Fold,
         repeated: usize,
     ) -> Result<(), AllocError> {
@@ -501,23 +344,24 @@ impl<'b, 'a> Plan<'b, 'a> {
         self.begin_line(sheet, self.row(first).first, end_of(last))?;
         self.draw_state(sheet)?;
         let words = repeated_words(self.alloc, repeated)?;
-        sheet.end_line(self.words(), Look::Faint, words.as_str())
+        sheet.end_line(self.words(), Look::Faint, words)
     }
 
     /// A line in place of those that are left out, if some are.
-    fn draw_left_out(&self, sheet: &mut Sheet<'_, '_>) -> Result<(), AllocError> {
+    fn draw_left_out(&self, sheet: &mut Sheet<'_, '_, '_>) -> Result<(), AllocError> {
         if sheet.left_out == 0 {
             return Ok(());
         }
         let words = left_out_words(self.alloc, sheet.left_out)?;
         sheet.left_out = 0;
-        let base = sheet.top.saturating_add(15);
-        sheet.drawing.words(LANES - 15, base, Look::Before, "...")?;
-        sheet.end_line(self.words(), Look::Plain, words.as_str())
+        let base = sheet.base();
+        let dots = String::from_str(self.alloc, "...")?;
+        sheet.drawing.words(LANES - 15, base, Look::Before, dots)?;
+        sheet.end_line(self.words(), Look::Plain, words)
     }
 
     /// Whether the next line is drawn. What is left out before it is said first.
-    fn begins(&self, sheet: &mut Sheet<'_, '_>) -> Result<bool, AllocError> {
+    fn begins(&self, sheet: &mut Sheet<'_, '_, '_>) -> Result<bool, AllocError> {
         let number = sheet.number;
         sheet.number = number.saturating_add(1);
         if !self.excerpt.has(number) {
@@ -529,7 +373,7 @@ impl<'b, 'a> Plan<'b, 'a> {
     }
 
     /// A row, where its line is drawn.
-    fn draw_next(&self, sheet: &mut Sheet<'_, '_>, row: Row) -> Result<(), AllocError> {
+    fn draw_next(&self, sheet: &mut Sheet<'_, '_, '_>, row: Row) -> Result<(), AllocError> {
         if self.begins(sheet)? {
             self.draw_row(sheet, row)?;
         }
@@ -537,7 +381,7 @@ impl<'b, 'a> Plan<'b, 'a> {
     }
 
     /// A block, what repeats it, and the row of it by which the run breaks something.
-    fn draw_fold(&self, sheet: &mut Sheet<'_, '_>, fold: Fold) -> Result<(), AllocError> {
+    fn draw_fold(&self, sheet: &mut Sheet<'_, '_, '_>, fold: Fold) -> Result<(), AllocError> {
         for number in 0..fold.block {
             self.draw_next(sheet, self.row(fold.first.saturating_add(number)))?;
         }
@@ -552,120 +396,52 @@ impl<'b, 'a> Plan<'b, 'a> {
     }
 
     /// The blocks, as far as they are drawn, and how much is left out behind them.
-    fn draw_folds(&self, sheet: &mut Sheet<'_, '_>) -> Result<(), AllocError> {
+    fn draw_folds(&self, sheet: &mut Sheet<'_, '_, '_>) -> Result<(), AllocError> {
         for fold in self.timeline.folds.as_slice() {
             self.draw_fold(sheet, *fold)?;
         }
         self.draw_left_out(sheet)
     }
 
-    fn draw(&self, sheet: &mut Sheet<'_, '_>) -> Result<(), AllocError> {
+    fn draw(&self, sheet: &mut Sheet<'_, '_, '_>) -> Result<(), AllocError> {
         self.draw_heads(sheet)?;
         self.draw_folds(sheet)?;
         self.draw_key(sheet)
     }
-}
 
-/// The words for so many rows that repeat a block.
-fn repeated_words(alloc: Global, rows: usize) -> Result<String, AllocError> {
-    let mut words = String::new(alloc);
-    write!(words, "the same again, {rows} rows")?;
-    Ok(words)
-}
-
-/// The words for so many lines that are left out.
-fn left_out_words(alloc: Global, lines: usize) -> Result<String, AllocError> {
-    let mut words = String::new(alloc);
-    if lines == 1 {
-        words.push_str("1 line is left out here")?;
-    } else {
-        write!(words, "{lines} lines are left out here")?;
+    /// How high the picture is.
+    fn height(&self) -> usize {
+        let key = KEY.len() + usize::from(self.is_shared);
+        let lines = self.lines().saturating_add(key).saturating_add(4);
+        lines.saturating_mul(LINE)
     }
-    Ok(words)
-}
-
-/// How many contexts there are behind so many entries, up to what has lanes.
-fn contexts_behind(course: &mut Course<'_, '_>, entries: usize) -> Result<usize, AllocError> {
-    course.go_to(entries)?;
-    Ok(course.contexts().min(MOST_CONTEXTS))
-}
-
-/// How many contexts come in a journal, up to what has lanes.
-fn contexts_of<'b, 'a>(
-    alloc: Global,
-    stack: &'b Stack<'a>,
-    journal: &'b Journal,
-) -> Result<usize, AllocError> {
-    let mut course = Course::new(alloc, stack, journal)?;
-    let contexts = contexts_behind(&mut course, journal.len());
-    drop(course);
-    contexts
-}
-
-/// What is drawn of a journal.
-fn plan_of<'b, 'a>(
-    alloc: Global,
-    stack: &Stack<'_>,
-    journal: &Journal,
-    timeline: &'b Timeline<'a>,
-) -> Result<Plan<'b, 'a>, AllocError> {
-    let contexts = contexts_of(alloc, stack, journal)?;
-    let letters = letters_of(alloc, timeline)?.max(LEAST_LETTERS);
-    Ok(Plan {
-        alloc,
-        timeline,
-        excerpt: Excerpt::of(lines_of(timeline), broken_line(timeline)),
-        columns: columns_of(timeline),
-        is_numbered: operations_of(journal) <= OWN_COLUMNS,
-        contexts,
-        letters,
-    })
-}
-
-/// An empty sheet for what is drawn.
-fn sheet_of<'b, 'a>(
-    plan: &Plan<'_, '_>,
-    stack: &'b Stack<'a>,
-    journal: &'b Journal,
-) -> Result<Sheet<'b, 'a>, AllocError> {
-    let lines = plan.lines().saturating_add(KEY.len() + 3);
-    let height = lines.saturating_mul(LINE);
-    let drawing = Drawing::new(plan.alloc, plan.width(), height)?;
-    Ok(Sheet {
-        drawing,
-        course: Course::new(plan.alloc, stack, journal)?,
-        top: 2 * LINE,
-        number: 0,
-        left_out: 0,
-    })
 }
 
 /// What is drawn of a journal by a plan.
-fn drawn(plan: &Plan<'_, '_>, stack: &Stack<'_>, journal: &Journal) -> Result<String, AllocError>
-    ensures { IfOk result (λ text. spec.IsClosed (string_bytes text)) }
-{
-    let mut sheet = sheet_of(plan, stack, journal)?;
-    plan.draw(&mut sheet)?;
-    sheet.drawing.close()
-}
-
-/// A journal on a stack as a picture.
-fn picture_on(
-    alloc: Global,
+fn drawn(
+    plan: &Plan<'_, '_>,
     stack: &Stack<'_>,
     journal: &Journal,
-    timeline: &Timeline<'_>,
-) -> Result<String, AllocError>
-    ensures { IfOk result (λ text. spec.IsClosed (string_bytes text)) }
-{
-    let plan = plan_of(alloc, stack, journal, timeline)?;
-    drawn(&plan, stack, journal)
+    sources: Sources<'_>,
+) -> Result<Drawing, AllocError> {
+    let mut sheet = Sheet {
+        alloc: plan.alloc,
+        drawing: Drawing::new(plan.alloc),
+        course: Course::new(plan.alloc, stack, journal)?,
+        sources,
+        top: 3 * LINE,
+        number: 0,
+        left_out: 0,
+    };
+    plan.draw(&mut sheet)?;
+    Ok(sheet.drawing)
 }
 
-/// A journal as a picture, in SVG: the rows of its timeline, with lanes for operations, for how many visits wait in queues and work items
-/// when a row ends, and for the references that each context then has. Below it stands what the colours say. The filters and the journal
-/// are those of the timeline. At most 1,000 lines are drawn, the one that breaks something among them, and the first twelve contexts. Where lines
-/// are left out, a line says how many.
+/// A journal as a picture, in SVG: the names of the filters and the verdict above the rows of its timeline, with lanes for operations, for
+/// how many visits wait in queues and work items when a row ends, and for the references that each context then has. The statements' lines
+/// that a row names are a hint over its words. Below it stands what the colours say. The filters, the journal and the verdict are those of
+/// the timeline, and the texts those of the trees, in their order. At most 1,000 lines are drawn, the one that breaks something among them,
+/// the first twelve contexts, and 40 lines of a text in a hint. Where lines are left out, a line says how many.
 ///
 /// # Errors
 ///
@@ -673,11 +449,18 @@ fn picture_on(
 pub fn picture(
     alloc: Global,
     trees: &[Tree],
+    texts: &[Vec<u8>],
     journal: &Journal,
+    verdict: Verdict,
     timeline: &Timeline<'_>,
 ) -> Result<String, AllocError>
-    ensures { IfOk result (λ text. spec.IsClosed (string_bytes text)) }
+    ensures { IfOk result (λ text. spec.IsPicture (titles.title_of (filters_of trees.now) verdict) (string_bytes text)) }
 {
     let stack = Stack::of(alloc, trees)?;
-    picture_on(alloc, &stack, journal, timeline)
+    let title = title_of(alloc, trees, verdict)?;
+    let plan = Plan::of(alloc, &stack, journal, verdict, timeline, title.len())?;
+    let sources = Sources::of(alloc, &stack, trees, texts)?;
+    let drawing = drawn(&plan, &stack, journal, sources)?;
+    let elements = drawing.elements.as_slice();
+    written(alloc, plan.width(), plan.height(), title.as_str(), elements)
 }

@@ -1,0 +1,105 @@
+//! What stands in the lines of a text that a row names, for a pointer over its words.
+
+use crate::course::Named;
+use crate::title::shown;
+use flt_places::Lines;
+use flt_tree::Tree;
+use flt_world::Stack;
+use std::alloc::{AllocError, Global};
+use std::fmt::Write;
+
+/// A filter's text, with its number from the highest altitude.
+#[derive(Drop)]
+struct Source<'a> {
+    filter: usize,
+    lines: Lines<'a>,
+}
+
+/// The texts of filters.
+#[derive(Drop)]
+pub(crate) struct Sources<'a> {
+    all: Vec<Source<'a>>,
+}
+
+/// The number of a tree's filter; past all filters where it has no altitude that one may have.
+fn number_of(stack: &Stack<'_>, tree: &Tree) -> usize {
+    match u32::try_from(tree.filter.altitude) {
+        Ok(altitude) => stack.number_of(altitude),
+        Err(_) => stack.len(),
+    }
+}
+
+fn is_blank(byte: u8) -> bool {
+    matches!(byte, b' ' | b'\t' | b'\r')
+}
+
+/// A line without the blanks before it.
+fn without_indent(line: &[u8]) -> &[u8] {
+    for start in 0..line.len() {
+        if !is_blank(line[start]) {
+            return &line[start..];
+        }
+    }
+    &[]
+}
+
+/// A line behind its number.
+fn put_line(out: &mut String, number: usize, line: &[u8]) -> Result<(), AllocError> {
+    write!(out, "{number}: ")?;
+    for byte in without_indent(line) {
+        if is_blank(*byte) {
+            out.push(' ')?;
+        } else {
+            out.push(shown(*byte) as char)?;
+        }
+    }
+    Ok(())
+}
+
+impl<'a> Sources<'a> {
+    /// The texts of some trees, in the same order.
+    pub(crate) fn of(
+        alloc: Global,
+        stack: &Stack<'_>,
+        trees: &[Tree],
+        texts: &'a [Vec<u8>],
+    ) -> Result<Sources<'a>, AllocError> {
+        let mut all = Vec::new(alloc);
+        for (tree, text) in trees.iter().zip(texts) {
+            let filter = number_of(stack, tree);
+            let lines = Lines::of(alloc, text.as_slice())?;
+            all.push(Source { filter, lines })?;
+        }
+        Ok(Sources { all })
+    }
+
+    /// A line; nothing where it isn't there.
+    fn line(&self, named: Named) -> &[u8] {
+        for source in self.all.iter() {
+            if source.filter == named.filter {
+                return source.lines.line(named.line);
+            }
+        }
+        &[]
+    }
+
+    /// These lines, each behind its number, and that there are more.
+    pub(crate) fn hint(
+        &self,
+        alloc: Global,
+        lines: &[Named],
+        are_more: bool,
+    ) -> Result<String, AllocError> {
+        let mut hint = String::new(alloc);
+        for named in lines {
+            if !hint.is_empty() {
+                hint.push_str("\n")?;
+            }
+            put_line(&mut hint, named.line, self.line(*named))?;
+        }
+        if are_more {
+            hint.push_str("\n...")?;
+        }
+        Ok(hint)
+    }
+}
