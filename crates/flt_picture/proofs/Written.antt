@@ -1,9 +1,7 @@
 -- Steps of what is written.
 use Rattle.std.proofs.Common.{◌≡◌, List, ◌++◌, append_assoc, ap, ◌∙◌}
-use Rattle.std.specs.Prelude.{Result, Ok, Err}
-use Rattle.flt_picture.specs.Pictures.{Puts, Text}
+use Rattle.flt_picture.specs.Pictures.{Text}
 
 -- a text, and one more
-pub puts_after : {E : Type 0} (r : Result (Unit {0}) E) (a b c x y : Text) → b ≡ a ++ x → Puts r b c y → Puts r a c (x ++ y)
-puts_after (Ok u) a b c x y e f = f ∙ ap (λ z. z ++ y) e ∙ append_assoc a x y
-puts_after (Err u) a b c x y e f = f
+pub text_after : (a b c x y : Text) → b ≡ a ++ x → c ≡ b ++ y → c ≡ a ++ (x ++ y)
+text_after a b c x y e f = f ∙ ap (λ z. z ++ y) e ∙ append_assoc a x y

@@ -104,9 +104,8 @@ written (elements.Words x y look words hint) = words_at x y look (string_bytes w
 -- the beginning of a picture of some size
 unfoldable pub sized : ℕ → ℕ → Text
 sized width height =
-    codes "<svg" ++ setting (codes "xmlns") (codes "http://www.w3.org/2000/svg") ++ setting (codes "role") (codes "img")
-    ++ setting (codes "font-family") (codes "monospace") ++ attribute (codes "font-size") 12
-    ++ attribute (codes "width") width ++ attribute (codes "height") height ++ codes ">\n"
+    codes "<svg xmlns=\"http://www.w3.org/2000/svg\" role=\"img\" font-family=\"monospace\" font-size=\"12\""
+    ++ (attribute (codes "width") width ++ (attribute (codes "height") height ++ codes ">\n"))
 
 -- a box under all of it
 abbrev pub ground : ℕ → ℕ → Area

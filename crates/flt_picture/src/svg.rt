@@ -191,14 +191,13 @@ fn put_elements(out: &mut String, elements: &[Element]) -> Result<(), AllocError
 fn put_size(out: &mut String, width: usize, height: usize) -> Result<(), AllocError>
     ensures { spec.Puts result (string_bytes out.old) (string_bytes out.new) (spec.sized width height) }
 {
-    out.push_str("<svg")?;
-    put_setting(out, "xmlns", "http://www.w3.org/2000/svg")?;
-    put_setting(out, "role", "img")?;
-    put_setting(out, "font-family", "monospace")?;
-    put_attribute(out, "font-size", 12)?;
+    out.push_str(
+        "<svg xmlns=\"http://www.w3.org/2000/svg\" role=\"img\" font-family=\"monospace\" font-size=\"12\"",
+    )?;
     put_attribute(out, "width", width)?;
     put_attribute(out, "height", height)?;
-    out.push_str(">\n")
+    out.push_str(">\n")?;
+    Ok(())
 }
 
 /// The beginning of a picture of some size: its title, a white ground, and the title in its first line.
