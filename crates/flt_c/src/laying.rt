@@ -92,10 +92,7 @@ fn lay(alloc: Global, found: &Annotations) -> Result<Result<Vec<u8>, PlaceFlaw>,
 /// # Errors
 ///
 /// A growth was refused.
-pub fn in_place(
-    alloc: Global,
-    file: Vec<u8>,
-) -> Result<Result<Vec<u8>, PlaceFlaw>, AllocError>
+pub fn in_place(alloc: Global, file: Vec<u8>) -> Result<Result<Vec<u8>, PlaceFlaw>, AllocError>
     ensures { IfOk result (λ done. MatchResult done
         (λ text. spec.in_place file.items ≡ Ok text.items)
         (λ flaw. spec.in_place file.items ≡ Err flaw)) }

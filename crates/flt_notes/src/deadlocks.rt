@@ -40,10 +40,7 @@ fn tell_wait(page: &mut Page, tree: &Tree, wait: &Blocked) -> Result<(), AllocEr
 fn tell_held(page: &mut Page, number: usize) -> Result<(), AllocError>
     ensures { Writes result page.old page.new (spec.held_by number) }
 {
-    page.say(&[
-        Part::Text(", held by activation "),
-        Part::Number(number),
-    ])
+    page.say(&[Part::Text(", held by activation "), Part::Number(number)])
 }
 
 /// Writes which activation holds that lock, if one is named.
