@@ -101,12 +101,12 @@ written (elements.Words x y look words hint) = words_at x y look (string_bytes w
 
 -- ---- the picture
 
--- the beginning of a picture of some size
+-- what its first tag says of a picture: that it is one, its letters and its size
 unfoldable pub sized : ℕ → ℕ → Text
 sized width height =
-    codes "<svg" ++ setting (codes "xmlns") (codes "http://www.w3.org/2000/svg") ++ setting (codes "role") (codes "img")
+    setting (codes "xmlns") (codes "http://www.w3.org/2000/svg") ++ setting (codes "role") (codes "img")
     ++ setting (codes "font-family") (codes "monospace") ++ attribute (codes "font-size") 12
-    ++ attribute (codes "width") width ++ attribute (codes "height") height ++ codes ">\n"
+    ++ attribute (codes "width") width ++ attribute (codes "height") height
 
 -- a box under all of it
 abbrev pub ground : ℕ → ℕ → Area
@@ -115,7 +115,7 @@ ground width height = record { x = 0; y = 0; width = width; height = height }
 -- the beginning of a picture with a title: this, a white ground, and the title in the first line
 unfoldable pub opening : ℕ → ℕ → Text → Text
 opening width height title =
-    sized width height ++ title_of title ++ codes "\n" ++ fill (ground width height) colours.White
+    codes "<svg" ++ sized width height ++ codes ">\n" ++ title_of title ++ codes "\n" ++ fill (ground width height) colours.White
     ++ words_at 35 16 looks.Title title []
 
 -- the picture of some size that has this title and these elements

@@ -187,18 +187,16 @@ fn put_elements(out: &mut String, elements: &[Element]) -> Result<(), AllocError
 
 // ---- the picture
 
-/// The beginning of a picture of some size.
+/// What its first tag says of a picture: that it is one, its letters and its size.
 fn put_size(out: &mut String, width: usize, height: usize) -> Result<(), AllocError>
     ensures { spec.Puts result (string_bytes out.old) (string_bytes out.new) (spec.sized width height) }
 {
-    out.push_str("<svg")?;
     put_setting(out, "xmlns", "http://www.w3.org/2000/svg")?;
     put_setting(out, "role", "img")?;
     put_setting(out, "font-family", "monospace")?;
     put_attribute(out, "font-size", 12)?;
     put_attribute(out, "width", width)?;
-    put_attribute(out, "height", height)?;
-    out.push_str(">\n")
+    put_attribute(out, "height", height)
 }
 
 /// The beginning of a picture of some size: its title, a white ground, and the title in its first line.
@@ -206,7 +204,9 @@ fn put_size(out: &mut String, width: usize, height: usize) -> Result<(), AllocEr
 fn put_opening(out: &mut String, width: usize, height: usize, title: &str) -> Result<(), AllocError>
     ensures { spec.Puts result (string_bytes out.old) (string_bytes out.new) (spec.opening width height title.now) }
 {
+    out.push_str("<svg")?;
     put_size(out, width, height)?;
+    out.push_str(">\n")?;
     put_title(out, title)?;
     out.push_str("\n")?;
     let ground = Area {
