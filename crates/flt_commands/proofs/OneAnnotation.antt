@@ -1,5 +1,5 @@
 -- Of a C file one thing is given at most.
-use Rattle.std.proofs.Common.{inl, inr, ◌≡◌, ◌⊎◌, Bool, true, false, Option, Some, None, Ok, Err, refl, ap}
+use Rattle.std.proofs.Common.{inl, inr, ◌≡◌, Bool, true, false, Option, Some, None, refl, ap}
 use Rattle.std.proofs.Math.Path.{subst}
 use Rattle.flt_commands.specs.Annotated.{AreLaid, GivesLaid, gives_annotations, gives_laid, gives_laid_if, is_c_file}
 use Rattle.flt_commands.specs.Inputs.{Giving, Text}
