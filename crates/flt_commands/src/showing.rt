@@ -1,9 +1,12 @@
 //! What `replay` says of the names that it is given, where the journal is shown.
 
-ghost use Rattle.std.specs.Prelude.{◌≡◌, [], ◌∷◌, ℕ, List, None, false, IfOk, map, option_map};
+ghost use Rattle.std.specs.Prelude.{◌≡◌, [], ◌∷◌, ℕ, List, None, false, IfOk, OnOk, map, option_map};
 ghost use Rattle.flt_commands.specs.Commands.{IsKeptAs};
 ghost use Rattle.flt_commands.specs.Inputs.{Says};
 ghost use Rattle.flt_commands.specs.Replay as spec;
+ghost use Rattle.flt_model.specs.Program.{filters_of};
+ghost use Rattle.flt_picture.specs.Pictures.{IsPicture};
+ghost use Rattle.flt_picture.specs.Titles.{title_of};
 
 use crate::answer::Answer;
 use crate::failure::Failure;
@@ -36,7 +39,10 @@ fn draw<P: Pictures>(
     texts: &[Vec<u8>],
     timeline: &Timeline<'_>,
     pictures: &mut P,
-) -> Result<Result<(), Unwritten>, AllocError> {
+) -> Result<Result<(), Unwritten>, AllocError>
+    ensures { IfOk result (λ done. OnOk done ((drawn : List ℕ)
+        × IsPicture (title_of (filters_of replayed.now.trees.items) replayed.now.verdict) drawn × P.written pictures.new name.now drawn)) }
+{
     let trees = replayed.trees.as_slice();
     let (journal, verdict) = (&replayed.journal, replayed.verdict);
     let drawn = picture(alloc, trees, texts, journal, verdict, timeline)?;
