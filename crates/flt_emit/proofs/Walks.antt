@@ -1,6 +1,7 @@
 -- The lines of a statement by its kind, and lines that are written one after the other.
 use Rattle.std.proofs.Common.{◌≡◌, ℕ, ◌+◌, ◌<◌, false, List, [], ◌∷◌, ◌++◌, length, drop, get_or, map, refl, sym, ap, ◌∙◌, append_assoc, append-nil, arith}
 use Rattle.std.proofs.lemmas.List.{drop_more}
+use Rattle.std.proofs.lemmas.List.Sums.{sum-map, sum_by-cons}
 use Rattle.std.specs.Prelude.{Option}
 use Rattle.flt_tree.specs.Measures.{points, points_of}
 use Rattle.flt_tree.specs.declared.filter.Action.{Action}
@@ -84,9 +85,14 @@ choice_none scope line asked (g ∷ gs) refused level point none = absurd (omega
 
 -- ---- statements one after the other
 
+points_cons : (s : Statement) (rest : List Statement) → points (s ∷ rest) ≡ points_of s + points rest
+points_cons s rest = sum-map points_of (s ∷ rest)
+    ∙ (sum_by-cons points_of s rest ∙ ap (λ n. points_of s + n) (sym (sum-map points_of rest)))
+
 pub points_next : (block : List Statement) (i : ℕ) (s : Statement) → i < length block → s ≡ get_or block i s →
     points (drop i block) ≡ points_of s + points (drop (i + 1) block)
 points_next block i s below is = ap points (drop_more block i s below ∙ ap (λ (x : Statement). x ∷ drop (i + 1) block) (sym is))
+    ∙ points_cons s (drop (i + 1) block)
 
 pub body_next : (scope : Scope) (block : List Statement) (i : ℕ) (s : Statement) (level point : ℕ) → i < length block →
     s ≡ get_or block i s →

@@ -1,10 +1,10 @@
-use Rattle.std.proofs.Common.{arith, ◌≡◌, ◌+◌, ◌++◌, ◌∙◌, List, ℕ, ap, sym, drop, append_assoc}
+use Rattle.std.proofs.Common.{arith, ◌≡◌, ◌+◌, ◌++◌, ◌∙◌, List, ℕ, ap, sym, drop, append_assoc, length, ◌<◌}
 use Rattle.std.proofs.lemmas.Result.{on_ok_weaker}
 use Rattle.flt_tree.specs.Measures.{points}
 use Rattle.flt_emit.specs.Line.{label}
 use Rattle.flt_emit.specs.Scope.{scope_of}
-use Rattle.flt_emit.specs.Statements.{body_text, statement_text}
-use Rattle.flt_emit.proofs.Walks.{acts, calls, returning, chooses, repeats, points_next, body_next, acted, called, left, enclosed}
+use Rattle.flt_emit.specs.Statements.{body_text, statement_text, with_lines}
+use Rattle.flt_emit.proofs.Walks.{acts, calls, returning, chooses, choice_none, choice_some, repeats, points_next, body_next, acted, called, left, enclosed}
 use Rattle.flt_emit.proofs.statements.+statements.Goals as goal
 
 pub body-loop-found-preserved : goal.body-loop-found-preserved
@@ -12,7 +12,7 @@ body-loop-found-preserved t c =
     let scope = scope_of c.args.scope.now in
     let block = c.args.statements.now in
     let i = c.loop-found.found-index in
-    let s = c.found-item.result.now in
+    let s = c.found-item.result in
     let more = points_next block i s (omega arith) c.found-item.is in
     record {
       same =
@@ -47,6 +47,29 @@ statement-returns-in_ok-write-in-Return-clause-text t c =
     left _ _ _ _ (label c.args.point c.in-Return.at.line) c.in_ok-leave-in-Return.ensures c.in_ok-write-in-Return.ensures
     ∙ ap (λ (l : List ℕ). c.args.out.now.items ++ l)
     (sym (returning (scope_of c.args.scope.now) c.args.level c.args.point c.args.statement.now c.in-Return.at c.in-Return.status c.in-Return.is))
+
+pub statement-returns-in-empty-clause-text : goal.statement-returns-in-empty-clause-text
+statement-returns-in-empty-clause-text t c =
+    let scope = scope_of c.args.scope.now in
+    let none : length c.in-If.granted ≡ 0 = omega (arith, rw c.as_slice.ensures at c.in-empty.len_below) in
+    on_ok_weaker c.turned.result
+    (λ h. h ∙ ap (λ (l : List ℕ). c.args.out.now.items ++ l)
+    (sym (chooses scope c.args.level c.args.point c.args.statement.now c.in-If.at c.in-If.asked c.in-If.granted c.in-If.refused c.in-If.is
+    ∙ choice_none scope c.in-If.at.line c.in-If.asked c.in-If.granted (with_lines scope c.in-If.refused) c.args.level c.args.point none)))
+    (rw c.as_slice-in-empty.ensures at c.turned.ensures.text)
+
+pub statement-returns-in_ok-middle-in-len1-up-clause-text : goal.statement-returns-in_ok-middle-in-len1-up-clause-text
+statement-returns-in_ok-middle-in-len1-up-clause-text t c =
+    let scope = scope_of c.args.scope.now in
+    let some : 0 < length c.in-If.granted = omega (arith, rw c.as_slice.ensures at c.in-len1-up.len_at_least) in
+    let middle = rw c.as_slice-in-len1-up.ensures at c.in_ok-middle-in-len1-up.ensures.next in
+    on_ok_weaker c.otherwise.result
+    (λ h. enclosed _ _ _ _ _ _ _ c.in_ok-if_line-in-len1-up.ensures
+    (rw c.as_slice-in-len1-up.ensures at c.in_ok-middle-in-len1-up.ensures.text) h
+    ∙ ap (λ (l : List ℕ). c.args.out.now.items ++ l)
+    (sym (chooses scope c.args.level c.args.point c.args.statement.now c.in-If.at c.in-If.asked c.in-If.granted c.in-If.refused c.in-If.is
+    ∙ choice_some scope c.in-If.at.line c.in-If.asked c.in-If.granted (with_lines scope c.in-If.refused) c.args.level c.args.point some)))
+    (rw (c.as_slice-in-len1-up-2.ensures, middle) at c.otherwise.ensures.text)
 
 pub statement-returns-in_ok-closing-in-Repeat-clause-text : goal.statement-returns-in_ok-closing-in-Repeat-clause-text
 statement-returns-in_ok-closing-in-Repeat-clause-text t c =
