@@ -79,10 +79,16 @@ operation_declaration body o =
     where_used (stands_in (use_of.Operation (operations.Removed o)) body)
     (codes "    PFLT_CALLBACK_DATA " ++ (removed_name o ++ codes " = NULL;\n"))
 
+-- compilers warn of a variable that is set and never read
+abbrev pub unread : Bool → NumberVariable → Text
+unread true n = []
+unread false n = joined (codes "    UNREFERENCED_PARAMETER( " ∷ number_name n ∷ codes " );\n" ∷ [])
+
 -- a variable of numbers, which is 0 at entry
 abbrev pub number_declaration : List Statement → NumberVariable → Text
 number_declaration body n =
-    where_used (stands_in (use_of.Number n) body) (codes "    ULONG64 " ++ (number_name n ++ codes " = 0;\n"))
+    where_used (stands_in (use_of.Number n) body)
+    (joined (codes "    ULONG64 " ∷ number_name n ∷ codes " = 0;\n" ∷ unread (stands_in (use_of.Read n) body) n ∷ []))
 
 abbrev pub context_variables : List ContextVariable
 context_variables =
@@ -126,11 +132,9 @@ level_declarations body place (l ∷ ls) = level_declaration body place l ++ lev
 -- all that a callback declares
 unfoldable pub declarations : List Lock → Head → List Statement → Text
 declarations locks head body =
-    argument_declaration body head
-    ++ (flat_map (context_declaration body) context_variables
-    ++ (flat_map (operation_declaration body) removed_variables
-    ++ (flat_map (number_declaration body) number_variables
-    ++ (level_declarations body 0 locks ++ instance_declaration head))))
+    joined (argument_declaration body head ∷ flat_map (context_declaration body) context_variables
+    ∷ flat_map (operation_declaration body) removed_variables ∷ level_declarations body 0 locks ∷ instance_declaration head
+    ∷ flat_map (number_declaration body) number_variables ∷ [])
 
 -- ---- what a callback begins with
 
@@ -190,8 +194,8 @@ scope_in locks instances number c =
 -- a callback
 unfoldable pub callback_text : Scope → Callback → Text
 callback_text scope c =
-    heading scope.callback c.span.line ++ (prototype c.head ++ (codes "\n{\n" ++ (declarations scope.locks c.head c.body
-    ++ (codes "\n" ++ (hook c.head ++ (codes "\n" ++ (body_text scope c.body 1 0 ++ (ending c.body c.head ++ codes "}\n"))))))))
+    joined (heading scope.callback c.span.line ∷ prototype c.head ∷ codes "\n{\n" ∷ declarations scope.locks c.head c.body ∷ codes "\n"
+    ∷ hook c.head ∷ codes "\n" ∷ body_text scope c.body 1 0 ∷ ending c.body c.head ∷ codes "}\n" ∷ [])
 
 -- callbacks from a number on
 abbrev pub callbacks_text : List Lock → List Allocation → ℕ → List Callback → Text

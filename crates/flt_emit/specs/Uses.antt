@@ -61,6 +61,8 @@ in_action (use_of.Number n) (SetNumber m e) = same_number n m || in_expression n
 in_action (use_of.Number n) (ReadValue m c) = same_number n m
 in_action (use_of.Number n) (ReadFile m d) = same_number n m
 in_action (use_of.Number n) (WriteValue c x) = is_variable n x
+in_action (use_of.Read n) (SetNumber m e) = in_expression n e
+in_action (use_of.Read n) (WriteValue c x) = is_variable n x
 in_action (use_of.Context c) (ReadValue n d) = same_context c d
 in_action (use_of.Context c) (WriteValue d x) = same_context c d
 in_action (use_of.Context c) (ClearContext d) = same_context c d
@@ -89,6 +91,8 @@ in_return _ s = false
 abbrev pub in_test : Use → Test → Bool
 in_test (use_of.Number n) (Equal m x) = same_number n m || is_variable n x
 in_test (use_of.Number n) (Less m x) = same_number n m || is_variable n x
+in_test (use_of.Read n) (Equal m x) = same_number n m || is_variable n x
+in_test (use_of.Read n) (Less m x) = same_number n m || is_variable n x
 in_test (use_of.Context c) (ContextIsSome d) = same_context c d
 in_test (use_of.Operation d) (OperationIsSome o) = same_operation d (Removed o)
 in_test _ test = false

@@ -178,6 +178,19 @@ fn declare_operation(
     Ok(())
 }
 
+/// What keeps compilers from warning of a variable that is set and never read.
+fn unread(out: &mut Vec<u8>, is_read: bool, n: NumberVariable) -> Result<(), AllocError>
+    ensures { OnOk result (out.new.items ≡ out.old.items ++ spec.unread is_read n) }
+{
+    if is_read {
+        return Ok(());
+    }
+    texts(
+        out,
+        &[b"    UNREFERENCED_PARAMETER( ", number_name(n), b" );\n"],
+    )
+}
+
 fn declare_number(
     out: &mut Vec<u8>,
     body: &[Statement],
@@ -187,6 +200,7 @@ fn declare_number(
 {
     if stands_in(Use::Number(n), body) {
         texts(out, &[b"    ULONG64 ", number_name(n), b" = 0;\n"])?;
+        unread(out, stands_in(Use::Read(n), body), n)?;
     }
     Ok(())
 }
@@ -303,9 +317,9 @@ fn declare(
     declare_argument(out, body, head)?;
     declare_contexts(out, body, context_variables())?;
     declare_operations(out, body, removed_variables())?;
-    declare_numbers(out, body, number_variables())?;
     declare_levels(out, body, locks)?;
-    text(out, instance_declaration(head))
+    text(out, instance_declaration(head))?;
+    declare_numbers(out, body, number_variables())
 }
 
 /// The writer's hook for a routine that has an operation.

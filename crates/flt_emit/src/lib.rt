@@ -4,11 +4,16 @@
 mod actions;
 mod callbacks;
 mod expressions;
+mod files;
 mod fixed;
+mod fixed_files;
 mod line;
 mod names;
 mod scope;
+mod source;
 mod statements;
 mod uses;
 
+pub use files::{emit_header, emit_installation};
 pub use scope::Allocation;
+pub use source::emit;

@@ -14,6 +14,8 @@ use flt_tree::{
 #[derive(Clone, Copy)]
 pub(crate) enum Use {
     Number(NumberVariable),
+    /// A variable of numbers whose value is asked for.
+    Read(NumberVariable),
     Context(ContextVariable),
     Operation(OperationVariable),
     /// The lock of a place among the declared ones, from 0.
@@ -73,6 +75,8 @@ fn in_action(sought: Use, action: Action) -> bool
         (Use::Number(n), Action::ReadValue(m, _)) => same_number(n, m),
         (Use::Number(n), Action::ReadFile(m, _)) => same_number(n, m),
         (Use::Number(n), Action::WriteValue(_, x)) => is_variable(n, x),
+        (Use::Read(n), Action::SetNumber(_, e)) => in_expression(n, e),
+        (Use::Read(n), Action::WriteValue(_, x)) => is_variable(n, x),
         (Use::Context(c), Action::ReadValue(_, d)) => same_context(c, d),
         (Use::Context(c), Action::WriteValue(d, _)) => same_context(c, d),
         (Use::Context(c), Action::ClearContext(d)) => same_context(c, d),
@@ -120,6 +124,8 @@ fn in_test(sought: Use, test: Test) -> bool
     match (sought, test) {
         (Use::Number(n), Test::Equal(m, x)) => same_number(n, m) || is_variable(n, x),
         (Use::Number(n), Test::Less(m, x)) => same_number(n, m) || is_variable(n, x),
+        (Use::Read(n), Test::Equal(m, x)) => same_number(n, m) || is_variable(n, x),
+        (Use::Read(n), Test::Less(m, x)) => same_number(n, m) || is_variable(n, x),
         (Use::Context(c), Test::ContextIsSome(d)) => same_context(c, d),
         (Use::Operation(d), Test::OperationIsSome(o)) => {
             same_operation(d, OperationVariable::Removed(o))
