@@ -39,8 +39,7 @@ hook_defaults = flat_map (λ c. hook_default c.head)
 -- the header, with a hook for each callback
 unfoldable pub user_header : Filter → Text
 user_header f =
-    joined (codes "/*\n *  " ∷ f.name ∷ codes "_user.h - the writer's own part of the minifilter `" ∷ f.name ∷ codes "`.\n"
-    ∷ fixed.user_written ∷ hook_defaults f.callbacks ∷ [])
+    joined (codes "/*\n *  " ∷ f.name ∷ fixed.user_title ∷ f.name ∷ codes "`.\n" ∷ fixed.user_written ∷ hook_defaults f.callbacks ∷ [])
 
 -- ---- the file for the installation
 
@@ -55,8 +54,11 @@ service f = joined (fixed.inf_service ∷ f.name ∷ fixed.inf_shown ∷ f.name 
 -- the instance, which has the filter's name and altitude
 unfoldable pub instance_part : Filter → Text
 instance_part f =
-    joined (fixed.inf_registered ∷ f.name ∷ fixed.inf_instance ∷ f.name ∷ fixed.inf_altitude ∷ decimal f.altitude
-    ∷ fixed.inf_flags ∷ f.name ∷ fixed.inf_strings ∷ f.name ∷ fixed.inf_end ∷ [])
+    joined (fixed.inf_registered ∷ f.name ∷ fixed.inf_instance ∷ f.name ∷ fixed.inf_altitude ∷ decimal f.altitude ∷ [])
+
+-- its flags, and the strings
+unfoldable pub strings_part : Filter → Text
+strings_part f = joined (fixed.inf_flags ∷ f.name ∷ fixed.inf_strings ∷ f.name ∷ fixed.inf_end ∷ [])
 
 unfoldable pub installation : Filter → Text
-installation f = joined (copying f ∷ service f ∷ instance_part f ∷ [])
+installation f = joined (copying f ∷ service f ∷ instance_part f ∷ strings_part f ∷ [])

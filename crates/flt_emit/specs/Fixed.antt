@@ -2,6 +2,21 @@
 use Rattle.std.specs.Prelude.{◌++◌, codes}
 use Rattle.flt_tree.specs.Names.{Text}
 
+-- how a file begins, up to the filter's name
+unfoldable pub comment_begin : Text
+comment_begin =
+    codes "/*\n *  "
+
+-- what the source is, up to the filter's name
+unfoldable pub source_title : Text
+source_title =
+    codes ".c - minifilter `"
+
+-- up to the altitude
+unfoldable pub altitude_title : Text
+altitude_title =
+    codes "`, altitude "
+
 -- what stands at the head of the source, behind the filter's name
 unfoldable pub written : Text
 written =
@@ -204,3 +219,71 @@ registering =
 unfoldable pub ending : Text
 ending =
     codes "    return status;\n}\n"
+
+-- how the prototype of a pre callback begins
+unfoldable pub pre_head : Text
+pre_head =
+    codes "FLT_PREOP_CALLBACK_STATUS FLTAPI\nPre"
+
+-- how the prototype of a post callback begins
+unfoldable pub post_head : Text
+post_head =
+    codes "FLT_POSTOP_CALLBACK_STATUS FLTAPI\nPost"
+
+-- how the prototype of a routine begins that has an operation
+unfoldable pub deferred_head : Text
+deferred_head =
+    codes "VOID FLTAPI\nDeferred_"
+
+-- how the prototype of a routine begins that has none
+unfoldable pub generic_head : Text
+generic_head =
+    codes "VOID FLTAPI\nGeneric_"
+
+-- the parameters of a pre callback
+unfoldable pub pre_parameters : Text
+pre_parameters =
+    codes "(\n    _Inout_ PFLT_CALLBACK_DATA Data,\n    _In_ PCFLT_RELATED_OBJECTS FltObjects,\n"
+    ++ codes "    _Flt_CompletionContext_Outptr_ PVOID *CompletionContext\n    )"
+
+-- the parameters of a post callback
+unfoldable pub post_parameters : Text
+post_parameters =
+    codes "(\n    _Inout_ PFLT_CALLBACK_DATA Data,\n    _In_ PCFLT_RELATED_OBJECTS FltObjects,\n"
+    ++ codes "    _In_opt_ PVOID CompletionContext,\n    _In_ FLT_POST_OPERATION_FLAGS Flags\n    )"
+
+-- the prototype of the callback for cancelled operations
+unfoldable pub canceled_prototype : Text
+canceled_prototype =
+    codes "VOID FLTAPI\nCompleteCanceledIo(\n    _Inout_ PFLT_CALLBACK_DATA_QUEUE Cbdq,\n    _Inout_ PFLT_CALLBACK_DATA Data\n"
+    ++ codes "    )"
+
+-- the parameters of a routine that has an operation
+unfoldable pub deferred_parameters : Text
+deferred_parameters =
+    codes "(\n    _In_ PFLT_DEFERRED_IO_WORKITEM WorkItem,\n    _In_ PFLT_CALLBACK_DATA Data,\n    _In_opt_ PVOID Context\n    )"
+
+-- the parameters of a routine that has none
+unfoldable pub generic_parameters : Text
+generic_parameters =
+    codes "(\n    _In_ PFLT_GENERIC_WORKITEM WorkItem,\n    _In_ PVOID FltObject,\n    _In_opt_ PVOID Context\n    )"
+
+-- the writer's hook for cancelled operations
+unfoldable pub canceled_hook : Text
+canceled_hook =
+    codes "    UNREFERENCED_PARAMETER( Cbdq );\n\n    USER_CANCELED( Data, Instance, arg );\n"
+
+-- what stands at the end of a pre or a post callback that isn't left by a return on each of its ways
+unfoldable pub unreached : Text
+unreached =
+    codes "\n    FLT_ASSERT( FALSE );    // no run of the text comes here\n    "
+
+-- the end of a routine that has an operation
+unfoldable pub free_deferred : Text
+free_deferred =
+    codes "    FltFreeDeferredIoWorkItem( WorkItem );\n"
+
+-- the end of a routine that has none
+unfoldable pub free_generic : Text
+free_generic =
+    codes "    FltFreeGenericWorkItem( WorkItem );\n"

@@ -3,6 +3,11 @@
 use Rattle.std.specs.Prelude.{◌++◌, codes}
 use Rattle.flt_tree.specs.Names.{Text}
 
+-- what the writer's header is, up to the filter's name
+unfoldable pub user_title : Text
+user_title =
+    codes "_user.h - the writer's own part of the minifilter `"
+
 -- what stands at the head of the writer's header, behind the filter's name
 unfoldable pub user_written : Text
 user_written =

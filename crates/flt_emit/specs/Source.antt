@@ -87,11 +87,18 @@ abbrev pub where_queue : Bool → Text → Text
 where_queue true part = part
 where_queue false part = []
 
+-- the first lines of the comment
+unfoldable pub title : Filter → Text
+title f =
+    joined (fixed.comment_begin ∷ f.name ∷ fixed.source_title ∷ f.name ∷ fixed.altitude_title ∷ decimal f.altitude ∷ codes ".\n" ∷ [])
+
+-- the writer's header is included
+unfoldable pub included : Filter → Text
+included f = joined (codes "#include \"" ∷ f.name ∷ codes "_user.h\"\n" ∷ [])
+
 -- the comment and the headers
 unfoldable pub front : Filter → Text
-front f =
-    joined (codes "/*\n *  " ∷ f.name ∷ codes ".c - minifilter `" ∷ f.name ∷ codes "`, altitude " ∷ decimal f.altitude ∷ codes ".\n"
-    ∷ fixed.written ∷ codes "#include \"" ∷ f.name ∷ codes "_user.h\"\n" ∷ [])
+front f = joined (title f ∷ fixed.written ∷ included f ∷ [])
 
 -- contexts, and what all callbacks have in common
 unfoldable pub globals : List Lock → Bool → Text
@@ -118,15 +125,25 @@ unfoldable pub registered : List Callback → Bool → Text
 registered callbacks queue =
     joined (fixed.operations ∷ rows_of callbacks callbacks ∷ fixed.registration ∷ where_queue queue fixed.queue_registration ∷ [])
 
--- how the driver begins
+-- how the driver's locks and its queue begin
 unfoldable pub beginning : List Lock → Bool → Text
-beginning locks queue =
-    joined (fixed.entry ∷ flat_map lock_begun locks ∷ where_queue queue fixed.queue_entry ∷ fixed.registering
-    ∷ flat_map lock_discarded locks ∷ fixed.ending ∷ [])
+beginning locks queue = joined (fixed.entry ∷ flat_map lock_begun locks ∷ where_queue queue fixed.queue_entry ∷ [])
+
+-- how the driver registers
+unfoldable pub registering : List Lock → Text
+registering locks = joined (fixed.registering ∷ flat_map lock_discarded locks ∷ fixed.ending ∷ [])
+
+-- what stands before the callbacks
+unfoldable pub declared : Filter → Text
+declared f =
+    joined (front f ∷ globals f.locks (is_some f.queue) ∷ prototypes_text f.callbacks ∷ helpers (is_some f.queue) ∷ [])
+
+-- what stands behind them
+unfoldable pub framed : Filter → Text
+framed f =
+    joined (queue_part (is_some f.queue) ∷ attachment f.locks (is_some f.queue) ∷ registered f.callbacks (is_some f.queue)
+    ∷ beginning f.locks (is_some f.queue) ∷ registering f.locks ∷ [])
 
 -- the source: `instances` has the points at which contexts of the instance are allocated
 unfoldable pub source : List Allocation → Filter → Text
-source instances f =
-    joined (front f ∷ globals f.locks (is_some f.queue) ∷ prototypes_text f.callbacks ∷ helpers (is_some f.queue)
-    ∷ callbacks_text f.locks instances 0 f.callbacks ∷ queue_part (is_some f.queue) ∷ attachment f.locks (is_some f.queue)
-    ∷ registered f.callbacks (is_some f.queue) ∷ beginning f.locks (is_some f.queue) ∷ [])
+source instances f = joined (declared f ∷ callbacks_text f.locks instances 0 f.callbacks ∷ framed f ∷ [])

@@ -153,3 +153,13 @@ statement_returns = fold-Statement Bool returns_step
 -- whether a body never comes to its end
 abbrev pub returns : List Statement → Bool
 returns body = is_any (map statement_returns body)
+
+-- ---- what is declared
+
+-- whether it stands in a body
+unfoldable pub is_used : Use → List Statement → Bool
+is_used = stands_in
+
+-- whether a body never comes to its end
+unfoldable pub always_returns : List Statement → Bool
+always_returns = returns

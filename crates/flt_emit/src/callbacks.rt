@@ -7,11 +7,12 @@ ghost use Rattle.std.specs.List.{list_all};
 ghost use Rattle.std.specs.Prelude.{◌≡◌, ◌+◌, ◌++◌, flat_map, IsTrue, OnOk};
 
 use crate::actions::passing;
+use crate::fixed;
 use crate::line::{Piece, text, texts, write};
 use crate::names::{context_name, major_name, number_name, operation_word, removed_name};
 use crate::scope::{Allocation, Scope};
 use crate::statements::body;
-use crate::uses::{Use, returns, stands_in};
+use crate::uses::{Use, always_returns, is_used};
 use flt_rules::LockKind;
 use flt_tree::{
     Callback, ContextVariable, Head, Lock, NumberVariable, OperationVariable, RemovedVariable,
@@ -67,85 +68,44 @@ fn number_variables() -> &'static [NumberVariable]
 }
 
 /// The prototype of a routine that has an operation.
+#[tactic(auto, unfolding(crate::specs::Callbacks::deferred_prototype))]
 fn deferred_prototype(out: &mut Vec<u8>, name: &[u8]) -> Result<(), AllocError>
     ensures { OnOk result (out.new.items ≡ out.old.items ++ spec.deferred_prototype name.now) }
 {
-    texts(out, &[b"VOID FLTAPI\nDeferred_", name])?;
-    text(
-        out,
-        b"(
-    _In_ PFLT_DEFERRED_IO_WORKITEM WorkItem,
-    _In_ PFLT_CALLBACK_DATA Data,
-    _In_opt_ PVOID Context
-    )",
-    )
+    fixed::deferred_head(out)?;
+    text(out, name)?;
+    fixed::deferred_parameters(out)
 }
 
 /// How a callback is declared.
+#[tactic(auto, unfolding(crate::specs::Callbacks::prototype))]
 pub fn prototype(out: &mut Vec<u8>, head: &Head) -> Result<(), AllocError>
     ensures { OnOk result (out.new.items ≡ out.old.items ++ spec.prototype head.now) }
 {
     match head {
         Head::Pre(operation) => {
-            texts(
-                out,
-                &[
-                    b"FLT_PREOP_CALLBACK_STATUS FLTAPI\nPre",
-                    operation_word(*operation),
-                ],
-            )?;
-            text(
-                out,
-                b"(
-    _Inout_ PFLT_CALLBACK_DATA Data,
-    _In_ PCFLT_RELATED_OBJECTS FltObjects,
-    _Flt_CompletionContext_Outptr_ PVOID *CompletionContext
-    )",
-            )
+            fixed::pre_head(out)?;
+            text(out, operation_word(*operation))?;
+            fixed::pre_parameters(out)
         }
         Head::Post(operation) => {
-            texts(
-                out,
-                &[
-                    b"FLT_POSTOP_CALLBACK_STATUS FLTAPI\nPost",
-                    operation_word(*operation),
-                ],
-            )?;
-            text(
-                out,
-                b"(
-    _Inout_ PFLT_CALLBACK_DATA Data,
-    _In_ PCFLT_RELATED_OBJECTS FltObjects,
-    _In_opt_ PVOID CompletionContext,
-    _In_ FLT_POST_OPERATION_FLAGS Flags
-    )",
-            )
+            fixed::post_head(out)?;
+            text(out, operation_word(*operation))?;
+            fixed::post_parameters(out)
         }
-        Head::Canceled => text(
-            out,
-            b"VOID FLTAPI
-CompleteCanceledIo(
-    _Inout_ PFLT_CALLBACK_DATA_QUEUE Cbdq,
-    _Inout_ PFLT_CALLBACK_DATA Data
-    )",
-        ),
+        Head::Canceled => fixed::canceled_prototype(out),
         Head::DeferredPre(name) | Head::DeferredPost(name) => {
             deferred_prototype(out, name.as_slice())
         }
         Head::Generic(name) => {
-            texts(out, &[b"VOID FLTAPI\nGeneric_", name.as_slice()])?;
-            text(
-                out,
-                b"(
-    _In_ PFLT_GENERIC_WORKITEM WorkItem,
-    _In_ PVOID FltObject,
-    _In_opt_ PVOID Context
-    )",
-            )
+            fixed::generic_head(out)?;
+            text(out, name.as_slice())?;
+            fixed::generic_parameters(out)
         }
     }
 }
 
+#[tactic(auto, unfolding(crate::specs::Callbacks::context_declaration))]
 fn declare_context(
     out: &mut Vec<u8>,
     body: &[Statement],
@@ -153,7 +113,7 @@ fn declare_context(
 ) -> Result<(), AllocError>
     ensures { OnOk result (out.new.items ≡ out.old.items ++ spec.context_declaration body.now c) }
 {
-    if stands_in(Use::Context(c), body) {
+    if is_used(Use::Context(c), body) {
         texts(
             out,
             &[b"    PFILTER_CONTEXT ", context_name(c), b" = NULL;\n"],
@@ -162,6 +122,7 @@ fn declare_context(
     Ok(())
 }
 
+#[tactic(auto, unfolding(crate::specs::Callbacks::operation_declaration))]
 fn declare_operation(
     out: &mut Vec<u8>,
     body: &[Statement],
@@ -169,7 +130,7 @@ fn declare_operation(
 ) -> Result<(), AllocError>
     ensures { OnOk result (out.new.items ≡ out.old.items ++ spec.operation_declaration body.now o) }
 {
-    if stands_in(Use::Operation(OperationVariable::Removed(o)), body) {
+    if is_used(Use::Operation(OperationVariable::Removed(o)), body) {
         texts(
             out,
             &[b"    PFLT_CALLBACK_DATA ", removed_name(o), b" = NULL;\n"],
@@ -179,6 +140,7 @@ fn declare_operation(
 }
 
 /// What keeps compilers from warning of a variable that is set and never read.
+#[tactic(auto, unfolding(crate::specs::Callbacks::unread))]
 fn unread(out: &mut Vec<u8>, is_read: bool, n: NumberVariable) -> Result<(), AllocError>
     ensures { OnOk result (out.new.items ≡ out.old.items ++ spec.unread is_read n) }
 {
@@ -191,6 +153,15 @@ fn unread(out: &mut Vec<u8>, is_read: bool, n: NumberVariable) -> Result<(), All
     )
 }
 
+#[tactic(auto, unfolding(crate::specs::Callbacks::declared_number))]
+fn declared_number(out: &mut Vec<u8>, is_read: bool, n: NumberVariable) -> Result<(), AllocError>
+    ensures { OnOk result (out.new.items ≡ out.old.items ++ spec.declared_number is_read n) }
+{
+    texts(out, &[b"    ULONG64 ", number_name(n), b" = 0;\n"])?;
+    unread(out, is_read, n)
+}
+
+#[tactic(auto, unfolding(crate::specs::Callbacks::number_declaration))]
 fn declare_number(
     out: &mut Vec<u8>,
     body: &[Statement],
@@ -198,9 +169,8 @@ fn declare_number(
 ) -> Result<(), AllocError>
     ensures { OnOk result (out.new.items ≡ out.old.items ++ spec.number_declaration body.now n) }
 {
-    if stands_in(Use::Number(n), body) {
-        texts(out, &[b"    ULONG64 ", number_name(n), b" = 0;\n"])?;
-        unread(out, stands_in(Use::Read(n), body), n)?;
+    if is_used(Use::Number(n), body) {
+        declared_number(out, is_used(Use::Read(n), body), n)?;
     }
     Ok(())
 }
@@ -248,6 +218,7 @@ fn declare_numbers(
 }
 
 /// The context that a callback was given.
+#[tactic(auto, unfolding(crate::specs::Callbacks::argument_declaration))]
 fn declare_argument(out: &mut Vec<u8>, body: &[Statement], head: &Head) -> Result<(), AllocError>
     ensures { OnOk result (out.new.items ≡ out.old.items ++ spec.argument_declaration body.now head.now) }
 {
@@ -260,6 +231,7 @@ fn declare_argument(out: &mut Vec<u8>, body: &[Statement], head: &Head) -> Resul
 }
 
 /// The instance, where the filter manager doesn't name it.
+#[tactic(auto, unfolding(crate::specs::Callbacks::instance_declaration))]
 fn instance_declaration(head: &Head) -> &'static [u8]
     ensures { result.now ≡ spec.instance_declaration head.now }
 {
@@ -279,7 +251,23 @@ fn is_spin(kind: LockKind) -> bool
     }
 }
 
+/// Whether a body takes or releases the spin lock of a place.
+fn needs_level(body: &[Statement], place: usize, kind: LockKind) -> bool
+    ensures { result ≡ spec.needs_level body.now place kind }
+{
+    is_spin(kind) && is_used(Use::Lock(place), body)
+}
+
 /// Where a spin lock leaves the level before.
+#[tactic(auto, unfolding(crate::specs::Callbacks::declared_level))]
+fn declared_level(out: &mut Vec<u8>, name: &[u8]) -> Result<(), AllocError>
+    ensures { OnOk result (out.new.items ≡ out.old.items ++ spec.declared_level name.now) }
+{
+    texts(out, &[b"    KIRQL irql_", name, b";\n"])
+}
+
+/// The same where it is needed.
+#[tactic(auto, unfolding(crate::specs::Callbacks::level_declaration))]
 fn declare_level(
     out: &mut Vec<u8>,
     body: &[Statement],
@@ -288,8 +276,8 @@ fn declare_level(
 ) -> Result<(), AllocError>
     ensures { OnOk result (out.new.items ≡ out.old.items ++ spec.level_declaration body.now place lock.now) }
 {
-    if is_spin(lock.kind) && stands_in(Use::Lock(place), body) {
-        texts(out, &[b"    KIRQL irql_", lock.name.as_slice(), b";\n"])?;
+    if needs_level(body, place, lock.kind) {
+        declared_level(out, lock.name.as_slice())?;
     }
     Ok(())
 }
@@ -333,6 +321,7 @@ fn deferred_hook(out: &mut Vec<u8>, name: &[u8]) -> Result<(), AllocError>
 }
 
 /// The writer's hook.
+#[tactic(auto, unfolding(crate::specs::Callbacks::hook))]
 fn hook(out: &mut Vec<u8>, head: &Head) -> Result<(), AllocError>
     ensures { OnOk result (out.new.items ≡ out.old.items ++ spec.hook head.now) }
 {
@@ -353,10 +342,7 @@ fn hook(out: &mut Vec<u8>, head: &Head) -> Result<(), AllocError>
                 b"( Data, FltObjects, Flags, arg );\n",
             ],
         ),
-        Head::Canceled => text(
-            out,
-            b"    UNREFERENCED_PARAMETER( Cbdq );\n\n    USER_CANCELED( Data, Instance, arg );\n",
-        ),
+        Head::Canceled => fixed::canceled_hook(out),
         Head::DeferredPre(name) | Head::DeferredPost(name) => deferred_hook(out, name.as_slice()),
         Head::Generic(name) => texts(
             out,
@@ -370,53 +356,46 @@ fn hook(out: &mut Vec<u8>, head: &Head) -> Result<(), AllocError>
 }
 
 /// The end of a pre or a post callback.
+#[tactic(auto, unfolding(crate::specs::Callbacks::unreturned))]
 fn unreturned(out: &mut Vec<u8>, returns: bool, is_pre: bool) -> Result<(), AllocError>
     ensures { OnOk result (out.new.items ≡ out.old.items ++ spec.unreturned returns is_pre) }
 {
     if returns {
         return Ok(());
     }
-    text(
-        out,
-        b"\n    FLT_ASSERT( FALSE );    // no run of the text comes here\n    ",
-    )?;
+    fixed::unreached(out)?;
     texts(out, &[passing(is_pre), b"\n"])
 }
 
-/// The end of a routine.
-fn freed(out: &mut Vec<u8>, is_left: bool, call: &[u8]) -> Result<(), AllocError>
-    ensures { OnOk result (out.new.items ≡ out.old.items ++ spec.freed is_left call.now) }
+/// What stands before the end of a routine.
+fn done(is_left: bool) -> &'static [u8]
+    ensures { result.now ≡ spec.done is_left }
 {
-    if is_left {
-        text(out, b"\nDone:\n\n")?;
-    } else {
-        text(out, b"\n")?;
-    }
-    text(out, call)
+    if is_left { b"\nDone:\n\n" } else { b"\n" }
 }
 
 /// What a callback ends with.
+#[tactic(auto, unfolding(crate::specs::Callbacks::ending))]
 fn ending(out: &mut Vec<u8>, body: &[Statement], head: &Head) -> Result<(), AllocError>
     ensures { OnOk result (out.new.items ≡ out.old.items ++ spec.ending body.now head.now) }
 {
     match head {
-        Head::Pre(_) => unreturned(out, returns(body), true),
-        Head::Post(_) => unreturned(out, returns(body), false),
+        Head::Pre(_) => unreturned(out, always_returns(body), true),
+        Head::Post(_) => unreturned(out, always_returns(body), false),
         Head::Canceled => Ok(()),
-        Head::DeferredPre(_) | Head::DeferredPost(_) => freed(
-            out,
-            stands_in(Use::Return, body),
-            b"    FltFreeDeferredIoWorkItem( WorkItem );\n",
-        ),
-        Head::Generic(_) => freed(
-            out,
-            stands_in(Use::Return, body),
-            b"    FltFreeGenericWorkItem( WorkItem );\n",
-        ),
+        Head::DeferredPre(_) | Head::DeferredPost(_) => {
+            text(out, done(is_used(Use::Return, body)))?;
+            fixed::free_deferred(out)
+        }
+        Head::Generic(_) => {
+            text(out, done(is_used(Use::Return, body)))?;
+            fixed::free_generic(out)
+        }
     }
 }
 
 /// A comment with a callback's number and its line.
+#[tactic(auto, unfolding(crate::specs::Callbacks::heading))]
 fn heading(out: &mut Vec<u8>, callback: usize, line: usize) -> Result<(), AllocError>
     ensures { OnOk result (out.new.items ≡ out.old.items ++ spec.heading callback line) }
 {
@@ -432,22 +411,39 @@ fn heading(out: &mut Vec<u8>, callback: usize, line: usize) -> Result<(), AllocE
     )
 }
 
-#[tactic(auto, unfolding(crate::specs::Callbacks::callback_text))]
-fn callback(out: &mut Vec<u8>, scope: &Scope<'_>, found: &Callback) -> Result<(), AllocError>
-    requires { IsTrue (is_small found.now) }
-    ensures { OnOk result (out.new.items ≡ out.old.items ++ spec.callback_text (scope_of scope.now) found.now) }
+/// A callback up to its hook.
+#[tactic(auto, unfolding(crate::specs::Callbacks::opening))]
+fn opening(out: &mut Vec<u8>, scope: &Scope<'_>, found: &Callback) -> Result<(), AllocError>
+    ensures { OnOk result (out.new.items ≡ out.old.items ++ spec.opening (scope_of scope.now) found.now) }
 {
-    let statements = found.body.as_slice();
     heading(out, scope.callback, found.span.line)?;
     prototype(out, &found.head)?;
     text(out, b"\n{\n")?;
-    declare(out, scope.locks, &found.head, statements)?;
-    text(out, b"\n")?;
+    declare(out, scope.locks, &found.head, found.body.as_slice())?;
+    text(out, b"\n")
+}
+
+/// A callback from its hook on.
+#[tactic(auto, unfolding(crate::specs::Callbacks::contents))]
+fn contents(out: &mut Vec<u8>, scope: &Scope<'_>, found: &Callback) -> Result<(), AllocError>
+    requires { IsTrue (is_small found.now) }
+    ensures { OnOk result (out.new.items ≡ out.old.items ++ spec.contents (scope_of scope.now) found.now) }
+{
+    let statements = found.body.as_slice();
     hook(out, &found.head)?;
     text(out, b"\n")?;
     body(out, scope, 1, 0, statements)?;
     ending(out, statements, &found.head)?;
     text(out, b"}\n")
+}
+
+#[tactic(auto, unfolding(crate::specs::Callbacks::callback_text))]
+fn callback(out: &mut Vec<u8>, scope: &Scope<'_>, found: &Callback) -> Result<(), AllocError>
+    requires { IsTrue (is_small found.now) }
+    ensures { OnOk result (out.new.items ≡ out.old.items ++ spec.callback_text (scope_of scope.now) found.now) }
+{
+    opening(out, scope, found)?;
+    contents(out, scope, found)
 }
 
 /// All callbacks of a filter.

@@ -89,15 +89,11 @@ pub fn emit_header(alloc: Global, tree: &Tree) -> Result<Vec<u8>, AllocError>
     let filter = &tree.filter;
     let name = filter.name.as_slice();
     let mut out = Vec::new(alloc);
-    texts(&mut out, &[b"/*\n *  ", name])?;
-    texts(
-        &mut out,
-        &[
-            b"_user.h - the writer's own part of the minifilter `",
-            name,
-            b"`.\n",
-        ],
-    )?;
+    text(&mut out, b"/*\n *  ")?;
+    text(&mut out, name)?;
+    fixed::user_title(&mut out)?;
+    text(&mut out, name)?;
+    text(&mut out, b"`.\n")?;
     fixed::user_written(&mut out)?;
     hook_defaults(&mut out, filter.callbacks.as_slice())?;
     Ok(out)
@@ -142,7 +138,15 @@ fn instance_part(out: &mut Vec<u8>, filter: &Filter) -> Result<(), AllocError>
     fixed::inf_instance(out)?;
     text(out, name)?;
     fixed::inf_altitude(out)?;
-    write(out, &[Piece::Number(filter.altitude)])?;
+    write(out, &[Piece::Number(filter.altitude)])
+}
+
+/// Its flags, and the strings.
+#[tactic(auto, unfolding(crate::specs::Files::strings_part))]
+fn strings_part(out: &mut Vec<u8>, filter: &Filter) -> Result<(), AllocError>
+    ensures { OnOk result (out.new.items ≡ out.old.items ++ spec.strings_part filter.now) }
+{
+    let name = filter.name.as_slice();
     fixed::inf_flags(out)?;
     text(out, name)?;
     fixed::inf_strings(out)?;
@@ -164,5 +168,6 @@ pub fn emit_installation(alloc: Global, tree: &Tree) -> Result<Vec<u8>, AllocErr
     copying(&mut out, filter)?;
     service(&mut out, filter)?;
     instance_part(&mut out, filter)?;
+    strings_part(&mut out, filter)?;
     Ok(out)
 }

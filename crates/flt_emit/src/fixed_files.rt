@@ -6,6 +6,14 @@ ghost use Rattle.std.specs.Prelude.{◌≡◌, ◌++◌, OnOk};
 use crate::line::text;
 use std::alloc::AllocError;
 
+/// What the writer's header is, up to the filter's name.
+#[tactic(auto, unfolding(crate::specs::FixedFiles::user_title))]
+pub fn user_title(out: &mut Vec<u8>) -> Result<(), AllocError>
+    ensures { OnOk result (out.new.items ≡ out.old.items ++ spec.user_title) }
+{
+    text(out, b"_user.h - the writer's own part of the minifilter `")
+}
+
 /// What stands at the head of the writer's header, behind the filter's name.
 #[tactic(auto, unfolding(crate::specs::FixedFiles::user_written))]
 pub fn user_written(out: &mut Vec<u8>) -> Result<(), AllocError>

@@ -160,23 +160,38 @@ fn rows(out: &mut Vec<u8>, all: &[Callback], mut found: &[Callback]) -> Result<(
     Ok(())
 }
 
+/// The first lines of the comment.
+#[tactic(auto, unfolding(crate::specs::Source::title))]
+fn title(out: &mut Vec<u8>, filter: &Filter) -> Result<(), AllocError>
+    ensures { OnOk result (out.new.items ≡ out.old.items ++ spec.title filter.now) }
+{
+    let name = filter.name.as_slice();
+    fixed::comment_begin(out)?;
+    text(out, name)?;
+    fixed::source_title(out)?;
+    text(out, name)?;
+    fixed::altitude_title(out)?;
+    write(out, &[Piece::Number(filter.altitude), Piece::Text(b".\n")])
+}
+
+/// The line that includes the writer's header.
+#[tactic(auto, unfolding(crate::specs::Source::included))]
+fn included(out: &mut Vec<u8>, filter: &Filter) -> Result<(), AllocError>
+    ensures { OnOk result (out.new.items ≡ out.old.items ++ spec.included filter.now) }
+{
+    text(out, b"#include \"")?;
+    text(out, filter.name.as_slice())?;
+    text(out, b"_user.h\"\n")
+}
+
 /// The comment and the headers.
 #[tactic(auto, unfolding(crate::specs::Source::front))]
 fn front(out: &mut Vec<u8>, filter: &Filter) -> Result<(), AllocError>
     ensures { OnOk result (out.new.items ≡ out.old.items ++ spec.front filter.now) }
 {
-    let name = filter.name.as_slice();
-    texts(out, &[b"/*\n *  ", name, b".c - minifilter `", name])?;
-    write(
-        out,
-        &[
-            Piece::Text(b"`, altitude "),
-            Piece::Number(filter.altitude),
-            Piece::Text(b".\n"),
-        ],
-    )?;
+    title(out, filter)?;
     fixed::written(out)?;
-    texts(out, &[b"#include \"", name, b"_user.h\"\n"])
+    included(out, filter)
 }
 
 /// Contexts, and what all callbacks have in common.
@@ -246,7 +261,7 @@ fn registered(out: &mut Vec<u8>, callbacks: &[Callback], queue: bool) -> Result<
     Ok(())
 }
 
-/// How the driver begins.
+/// How the driver's locks and its queue begin.
 #[tactic(auto, unfolding(crate::specs::Source::beginning))]
 fn beginning(out: &mut Vec<u8>, locks: &[Lock], queue: bool) -> Result<(), AllocError>
     ensures { OnOk result (out.new.items ≡ out.old.items ++ spec.beginning locks.now queue) }
@@ -256,9 +271,43 @@ fn beginning(out: &mut Vec<u8>, locks: &[Lock], queue: bool) -> Result<(), Alloc
     if queue {
         fixed::queue_entry(out)?;
     }
+    Ok(())
+}
+
+/// How the driver registers.
+#[tactic(auto, unfolding(crate::specs::Source::registering))]
+fn registering(out: &mut Vec<u8>, locks: &[Lock]) -> Result<(), AllocError>
+    ensures { OnOk result (out.new.items ≡ out.old.items ++ spec.registering locks.now) }
+{
     fixed::registering(out)?;
     locks_discarded(out, locks)?;
     fixed::ending(out)
+}
+
+/// What stands before the callbacks.
+#[tactic(auto, unfolding(crate::specs::Source::declared))]
+fn declared(out: &mut Vec<u8>, filter: &Filter) -> Result<(), AllocError>
+    ensures { OnOk result (out.new.items ≡ out.old.items ++ spec.declared filter.now) }
+{
+    let queue = filter.queue.is_some();
+    front(out, filter)?;
+    globals(out, filter.locks.as_slice(), queue)?;
+    prototypes(out, filter.callbacks.as_slice())?;
+    helpers(out, queue)
+}
+
+/// What stands behind the callbacks.
+#[tactic(auto, unfolding(crate::specs::Source::framed))]
+fn framed(out: &mut Vec<u8>, filter: &Filter) -> Result<(), AllocError>
+    ensures { OnOk result (out.new.items ≡ out.old.items ++ spec.framed filter.now) }
+{
+    let locks = filter.locks.as_slice();
+    let queue = filter.queue.is_some();
+    queue_part(out, queue)?;
+    attachment(out, locks, queue)?;
+    registered(out, filter.callbacks.as_slice(), queue)?;
+    beginning(out, locks, queue)?;
+    registering(out, locks)
 }
 
 /// The C source of a filter. `instances` has the points at which contexts of the instance are allocated; at every other point a
@@ -272,18 +321,14 @@ pub fn emit(alloc: Global, tree: &Tree, instances: &[Allocation]) -> Result<Vec<
     ensures { IfOk result (λ text. text.items ≡ spec.source instances.now tree.now.filter) }
 {
     let filter = &tree.filter;
-    let locks = filter.locks.as_slice();
-    let found = filter.callbacks.as_slice();
-    let queue = filter.queue.is_some();
     let mut out = Vec::new(alloc);
-    front(&mut out, filter)?;
-    globals(&mut out, locks, queue)?;
-    prototypes(&mut out, found)?;
-    helpers(&mut out, queue)?;
-    callbacks(&mut out, locks, instances, found)?;
-    queue_part(&mut out, queue)?;
-    attachment(&mut out, locks, queue)?;
-    registered(&mut out, found, queue)?;
-    beginning(&mut out, locks, queue)?;
+    declared(&mut out, filter)?;
+    callbacks(
+        &mut out,
+        filter.locks.as_slice(),
+        instances,
+        filter.callbacks.as_slice(),
+    )?;
+    framed(&mut out, filter)?;
     Ok(out)
 }

@@ -178,9 +178,8 @@ fn in_condition(sought: Use, asked: &Condition) -> bool
     }
 }
 
-/// Whether something stands in a body.
 #[cycle(stands)]
-pub(crate) fn stands_in(sought: Use, body: &[Statement]) -> bool
+fn stands_in(sought: Use, body: &[Statement]) -> bool
     ensures { result ≡ spec.stands_in sought body.now }
 {
     for statement in body {
@@ -208,9 +207,8 @@ fn stands_in_statement(sought: Use, statement: &Statement) -> bool
     }
 }
 
-/// Whether a body never comes to its end.
 #[cycle(returns)]
-pub(crate) fn returns(body: &[Statement]) -> bool
+fn returns(body: &[Statement]) -> bool
     ensures { result ≡ spec.returns body.now }
 {
     for statement in body {
@@ -232,4 +230,20 @@ fn statement_returns(statement: &Statement) -> bool
         }
         _ => false,
     }
+}
+
+/// Whether something stands in a body.
+#[tactic(auto, unfolding(crate::specs::Uses::is_used))]
+pub(crate) fn is_used(sought: Use, body: &[Statement]) -> bool
+    ensures { result ≡ spec.is_used sought body.now }
+{
+    stands_in(sought, body)
+}
+
+/// Whether a body never comes to its end.
+#[tactic(auto, unfolding(crate::specs::Uses::always_returns))]
+pub(crate) fn always_returns(body: &[Statement]) -> bool
+    ensures { result ≡ spec.always_returns body.now }
+{
+    returns(body)
 }
