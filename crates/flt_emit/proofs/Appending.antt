@@ -1,0 +1,41 @@
+-- What is written one step at a time.
+use Rattle.std.proofs.Common.{◌≡◌, ℕ, zero, suc, ◌+◌, ◌/◌, ◌%◌, ◌^◌, ◌<◌, ◌≤◌, List, [], ◌∷◌, ◌++◌, Result, Ok, Err, refl, sym, ap, ◌∙◌, append_assoc, append-nil, add-one}
+use Rattle.std.proofs.lemmas.Fmt.{decimal_step}
+use Rattle.std.specs.Prelude.{OnOk, decimal}
+use Rattle.flt_emit.specs.Line.{indentation}
+
+below : (n : ℕ) → indentation n ++ 32 ∷ 32 ∷ 32 ∷ 32 ∷ [] ≡ indentation (suc n)
+below zero = refl
+below (suc n) = ap (λ l. 32 ∷ 32 ∷ 32 ∷ 32 ∷ l) (below n)
+
+-- one level more
+pub deeper : (n : ℕ) → indentation (n + 1) ≡ indentation n ++ 32 ∷ 32 ∷ 32 ∷ 32 ∷ []
+deeper n = ap indentation (add-one n) ∙ sym (below n)
+
+-- one digit more
+pub last_digit : {U E : Type 0} (r : Result U E) (n : ℕ) (a b c : List ℕ) → 10 ≤ n → n < 2 ^ 64 → b ≡ a ++ decimal (n / 10) →
+    OnOk r (c ≡ b ++ (48 + n % 10) ∷ []) → OnOk r (c ≡ a ++ decimal n)
+last_digit (Ok u) n a b c some fits e h =
+    h ∙ ap (λ l. l ++ (48 + n % 10) ∷ []) e ∙ append_assoc a (decimal (n / 10)) ((48 + n % 10) ∷ [])
+    ∙ ap (λ l. a ++ l) (sym (decimal_step n some fits))
+last_digit (Err x) n a b c some fits e h = h
+
+-- a text behind three others
+pub after_three : {U E : Type 0} (r : Result U E) (a b c x y z w : List ℕ) → b ≡ a ++ (x ++ (y ++ z)) → OnOk r (c ≡ b ++ w) →
+    OnOk r (c ≡ a ++ (x ++ (y ++ (z ++ (w ++ [])))))
+after_three (Ok u) a b c x y z w e h = h ∙ ap (λ (l : List ℕ). l ++ w) e ∙ simp (append_assoc, append-nil)
+after_three (Err f) a b c x y z w e h = h
+
+-- two texts behind two others
+pub after_two : {U E : Type 0} (r : Result U E) (a b c d x y z w : List ℕ) → b ≡ a ++ (x ++ y) → c ≡ b ++ z → OnOk r (d ≡ c ++ w) →
+    OnOk r (d ≡ a ++ (x ++ (y ++ (z ++ w))))
+after_two (Ok u) a b c d x y z w e f h =
+    h ∙ ap (λ (l : List ℕ). l ++ w) (f ∙ ap (λ (l : List ℕ). l ++ z) e) ∙ simp (append_assoc, append-nil)
+after_two (Err g) a b c d x y z w e f h = h
+
+-- three texts and one more behind two others
+pub three_after_two : {U E : Type 0} (r : Result U E) (a b c d x y u v z w : List ℕ) → b ≡ a ++ (x ++ (y ++ [])) →
+    c ≡ b ++ (u ++ (v ++ z)) → OnOk r (d ≡ c ++ w) → OnOk r (d ≡ a ++ (x ++ (y ++ (u ++ (v ++ (z ++ (w ++ [])))))))
+three_after_two (Ok o) a b c d x y u v z w e f h =
+    h ∙ ap (λ (l : List ℕ). l ++ w) (f ∙ ap (λ (l : List ℕ). l ++ (u ++ (v ++ z))) e) ∙ simp (append_assoc, append-nil)
+three_after_two (Err g) a b c d x y u v z w e f h = h

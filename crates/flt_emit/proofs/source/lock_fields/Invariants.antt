@@ -1,0 +1,10 @@
+use Rattle.std.proofs.Common.{◌≡◌, ◌++◌, length}
+use Rattle.std.specs.List.{flat_map}
+use Rattle.flt_emit.specs.Source.{lock_field}
+use Rattle.flt_emit.proofs.source.lock_fields.Given as goal
+
+abbrev pub invariant-loop-locks : goal.invariant-loop-locks
+invariant-loop-locks l = l.out.items ++ flat_map lock_field l.locks ≡ l.initial.out.items ++ flat_map lock_field l.initial.locks
+
+abbrev pub decreases-loop-locks : goal.decreases-loop-locks
+decreases-loop-locks l = length l.locks

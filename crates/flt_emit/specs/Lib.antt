@@ -1,0 +1,11 @@
+pub mod Callbacks
+pub mod Expressions
+pub mod Files
+pub mod Fixed
+pub mod FixedFiles
+pub mod Line
+pub mod Names
+pub mod Scope
+pub mod Source
+pub mod Statements
+pub mod Uses
