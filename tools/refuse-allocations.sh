@@ -195,6 +195,8 @@ runs=(
     "explain --journal /dev/null no_fast_io_broken.flt pass_through.flt"
     "explain --form sarif stream_context_broken.flt"
     "explain warnings/w01_three_locks.flt"
+    "explain --states 1 warnings/w01_turned_locks.flt"
+    "explain c/ctx_broken.c c/kit.h"
     "explain --strict warnings/w02_inserted_under_a_lock.flt warnings/w04_changed_without_the_lock.flt"
     "explain --form lines warnings/w05_goes_on_with_its_own.flt warnings/w06_never_queued.flt"
     "explain leaked_context.timeline"
