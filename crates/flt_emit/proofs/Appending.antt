@@ -30,7 +30,7 @@ after_three (Err f) a b c x y z w e h = h
 pub after_two : {U E : Type 0} (r : Result U E) (a b c d x y z w : List ℕ) → b ≡ a ++ (x ++ y) → c ≡ b ++ z → OnOk r (d ≡ c ++ w) →
     OnOk r (d ≡ a ++ (x ++ (y ++ (z ++ w))))
 after_two (Ok u) a b c d x y z w e f h =
-    h ∙ ap (λ (l : List ℕ). l ++ w) (f ∙ ap (λ (l : List ℕ). l ++ z) e) ∙ simp (append_assoc, append-nil)
+    h ∙ ap (λ (l : List ℕ). l ++ w) (f ∙ ap (λ (l : List ℕ). l ++ z) e) ∙ simp append_assoc
 after_two (Err g) a b c d x y z w e f h = h
 
 -- three texts and one more behind two others

@@ -61,12 +61,8 @@ unfoldable pub unread : Bool → NumberVariable → Text
 unread true n = []
 unread false n = joined (codes "    UNREFERENCED_PARAMETER( " ∷ number_name n ∷ codes " );\n" ∷ [])
 
--- the declaration of a variable of numbers
-abbrev pub zeroed : NumberVariable → Text
-zeroed n = joined (codes "    ULONG64 " ∷ number_name n ∷ codes " = 0;\n" ∷ [])
-
 unfoldable pub declared_number : Bool → NumberVariable → Text
-declared_number read n = zeroed n ++ unread read n
+declared_number read n = joined (codes "    ULONG64 " ∷ number_name n ∷ codes " = 0;\n" ∷ unread read n ∷ [])
 
 -- a variable of numbers, which is 0 at entry
 unfoldable pub number_declaration : List Statement → NumberVariable → Text

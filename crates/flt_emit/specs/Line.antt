@@ -1,5 +1,5 @@
 -- Lines of C: how deep they stand, and what follows a statement. This project's own rule.
-use Rattle.std.specs.Prelude.{ℕ, zero, suc, List, ◌∷◌, [], ◌++◌, flat_map, codes, decimal}
+use Rattle.std.specs.Prelude.{ℕ, zero, suc, List, ◌∷◌, [], flat_map, codes, decimal}
 use Rattle.std.specs.Borrow.{Bor}
 use Rattle.flt_tree.specs.Names.{Text}
 use Rattle.flt_tree.specs.declared.variable.Atom.{Atom}

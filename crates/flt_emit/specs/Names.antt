@@ -1,5 +1,5 @@
 -- How variables, operations and statuses are called in C. Source: fltKernel.h and wdm.h of the driver kit.
-use Rattle.std.specs.Prelude.{ℕ, codes, Option, Some, None}
+use Rattle.std.specs.Prelude.{codes, Option, Some, None}
 use Rattle.flt_rules.specs.declared.call.Anchor.{Anchor}
 use Rattle.flt_rules.specs.declared.call.Anchor.TheVariants.{Stream, Instance}
 use Rattle.flt_rules.specs.declared.call.Existing.{Existing}

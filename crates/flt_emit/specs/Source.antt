@@ -1,5 +1,5 @@
 -- The C source of a filter. This project's own form, after the samples of the driver kit.
-use Rattle.std.specs.Prelude.{ℕ, Bool, true, false, List, [], ◌∷◌, ◌++◌, flat_map, codes, decimal, is_some}
+use Rattle.std.specs.Prelude.{Bool, true, false, List, [], ◌∷◌, flat_map, codes, decimal, is_some}
 use Rattle.flt_rules.specs.declared.call.LockKind.{LockKind}
 use Rattle.flt_rules.specs.declared.call.LockKind.TheVariants.{Spin, Fast, Push}
 use Rattle.flt_rules.specs.declared.place.Operation.{Operation}

@@ -1,5 +1,5 @@
 -- What stands in the body of a callback, so that C declares it, and whether a body comes to its end.
-use Rattle.std.specs.Prelude.{ℕ, Bool, true, false, ◌==◌, ◌&&◌, ◌||◌, List, map, Option, Some, None}
+use Rattle.std.specs.Prelude.{ℕ, Bool, true, false, not, ◌==◌, ◌&&◌, ◌||◌, List, map, Option, Some, None}
 use Rattle.std.specs.List.{list_any}
 use Rattle.flt_rules.specs.Call.{place_of}
 use Rattle.flt_rules.specs.declared.call.LockNumber.{LockNumber}
@@ -25,7 +25,7 @@ use Rattle.flt_tree.specs.declared.variable.Expression.TheVariants as expression
 use Rattle.flt_tree.specs.declared.variable.NumberVariable.{NumberVariable}
 use Rattle.flt_tree.specs.declared.variable.OperationVariable.{OperationVariable}
 use Rattle.flt_tree.specs.declared.variable.OperationVariable.TheVariants.{Removed}
-use Rattle.flt_emit.specs.Expressions.{is_variable}
+use Rattle.flt_emit.specs.Expressions.{is_variable, is_zero}
 use Rattle.flt_emit.specs.declared.uses.Use.{Use}
 use Rattle.flt_emit.specs.declared.uses.Use.TheVariants as use_of
 
@@ -88,11 +88,12 @@ in_return _ s = false
 
 -- ---- what an `if` asks
 
+-- a comparison whose value is known reads nothing: it stands in a comment
 abbrev pub in_test : Use → Test → Bool
 in_test (use_of.Number n) (Equal m x) = same_number n m || is_variable n x
 in_test (use_of.Number n) (Less m x) = same_number n m || is_variable n x
-in_test (use_of.Read n) (Equal m x) = same_number n m || is_variable n x
-in_test (use_of.Read n) (Less m x) = same_number n m || is_variable n x
+in_test (use_of.Read n) (Equal m x) = not (is_variable m x) && (same_number n m || is_variable n x)
+in_test (use_of.Read n) (Less m x) = not (is_variable m x || is_zero x) && (same_number n m || is_variable n x)
 in_test (use_of.Context c) (ContextIsSome d) = same_context c d
 in_test (use_of.Operation d) (OperationIsSome o) = same_operation d (Removed o)
 in_test _ test = false

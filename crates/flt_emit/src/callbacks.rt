@@ -153,19 +153,12 @@ fn unread(out: &mut Vec<u8>, is_read: bool, n: NumberVariable) -> Result<(), All
     )
 }
 
-fn zeroed(out: &mut Vec<u8>, n: NumberVariable) -> Result<(), AllocError>
-    ensures { OnOk result (out.new.items ≡ out.old.items ++ spec.zeroed n) }
-{
-    texts(out, &[b"    ULONG64 ", number_name(n), b" = 0;\n"])
-}
-
 #[tactic(auto, unfolding(crate::specs::Callbacks::declared_number))]
 fn declared_number(out: &mut Vec<u8>, is_read: bool, n: NumberVariable) -> Result<(), AllocError>
     ensures { OnOk result (out.new.items ≡ out.old.items ++ spec.declared_number is_read n) }
 {
-    zeroed(out, n)?;
-    unread(out, is_read, n)?;
-    Ok(())
+    texts(out, &[b"    ULONG64 ", number_name(n), b" = 0;\n"])?;
+    unread(out, is_read, n)
 }
 
 #[tactic(auto, unfolding(crate::specs::Callbacks::number_declaration))]

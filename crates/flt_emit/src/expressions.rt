@@ -53,7 +53,7 @@ pub fn is_variable(n: NumberVariable, atom: Atom) -> bool
     }
 }
 
-fn is_zero(atom: Atom) -> bool
+pub fn is_zero(atom: Atom) -> bool
     ensures { result ≡ spec.is_zero atom }
 {
     match atom {

@@ -3,7 +3,7 @@
 ghost use Rattle.flt_emit.specs.Uses as spec;
 ghost use Rattle.std.specs.Prelude.{◌≡◌};
 
-use crate::expressions::is_variable;
+use crate::expressions::{is_variable, is_zero};
 use flt_rules::LockNumber;
 use flt_tree::{
     Action, Condition, ContextVariable, Expression, FallibleCall, NumberVariable,
@@ -124,8 +124,12 @@ fn in_test(sought: Use, test: Test) -> bool
     match (sought, test) {
         (Use::Number(n), Test::Equal(m, x)) => same_number(n, m) || is_variable(n, x),
         (Use::Number(n), Test::Less(m, x)) => same_number(n, m) || is_variable(n, x),
-        (Use::Read(n), Test::Equal(m, x)) => same_number(n, m) || is_variable(n, x),
-        (Use::Read(n), Test::Less(m, x)) => same_number(n, m) || is_variable(n, x),
+        (Use::Read(n), Test::Equal(m, x)) => {
+            !is_variable(m, x) && (same_number(n, m) || is_variable(n, x))
+        }
+        (Use::Read(n), Test::Less(m, x)) => {
+            !(is_variable(m, x) || is_zero(x)) && (same_number(n, m) || is_variable(n, x))
+        }
         (Use::Context(c), Test::ContextIsSome(d)) => same_context(c, d),
         (Use::Operation(d), Test::OperationIsSome(o)) => {
             same_operation(d, OperationVariable::Removed(o))

@@ -1,5 +1,4 @@
 use Rattle.std.proofs.Common.{◌≡◌, ◌++◌, length}
-use Rattle.std.specs.List.{flat_map}
 use Rattle.flt_emit.specs.Callbacks.{prototypes_text}
 use Rattle.flt_emit.proofs.callbacks.prototypes.Given as goal
 

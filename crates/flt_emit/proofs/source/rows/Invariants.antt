@@ -1,5 +1,4 @@
 use Rattle.std.proofs.Common.{◌≡◌, ◌++◌, length}
-use Rattle.std.specs.List.{flat_map}
 use Rattle.flt_emit.specs.Source.{rows_of}
 use Rattle.flt_emit.proofs.source.rows.Given as goal
 

@@ -1,6 +1,5 @@
 use Rattle.std.proofs.Common.{arith, ◌≡◌, ◌+◌, ◌++◌, ◌∙◌, List, ℕ, ap, sym, drop, append_assoc, length, ◌<◌}
 use Rattle.std.proofs.lemmas.Result.{on_ok_weaker}
-use Rattle.flt_tree.specs.Measures.{points}
 use Rattle.flt_emit.specs.Line.{label}
 use Rattle.flt_emit.specs.Scope.{scope_of}
 use Rattle.flt_emit.specs.Statements.{body_text, statement_text, with_lines}
