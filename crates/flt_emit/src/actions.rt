@@ -15,7 +15,7 @@ use flt_tree::{Action, ContextVariable, Lock, PlainCall, Status};
 use std::alloc::AllocError;
 
 /// A statement that neither calls nor branches.
-pub fn action(out: &mut Vec<u8>, place: Place, action: Action) -> Result<(), AllocError>
+pub(crate) fn action(out: &mut Vec<u8>, place: Place, action: Action) -> Result<(), AllocError>
     ensures { OnOk result (out.new.items ≡ out.old.items ++ spec.action_text place action) }
 {
     match action {
@@ -121,7 +121,11 @@ fn release(out: &mut Vec<u8>, kind: LockKind, name: &[u8]) -> Result<(), AllocEr
 }
 
 /// A call that always succeeds.
-pub fn plain_call(out: &mut Vec<u8>, locks: &[Lock], call: PlainCall) -> Result<(), AllocError>
+pub(crate) fn plain_call(
+    out: &mut Vec<u8>,
+    locks: &[Lock],
+    call: PlainCall,
+) -> Result<(), AllocError>
     ensures { OnOk result (out.new.items ≡ out.old.items ++ spec.plain_text locks.now call) }
 {
     match call {
@@ -230,7 +234,11 @@ fn handed(
 }
 
 /// What stands before a call.
-pub fn before_call(out: &mut Vec<u8>, level: usize, call: PlainCall) -> Result<(), AllocError>
+pub(crate) fn before_call(
+    out: &mut Vec<u8>,
+    level: usize,
+    call: PlainCall,
+) -> Result<(), AllocError>
     ensures { OnOk result (out.new.items ≡ out.old.items ++ spec.before_call level call) }
 {
     match call {
@@ -260,7 +268,7 @@ fn leaving(place: Place) -> &'static [u8]
 }
 
 /// What a pre or a post callback returns that passes the operation on.
-pub fn passing(is_pre: bool) -> &'static [u8]
+pub(crate) fn passing(is_pre: bool) -> &'static [u8]
     ensures { result.now ≡ spec.passing is_pre }
 {
     if is_pre {
@@ -297,7 +305,7 @@ fn answer(
 }
 
 /// A return.
-pub fn leave(
+pub(crate) fn leave(
     out: &mut Vec<u8>,
     place: Place,
     level: usize,

@@ -7,7 +7,7 @@ ghost use Rattle.std.specs.List.{list_all};
 ghost use Rattle.std.specs.Prelude.{◌≡◌, ◌+◌, ◌++◌, flat_map, IsTrue, OnOk};
 
 use crate::actions::passing;
-use crate::fixed;
+use crate::fixed_callbacks;
 use crate::line::{Piece, text, texts, write};
 use crate::names::{context_name, major_name, number_name, operation_word, removed_name};
 use crate::scope::{Allocation, Scope};
@@ -72,35 +72,35 @@ fn number_variables() -> &'static [NumberVariable]
 fn deferred_prototype(out: &mut Vec<u8>, name: &[u8]) -> Result<(), AllocError>
     ensures { OnOk result (out.new.items ≡ out.old.items ++ spec.deferred_prototype name.now) }
 {
-    fixed::deferred_head(out)?;
+    fixed_callbacks::deferred_head(out)?;
     text(out, name)?;
-    fixed::deferred_parameters(out)
+    fixed_callbacks::deferred_parameters(out)
 }
 
 /// How a callback is declared.
 #[tactic(auto, unfolding(crate::specs::Callbacks::prototype))]
-pub fn prototype(out: &mut Vec<u8>, head: &Head) -> Result<(), AllocError>
+pub(crate) fn prototype(out: &mut Vec<u8>, head: &Head) -> Result<(), AllocError>
     ensures { OnOk result (out.new.items ≡ out.old.items ++ spec.prototype head.now) }
 {
     match head {
         Head::Pre(operation) => {
-            fixed::pre_head(out)?;
+            fixed_callbacks::pre_head(out)?;
             text(out, operation_word(*operation))?;
-            fixed::pre_parameters(out)
+            fixed_callbacks::pre_parameters(out)
         }
         Head::Post(operation) => {
-            fixed::post_head(out)?;
+            fixed_callbacks::post_head(out)?;
             text(out, operation_word(*operation))?;
-            fixed::post_parameters(out)
+            fixed_callbacks::post_parameters(out)
         }
-        Head::Canceled => fixed::canceled_prototype(out),
+        Head::Canceled => fixed_callbacks::canceled_prototype(out),
         Head::DeferredPre(name) | Head::DeferredPost(name) => {
             deferred_prototype(out, name.as_slice())
         }
         Head::Generic(name) => {
-            fixed::generic_head(out)?;
+            fixed_callbacks::generic_head(out)?;
             text(out, name.as_slice())?;
-            fixed::generic_parameters(out)
+            fixed_callbacks::generic_parameters(out)
         }
     }
 }
@@ -342,7 +342,7 @@ fn hook(out: &mut Vec<u8>, head: &Head) -> Result<(), AllocError>
                 b"( Data, FltObjects, Flags, arg );\n",
             ],
         ),
-        Head::Canceled => fixed::canceled_hook(out),
+        Head::Canceled => fixed_callbacks::canceled_hook(out),
         Head::DeferredPre(name) | Head::DeferredPost(name) => deferred_hook(out, name.as_slice()),
         Head::Generic(name) => texts(
             out,
@@ -363,7 +363,7 @@ fn unreturned(out: &mut Vec<u8>, returns: bool, is_pre: bool) -> Result<(), Allo
     if returns {
         return Ok(());
     }
-    fixed::unreached(out)?;
+    fixed_callbacks::unreached(out)?;
     texts(out, &[passing(is_pre), b"\n"])
 }
 
@@ -385,11 +385,11 @@ fn ending(out: &mut Vec<u8>, body: &[Statement], head: &Head) -> Result<(), Allo
         Head::Canceled => Ok(()),
         Head::DeferredPre(_) | Head::DeferredPost(_) => {
             text(out, done(is_used(Use::Return, body)))?;
-            fixed::free_deferred(out)
+            fixed_callbacks::free_deferred(out)
         }
         Head::Generic(_) => {
             text(out, done(is_used(Use::Return, body)))?;
-            fixed::free_generic(out)
+            fixed_callbacks::free_generic(out)
         }
     }
 }
@@ -469,7 +469,7 @@ pub(crate) fn callbacks(
 }
 
 /// The prototypes of callbacks.
-pub fn prototypes(out: &mut Vec<u8>, mut found: &[Callback]) -> Result<(), AllocError>
+pub(crate) fn prototypes(out: &mut Vec<u8>, mut found: &[Callback]) -> Result<(), AllocError>
     ensures { OnOk result (out.new.items ≡ out.old.items ++ spec.prototypes_text found.entry.now) }
 {
     while let [first, rest @ ..] = found {

@@ -18,7 +18,7 @@ use flt_tree::{
 use std::alloc::AllocError;
 
 /// What a variable of numbers is set to, up to the end of its line but for the label.
-pub fn expression(out: &mut Vec<u8>, expression: Expression) -> Result<(), AllocError>
+pub(crate) fn expression(out: &mut Vec<u8>, expression: Expression) -> Result<(), AllocError>
     ensures { OnOk result (out.new.items ≡ out.old.items ++ spec.expression_text expression) }
 {
     match expression {
@@ -32,7 +32,7 @@ pub fn expression(out: &mut Vec<u8>, expression: Expression) -> Result<(), Alloc
 }
 
 /// The file object of an operation.
-pub fn file(place: Place, d: OperationVariable) -> &'static [u8]
+pub(crate) fn file(place: Place, d: OperationVariable) -> &'static [u8]
     ensures { result.now ≡ spec.file_text place d }
 {
     match d {
@@ -44,7 +44,7 @@ pub fn file(place: Place, d: OperationVariable) -> &'static [u8]
     }
 }
 
-pub fn is_variable(n: NumberVariable, atom: Atom) -> bool
+pub(crate) fn is_variable(n: NumberVariable, atom: Atom) -> bool
     ensures { result ≡ spec.is_variable n atom }
 {
     match atom {
@@ -53,7 +53,7 @@ pub fn is_variable(n: NumberVariable, atom: Atom) -> bool
     }
 }
 
-pub fn is_zero(atom: Atom) -> bool
+pub(crate) fn is_zero(atom: Atom) -> bool
     ensures { result ≡ spec.is_zero atom }
 {
     match atom {

@@ -8,7 +8,7 @@ use std::alloc::AllocError;
 
 /// How a file begins, up to the filter's name.
 #[tactic(auto, unfolding(crate::specs::Fixed::comment_begin))]
-pub fn comment_begin(out: &mut Vec<u8>) -> Result<(), AllocError>
+pub(crate) fn comment_begin(out: &mut Vec<u8>) -> Result<(), AllocError>
     ensures { OnOk result (out.new.items ≡ out.old.items ++ spec.comment_begin) }
 {
     text(
@@ -20,7 +20,7 @@ pub fn comment_begin(out: &mut Vec<u8>) -> Result<(), AllocError>
 
 /// What the source is, up to the filter's name.
 #[tactic(auto, unfolding(crate::specs::Fixed::source_title))]
-pub fn source_title(out: &mut Vec<u8>) -> Result<(), AllocError>
+pub(crate) fn source_title(out: &mut Vec<u8>) -> Result<(), AllocError>
     ensures { OnOk result (out.new.items ≡ out.old.items ++ spec.source_title) }
 {
     text(out, b".c - minifilter `")
@@ -28,7 +28,7 @@ pub fn source_title(out: &mut Vec<u8>) -> Result<(), AllocError>
 
 /// Up to the altitude.
 #[tactic(auto, unfolding(crate::specs::Fixed::altitude_title))]
-pub fn altitude_title(out: &mut Vec<u8>) -> Result<(), AllocError>
+pub(crate) fn altitude_title(out: &mut Vec<u8>) -> Result<(), AllocError>
     ensures { OnOk result (out.new.items ≡ out.old.items ++ spec.altitude_title) }
 {
     text(out, b"`, altitude ")
@@ -36,7 +36,7 @@ pub fn altitude_title(out: &mut Vec<u8>) -> Result<(), AllocError>
 
 /// What stands at the head of the source, behind the filter's name.
 #[tactic(auto, unfolding(crate::specs::Fixed::written))]
-pub fn written(out: &mut Vec<u8>) -> Result<(), AllocError>
+pub(crate) fn written(out: &mut Vec<u8>) -> Result<(), AllocError>
     ensures { OnOk result (out.new.items ≡ out.old.items ++ spec.written) }
 {
     text(
@@ -54,7 +54,7 @@ pub fn written(out: &mut Vec<u8>) -> Result<(), AllocError>
 
 /// The contexts, which post callbacks look at where nothing may be paged.
 #[tactic(auto, unfolding(crate::specs::Fixed::contexts))]
-pub fn contexts(out: &mut Vec<u8>) -> Result<(), AllocError>
+pub(crate) fn contexts(out: &mut Vec<u8>) -> Result<(), AllocError>
     ensures { OnOk result (out.new.items ≡ out.old.items ++ spec.contexts) }
 {
     text(
@@ -81,7 +81,7 @@ static struct {
 
 /// The fields of the queue.
 #[tactic(auto, unfolding(crate::specs::Fixed::queue_fields))]
-pub fn queue_fields(out: &mut Vec<u8>) -> Result<(), AllocError>
+pub(crate) fn queue_fields(out: &mut Vec<u8>) -> Result<(), AllocError>
     ensures { OnOk result (out.new.items ≡ out.old.items ++ spec.queue_fields) }
 {
     text(
@@ -95,7 +95,7 @@ pub fn queue_fields(out: &mut Vec<u8>) -> Result<(), AllocError>
 
 /// The end of what all callbacks have in common.
 #[tactic(auto, unfolding(crate::specs::Fixed::globals_end))]
-pub fn globals_end(out: &mut Vec<u8>) -> Result<(), AllocError>
+pub(crate) fn globals_end(out: &mut Vec<u8>) -> Result<(), AllocError>
     ensures { OnOk result (out.new.items ≡ out.old.items ++ spec.globals_end) }
 {
     text(
@@ -110,7 +110,7 @@ DRIVER_INITIALIZE DriverEntry;
 
 /// How contexts are allocated and referenced.
 #[tactic(auto, unfolding(crate::specs::Fixed::allocating))]
-pub fn allocating(out: &mut Vec<u8>) -> Result<(), AllocError>
+pub(crate) fn allocating(out: &mut Vec<u8>) -> Result<(), AllocError>
     ensures { OnOk result (out.new.items ≡ out.old.items ++ spec.allocating) }
 {
     text(
@@ -154,7 +154,7 @@ ReferenceContext(
 
 /// How the context of a stream is got, set and deleted.
 #[tactic(auto, unfolding(crate::specs::Fixed::stream_contexts))]
-pub fn stream_contexts(out: &mut Vec<u8>) -> Result<(), AllocError>
+pub(crate) fn stream_contexts(out: &mut Vec<u8>) -> Result<(), AllocError>
     ensures { OnOk result (out.new.items ≡ out.old.items ++ spec.stream_contexts) }
 {
     text(
@@ -215,7 +215,7 @@ DeleteStreamContext(
 
 /// The same of the instance.
 #[tactic(auto, unfolding(crate::specs::Fixed::instance_contexts))]
-pub fn instance_contexts(out: &mut Vec<u8>) -> Result<(), AllocError>
+pub(crate) fn instance_contexts(out: &mut Vec<u8>) -> Result<(), AllocError>
     ensures { OnOk result (out.new.items ≡ out.old.items ++ spec.instance_contexts) }
 {
     text(
@@ -273,7 +273,7 @@ DeleteInstanceContext(
 
 /// How work items are queued.
 #[tactic(auto, unfolding(crate::specs::Fixed::work_items))]
-pub fn work_items(out: &mut Vec<u8>) -> Result<(), AllocError>
+pub(crate) fn work_items(out: &mut Vec<u8>) -> Result<(), AllocError>
     ensures { OnOk result (out.new.items ≡ out.old.items ++ spec.work_items) }
 {
     text(
@@ -330,7 +330,7 @@ QueueGeneric(
 
 /// How operations are put into the queue and removed from it.
 #[tactic(auto, unfolding(crate::specs::Fixed::queueing))]
-pub fn queueing(out: &mut Vec<u8>) -> Result<(), AllocError>
+pub(crate) fn queueing(out: &mut Vec<u8>) -> Result<(), AllocError>
     ensures { OnOk result (out.new.items ≡ out.old.items ++ spec.queueing) }
 {
     text(
@@ -363,7 +363,7 @@ RemoveNextIo(
 
 /// The callbacks of the queue that keep its entries in order.
 #[tactic(auto, unfolding(crate::specs::Fixed::queue_callbacks))]
-pub fn queue_callbacks(out: &mut Vec<u8>) -> Result<(), AllocError>
+pub(crate) fn queue_callbacks(out: &mut Vec<u8>) -> Result<(), AllocError>
     ensures { OnOk result (out.new.items ≡ out.old.items ++ spec.queue_callbacks) }
 {
     text(
@@ -418,7 +418,7 @@ CsqPeekNextIo(
 
 /// The callbacks of the queue that take and release its lock.
 #[tactic(auto, unfolding(crate::specs::Fixed::queue_locking))]
-pub fn queue_locking(out: &mut Vec<u8>) -> Result<(), AllocError>
+pub(crate) fn queue_locking(out: &mut Vec<u8>) -> Result<(), AllocError>
     ensures { OnOk result (out.new.items ≡ out.old.items ++ spec.queue_locking) }
 {
     text(
@@ -473,7 +473,7 @@ InstanceTeardownStart(
 
 /// How the filter attaches to one volume.
 #[tactic(auto, unfolding(crate::specs::Fixed::attaching))]
-pub fn attaching(out: &mut Vec<u8>) -> Result<(), AllocError>
+pub(crate) fn attaching(out: &mut Vec<u8>) -> Result<(), AllocError>
     ensures { OnOk result (out.new.items ≡ out.old.items ++ spec.attaching) }
 {
     text(
@@ -507,7 +507,7 @@ InstanceSetup(
 
 /// How the queue begins.
 #[tactic(auto, unfolding(crate::specs::Fixed::queue_setup))]
-pub fn queue_setup(out: &mut Vec<u8>) -> Result<(), AllocError>
+pub(crate) fn queue_setup(out: &mut Vec<u8>) -> Result<(), AllocError>
     ensures { OnOk result (out.new.items ≡ out.old.items ++ spec.queue_setup) }
 {
     text(
@@ -530,7 +530,7 @@ pub fn queue_setup(out: &mut Vec<u8>) -> Result<(), AllocError>
 
 /// How the filter detaches, up to the locks that are deleted then.
 #[tactic(auto, unfolding(crate::specs::Fixed::detaching))]
-pub fn detaching(out: &mut Vec<u8>) -> Result<(), AllocError>
+pub(crate) fn detaching(out: &mut Vec<u8>) -> Result<(), AllocError>
     ensures { OnOk result (out.new.items ≡ out.old.items ++ spec.detaching) }
 {
     text(
@@ -576,7 +576,7 @@ FilterUnload(
 
 /// What stands before the registered operations.
 #[tactic(auto, unfolding(crate::specs::Fixed::operations))]
-pub fn operations(out: &mut Vec<u8>) -> Result<(), AllocError>
+pub(crate) fn operations(out: &mut Vec<u8>) -> Result<(), AllocError>
     ensures { OnOk result (out.new.items ≡ out.old.items ++ spec.operations) }
 {
     text(
@@ -591,7 +591,7 @@ const FLT_OPERATION_REGISTRATION Callbacks[] = {
 
 /// The contexts that are registered, and the callbacks but one.
 #[tactic(auto, unfolding(crate::specs::Fixed::registration))]
-pub fn registration(out: &mut Vec<u8>) -> Result<(), AllocError>
+pub(crate) fn registration(out: &mut Vec<u8>) -> Result<(), AllocError>
     ensures { OnOk result (out.new.items ≡ out.old.items ++ spec.registration) }
 {
     text(
@@ -619,7 +619,7 @@ const FLT_REGISTRATION Registration = {
 
 /// The callback that a filter with a queue registers.
 #[tactic(auto, unfolding(crate::specs::Fixed::queue_registration))]
-pub fn queue_registration(out: &mut Vec<u8>) -> Result<(), AllocError>
+pub(crate) fn queue_registration(out: &mut Vec<u8>) -> Result<(), AllocError>
     ensures { OnOk result (out.new.items ≡ out.old.items ++ spec.queue_registration) }
 {
     text(
@@ -631,7 +631,7 @@ pub fn queue_registration(out: &mut Vec<u8>) -> Result<(), AllocError>
 
 /// How the driver begins, up to its locks.
 #[tactic(auto, unfolding(crate::specs::Fixed::entry))]
-pub fn entry(out: &mut Vec<u8>) -> Result<(), AllocError>
+pub(crate) fn entry(out: &mut Vec<u8>) -> Result<(), AllocError>
     ensures { OnOk result (out.new.items ≡ out.old.items ++ spec.entry) }
 {
     text(
@@ -654,7 +654,7 @@ DriverEntry(
 
 /// How the lock of the queue and its list begin.
 #[tactic(auto, unfolding(crate::specs::Fixed::queue_entry))]
-pub fn queue_entry(out: &mut Vec<u8>) -> Result<(), AllocError>
+pub(crate) fn queue_entry(out: &mut Vec<u8>) -> Result<(), AllocError>
     ensures { OnOk result (out.new.items ≡ out.old.items ++ spec.queue_entry) }
 {
     text(
@@ -667,7 +667,7 @@ pub fn queue_entry(out: &mut Vec<u8>) -> Result<(), AllocError>
 
 /// How the driver registers.
 #[tactic(auto, unfolding(crate::specs::Fixed::registering))]
-pub fn registering(out: &mut Vec<u8>) -> Result<(), AllocError>
+pub(crate) fn registering(out: &mut Vec<u8>) -> Result<(), AllocError>
     ensures { OnOk result (out.new.items ≡ out.old.items ++ spec.registering) }
 {
     text(
@@ -689,188 +689,13 @@ pub fn registering(out: &mut Vec<u8>) -> Result<(), AllocError>
 
 /// The end of the source.
 #[tactic(auto, unfolding(crate::specs::Fixed::ending))]
-pub fn ending(out: &mut Vec<u8>) -> Result<(), AllocError>
+pub(crate) fn ending(out: &mut Vec<u8>) -> Result<(), AllocError>
     ensures { OnOk result (out.new.items ≡ out.old.items ++ spec.ending) }
 {
     text(
         out,
         b"    return status;
 }
-",
-    )
-}
-
-/// How the prototype of a pre callback begins.
-#[tactic(auto, unfolding(crate::specs::Fixed::pre_head))]
-pub fn pre_head(out: &mut Vec<u8>) -> Result<(), AllocError>
-    ensures { OnOk result (out.new.items ≡ out.old.items ++ spec.pre_head) }
-{
-    text(
-        out,
-        b"FLT_PREOP_CALLBACK_STATUS FLTAPI
-Pre",
-    )
-}
-
-/// How the prototype of a post callback begins.
-#[tactic(auto, unfolding(crate::specs::Fixed::post_head))]
-pub fn post_head(out: &mut Vec<u8>) -> Result<(), AllocError>
-    ensures { OnOk result (out.new.items ≡ out.old.items ++ spec.post_head) }
-{
-    text(
-        out,
-        b"FLT_POSTOP_CALLBACK_STATUS FLTAPI
-Post",
-    )
-}
-
-/// How the prototype of a routine begins that has an operation.
-#[tactic(auto, unfolding(crate::specs::Fixed::deferred_head))]
-pub fn deferred_head(out: &mut Vec<u8>) -> Result<(), AllocError>
-    ensures { OnOk result (out.new.items ≡ out.old.items ++ spec.deferred_head) }
-{
-    text(
-        out,
-        b"VOID FLTAPI
-Deferred_",
-    )
-}
-
-/// How the prototype of a routine begins that has none.
-#[tactic(auto, unfolding(crate::specs::Fixed::generic_head))]
-pub fn generic_head(out: &mut Vec<u8>) -> Result<(), AllocError>
-    ensures { OnOk result (out.new.items ≡ out.old.items ++ spec.generic_head) }
-{
-    text(
-        out,
-        b"VOID FLTAPI
-Generic_",
-    )
-}
-
-/// The parameters of a pre callback.
-#[tactic(auto, unfolding(crate::specs::Fixed::pre_parameters))]
-pub fn pre_parameters(out: &mut Vec<u8>) -> Result<(), AllocError>
-    ensures { OnOk result (out.new.items ≡ out.old.items ++ spec.pre_parameters) }
-{
-    text(
-        out,
-        b"(
-    _Inout_ PFLT_CALLBACK_DATA Data,
-    _In_ PCFLT_RELATED_OBJECTS FltObjects,
-    _Flt_CompletionContext_Outptr_ PVOID *CompletionContext
-    )",
-    )
-}
-
-/// The parameters of a post callback.
-#[tactic(auto, unfolding(crate::specs::Fixed::post_parameters))]
-pub fn post_parameters(out: &mut Vec<u8>) -> Result<(), AllocError>
-    ensures { OnOk result (out.new.items ≡ out.old.items ++ spec.post_parameters) }
-{
-    text(
-        out,
-        b"(
-    _Inout_ PFLT_CALLBACK_DATA Data,
-    _In_ PCFLT_RELATED_OBJECTS FltObjects,
-    _In_opt_ PVOID CompletionContext,
-    _In_ FLT_POST_OPERATION_FLAGS Flags
-    )",
-    )
-}
-
-/// The prototype of the callback for cancelled operations.
-#[tactic(auto, unfolding(crate::specs::Fixed::canceled_prototype))]
-pub fn canceled_prototype(out: &mut Vec<u8>) -> Result<(), AllocError>
-    ensures { OnOk result (out.new.items ≡ out.old.items ++ spec.canceled_prototype) }
-{
-    text(
-        out,
-        b"VOID FLTAPI
-CompleteCanceledIo(
-    _Inout_ PFLT_CALLBACK_DATA_QUEUE Cbdq,
-    _Inout_ PFLT_CALLBACK_DATA Data
-    )",
-    )
-}
-
-/// The parameters of a routine that has an operation.
-#[tactic(auto, unfolding(crate::specs::Fixed::deferred_parameters))]
-pub fn deferred_parameters(out: &mut Vec<u8>) -> Result<(), AllocError>
-    ensures { OnOk result (out.new.items ≡ out.old.items ++ spec.deferred_parameters) }
-{
-    text(
-        out,
-        b"(
-    _In_ PFLT_DEFERRED_IO_WORKITEM WorkItem,
-    _In_ PFLT_CALLBACK_DATA Data,
-    _In_opt_ PVOID Context
-    )",
-    )
-}
-
-/// The parameters of a routine that has none.
-#[tactic(auto, unfolding(crate::specs::Fixed::generic_parameters))]
-pub fn generic_parameters(out: &mut Vec<u8>) -> Result<(), AllocError>
-    ensures { OnOk result (out.new.items ≡ out.old.items ++ spec.generic_parameters) }
-{
-    text(
-        out,
-        b"(
-    _In_ PFLT_GENERIC_WORKITEM WorkItem,
-    _In_ PVOID FltObject,
-    _In_opt_ PVOID Context
-    )",
-    )
-}
-
-/// The writer's hook for cancelled operations.
-#[tactic(auto, unfolding(crate::specs::Fixed::canceled_hook))]
-pub fn canceled_hook(out: &mut Vec<u8>) -> Result<(), AllocError>
-    ensures { OnOk result (out.new.items ≡ out.old.items ++ spec.canceled_hook) }
-{
-    text(
-        out,
-        b"    UNREFERENCED_PARAMETER( Cbdq );
-
-    USER_CANCELED( Data, Instance, arg );
-",
-    )
-}
-
-/// What stands at the end of a pre or a post callback that isn't left by a return on each of its ways.
-#[tactic(auto, unfolding(crate::specs::Fixed::unreached))]
-pub fn unreached(out: &mut Vec<u8>) -> Result<(), AllocError>
-    ensures { OnOk result (out.new.items ≡ out.old.items ++ spec.unreached) }
-{
-    text(
-        out,
-        b"
-    FLT_ASSERT( FALSE );    // no run of the text comes here
-    ",
-    )
-}
-
-/// The end of a routine that has an operation.
-#[tactic(auto, unfolding(crate::specs::Fixed::free_deferred))]
-pub fn free_deferred(out: &mut Vec<u8>) -> Result<(), AllocError>
-    ensures { OnOk result (out.new.items ≡ out.old.items ++ spec.free_deferred) }
-{
-    text(
-        out,
-        b"    FltFreeDeferredIoWorkItem( WorkItem );
-",
-    )
-}
-
-/// The end of a routine that has none.
-#[tactic(auto, unfolding(crate::specs::Fixed::free_generic))]
-pub fn free_generic(out: &mut Vec<u8>) -> Result<(), AllocError>
-    ensures { OnOk result (out.new.items ≡ out.old.items ++ spec.free_generic) }
-{
-    text(
-        out,
-        b"    FltFreeGenericWorkItem( WorkItem );
 ",
     )
 }

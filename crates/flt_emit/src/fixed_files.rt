@@ -8,7 +8,7 @@ use std::alloc::AllocError;
 
 /// What the writer's header is, up to the filter's name.
 #[tactic(auto, unfolding(crate::specs::FixedFiles::user_title))]
-pub fn user_title(out: &mut Vec<u8>) -> Result<(), AllocError>
+pub(crate) fn user_title(out: &mut Vec<u8>) -> Result<(), AllocError>
     ensures { OnOk result (out.new.items ≡ out.old.items ++ spec.user_title) }
 {
     text(out, b"_user.h - the writer's own part of the minifilter `")
@@ -16,7 +16,7 @@ pub fn user_title(out: &mut Vec<u8>) -> Result<(), AllocError>
 
 /// What stands at the head of the writer's header, behind the filter's name.
 #[tactic(auto, unfolding(crate::specs::FixedFiles::user_written))]
-pub fn user_written(out: &mut Vec<u8>) -> Result<(), AllocError>
+pub(crate) fn user_written(out: &mut Vec<u8>) -> Result<(), AllocError>
     ensures { OnOk result (out.new.items ≡ out.old.items ++ spec.user_written) }
 {
     text(
@@ -56,7 +56,7 @@ pub fn user_written(out: &mut Vec<u8>) -> Result<(), AllocError>
 
 /// The head of the file for the installation, up to the catalog's name.
 #[tactic(auto, unfolding(crate::specs::FixedFiles::inf_head))]
-pub fn inf_head(out: &mut Vec<u8>) -> Result<(), AllocError>
+pub(crate) fn inf_head(out: &mut Vec<u8>) -> Result<(), AllocError>
     ensures { OnOk result (out.new.items ≡ out.old.items ++ spec.inf_head) }
 {
     text(
@@ -73,7 +73,7 @@ CatalogFile = ",
 
 /// Up to the name of the file that is copied from the disk.
 #[tactic(auto, unfolding(crate::specs::FixedFiles::inf_files))]
-pub fn inf_files(out: &mut Vec<u8>) -> Result<(), AllocError>
+pub(crate) fn inf_files(out: &mut Vec<u8>) -> Result<(), AllocError>
     ensures { OnOk result (out.new.items ≡ out.old.items ++ spec.inf_files) }
 {
     text(
@@ -94,7 +94,7 @@ DefaultDestDir = 13
 
 /// Up to its name among those of the driver.
 #[tactic(auto, unfolding(crate::specs::FixedFiles::inf_copied))]
-pub fn inf_copied(out: &mut Vec<u8>) -> Result<(), AllocError>
+pub(crate) fn inf_copied(out: &mut Vec<u8>) -> Result<(), AllocError>
     ensures { OnOk result (out.new.items ≡ out.old.items ++ spec.inf_copied) }
 {
     text(
@@ -111,7 +111,7 @@ CopyFiles = DriverFiles
 
 /// Up to the service's name.
 #[tactic(auto, unfolding(crate::specs::FixedFiles::inf_service))]
-pub fn inf_service(out: &mut Vec<u8>) -> Result<(), AllocError>
+pub(crate) fn inf_service(out: &mut Vec<u8>) -> Result<(), AllocError>
     ensures { OnOk result (out.new.items ≡ out.old.items ++ spec.inf_service) }
 {
     text(
@@ -125,7 +125,7 @@ AddService = ",
 
 /// Up to the name by which it is shown.
 #[tactic(auto, unfolding(crate::specs::FixedFiles::inf_shown))]
-pub fn inf_shown(out: &mut Vec<u8>) -> Result<(), AllocError>
+pub(crate) fn inf_shown(out: &mut Vec<u8>) -> Result<(), AllocError>
     ensures { OnOk result (out.new.items ≡ out.old.items ++ spec.inf_shown) }
 {
     text(
@@ -139,7 +139,7 @@ DisplayName   = ",
 
 /// Up to the name of its binary.
 #[tactic(auto, unfolding(crate::specs::FixedFiles::inf_binary))]
-pub fn inf_binary(out: &mut Vec<u8>) -> Result<(), AllocError>
+pub(crate) fn inf_binary(out: &mut Vec<u8>) -> Result<(), AllocError>
     ensures { OnOk result (out.new.items ≡ out.old.items ++ spec.inf_binary) }
 {
     text(
@@ -151,7 +151,7 @@ ServiceBinary = %13%\\",
 
 /// Up to the name of the instance that attaches by itself.
 #[tactic(auto, unfolding(crate::specs::FixedFiles::inf_registered))]
-pub fn inf_registered(out: &mut Vec<u8>) -> Result<(), AllocError>
+pub(crate) fn inf_registered(out: &mut Vec<u8>) -> Result<(), AllocError>
     ensures { OnOk result (out.new.items ≡ out.old.items ++ spec.inf_registered) }
 {
     text(
@@ -171,7 +171,7 @@ HKR,Parameters\\Instances,DefaultInstance,0x00000000,\"",
 
 /// Up to the name of the instance among the instances.
 #[tactic(auto, unfolding(crate::specs::FixedFiles::inf_instance))]
-pub fn inf_instance(out: &mut Vec<u8>) -> Result<(), AllocError>
+pub(crate) fn inf_instance(out: &mut Vec<u8>) -> Result<(), AllocError>
     ensures { OnOk result (out.new.items ≡ out.old.items ++ spec.inf_instance) }
 {
     text(
@@ -183,7 +183,7 @@ HKR,Parameters\\Instances\\",
 
 /// Up to the altitude, behind that name.
 #[tactic(auto, unfolding(crate::specs::FixedFiles::inf_altitude))]
-pub fn inf_altitude(out: &mut Vec<u8>) -> Result<(), AllocError>
+pub(crate) fn inf_altitude(out: &mut Vec<u8>) -> Result<(), AllocError>
     ensures { OnOk result (out.new.items ≡ out.old.items ++ spec.inf_altitude) }
 {
     text(out, b",Altitude,0x00000000,\"")
@@ -191,7 +191,7 @@ pub fn inf_altitude(out: &mut Vec<u8>) -> Result<(), AllocError>
 
 /// Up to the name of the instance again.
 #[tactic(auto, unfolding(crate::specs::FixedFiles::inf_flags))]
-pub fn inf_flags(out: &mut Vec<u8>) -> Result<(), AllocError>
+pub(crate) fn inf_flags(out: &mut Vec<u8>) -> Result<(), AllocError>
     ensures { OnOk result (out.new.items ≡ out.old.items ++ spec.inf_flags) }
 {
     text(
@@ -203,7 +203,7 @@ HKR,Parameters\\Instances\\",
 
 /// Up to the name of the disk, behind that name.
 #[tactic(auto, unfolding(crate::specs::FixedFiles::inf_strings))]
-pub fn inf_strings(out: &mut Vec<u8>) -> Result<(), AllocError>
+pub(crate) fn inf_strings(out: &mut Vec<u8>) -> Result<(), AllocError>
     ensures { OnOk result (out.new.items ≡ out.old.items ++ spec.inf_strings) }
 {
     text(
@@ -218,7 +218,7 @@ Disk     = \"",
 
 /// The end of the file.
 #[tactic(auto, unfolding(crate::specs::FixedFiles::inf_end))]
-pub fn inf_end(out: &mut Vec<u8>) -> Result<(), AllocError>
+pub(crate) fn inf_end(out: &mut Vec<u8>) -> Result<(), AllocError>
     ensures { OnOk result (out.new.items ≡ out.old.items ++ spec.inf_end) }
 {
     text(

@@ -6,6 +6,7 @@ mod callbacks;
 mod expressions;
 mod files;
 mod fixed;
+mod fixed_callbacks;
 mod fixed_files;
 mod line;
 mod names;

@@ -8,7 +8,7 @@ use flt_tree::Atom;
 use std::alloc::AllocError;
 
 /// Text as it stands.
-pub fn text(out: &mut Vec<u8>, text: &[u8]) -> Result<(), AllocError>
+pub(crate) fn text(out: &mut Vec<u8>, text: &[u8]) -> Result<(), AllocError>
     ensures { OnOk result (out.new.items ≡ out.old.items ++ text.now) }
 {
     out.extend_from_slice(text)
@@ -45,7 +45,7 @@ fn number(out: &mut Vec<u8>, n: u64) -> Result<(), AllocError>
 }
 
 /// Texts, one behind the other.
-pub fn texts(out: &mut Vec<u8>, texts: &[&[u8]]) -> Result<(), AllocError>
+pub(crate) fn texts(out: &mut Vec<u8>, texts: &[&[u8]]) -> Result<(), AllocError>
     ensures { OnOk result (out.new.items ≡ out.old.items ++ spec.all_of texts.now) }
 {
     for found in texts {
@@ -56,7 +56,7 @@ pub fn texts(out: &mut Vec<u8>, texts: &[&[u8]]) -> Result<(), AllocError>
 
 /// A piece of a line.
 #[derive(Clone, Copy)]
-pub enum Piece<'a> {
+pub(crate) enum Piece<'a> {
     /// The blanks of a level.
     Level(usize),
     Text(&'a [u8]),
@@ -101,7 +101,7 @@ fn write_piece(out: &mut Vec<u8>, piece: Piece<'_>) -> Result<(), AllocError>
 }
 
 /// Pieces, one behind the other.
-pub fn write(out: &mut Vec<u8>, pieces: &[Piece<'_>]) -> Result<(), AllocError>
+pub(crate) fn write(out: &mut Vec<u8>, pieces: &[Piece<'_>]) -> Result<(), AllocError>
     ensures { OnOk result (out.new.items ≡ out.old.items ++ flat_map spec.piece_text pieces.now) }
 {
     for found in pieces {

@@ -6,7 +6,7 @@ ghost use Rattle.std.specs.Prelude.{◌≡◌};
 use flt_rules::{Anchor, Existing, FinalStatus, Operation, Place};
 use flt_tree::{ContextVariable, NumberVariable, OperationVariable, RemovedVariable, Status};
 
-pub fn number_name(n: NumberVariable) -> &'static [u8]
+pub(crate) fn number_name(n: NumberVariable) -> &'static [u8]
     ensures { result.now ≡ spec.number_name n }
 {
     match n {
@@ -21,7 +21,7 @@ pub fn number_name(n: NumberVariable) -> &'static [u8]
     }
 }
 
-pub fn context_name(c: ContextVariable) -> &'static [u8]
+pub(crate) fn context_name(c: ContextVariable) -> &'static [u8]
     ensures { result.now ≡ spec.context_name c }
 {
     match c {
@@ -38,7 +38,7 @@ pub fn context_name(c: ContextVariable) -> &'static [u8]
 }
 
 /// A context, or NULL where there is none.
-pub fn context_or_null(context: Option<ContextVariable>) -> &'static [u8]
+pub(crate) fn context_or_null(context: Option<ContextVariable>) -> &'static [u8]
     ensures { result.now ≡ spec.context_or_null context }
 {
     match context {
@@ -47,7 +47,7 @@ pub fn context_or_null(context: Option<ContextVariable>) -> &'static [u8]
     }
 }
 
-pub fn removed_name(o: RemovedVariable) -> &'static [u8]
+pub(crate) fn removed_name(o: RemovedVariable) -> &'static [u8]
     ensures { result.now ≡ spec.removed_name o }
 {
     match o {
@@ -58,7 +58,7 @@ pub fn removed_name(o: RemovedVariable) -> &'static [u8]
     }
 }
 
-pub fn operation_name(d: OperationVariable) -> &'static [u8]
+pub(crate) fn operation_name(d: OperationVariable) -> &'static [u8]
     ensures { result.now ≡ spec.operation_name d }
 {
     match d {
@@ -68,7 +68,7 @@ pub fn operation_name(d: OperationVariable) -> &'static [u8]
 }
 
 /// The instance of the callback.
-pub fn instance(place: Place) -> &'static [u8]
+pub(crate) fn instance(place: Place) -> &'static [u8]
     ensures { result.now ≡ spec.instance place }
 {
     match place {
@@ -78,7 +78,7 @@ pub fn instance(place: Place) -> &'static [u8]
 }
 
 /// The file object of the callback's own operation.
-pub fn own_file(place: Place) -> &'static [u8]
+pub(crate) fn own_file(place: Place) -> &'static [u8]
     ensures { result.now ≡ spec.own_file place }
 {
     match place {
@@ -88,7 +88,7 @@ pub fn own_file(place: Place) -> &'static [u8]
 }
 
 /// How the functions end that get, set and delete the context of a stream or of an instance.
-pub fn anchor_name(anchor: Anchor) -> &'static [u8]
+pub(crate) fn anchor_name(anchor: Anchor) -> &'static [u8]
     ensures { result.now ≡ spec.anchor_name anchor }
 {
     match anchor {
@@ -97,7 +97,7 @@ pub fn anchor_name(anchor: Anchor) -> &'static [u8]
     }
 }
 
-pub fn existing_name(existing: Existing) -> &'static [u8]
+pub(crate) fn existing_name(existing: Existing) -> &'static [u8]
     ensures { result.now ≡ spec.existing_name existing }
 {
     match existing {
@@ -106,7 +106,7 @@ pub fn existing_name(existing: Existing) -> &'static [u8]
     }
 }
 
-pub fn final_status_name(status: FinalStatus) -> &'static [u8]
+pub(crate) fn final_status_name(status: FinalStatus) -> &'static [u8]
     ensures { result.now ≡ spec.final_status_name status }
 {
     match status {
@@ -120,7 +120,7 @@ pub fn final_status_name(status: FinalStatus) -> &'static [u8]
 }
 
 /// What a callback returns for a status.
-pub fn status_name(status: Status) -> &'static [u8]
+pub(crate) fn status_name(status: Status) -> &'static [u8]
     ensures { result.now ≡ spec.status_name status }
 {
     match status {
@@ -136,7 +136,7 @@ pub fn status_name(status: Status) -> &'static [u8]
 }
 
 /// The major function of an operation.
-pub fn major_name(operation: Operation) -> &'static [u8]
+pub(crate) fn major_name(operation: Operation) -> &'static [u8]
     ensures { result.now ≡ spec.major_name operation }
 {
     match operation {
@@ -148,7 +148,7 @@ pub fn major_name(operation: Operation) -> &'static [u8]
 }
 
 /// How the callbacks of an operation end.
-pub fn operation_word(operation: Operation) -> &'static [u8]
+pub(crate) fn operation_word(operation: Operation) -> &'static [u8]
     ensures { result.now ≡ spec.operation_word operation }
 {
     match operation {
