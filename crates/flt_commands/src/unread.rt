@@ -37,7 +37,7 @@ pub enum Unread {
 /// What is said of names that look like those of pages.
 const RULES: &str = "there is no such file, and rules are R01 to R15";
 
-const WARNINGS: &str = "there is no such file, and warnings are W00 to W06";
+const WARNINGS: &str = "there is no such file, and warnings are W00 to W07";
 
 const VIOLATIONS: &str = "there is no such file, and violations are V1 to V8";
 
@@ -108,7 +108,7 @@ impl Unread {
     fn help(self) -> &'static str {
         match self {
             Unread::Missing =>
-                "a name is a path from the current folder, or `-` for the standard input; R01 to R15, W00 to W06, V1 to V8, E01 to E08, calls and statuses alone are pages",
+                "a name is a path from the current folder, or `-` for the standard input; R01 to R15, W00 to W07, V1 to V8, E01 to E08, calls and statuses alone are pages",
             Unread::Folder => "name a file in it, or a folder that has texts",
             Unread::Denied => "see who may read it",
             Unread::LongName => "a part of a path has at most 255 bytes",

@@ -11,7 +11,7 @@ use Rattle.flt_syntax.specs.declared.fault.FaultKind.{FaultKind}
 use Rattle.flt_syntax.specs.declared.fault.FaultKind.TheVariants.{E01, E02, E03, E04, E05, E06, E07, E08}
 use Rattle.flt_warnings.specs.Kinds.{kind_name}
 use Rattle.flt_warnings.specs.declared.warning.Kind.{Kind}
-use Rattle.flt_warnings.specs.declared.warning.Kind.TheVariants.{W00, W01, W02, W03, W04, W05, W06}
+use Rattle.flt_warnings.specs.declared.warning.Kind.TheVariants.{W00, W01, W02, W03, W04, W05, W06, W07}
 use Rattle.json.specs.Token.{Token, begin_object, end_object, string}
 use Rattle.flt_forms.specs.Members.{array_member, number_member, object_member, string_member}
 use Rattle.flt_forms.specs.declared.rules.Reported.{Reported}
@@ -23,7 +23,8 @@ all =
     Broken R01 ∷ Broken R02 ∷ Broken R03 ∷ Broken R04 ∷ Broken R05 ∷ Broken R06 ∷ Broken R07 ∷ Broken R08 ∷ Broken R09 ∷ Broken R10
     ∷ Broken R11 ∷ Broken R12 ∷ Broken R13 ∷ Broken R14 ∷ Broken R15
     ∷ Unread E01 ∷ Unread E02 ∷ Unread E03 ∷ Unread E04 ∷ Unread E05 ∷ Unread E06 ∷ Unread E07 ∷ Unread E08
-    ∷ Warned W00 ∷ Warned W01 ∷ Warned W02 ∷ Warned W03 ∷ Warned W04 ∷ Warned W05 ∷ Warned W06 ∷ []
+    ∷ Warned W00 ∷ Warned W01 ∷ Warned W02 ∷ Warned W03 ∷ Warned W04 ∷ Warned W05 ∷ Warned W06 ∷ Warned W07
+    ∷ []
 
 -- ---- what is said of a rule
 
@@ -53,6 +54,7 @@ kind_words W03 = codes "operation pended and left"
 kind_words W04 = codes "value changed without a lock"
 kind_words W05 = codes "context used that isn't the linked one"
 kind_words W06 = codes "something that is never used or reached"
+kind_words W07 = codes "instance needed where no operation keeps it"
 
 -- its words
 abbrev pub words_of : Reported → List ℕ
@@ -104,6 +106,7 @@ index_of_kind W03 = 26
 index_of_kind W04 = 27
 index_of_kind W05 = 28
 index_of_kind W06 = 29
+index_of_kind W07 = 30
 
 abbrev pub index_of_fault : FaultKind → ℕ
 index_of_fault E01 = 15

@@ -24,7 +24,7 @@ pub enum Reported {
     Warned(Kind),
 }
 
-const REPORTED: [Reported; 30] = [
+const REPORTED: [Reported; 31] = [
     Reported::Broken(Rule::R01),
     Reported::Broken(Rule::R02),
     Reported::Broken(Rule::R03),
@@ -55,6 +55,7 @@ const REPORTED: [Reported; 30] = [
     Reported::Warned(Kind::W04),
     Reported::Warned(Kind::W05),
     Reported::Warned(Kind::W06),
+    Reported::Warned(Kind::W07),
 ];
 
 fn all() -> &'static [Reported]
@@ -105,6 +106,7 @@ fn kind_words(kind: Kind) -> &'static str
         Kind::W04 => "value changed without a lock",
         Kind::W05 => "context used that isn't the linked one",
         Kind::W06 => "something that is never used or reached",
+        Kind::W07 => "instance needed where no operation keeps it",
     }
 }
 
@@ -160,6 +162,7 @@ fn index_of_kind(kind: Kind) -> usize
         Kind::W04 => 27,
         Kind::W05 => 28,
         Kind::W06 => 29,
+        Kind::W07 => 30,
     }
 }
 

@@ -10,10 +10,10 @@ rules =
     codes "R01" ∷ codes "R02" ∷ codes "R03" ∷ codes "R04" ∷ codes "R05" ∷ codes "R06" ∷ codes "R07" ∷ codes "R08"
     ∷ codes "R09" ∷ codes "R10" ∷ codes "R11" ∷ codes "R12" ∷ codes "R13" ∷ codes "R14" ∷ codes "R15" ∷ []
 
--- `W00` to `W06`
+-- `W00` to `W07`
 abbrev pub warnings : List (List ℕ)
 warnings =
-    codes "W00" ∷ codes "W01" ∷ codes "W02" ∷ codes "W03" ∷ codes "W04" ∷ codes "W05" ∷ codes "W06" ∷ []
+    codes "W00" ∷ codes "W01" ∷ codes "W02" ∷ codes "W03" ∷ codes "W04" ∷ codes "W05" ∷ codes "W06" ∷ codes "W07" ∷ []
 
 -- `V1` to `V8`
 abbrev pub violations : List (List ℕ)
@@ -65,7 +65,7 @@ small_rules =
 
 abbrev pub small_warnings : List (List ℕ)
 small_warnings =
-    codes "w00" ∷ codes "w01" ∷ codes "w02" ∷ codes "w03" ∷ codes "w04" ∷ codes "w05" ∷ codes "w06" ∷ []
+    codes "w00" ∷ codes "w01" ∷ codes "w02" ∷ codes "w03" ∷ codes "w04" ∷ codes "w05" ∷ codes "w06" ∷ codes "w07" ∷ []
 
 abbrev pub small_violations : List (List ℕ)
 small_violations =

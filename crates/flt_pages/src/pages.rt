@@ -44,6 +44,7 @@ fn warning_page(name: &str) -> Option<&'static str>
         "W04" => Some(warnings::W04),
         "W05" => Some(warnings::W05),
         "W06" => Some(warnings::W06),
+        "W07" => Some(warnings::W07),
         _ => None,
     }
 }
@@ -214,6 +215,7 @@ fn small_warning_page(name: &str) -> Option<&'static str>
         "w04" => Some(warnings::W04),
         "w05" => Some(warnings::W05),
         "w06" => Some(warnings::W06),
+        "w07" => Some(warnings::W07),
         _ => None,
     }
 }
@@ -282,7 +284,7 @@ fn named_page(name: &str) -> Option<&'static str>
     }
 }
 
-/// The page of `R01` to `R15` (a rule), `W00` to `W06` (a warning), `V1` to `V8` (a violation), `E01` to `E08` (a fault of a text), a call
+/// The page of `R01` to `R15` (a rule), `W00` to `W07` (a warning), `V1` to `V8` (a violation), `E01` to `E08` (a fault of a text), a call
 /// or a status: lines of text for people, which begin with that name. The letter before a number may be a small one. No other name has a page.
 #[tactic(auto, unfolding(crate::specs::Pages::has_page))]
 pub fn page(name: &str) -> Option<&'static str>

@@ -2,7 +2,7 @@
 
 pub(crate) const W00: &str = "W00: a comment that allows nothing
 
-A comment `# allow Wnn: ..` has no warning to allow: its number is none of W00 to W06, it gives no reason, or the line after it has no such
+A comment `# allow Wnn: ..` has no warning to allow: its number is none of W00 to W07, it gives no reason, or the line after it has no such
 warning.
 
 The bug. The comment looks as if somebody had weighed the warning. If the warning comes back later, it isn't seen.
@@ -394,4 +394,66 @@ report names the other.
 When it is wrong. A lock that only other code of the driver takes needn't be in the text. A test `n0 == 1` of a variable that nothing
 writes can't stand for a condition of the driver that the language doesn't have: the variable is 0. Read it from the value of a context
 before.
+";
+
+pub(crate) const W07: &str = "W07: needed after the last operation
+
+A call needs the instance, in `canceled` or in the routine of a deferred work item, where the callback might hold no operation any more.
+
+The bug. An operation that isn't completed keeps the instance that it came through: no detach ends before it. A pre or a post callback
+runs for the filter manager, which keeps the instance until it returns, and a generic work item keeps it until its routine ends. In
+`canceled` and in a `deferred_pre` or `deferred_post` routine the operation alone does. After its completion the instance may be torn down
+at any time, and a call that is given it then uses freed memory.
+
+    filter a altitude 100
+    pre write {
+      if irp data {
+        if FltQueueDeferredIoWorkItem data mark {
+          return PENDING
+        }
+      }
+      return NO_CALLBACK
+    }
+    deferred_pre mark {
+      if arg != NULL {
+        FltReleaseContext arg
+      }
+      FltCompletePendedPreOperation data NO_CALLBACK
+      if FltGetInstanceContext c0 {
+        value c0 = 1
+        FltReleaseContext c0
+      }
+    }
+
+W07 names line 15. To fix it, call while the operation is held. A context that the callback has a reference to may be used later, and
+must be released as ever:
+
+    filter a altitude 100
+    pre write {
+      if irp data {
+        if FltQueueDeferredIoWorkItem data mark {
+          return PENDING
+        }
+      }
+      return NO_CALLBACK
+    }
+    deferred_pre mark {
+      if arg != NULL {
+        FltReleaseContext arg
+      }
+      if FltGetInstanceContext c0 {
+        value c0 = 1
+        FltReleaseContext c0
+      }
+      FltCompletePendedPreOperation data NO_CALLBACK
+    }
+
+`FltCbdqInsertIo` gives an operation away as a completion does: others may complete it before the call returns.
+
+What isn't named. `FltAllocateContext`, which is given the filter and not the instance, and `FltCbdqRemoveNextIo`, which is given the
+queue: keep the queue in memory that outlives the instance.
+
+When it is wrong. The rules don't forbid these calls: in the machine (docs/MACHINE.md) a filter is detached only once no activation of it is
+left. A driver whose routine holds a rundown reference to its instance may call as long as it has it. Allow the warning then, and say
+where the reference is taken.
 ";

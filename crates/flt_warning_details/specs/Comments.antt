@@ -36,7 +36,7 @@ title_by None reason statement = codes "this comment allows nothing: no warning 
 title_by (Some kind) reason statement = named_title kind reason statement
 
 abbrev pub help_by : Option Kind → Text → Text
-help_by None reason = codes "write a number from `W01` to `W06`"
+help_by None reason = codes "write a number from `W01` to `W07`"
 help_by (Some kind) reason = named_help kind reason
 
 -- why a comment allows nothing

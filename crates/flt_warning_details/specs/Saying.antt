@@ -10,6 +10,7 @@ use Rattle.flt_warnings.specs.declared.warning.Site.{Site}
 use Rattle.flt_warnings.specs.declared.warning.Warning.{Warning}
 use Rattle.flt_warnings.specs.declared.warning.Warning.TheVariants as warning
 use Rattle.flt_warning_details.specs.Contexts as contexts
+use Rattle.flt_warning_details.specs.Late as late
 use Rattle.flt_warning_details.specs.Locks as locks
 use Rattle.flt_warning_details.specs.Parsed.{Parsed, head, instruction, line}
 use Rattle.flt_warning_details.specs.Places.{marks_at, marks_of_head, marks_of_lock}
@@ -35,6 +36,7 @@ marks_of x (warning.UnusedLock l) = marks_of_lock x l
 marks_of x (warning.UnusedCallback n) = marks_of_head x n
 marks_of x (warning.Unreached s) = marks_at x s about.Call
 marks_of x (warning.NeverHolds s) = marks_at x s about.Call
+marks_of x (warning.CalledLate s) = marks_at x s about.Call
 
 -- the line of a point, if there is one
 abbrev pub line_at : Parsed → Option Site → ℕ
@@ -84,6 +86,7 @@ title_of x (warning.UnusedLock l) = unused.lock_title x l
 title_of x (warning.UnusedCallback n) = unused.callback_title x n
 title_of x (warning.Unreached s) = unused.unreached_title
 title_of x (warning.NeverHolds s) = unused.never_title x s
+title_of x (warning.CalledLate s) = late.late_title x s
 
 -- what to write
 abbrev pub help_of : Parsed → Warning → Text
@@ -97,6 +100,7 @@ help_of x (warning.UnusedLock l) = unused.lock_help
 help_of x (warning.UnusedCallback n) = unused.callback_help x n
 help_of x (warning.Unreached s) = unused.unreached_help
 help_of x (warning.NeverHolds s) = unused.never_help x s
+help_of x (warning.CalledLate s) = late.late_help
 
 -- what may come of it, or why it is so; or nothing
 abbrev pub note_of : Parsed → Warning → Text
@@ -107,4 +111,5 @@ note_of x (warning.LeftPended s q) = queue.left_note
 note_of x (warning.ChangedUnlocked s o) = contexts.changed_note
 note_of x (warning.LostContext s q) = contexts.lost_note x s
 note_of x (warning.NeverHolds s) = unused.never_note
+note_of x (warning.CalledLate s) = late.late_note
 note_of x _ = []

@@ -82,7 +82,7 @@ fn tell_help(page: &mut Page, allowance: &Allowance) -> Result<(), AllocError>
 {
     match allowance.kind {
         Some(kind) => tell_named_help(page, kind, allowance.reason.as_slice()),
-        None => page.texts(&["write a number from `W01` to `W06`"]),
+        None => page.texts(&["write a number from `W01` to `W07`"]),
     }
 }
 

@@ -6,6 +6,7 @@ mod allowing;
 mod comments;
 mod contexts;
 mod detail;
+mod late;
 mod laws;
 mod locks;
 mod of_text;

@@ -10,6 +10,7 @@ use crate::contexts::{
     tell_lost_help, tell_lost_note, tell_lost_title, worked_on,
 };
 use crate::detail::RelatedPlace;
+use crate::late::{tell_late_help, tell_late_note, tell_late_title};
 use crate::locks::{
     circle_marks, circle_places, tell_called_help, tell_called_note, tell_called_title,
     tell_circle_help, tell_circle_note, tell_circle_title,
@@ -62,7 +63,7 @@ pub(crate) fn marks_of(
         }
         Warning::UnusedLock(lock) => Ok(marks_of_lock(text, *lock)),
         Warning::UnusedCallback(callback) => Ok(marks_of_head(text, *callback)),
-        Warning::Unreached(site) | Warning::NeverHolds(site) => {
+        Warning::Unreached(site) | Warning::NeverHolds(site) | Warning::CalledLate(site) => {
             marks_at(alloc, text, *site, Subject::Call)
         }
     }
@@ -154,6 +155,7 @@ fn tell_title(page: &mut Page, text: &ParsedText<'_>, warning: &Warning) -> Resu
         Warning::UnusedCallback(callback) => tell_callback_title(page, text, *callback),
         Warning::Unreached(_) => tell_unreached_title(page),
         Warning::NeverHolds(site) => tell_never_title(page, text, *site),
+        Warning::CalledLate(site) => tell_late_title(page, text, *site),
     }
 }
 
@@ -172,6 +174,7 @@ fn tell_help(page: &mut Page, text: &ParsedText<'_>, warning: &Warning) -> Resul
         Warning::UnusedCallback(callback) => tell_callback_help(page, text, *callback),
         Warning::Unreached(_) => tell_unreached_help(page),
         Warning::NeverHolds(site) => tell_never_help(page, text, *site),
+        Warning::CalledLate(_) => tell_late_help(page),
     }
 }
 
@@ -187,6 +190,7 @@ fn tell_note(page: &mut Page, text: &ParsedText<'_>, warning: &Warning) -> Resul
         Warning::ChangedUnlocked(_, _) => tell_changed_note(page),
         Warning::LostContext(site, _) => tell_lost_note(page, text, *site),
         Warning::NeverHolds(_) => tell_never_note(page),
+        Warning::CalledLate(_) => tell_late_note(page),
         _ => Ok(()),
     }
 }

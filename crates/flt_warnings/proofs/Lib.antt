@@ -1,3 +1,4 @@
+pub mod Holding
 pub mod Marks
 pub mod Places
 pub mod Reaching

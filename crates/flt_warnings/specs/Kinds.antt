@@ -4,7 +4,7 @@ use Rattle.std.specs.Str.{bytes_eq}
 use Rattle.flt_tree.specs.Names.{Text}
 use Rattle.flt_warnings.specs.declared.kinds.AllowedKinds.{AllowedKinds}
 use Rattle.flt_warnings.specs.declared.warning.Kind.{Kind}
-use Rattle.flt_warnings.specs.declared.warning.Kind.TheVariants.{W00, W01, W02, W03, W04, W05, W06}
+use Rattle.flt_warnings.specs.declared.warning.Kind.TheVariants.{W00, W01, W02, W03, W04, W05, W06, W07}
 
 -- ---- names
 
@@ -17,6 +17,7 @@ kind_name W03 = codes "W03"
 kind_name W04 = codes "W04"
 kind_name W05 = codes "W05"
 kind_name W06 = codes "W06"
+kind_name W07 = codes "W07"
 
 -- the kind of a name
 abbrev pub kind_named : Text → Option Kind
@@ -27,13 +28,15 @@ kind_named name =
     else (if bytes_eq name (codes "W03") then Some W03
     else (if bytes_eq name (codes "W04") then Some W04
     else (if bytes_eq name (codes "W05") then Some W05
-    else (if bytes_eq name (codes "W06") then Some W06 else None))))))
+    else (if bytes_eq name (codes "W06") then Some W06
+    else (if bytes_eq name (codes "W07") then Some W07 else None)))))))
 
 -- ---- those that are left out
 
 -- none
 abbrev pub none_allowed : AllowedKinds
-none_allowed = record { w00 = false; w01 = false; w02 = false; w03 = false; w04 = false; w05 = false; w06 = false }
+none_allowed =
+    record { w00 = false; w01 = false; w02 = false; w03 = false; w04 = false; w05 = false; w06 = false; w07 = false }
 
 -- the same kinds, and this one
 abbrev pub with_kind : AllowedKinds → Kind → AllowedKinds
@@ -44,6 +47,7 @@ with_kind a W03 = record a { w03 = true }
 with_kind a W04 = record a { w04 = true }
 with_kind a W05 = record a { w05 = true }
 with_kind a W06 = record a { w06 = true }
+with_kind a W07 = record a { w07 = true }
 
 -- a kind is left out
 abbrev pub allows : AllowedKinds → Kind → Bool
@@ -54,3 +58,4 @@ allows a W03 = a.w03
 allows a W04 = a.w04
 allows a W05 = a.w05
 allows a W06 = a.w06
+allows a W07 = a.w07

@@ -2,6 +2,7 @@ pub mod Called
 pub mod Changed
 pub mod Flow
 pub mod Kinds
+pub mod Late
 pub mod Lost
 pub mod Never
 pub mod Paths

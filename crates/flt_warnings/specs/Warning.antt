@@ -2,7 +2,7 @@
 use Rattle.std.specs.Prelude.{ℕ, List, [], ◌∷◌, Option, Some, None}
 use Rattle.flt_order.specs.declared.order.Acquisition.{Acquisition}
 use Rattle.flt_warnings.specs.declared.warning.Kind.{Kind}
-use Rattle.flt_warnings.specs.declared.warning.Kind.TheVariants.{W01, W02, W03, W04, W05, W06}
+use Rattle.flt_warnings.specs.declared.warning.Kind.TheVariants.{W01, W02, W03, W04, W05, W06, W07}
 use Rattle.flt_warnings.specs.declared.warning.Site.{Site}
 use Rattle.flt_warnings.specs.declared.warning.Warning.{Warning}
 use Rattle.flt_warnings.specs.declared.warning.Warning.TheVariants as warning
@@ -23,6 +23,7 @@ kind_of (warning.UnusedLock l) = W06
 kind_of (warning.UnusedCallback n) = W06
 kind_of (warning.Unreached s) = W06
 kind_of (warning.NeverHolds s) = W06
+kind_of (warning.CalledLate s) = W07
 
 -- where the first of some acquisitions is
 abbrev pub first_site : List Acquisition → Option Site
@@ -41,3 +42,4 @@ site_of (warning.UnusedLock l) = None
 site_of (warning.UnusedCallback n) = None
 site_of (warning.Unreached s) = Some s
 site_of (warning.NeverHolds s) = Some s
+site_of (warning.CalledLate s) = Some s

@@ -10,6 +10,7 @@ use Rattle.flt_order.specs.Order.{TakesInOrder}
 use Rattle.flt_order.specs.declared.order.Acquisition.{Acquisition}
 use Rattle.flt_warnings.specs.Called.{called_locked}
 use Rattle.flt_warnings.specs.Changed.{changed_unlocked}
+use Rattle.flt_warnings.specs.Late.{called_late}
 use Rattle.flt_warnings.specs.Lost.{lost_context}
 use Rattle.flt_warnings.specs.Never.{never_holds}
 use Rattle.flt_warnings.specs.Pended.{never_removed, left_pended}
@@ -19,7 +20,7 @@ use Rattle.flt_warnings.specs.Unused.{unused_callback, unused_locks}
 use Rattle.flt_warnings.specs.Warning.{site}
 use Rattle.flt_warnings.specs.declared.shared.SharedUse.{SharedUse}
 use Rattle.flt_warnings.specs.declared.warning.Kind.{Kind}
-use Rattle.flt_warnings.specs.declared.warning.Kind.TheVariants.{W00, W01, W02, W03, W04, W05, W06}
+use Rattle.flt_warnings.specs.declared.warning.Kind.TheVariants.{W00, W01, W02, W03, W04, W05, W06, W07}
 use Rattle.flt_warnings.specs.declared.warning.Site.{Site}
 use Rattle.flt_warnings.specs.declared.warning.Warning.{Warning}
 use Rattle.flt_warnings.specs.declared.warning.Warning.TheVariants.{LockCircle}
@@ -43,6 +44,7 @@ warned_at g k us W03 s = pended_at g k s
 warned_at g k us W04 s = option_to_list (changed_unlocked k us s)
 warned_at g k us W05 s = option_to_list (lost_context g k s)
 warned_at g k us W06 s = unreached_at g k s
+warned_at g k us W07 s = option_to_list (called_late g k s)
 
 -- ---- in a text
 
@@ -77,7 +79,7 @@ warned_by g k us (kind ∷ kinds) = warned_declared g kind ++ (warned_in_all g k
 
 -- the warnings of all kinds but W01
 abbrev pub warned : Graph → Certificate → List Warning
-warned g k = warned_by g k (shared_uses g) (W02 ∷ W03 ∷ W04 ∷ W05 ∷ W06 ∷ [])
+warned g k = warned_by g k (shared_uses g) (W02 ∷ W03 ∷ W04 ∷ W05 ∷ W06 ∷ W07 ∷ [])
 
 -- ---- W01: locks that no order allows
 

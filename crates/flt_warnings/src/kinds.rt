@@ -15,6 +15,7 @@ pub struct AllowedKinds {
     pub w04: bool,
     pub w05: bool,
     pub w06: bool,
+    pub w07: bool,
 }
 
 impl AllowedKinds {
@@ -30,6 +31,7 @@ impl AllowedKinds {
             w04: false,
             w05: false,
             w06: false,
+            w07: false,
         }
     }
 
@@ -46,6 +48,7 @@ impl AllowedKinds {
             Kind::W04 => allowed.w04 = true,
             Kind::W05 => allowed.w05 = true,
             Kind::W06 => allowed.w06 = true,
+            Kind::W07 => allowed.w07 = true,
         }
         allowed
     }
@@ -62,6 +65,7 @@ impl AllowedKinds {
             Kind::W04 => self.w04,
             Kind::W05 => self.w05,
             Kind::W06 => self.w06,
+            Kind::W07 => self.w07,
         }
     }
 }
@@ -78,11 +82,12 @@ impl Kind {
             Kind::W04 => "W04",
             Kind::W05 => "W05",
             Kind::W06 => "W06",
+            Kind::W07 => "W07",
         }
     }
 }
 
-/// The kind of a name, `W00` to `W06`.
+/// The kind of a name, `W00` to `W07`.
 pub fn kind_named(name: &[u8]) -> Option<Kind>
     ensures { result ≡ spec.kind_named name.now }
 {
@@ -94,6 +99,7 @@ pub fn kind_named(name: &[u8]) -> Option<Kind>
         b"W04" => Some(Kind::W04),
         b"W05" => Some(Kind::W05),
         b"W06" => Some(Kind::W06),
+        b"W07" => Some(Kind::W07),
         _ => None,
     }
 }

@@ -6,6 +6,7 @@ mod called;
 mod changed;
 mod flow;
 mod kinds;
+mod late;
 mod laws;
 mod lost;
 mod never;

@@ -7,6 +7,7 @@ ghost use Rattle.flt_warnings.specs.declared.warning.Warning.TheVariants.{LockCi
 
 use crate::called::called_locked;
 use crate::changed::changed_unlocked;
+use crate::late::called_late;
 use crate::lost::lost_context;
 use crate::never::never_holds;
 use crate::pended::{left_pended, never_removed};
@@ -21,7 +22,14 @@ use sqlite_items::Items;
 use std::alloc::{AllocError, Global};
 
 /// The kinds that are looked for point by point, in their order.
-const KINDS: [Kind; 5] = [Kind::W02, Kind::W03, Kind::W04, Kind::W05, Kind::W06];
+const KINDS: [Kind; 6] = [
+    Kind::W02,
+    Kind::W03,
+    Kind::W04,
+    Kind::W05,
+    Kind::W06,
+    Kind::W07,
+];
 
 /// Adds a warning, if there is one.
 fn push(warnings: &mut Items<Warning>, warning: Option<Warning>) -> Result<(), AllocError>
@@ -96,6 +104,7 @@ fn add_at(
             push(warnings, lost)?;
         }
         Kind::W06 => add_unreached(warnings, graph, cert, site)?,
+        Kind::W07 => push(warnings, called_late(graph, cert, site))?,
     }
     Ok(())
 }

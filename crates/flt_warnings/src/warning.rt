@@ -17,6 +17,7 @@ pub enum Kind {
     W04,
     W05,
     W06,
+    W07,
 }
 
 /// A point of a callback. Both count from 0.
@@ -52,6 +53,8 @@ pub enum Warning {
     Unreached(Site),
     /// W06: a test that no run passes, since it compares a variable of numbers that nothing writes.
     NeverHolds(Site),
+    /// W07: a call that needs the instance, in `canceled` or in the routine of a deferred work item, where no operation is surely held.
+    CalledLate(Site),
 }
 
 impl Warning {
@@ -68,6 +71,7 @@ impl Warning {
             | Warning::UnusedCallback(_)
             | Warning::Unreached(_)
             | Warning::NeverHolds(_) => Kind::W06,
+            Warning::CalledLate(_) => Kind::W07,
         }
     }
 
@@ -84,7 +88,8 @@ impl Warning {
             | Warning::ChangedUnlocked(site, _)
             | Warning::LostContext(site, _)
             | Warning::Unreached(site)
-            | Warning::NeverHolds(site) => Some(*site),
+            | Warning::NeverHolds(site)
+            | Warning::CalledLate(site) => Some(*site),
             Warning::UnusedLock(_) | Warning::UnusedCallback(_) => None,
         }
     }

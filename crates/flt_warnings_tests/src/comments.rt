@@ -7,7 +7,7 @@ use std::test::Fail;
 
 /// Two comments for the third line, of which one has an unknown number, and one for the last line.
 const ALLOWED: &str =
-    "# allow W03: reads wait here\n  # allow W07: nobody knows\nfilter a altitude 100\n# allowed W06: no comment of this form\n# allow W06:\npre read {";
+    "# allow W03: reads wait here\n  # allow W08: nobody knows\nfilter a altitude 100\n# allowed W06: no comment of this form\n# allow W06:\npre read {";
 
 /// The number of the kind, the reason, and the line that a comment is for.
 type Row<'a> = (Option<&'a str>, &'a str, usize);

@@ -20,6 +20,10 @@ const TURNED: &str =
 const LEFT: &str =
     "filter a altitude 100\nlock push x\nlock push y\nqueue\npre read {\nif irp data {\nFltAcquirePushLockExclusive x\nif FltCbdqInsertIo data {\nFltReleasePushLock x\nreturn PENDING\n}\nFltReleasePushLock x\n}\nreturn NO_CALLBACK\n}\npost read {\nif arg != NULL {\nFltReleaseContext arg\n}\nreturn FINISHED_PROCESSING\n}\ncanceled {\nif arg != NULL {\nFltReleaseContext arg\n}\nFltCompletePendedPreOperation data COMPLETE STATUS_CANCELLED\n}\n";
 
+/// A routine completes the write that it was given, and asks for a context only then.
+const LATE: &str =
+    "filter a altitude 100\npre write {\nif irp data {\nif FltQueueDeferredIoWorkItem data r {\nreturn PENDING\n}\n}\nreturn NO_CALLBACK\n}\ndeferred_pre r {\nif arg != NULL {\nFltReleaseContext arg\n}\nif FltGetInstanceContext c0 {\nFltReleaseContext c0\n}\nFltCompletePendedPreOperation data NO_CALLBACK\nif FltGetInstanceContext c1 {\nFltReleaseContext c1\n}\n}\n";
+
 /// A kind, and the callback and the point of a warning that is about one.
 type Row<'a> = (&'a str, Option<(usize, usize)>);
 
@@ -29,6 +33,8 @@ static LEFT_ROWS: [Row<'static>; 4] = [
     ("W06", None),
     ("W06", None),
 ];
+
+static LATE_ROWS: [Row<'static>; 1] = [("W07", Some((1, 5)))];
 
 /// The least certificate of a text that is accepted.
 fn certificate_with<L: Ledger>(
@@ -115,5 +121,11 @@ fn circles_are_warned_of(rt: HostRuntime) -> Result<(), Fail> {
 #[test]
 fn points_and_declarations_are_warned_of(rt: HostRuntime) -> Result<(), Fail> {
     assert!(rt; is_warned(rt.alloc(), LEFT, &LEFT_ROWS)?);
+    Ok(())
+}
+
+#[test]
+fn late_calls_are_warned_of(rt: HostRuntime) -> Result<(), Fail> {
+    assert!(rt; is_warned(rt.alloc(), LATE, &LATE_ROWS)?);
     Ok(())
 }

@@ -81,7 +81,8 @@ colour_of rows = option_map_or colour_named (first_of (codes "color") rows) (Som
 abbrev pub is_kind : Text → Bool
 is_kind name =
     bytes_eq name (codes "W00") || (bytes_eq name (codes "W01") || (bytes_eq name (codes "W02") || (bytes_eq name (codes "W03")
-    || (bytes_eq name (codes "W04") || (bytes_eq name (codes "W05") || bytes_eq name (codes "W06"))))))
+    || (bytes_eq name (codes "W04") || (bytes_eq name (codes "W05") || (bytes_eq name (codes "W06")
+    || bytes_eq name (codes "W07")))))))
 
 -- some names of kinds; none at all where one isn't the name of a kind
 abbrev pub kinds_in : List Text → Option (List Text)

@@ -334,7 +334,7 @@ fn bare_explain<'a>(alloc: Global) -> Command<'a>
             "Says all that is wrong with filters' texts, where it comes from, how to get there and how to mend it",
         )
         .override_usage(
-            "fltstack explain [--form <FORM>] [--color <WHEN>] [--states <N>] [--journal <JOURNAL>] [--strict] [--allow <KIND>]... <FILE>...\n       fltstack explain <R01 to R15, W00 to W06, V1 to V8, E01 to E08, a call or a status>...",
+            "fltstack explain [--form <FORM>] [--color <WHEN>] [--states <N>] [--journal <JOURNAL>] [--strict] [--allow <KIND>]... <FILE>...\n       fltstack explain <R01 to R15, W00 to W07, V1 to V8, E01 to E08, a call or a status>...",
         )
         .after_help(
             "Prints a report for each finding, with a run that breaks something because of it, and last what `analyse`\nsays (exit 1), or a report for each warning and `nothing found` (exit 0; with `--strict` warnings make it 1).\nWhere a text doesn't parse, it says where and why (exit 2). `--form short` prints a line for each of them,\n`--form lines` a JSON object, `--form sarif` a SARIF document. A comment `# allow W03: why`, alone on the line\nbefore a statement, leaves a warning out there. Of rules, warnings, violations, faults of a text, calls or\nstatuses it prints the pages (exit 0); `./R02` is a file of that name. Of a C file (`.c`, `.h`, `.cc`, `.cpp`) it reads\nthe annotations, and its places are those of the C file. Errors go to the standard error with exit 2.\n\nExample: fltstack explain examples/leaked_context.flt",

@@ -35,7 +35,7 @@ const NO_COLOUR: &str =
 
 /// The same of a kind of warning.
 const NO_KIND: &str =
-    "error: `--allow` takes `W00` to `W06`\n\nUsage: fltstack explain [--form <FORM>] [--color <WHEN>] [--states <N>] [--journal <JOURNAL>] [--strict] [--allow <KIND>]... <FILE>...\n\nFor more information, try '--help'.\n";
+    "error: `--allow` takes `W00` to `W07`\n\nUsage: fltstack explain [--form <FORM>] [--color <WHEN>] [--states <N>] [--journal <JOURNAL>] [--strict] [--allow <KIND>]... <FILE>...\n\nFor more information, try '--help'.\n";
 
 /// What is said where the standard input is named for a journal that is written.
 const NO_JOURNAL: &str =
@@ -168,7 +168,10 @@ fn colour_of(matches: &ArgMatches) -> Option<Colour>
 fn is_kind(name: &str) -> bool
     ensures { result ≡ spec.is_kind name.now }
 {
-    matches!(name, "W00" | "W01" | "W02" | "W03" | "W04" | "W05" | "W06")
+    matches!(
+        name,
+        "W00" | "W01" | "W02" | "W03" | "W04" | "W05" | "W06" | "W07"
+    )
 }
 
 /// Whether each of some names is the name of a kind of warning.
