@@ -64,8 +64,8 @@ _fltstack() {
         valued='--form --color --states --journal --allow'
         repeated='--allow'
         pages='
-            R01 R02 R03 R04 R05 R06 R07 R08 R09 R10 R11 R12 R13 R14 R15 W00 W01 W02 W03 W04 W05 W06 V1 V2 V3 V4 V5 V6 V7
-            V8 E01 E02 E03 E04 E05 E06 E07 E08 FltAllocateContext FltGetStreamContext FltGetInstanceContext
+            R01 R02 R03 R04 R05 R06 R07 R08 R09 R10 R11 R12 R13 R14 R15 W00 W01 W02 W03 W04 W05 W06 W07 V1 V2 V3 V4 V5
+            V6 V7 V8 E01 E02 E03 E04 E05 E06 E07 E08 FltAllocateContext FltGetStreamContext FltGetInstanceContext
             FltSetStreamContext FltSetInstanceContext FltDeleteStreamContext FltDeleteInstanceContext FltDeleteContext
             FltReferenceContext FltReleaseContext FltCbdqInsertIo FltCbdqRemoveNextIo FltQueueDeferredIoWorkItem
             FltQueueGenericWorkItem FltCompletePendedPreOperation FltCompletePendedPostOperation KeAcquireSpinLock
@@ -113,7 +113,7 @@ _fltstack() {
         'explain --form') _fltstack_words human lines sarif short ;;
         'explain --color') _fltstack_words auto always never ;;
         'explain --journal') _fltstack_files .journal ;;
-        'explain --allow') _fltstack_words W00 W01 W02 W03 W04 W05 W06 ;;
+        'explain --allow') _fltstack_words W00 W01 W02 W03 W04 W05 W06 W07 ;;
         'run --workers') _fltstack_words 1 2 3 4 5 6 7 8 9 10 11 12 13 14 15 16 ;;
         'replay --svg') _fltstack_files .svg ;;
         esac

@@ -77,6 +77,7 @@ function __fltstack_pages
         W04 'a value changed without a lock' \
         W05 'the context that lost is used' \
         W06 'never used or reached' \
+        W07 'needed after the last operation' \
         V1 'stale use' \
         V2 'a leak' \
         V3 'settled twice' \
@@ -177,7 +178,8 @@ complete -c fltstack -n '__fltstack_after explain --states' -l states -x \
 complete -c fltstack -n '__fltstack_after explain --journal' -l journal -x -a '(__fltstack_files .journal)' \
     -d 'Write the journal of the first finding that has one into this file'
 complete -c fltstack -n '__fltstack_after explain --strict' -l strict -d 'Exit with 1 where warnings are shown, as where something is found'
-complete -c fltstack -n '__fltstack_after explain' -l allow -x -a 'W00 W01 W02 W03 W04 W05 W06' -d 'Leave a kind of warning out, as `W03`'
+complete -c fltstack -n '__fltstack_after explain' -l allow -x -a 'W00 W01 W02 W03 W04 W05 W06 W07' \
+    -d 'Leave a kind of warning out, as `W03`'
 complete -c fltstack -n '__fltstack_after explain --help' -s h -l help -d 'Print help'
 complete -c fltstack -n '__fltstack_takes files' -a '(__fltstack_files .flt .c .h .cc .cpp .cert .journal .script)'
 complete -c fltstack -n '__fltstack_takes names' -a '(__fltstack_pages)'
