@@ -1,12 +1,13 @@
 //! W07: the instance is needed where no operation keeps it any more.
 
-ghost use Rattle.std.specs.Prelude.{◌≡◌, option_copied};
+ghost use Rattle.std.specs.Prelude.{◌≡◌};
 ghost use Rattle.std.specs.List.{list_any};
 ghost use Rattle.flt_abs.specs.Sets.{is_held};
+ghost use Rattle.flt_check.specs.Covering.{state_at};
 ghost use Rattle.flt_warnings.specs.Late as spec;
 
 use crate::warning::{Site, Warning};
-use flt_abs::{Abs, Statuses};
+use flt_abs::Statuses;
 use flt_cert::FullCert;
 use flt_graph::{Call, Graph, Instruction, Place};
 
@@ -58,11 +59,11 @@ fn holds_one(sets: &[Statuses]) -> bool
     sets.iter().any(|set| is_surely_held(*set))
 }
 
-/// Whether there is a state, and in it no operation is surely held.
-fn holds_none(state: Option<&Abs>) -> bool
-    ensures { result ≡ spec.holds_none (option_copied state) }
+/// Whether a point is reached, and no operation is surely held there.
+fn holds_none(cert: &FullCert, site: Site) -> bool
+    ensures { result ≡ spec.holds_none (state_at cert.now site.callback site.point) }
 {
-    match state {
+    match cert.state(site.callback, site.point) {
         Some(state) => !holds_one(state.operations()),
         None => false,
     }
@@ -80,7 +81,7 @@ fn asks_at(graph: &Graph, site: Site) -> bool
 pub(crate) fn called_late(graph: &Graph, cert: &FullCert, site: Site) -> Option<Warning>
     ensures { result ≡ spec.called_late graph.now cert.now site }
 {
-    if asks_at(graph, site) && holds_none(cert.state(site.callback, site.point)) {
+    if asks_at(graph, site) && holds_none(cert, site) {
         Some(Warning::CalledLate(site))
     } else {
         None
