@@ -77,13 +77,13 @@ none_checked : (files : List FileOutcome) → list_any (λ (f : FileOutcome). is
 none_checked [] = refl
 none_checked (f ∷ fs) = none_checked fs
 
-pub kept_formatted : (written : Text → Text → Type 0) (untouched : Type 0) (mode : FormatMode) (files : List Text) (found : Outcomes) →
+pub kept_formatted : (written : Text → Text → Type 0) (untouched : Type 0) (mode : FormatMode) (files texts : List Text) (found : Outcomes) →
     All (IsFileDone written mode) found.files.items →
     (list_any (λ (f : FileOutcome). is_wanted mode f.outcome) found.files.items ≡ false → untouched) →
-    IsKept written untouched (Format mode files) (Ok (Formatted mode found))
-kept_formatted written untouched modes.Print files found done still = still (none_printed found.files.items)
-kept_formatted written untouched modes.Check files found done still = still (none_checked found.files.items)
-kept_formatted written untouched modes.Write files found done still = (done, still)
+    IsKept written untouched (Format mode files) texts (Ok (Formatted mode found))
+kept_formatted written untouched modes.Print files texts found done still = still (none_printed found.files.items)
+kept_formatted written untouched modes.Check files texts found done still = still (none_checked found.files.items)
+kept_formatted written untouched modes.Write files texts found done still = (done, still)
 
 pub formatted_of : (gives : Giving) (mode : FormatMode) (files : List Text) (r : ReadFiles) (outcomes : Vec FileOutcome Global) →
     AreReadIn gives files r →

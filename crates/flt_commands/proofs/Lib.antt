@@ -1,5 +1,6 @@
 pub mod ButOne
 pub mod Covered
+pub mod Drawing
 pub mod Ended
 pub mod Explaining
 pub mod Faults

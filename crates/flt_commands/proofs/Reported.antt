@@ -4,6 +4,7 @@ use Rattle.std.proofs.Math.Path.{subst}
 use Rattle.flt_syntax.specs.TextFails.{SpelledFailsNowhere}
 use Rattle.flt_commands.proofs.Covered.{Law, LawOfRuns, clean_of}
 use Rattle.flt_commands.specs.Commands.{Answers, AnswersFor, AnswersSomehow, AreThose, HoldsBack, IsAnswered, IsBefore, IsCutShort, IsKept, IsKeptAs, IsRemarked, NamesNoJournal, IsRemarkedAfter, IsReported, IsSaid, giving_for, texts_in}
+use Rattle.flt_commands.specs.Drawn.{IsDrawnFor}
 use Rattle.flt_commands.specs.Explain.{ArePaged, IsSpelledAs, IsWritten}
 use Rattle.flt_commands.specs.Format.{AreChanged}
 use Rattle.flt_notes.specs.Noted.{first_journal}
@@ -59,12 +60,13 @@ pub remarked_after : (request : Asked) (before : List ℕ) (said : Result Answer
 remarked_after request before said (Ok report) first is = (before, first, is)
 remarked_after request before said (Err f) first is = tt
 
--- where no picture is named, all that is written stays as it was
+-- where a picture is named, it is written, and where none is, all that is written stays as it was
 pub kept_shown : (written : Text → Text → Type 0) (untouched : Type 0) (timeline : Bool) (picture : Option (Bor Text)) (journal : Text)
-    (files : List Text) (said : Result Answer Failure) → (picture ≡ None → untouched) →
-    IsKept written untouched (Show timeline (option_map (λ name. name.now) picture) journal files) said
-kept_shown written untouched timeline (Some name) journal files said none = tt
-kept_shown written untouched timeline None journal files said none = none refl
+    (files : List Text) (bytes : Text) (texts : List Text) (said : Result Answer Failure) →
+    IsDrawnFor written (option_map (λ name. name.now) picture) texts said → (picture ≡ None → untouched) →
+    IsKept written untouched (Show timeline (option_map (λ name. name.now) picture) journal files) (bytes ∷ texts) said
+kept_shown written untouched timeline (Some name) journal files bytes texts said drawn none = drawn
+kept_shown written untouched timeline None journal files bytes texts said drawn none = none refl
 
 -- ---- with the exit status 0 or 1 nothing is remarked
 
@@ -147,14 +149,15 @@ changed_anyway : (written : Text → Text → Type 0) (untouched : Type 0) (answ
 changed_anyway written untouched (Formatted mode found) is = (is.0, λ none. tt)
 changed_anyway written untouched _ is = tt
 
-kept_anyway : (written : Text → Text → Type 0) (untouched : Type 0) (request : Asked) (said : Result Answer Failure) →
-    IsKept written untouched request said → IsKept written ⊤ request said
-kept_anyway written untouched (Explain form colour states journal warnings files) (Ok answer) is = written_anyway written untouched journal answer is
-kept_anyway written untouched (Explain form colour states journal warnings files) (Err f) is = tt
-kept_anyway written untouched (Show timeline (Some picture) journal files) said is = tt
-kept_anyway written untouched (Format Write files) (Ok answer) is = changed_anyway written untouched answer is
-kept_anyway written untouched (Format Write files) (Err f) is = tt
-kept_anyway written untouched _ said is = tt
+kept_anyway : (written : Text → Text → Type 0) (untouched : Type 0) (request : Asked) (texts : List Text) (said : Result Answer Failure) →
+    IsKept written untouched request texts said → IsKept written ⊤ request texts said
+kept_anyway written untouched (Explain form colour states journal warnings files) texts (Ok answer) is =
+    written_anyway written untouched journal answer is
+kept_anyway written untouched (Explain form colour states journal warnings files) texts (Err f) is = tt
+kept_anyway written untouched (Show timeline (Some picture) journal files) texts said is = is
+kept_anyway written untouched (Format Write files) texts (Ok answer) is = changed_anyway written untouched answer is
+kept_anyway written untouched (Format Write files) texts (Err f) is = tt
+kept_anyway written untouched _ texts said is = tt
 
 answered_anyway : (shown : Bool) (gives : Giving) (written : Text → Text → Type 0) (untouched : Type 0) (request : Option Asked) (report : Report) →
     AnswersFor shown gives written untouched request report → AnswersFor shown gives written ⊤ request report
@@ -167,7 +170,7 @@ answered_anyway shown gives written untouched (Some request) report is = record 
   reported = is.reported;
   remarked = is.remarked;
   clean = is.clean;
-  kept = kept_anyway written untouched request is.said is.kept;
+  kept = kept_anyway written untouched request is.texts is.said is.kept;
 }
 
 pub answers_anyway : (shown : Bool) (gives : Giving) (written : Text → Text → Type 0) (untouched : Type 0) (words : List (List ℕ))
@@ -183,7 +186,7 @@ module _ (law : Law) (runs : LawOfRuns) (nowhere : SpelledFailsNowhere) (shown :
     (written : Text → Text → Type 0) (untouched : Type 0) where
   -- what is said of what is asked for, and reported, answers it
   pub answered_of : (request : Asked) (texts : List Text) (said : Result Answer Failure) (result : Result Report CommandFault) →
-      IsSaid shown (giving_for request gives) request texts said → IsKept written untouched request said →
+      IsSaid shown (giving_for request gives) request texts said → IsKept written untouched request texts said →
       IfOk result (λ report. AreThose request report texts said) →
       IfOk result (λ report. IsReported said report.output.items report.status) →
       IfOk result (λ report. IsRemarked request said report.remark.items) → IfOk result (IsAnswered shown gives written untouched request)
@@ -202,7 +205,7 @@ module _ (law : Law) (runs : LawOfRuns) (nowhere : SpelledFailsNowhere) (shown :
   -- the same of what the words ask for
   pub answers_of : (words : List (List ℕ)) (request : Asked) (texts : List Text) (said : Result Answer Failure)
       (result : Result Report CommandFault) → Some request ≡ asked words → IsSaid shown (giving_for request gives) request texts said →
-      IsKept written untouched request said → IfOk result (λ report. AreThose request report texts said) →
+      IsKept written untouched request texts said → IfOk result (λ report. AreThose request report texts said) →
       IfOk result (λ report. IsReported said report.output.items report.status) →
       IfOk result (λ report. IsRemarked request said report.remark.items) →
       IfOk result (λ report. Answers shown gives written untouched words report)

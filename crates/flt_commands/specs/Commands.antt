@@ -1,13 +1,14 @@
 -- What a command line comes to: what is read, what is said of it, how that is printed, what it is worth and what is kept. This project's own
 -- program.
 use Rattle.std.specs.Io.KnownBytes.{Appends}
-use Rattle.std.specs.Prelude.{◌≡◌, ◌≢◌, ℕ, Bool, List, [], ◌∷◌, ◌++◌, Option, Some, None, Result, Ok, Err, IfOk, OnOk, map, unwrap_or, ⊤}
+use Rattle.std.specs.Prelude.{◌≡◌, ◌≢◌, ℕ, Bool, List, [], ◌∷◌, ◌++◌, Option, Some, None, Result, Ok, Err, IfOk, OnOk, drop, map, unwrap_or, ⊤}
 use Rattle.flt_commands.specs.Allowed.{options_of}
 use Rattle.flt_commands.specs.Analyse.{IsAnalysed}
 use Rattle.flt_commands.specs.Annotated.{gives_annotations}
 use Rattle.flt_commands.specs.Answer.{ending_of, output, remark, status_of}
 use Rattle.flt_commands.specs.Check.{IsChecked}
 use Rattle.flt_commands.specs.Clean.{IsClean}
+use Rattle.flt_commands.specs.Drawn.{IsDrawn}
 use Rattle.flt_commands.specs.Explain as explain
 use Rattle.flt_commands.specs.Explain.{ArePaged, IsExplained, IsWritten, look_in}
 use Rattle.flt_commands.specs.Extract.{IsExtracted}
@@ -125,13 +126,14 @@ AreThose (Show timeline picture journal files) report texts said =
     (bytes : Text) × (texts ≡ bytes ∷ texts_in report) × IsKeptAs report.journal bytes said
 AreThose request report texts said = texts ≡ texts_in report
 
--- where a file is named for it, the journal of the first finding that has one is written there; where layouts are written, each goes into
--- its file; where no file is named for a picture or a journal, and no layout is written, all that is written stays as it was
-abbrev pub IsKept : (Text → Text → Type 0) → Type 0 → Asked → Result Answer Failure → Type 0
-IsKept written untouched (Explain form colour states journal warnings files) said = IfOk said (IsWritten written untouched journal)
-IsKept written untouched (Show timeline (Some picture) journal files) said = Unit {0}
-IsKept written untouched (Format Write files) said = IfOk said (AreChanged written untouched)
-IsKept written untouched request said = untouched
+-- where a file is named for it, the journal of the first finding that has one, or the picture of the journal that is shown, is written
+-- there; where layouts are written, each goes into its file; where no file is named for a picture or a journal, and no layout is written,
+-- all that is written stays as it was
+abbrev pub IsKept : (Text → Text → Type 0) → Type 0 → Asked → List Text → Result Answer Failure → Type 0
+IsKept written untouched (Explain form colour states journal warnings files) texts said = IfOk said (IsWritten written untouched journal)
+IsKept written untouched (Show timeline (Some picture) journal files) texts said = IfOk said (IsDrawn written picture (drop 1 texts))
+IsKept written untouched (Format Write files) texts said = IfOk said (AreChanged written untouched)
+IsKept written untouched request texts said = untouched
 
 -- the report on what is asked for. All of it speaks of the same texts, which are the report's: they are what the names give; this is said of
 -- them; that is what the report has for the standard output, for the exit status and for the standard error; with the status 0 the filters
@@ -145,7 +147,7 @@ pub record IsAnswered (shown : Bool) (gives : Giving) (written : Text → Text �
   pub reported : IsReported said report.output.items report.status
   pub remarked : IsRemarked request said report.remark.items
   pub clean : report.status ≡ 0 → IsClean request texts
-  pub kept : IsKept written untouched request said
+  pub kept : IsKept written untouched request texts said
 
 -- the report on a command line; of words that ask for nothing there is a text about their use
 abbrev pub AnswersFor : Bool → Giving → (Text → Text → Type 0) → Type 0 → Option Asked → Report → Type 0

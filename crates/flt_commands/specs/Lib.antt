@@ -5,6 +5,7 @@ pub mod Answer
 pub mod Check
 pub mod Clean
 pub mod Commands
+pub mod Drawn
 pub mod Explain
 pub mod Extract
 pub mod Failure

@@ -174,7 +174,8 @@ fn format_files<I: Inputs, P: Pictures>(
     ensures said { IfOk result (spec.AreFormatted (I.gives inputs.now) mode (map (λ name. name.now) files.now)
         (map (λ text. text.items) contents.new.texts.items)) }
     ensures kept { IfOk result (λ found. IsKept (P.written pictures.new) (pictures.new ≡ pictures.old)
-        (Format mode (map (λ name. name.now) files.now)) (Ok (Answer.Formatted mode found))) }
+        (Format mode (map (λ name. name.now) files.now)) (map (λ text. text.items) contents.new.texts.items)
+        (Ok (Answer.Formatted mode found))) }
 {
     let read = read_each(alloc, inputs, files)?;
     let names = read.names;

@@ -72,6 +72,7 @@ pub(crate) fn replay_all<'a>(
     texts: &[Vec<u8>],
 ) -> Result<Replayed, Failure<'a>>
     ensures ok { IfOk result (λ r. spec.IsVerdict written (map (λ text. text.items) texts.now) r.verdict) }
+    ensures filters { IfOk result (λ r. AreSpelled (map (λ text. text.items) texts.now) (filters_of r.trees.items)) }
     ensures spelled { IfOk result (λ r. written ≡ spelling r.journal) }
     ensures err { IfErr result (spec.IsFailure written (map (λ text. text.items) texts.now)) }
 {

@@ -2,11 +2,10 @@
 
 ghost use Rattle.std.specs.Prelude.{◌≡◌, [], ◌∷◌, ℕ, List, None, false, IfOk, OnOk, map, option_map};
 ghost use Rattle.flt_commands.specs.Commands.{IsKeptAs};
+ghost use Rattle.flt_commands.specs.Drawn.{IsDrawnFor, IsDrawnIn, IsDrawnOf};
 ghost use Rattle.flt_commands.specs.Inputs.{Says};
 ghost use Rattle.flt_commands.specs.Replay as spec;
 ghost use Rattle.flt_model.specs.Program.{filters_of};
-ghost use Rattle.flt_picture.specs.Pictures.{IsPicture};
-ghost use Rattle.flt_picture.specs.Titles.{title_of};
 
 use crate::answer::Answer;
 use crate::failure::Failure;
@@ -40,8 +39,8 @@ fn draw<P: Pictures>(
     timeline: &Timeline<'_>,
     pictures: &mut P,
 ) -> Result<Result<(), Unwritten>, AllocError>
-    ensures { IfOk result (λ done. OnOk done ((drawn : List ℕ)
-        × IsPicture (title_of (filters_of replayed.now.trees.items) replayed.now.verdict) drawn × P.written pictures.new name.now drawn)) }
+    ensures { IfOk result (λ done. OnOk done
+        (IsDrawnOf (P.written pictures.new) name.now (filters_of replayed.now.trees.items) replayed.now.verdict)) }
 {
     let trees = replayed.trees.as_slice();
     let (journal, verdict) = (&replayed.journal, replayed.verdict);
@@ -60,6 +59,8 @@ fn show<'a, P: Pictures>(
     pictures: &mut P,
 ) -> Result<Answer, Failure<'a>>
     ensures shown { spec.IsShownOf is_asked (option_map (λ name. name.now) name.entry) replayed.now.verdict result }
+    ensures drawn { IsDrawnIn (P.written pictures.new) (option_map (λ name. name.now) name.entry)
+        (filters_of replayed.now.trees.items) replayed.now.verdict result }
     ensures untouched { name.entry ≡ None → pictures.new ≡ pictures.old }
 {
     let trees = replayed.trees.as_slice();
@@ -86,6 +87,8 @@ fn show_texts<'a, P: Pictures>(
 ) -> Result<Answer, Failure<'a>>
     ensures said { spec.ShownJudges is_asked (option_map (λ name. name.now) name.entry) written
         (map (λ text. text.items) texts.now) result }
+    ensures drawn { IsDrawnFor (P.written pictures.new) (option_map (λ name. name.now) name.entry)
+        (map (λ text. text.items) texts.now) result }
     ensures kept { journal.old ≡ None → IsKeptAs journal.new written result }
     ensures untouched { name.entry ≡ None → pictures.new ≡ pictures.old }
 {
@@ -110,6 +113,8 @@ pub fn show_files<'a, I: Inputs, P: Pictures>(
     ensures said { (bytes : List ℕ) × Says (I.gives inputs.now) (journal.entry.now ∷ map (λ name. name.now) files.now)
         (spec.IsShown is_asked (option_map (λ name. name.now) name.entry)) (bytes ∷ map (λ text. text.items) contents.new.texts.items) result
         × IsKeptAs contents.new.journal bytes result }
+    ensures drawn { IsDrawnFor (P.written pictures.new) (option_map (λ name. name.now) name.entry)
+        (map (λ text. text.items) contents.new.texts.items) result }
     ensures untouched { name.entry ≡ None → pictures.new ≡ pictures.old }
 {
     contents.journal = None;

@@ -1,5 +1,5 @@
 -- Columns in UTF-16 units, as SARIF 2.1.0 (OASIS) counts them. A text is taken for UTF-8 (RFC 3629).
-use Rattle.std.specs.Prelude.{ℕ, List, ◌+◌, ◌-◌, if◌then◌else◌, map, nat_lt, sum, take}
+use Rattle.std.specs.Prelude.{ℕ, List, ◌+◌, ◌-◌, if◌then◌else◌, length, map, min, nat_lt, sum, take}
 use Rattle.flt_places.specs.Places.{line_of}
 use Rattle.flt_tree.specs.Names.{Text}
 use Rattle.flt_tree.specs.declared.filter.Position.{Position}
@@ -15,6 +15,11 @@ units bytes = sum (map units_of bytes)
 -- the column so many bytes behind a place in its line, from 1; the end of the line where it ends before
 abbrev pub column_behind : Text → Position → ℕ → ℕ
 column_behind text at count = units (take (at.column - 1 + count) (line_of text at.line)) + 1
+
+-- the column of the last of so many bytes from a place in its line on, from 1; that of the line's last byte where it ends before. It counts
+-- in bytes
+abbrev pub column_up_to : Text → ℕ → ℕ → ℕ → ℕ
+column_up_to text line column count = min (column - 1 + count) (length (line_of text line))
 
 -- the column of a place
 abbrev pub column_of : Text → Position → ℕ

@@ -10,6 +10,9 @@ use Rattle.flt_hints.specs.declared.troubles.Trouble.{Trouble}
 use Rattle.flt_details.specs.Closing.{fault_name}
 use Rattle.flt_syntax.specs.declared.fault.SyntaxFault.{SyntaxFault}
 use Rattle.json.specs.Token.{Token, begin_object, end_object}
+use Rattle.flt_tree.specs.Names.{Text}
+use Rattle.flt_forms.specs.Columns.{column_up_to}
+use Rattle.flt_forms.specs.Preface.{preface}
 use Rattle.flt_forms.specs.Members.{array_member, bytes_member, filled_member, line_of, number_member, string_member, text_items, text_member}
 
 -- ---- how to fix it
@@ -38,11 +41,15 @@ help_of t = help_in (notes_of t)
 
 -- ---- the members
 
--- where a text is refused, and by which fault
-abbrev pub place : SyntaxFault → List Token
-place f =
-    number_member (codes "line") f.line ++ (number_member (codes "column") f.column
-    ++ string_member (codes "rule") (fault_name f.kind))
+-- the column of the last byte of what is found there; one before its first, where its line ends there
+abbrev pub last_column : Text → SyntaxFault → List ℕ → ℕ
+last_column text f found = column_up_to text f.line f.column (length found)
+
+-- where a text is refused, what is found there, and by which fault
+abbrev pub place : Text → SyntaxFault → List ℕ → List Token
+place text f found =
+    number_member (codes "line") f.line ++ (number_member (codes "column") f.column ++ (number_member (codes "end_line") f.line
+    ++ (number_member (codes "end_column") (last_column text f found) ++ string_member (codes "rule") (fault_name f.kind))))
 
 -- the words and symbols of the language that may stand there, and the names that the text declares
 abbrev pub choices : Choices → List Token
@@ -51,9 +58,9 @@ choices c =
     ++ array_member (codes "names") (text_items (map (λ name. name.now) c.names))
 
 -- a fault of a file, with what is said of it and how to fix it
-abbrev pub fault : List ℕ → Trouble → List ℕ → List ℕ → List Token
-fault name t message help =
-    begin_object ∷ string_member (codes "file") name ++ (place t.spot.fault ++ (bytes_member (codes "found") (Some t.spot.bytes)
+abbrev pub fault : List ℕ → Text → Trouble → List ℕ → List ℕ → List Token
+fault name text t message help =
+    begin_object ∷ preface (codes "fault") name ++ (place text t.spot.fault t.spot.bytes.now ++ (bytes_member (codes "found") (Some t.spot.bytes)
     ++ (choices t.choices ++ (bytes_member (codes "meant") t.meant ++ (text_member (codes "message") message
     ++ (filled_member (codes "help") help ++ end_object ∷ []))))))
 
@@ -61,4 +68,4 @@ fault name t message help =
 pub record IsFaultLine (name text printed : List ℕ) : Type 0 where
   pub trouble : Trouble
   pub described : IsDescribed text (Some trouble)
-  pub line : printed ≡ line_of (fault name trouble (title_of trouble) (help_of trouble))
+  pub line : printed ≡ line_of (fault name text trouble (title_of trouble) (help_of trouble))

@@ -8,7 +8,12 @@ use Rattle.flt_details.specs.declared.study.Detail.{Detail}
 use Rattle.flt_details.specs.declared.study.Route.{Route}
 use Rattle.flt_details.specs.declared.study.Words.{Words}
 use Rattle.flt_explain.specs.declared.finding.Finding.{Finding}
+use Rattle.flt_graph.specs.declared.graph.Graph.{Graph}
+use Rattle.flt_places.specs.declared.places.Region.{Region}
+use Rattle.flt_tree.specs.Names.{Text}
 use Rattle.flt_forms.specs.Members.{filled_member, line_of, marks_members, string_member, text_member, number_member, null_member}
+use Rattle.flt_forms.specs.Points.{region_at}
+use Rattle.flt_forms.specs.Preface.{preface}
 use Rattle.flt_forms.specs.Steps.{kind_name, like_member, maker_member, steps, steps_member}
 
 -- where a finding is
@@ -27,27 +32,27 @@ words w =
     ++ text_member (codes "subject") w.subject.items ++ text_member (codes "help") w.help.items
     ++ filled_member (codes "note") w.note.items
 
--- what it is about comes to this at the end of the way
+-- what it is about comes to this at the end of the path
 abbrev pub state : Option (Bor (List ℕ)) → List Token
 state None = null_member (codes "state")
 state (Some word) = string_member (codes "state") word.now
 
 -- how it is reached
-abbrev pub way : Route → List Token
-way r =
-    key (codes "way") ∷ begin_object ∷ string_member (codes "kind") (kind_name r.kind)
-    ++ (like_member r.like ++ (key (codes "steps") ∷ (steps r.stages ++ (steps_member (codes "other") r.other ++ end_object ∷ []))))
+abbrev pub path : (ℕ → Region) → Route → List Token
+path region r =
+    key (codes "path") ∷ begin_object ∷ string_member (codes "kind") (kind_name r.kind)
+    ++ (like_member r.like ++ (key (codes "steps") ∷ (steps region r.stages ++ (steps_member region (codes "other") r.other ++ end_object ∷ []))))
 
 -- where it comes from, and how it is reached
-abbrev pub route : Route → List Token
-route r = state r.state ++ (maker_member (codes "origin") r.origin ++ way r)
+abbrev pub route : (ℕ → Region) → Route → List Token
+route region r = state r.state ++ (maker_member (codes "origin") r.origin ++ path region r)
 
--- a finding of a file
-abbrev pub finding : List ℕ → Detail → List Token
-finding name d =
-    begin_object ∷ string_member (codes "file") name ++ (place d ++ (rule d.finding ++ (words d.words
-    ++ (route d.route ++ end_object ∷ []))))
+-- a finding of a file, where the points of its callback are there
+abbrev pub finding : List ℕ → (ℕ → Region) → Detail → List Token
+finding name region d =
+    begin_object ∷ preface (codes "finding") name ++ (place d ++ (rule d.finding ++ (words d.words
+    ++ (route region d.route ++ end_object ∷ []))))
 
--- a line for each finding, in order
-abbrev pub finding_line : List ℕ → Detail → List ℕ
-finding_line name d = line_of (finding name d)
+-- the line of a finding
+abbrev pub finding_line : List ℕ → Text → Graph → Detail → List ℕ
+finding_line name text graph d = line_of (finding name (region_at text graph d.finding.callback) d)

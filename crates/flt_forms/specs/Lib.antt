@@ -1,9 +1,14 @@
+pub mod Clean
 pub mod Columns
 pub mod Fault
 pub mod Files
 pub mod Finding
+pub mod Fingerprints
 pub mod Lines
 pub mod Members
+pub mod Paragraphs
+pub mod Points
+pub mod Preface
 pub mod Results
 pub mod Rules
 pub mod Sarif

@@ -12,6 +12,7 @@ use Rattle.flt_tree.specs.Names.{Text}
 use Rattle.flt_tree.specs.declared.filter.Filter.{Filter}
 use Rattle.flt_warning_details.specs.declared.detail.WarningDetail.{WarningDetail}
 use Rattle.flt_warning_details.specs.declared.options.WarningOptions.{WarningOptions}
+use Rattle.flt_forms.specs.Clean.{clean_lines}
 use Rattle.flt_forms.specs.Fault.{IsFaultLine}
 use Rattle.flt_forms.specs.Finding.{finding_line}
 use Rattle.flt_forms.specs.Short as short
@@ -24,7 +25,7 @@ use Rattle.flt_forms.specs.declared.as_lines.Style.TheVariants.{Object, Sentence
 pub record AreFindingLines (name : List ℕ) (text : Text) (filter : Filter) (graph : Graph) (found : List Finding) (printed : List ℕ) : Type 0 where
   pub details : List Detail
   pub each : AreDetails text filter graph found details
-  pub lines : printed ≡ flat_map (finding_line name) details
+  pub lines : printed ≡ flat_map (finding_line name text graph) details
 
 -- one sentence for each of these findings, in their order
 pub record AreShortLines (name : List ℕ) (text : Text) (filter : Filter) (graph : Graph) (found : List Finding) (printed : List ℕ) : Type 0 where
@@ -44,7 +45,7 @@ abbrev pub warning_lines : Style → List ℕ → List WarningDetail → List �
 warning_lines Object name warned = flat_map (warning_line name) warned
 warning_lines Sentence name warned = flat_map (short.warning_line name) warned
 
--- what is printed of a text with its warnings last, and its status, which comes of the same findings and warnings
+-- what is printed of a text with its warnings last, or with the line of one in which there is nothing, and its status, which comes of the same findings and warnings
 pub record IsPart (style : Style) (options : WarningOptions) (s : Source) (printed : List ℕ) (status : ℕ) : Type 0 where
   pub judged : Judged
   pub is : IsJudged s.text.now judged
@@ -53,7 +54,7 @@ pub record IsPart (style : Style) (options : WarningOptions) (s : Source) (print
   pub own : status ≡ status_of options.is_strict judged warned
   pub first : List ℕ
   pub lines : IsPrinted style s judged first
-  pub all : printed ≡ first ++ warning_lines style s.name.now warned
+  pub all : printed ≡ first ++ (warning_lines style s.name.now warned ++ clean_lines style s.name.now judged warned)
 
 -- the lines of several texts behind what is there, one text's behind the other's; the status is the greatest of theirs
 abbrev pub AreLines : Style → WarningOptions → List Source → List ℕ → List ℕ → ℕ → Type 0

@@ -12,6 +12,7 @@ use Rattle.flt_tree.specs.Names.{Text}
 use Rattle.flt_tree.specs.declared.filter.Position.{Position}
 use Rattle.json.specs.Token.{Token, begin_object, end_object, key}
 use Rattle.flt_forms.specs.Columns.{column_behind, column_of}
+use Rattle.flt_forms.specs.Fingerprints.{finding_key, numbered}
 use Rattle.flt_forms.specs.Members.{array_member, filled_member, number_member, object_member, string_member, text_member}
 use Rattle.flt_forms.specs.Rules.{of_rule}
 use Rattle.flt_forms.specs.declared.file.File.{File}
@@ -148,10 +149,11 @@ abbrev pub related : File → Option Maker → List Token
 related file None = []
 related file (Some m) = origin file m
 
--- what stays the same when lines move: the head of a callback, and what is said of it
-abbrev pub fingerprints : List ℕ → List ℕ → List Token
-fingerprints head subject =
-    object_member (codes "partialFingerprints") (text_member (codes "callback/v1") head ++ text_member (codes "subject/v1") subject)
+-- what stays the same when lines move: the head of a callback, what is said of it, and what no other result of the text has
+abbrev pub fingerprints : List ℕ → List ℕ → List ℕ → List Token
+fingerprints head subject print =
+    object_member (codes "partialFingerprints") (text_member (codes "callback/v1") head ++ (text_member (codes "subject/v1") subject
+    ++ string_member (codes "callbackRuleSubject/v2") print))
 
 abbrev pub properties : Detail → List Token
 properties d =
@@ -159,16 +161,20 @@ properties d =
     ++ (number_member (codes "point") d.finding.point ++ (text_member (codes "help") d.words.help.items
     ++ filled_member (codes "note") d.words.note.items)))
 
--- a finding
-abbrev pub result_members : File → Detail → List Token
-result_members file d =
+-- a finding of this fingerprint
+abbrev pub result_members : File → List ℕ → Detail → List Token
+result_members file print d =
     of_rule (Broken d.finding.rule) ++ (level ++ (message d.words.title.items ++ (locations file d.marks d.words.title.items
     ++ (array_member (codes "relatedLocations") (related file d.route.origin)
-    ++ (array_member (codes "codeFlows") (flows file d) ++ (fingerprints d.words.head.items d.words.subject.items
+    ++ (array_member (codes "codeFlows") (flows file d) ++ (fingerprints d.words.head.items d.words.subject.items print
     ++ (properties d ++ not_suppressed)))))))
 
-abbrev pub result : File → Detail → List Token
-result file d = item (result_members file d)
+abbrev pub result : File → List ℕ → Detail → List Token
+result file print d = item (result_members file print d)
+
+-- findings of a text in their order, each with its fingerprint
+abbrev pub results_of : File → List Detail → List Token
+results_of file details = numbered (finding_key file.lines) (result file) [] details
 
 -- how to mend a fault of a text
 abbrev pub fault_properties : List ℕ → List Token

@@ -13,7 +13,8 @@ use Rattle.flt_warnings.specs.Kinds.{kind_name}
 use Rattle.flt_warnings.specs.declared.warning.Kind.{Kind}
 use Rattle.flt_warnings.specs.declared.warning.Kind.TheVariants.{W00, W01, W02, W03, W04, W05, W06, W07}
 use Rattle.json.specs.Token.{Token, begin_object, end_object, string}
-use Rattle.flt_forms.specs.Members.{array_member, number_member, object_member, string_member}
+use Rattle.flt_forms.specs.Members.{array_member, number_member, object_member, string_member, text_member}
+use Rattle.flt_forms.specs.Paragraphs.{first_paragraph}
 use Rattle.flt_forms.specs.declared.rules.Reported.{Reported}
 use Rattle.flt_forms.specs.declared.rules.Reported.TheVariants.{Broken, Unread, Warned}
 
@@ -129,9 +130,7 @@ abbrev pub words_member : List ℕ → Reported → List Token
 words_member name reported = object_member name (string_member (codes "text") (words_of reported))
 
 abbrev pub names : Reported → List Token
-names reported =
-    string_member (codes "name") (words_of reported) ++ (words_member (codes "shortDescription") reported
-    ++ words_member (codes "fullDescription") reported)
+names reported = string_member (codes "name") (words_of reported) ++ words_member (codes "shortDescription") reported
 
 abbrev pub configuration : Reported → List Token
 configuration reported = object_member (codes "defaultConfiguration") (string_member (codes "level") (level_of reported))
@@ -144,6 +143,11 @@ properties reported =
     object_member (codes "properties") (tags reported ++ (string_member (codes "precision") (precision_of reported)
     ++ string_member (codes "problem.severity") (level_of reported)))
 
+-- what its page says first
+abbrev pub description : Option (Bor (List ℕ)) → List Token
+description None = []
+description (Some page) = object_member (codes "fullDescription") (text_member (codes "text") (first_paragraph page.now))
+
 -- a page, for hosts that show text and for those that show Markdown
 abbrev pub page_members : List ℕ → List Token
 page_members page = string_member (codes "text") page ++ string_member (codes "markdown") page
@@ -155,8 +159,8 @@ help (Some page) = object_member (codes "help") (page_members page.now)
 -- a rule with its page
 abbrev pub rule_item : List ℕ → Reported → Option (Bor (List ℕ)) → List Token
 rule_item id reported page =
-    begin_object ∷ (string_member (codes "id") id ++ (names reported ++ (help page ++ (configuration reported ++ (properties reported
-    ++ end_object ∷ [])))))
+    begin_object ∷ (string_member (codes "id") id ++ (names reported ++ (description page ++ (help page ++ (configuration reported
+    ++ (properties reported ++ end_object ∷ []))))))
 
 -- the page of a name is what `flt_pages` has under it: there is one exactly if it says so, and it begins with that name
 pub record IsPage (name : List ℕ) (page : Option (Bor (List ℕ))) : Type 0 where

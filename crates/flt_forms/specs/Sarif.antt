@@ -20,7 +20,7 @@ use Rattle.json.specs.Token.{Token, begin_object, boolean, end_object, key, stri
 use Rattle.flt_forms.specs.Fault.{help_of}
 use Rattle.flt_forms.specs.Files.{file_of, names_of}
 use Rattle.flt_forms.specs.Members.{array_member, line_of, number_member, object_member, string_member}
-use Rattle.flt_forms.specs.Results.{fault_result, item, level, reference, result}
+use Rattle.flt_forms.specs.Results.{fault_result, item, level, reference, results_of}
 use Rattle.flt_forms.specs.Rules.{AreRules, all, tool}
 use Rattle.flt_forms.specs.Uri.{reference_of}
 use Rattle.flt_forms.specs.Warned.{AreWarned, status_of}
@@ -39,7 +39,7 @@ pub record IsFaultResult (file : File) (text : Text) (tokens : List Token) : Typ
 pub record AreFindingResults (file : File) (text : Text) (filter : Filter) (graph : Graph) (found : List Finding) (tokens : List Token) : Type 0 where
   pub details : List Detail
   pub each : AreDetails text filter graph found details
-  pub results : tokens ≡ flat_map (result file) details
+  pub results : tokens ≡ results_of file details
 
 -- the results of a text: one where it doesn't parse, else one for each finding
 unfoldable pub HasResults : File → Text → Judged → List Token → Type 0
@@ -58,7 +58,7 @@ pub record IsPart (options : WarningOptions) (names : List (Bor (List ℕ))) (s 
   pub own : status ≡ status_of options.is_strict judged warned
   pub first : List Token
   pub results : HasResults file s.text.now judged first
-  pub all : tokens ≡ first ++ flat_map (warning.result file) warned
+  pub all : tokens ≡ first ++ warning.results_of file warned
 
 -- the results of several texts, one text's behind the other's; the status is the greatest of theirs
 abbrev pub AreResults : WarningOptions → List (Bor (List ℕ)) → List Source → List Token → ℕ → Type 0

@@ -1,27 +1,27 @@
--- Steps of ways, as JSON.
+-- Steps of paths, as JSON.
 use Rattle.std.specs.Prelude.{ℕ, List, [], ◌∷◌, ◌++◌, Bool, codes, flat_map, if◌then◌else◌}
 use Rattle.json.specs.Token.{Token, begin_object, end_object, begin_array, end_array, key}
 use Rattle.std.specs.Prelude.{Option, Some, None}
-use Rattle.flt_forms.specs.Members.{filled_member, marks_members, string_member, number_member, null_member}
+use Rattle.flt_forms.specs.Members.{filled_member, marks_members, region_members, string_member, number_member, null_member}
 use Rattle.flt_details.specs.declared.study.Maker.{Maker}
 use Rattle.flt_details.specs.declared.study.Stage.{Stage}
 use Rattle.flt_details.specs.declared.study.WayKind.{WayKind}
 use Rattle.flt_details.specs.declared.study.WayKind.TheVariants.{Clean, Behind, Unreached, Unknown}
+use Rattle.flt_places.specs.declared.places.Region.{Region}
 
 -- how a step comes out
 abbrev pub side : Bool → List ℕ
 side granted = if granted then codes "yes" else codes "no"
 
--- a step: its point, where that stands, and how it comes out
-abbrev pub step : Stage → List Token
-step s =
-    begin_object ∷ number_member (codes "point") s.point ++ (number_member (codes "line") s.place.line
-    ++ (number_member (codes "column") s.place.column ++ (string_member (codes "side") (side s.granted)
-    ++ (filled_member (codes "words") s.words.items ++ end_object ∷ []))))
+-- a step: its point, where that is, and how it comes out
+abbrev pub step : (ℕ → Region) → Stage → List Token
+step region s =
+    begin_object ∷ number_member (codes "point") s.point ++ (region_members (region s.point)
+    ++ (string_member (codes "side") (side s.granted) ++ (filled_member (codes "words") s.words.items ++ end_object ∷ [])))
 
 -- several, in order
-abbrev pub steps : List Stage → List Token
-steps stages = begin_array ∷ flat_map step stages ++ end_array ∷ []
+abbrev pub steps : (ℕ → Region) → List Stage → List Token
+steps region stages = begin_array ∷ flat_map (step region) stages ++ end_array ∷ []
 
 -- the step that made a finding so, with where its statement stands, and in it what the finding names
 abbrev pub maker : Maker → List Token
@@ -35,16 +35,16 @@ maker_member name None = null_member name
 maker_member name (Some m) = key name ∷ maker m
 
 -- a member whose value is steps, or null
-abbrev pub steps_member : List ℕ → Option (List Stage) → List Token
-steps_member name None = null_member name
-steps_member name (Some stages) = key name ∷ steps stages
+abbrev pub steps_member : (ℕ → Region) → List ℕ → Option (List Stage) → List Token
+steps_member region name None = null_member name
+steps_member region name (Some stages) = key name ∷ steps region stages
 
--- which finding's way serves
+-- which finding's path serves
 abbrev pub like_member : Option ℕ → List Token
 like_member None = null_member (codes "like")
 like_member (Some n) = number_member (codes "like") n
 
--- what a way is
+-- what a path is
 abbrev pub kind_name : WayKind → List ℕ
 kind_name Clean = codes "clean"
 kind_name Behind = codes "behind"

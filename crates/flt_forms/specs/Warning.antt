@@ -6,6 +6,7 @@ use Rattle.flt_warnings.specs.declared.warning.Site.{Site}
 use Rattle.flt_warning_details.specs.declared.detail.RelatedPlace.{RelatedPlace}
 use Rattle.flt_warning_details.specs.declared.detail.WarningDetail.{WarningDetail}
 use Rattle.flt_forms.specs.Members.{array_member, filled_member, line_of, marks_members, null_member, number_member, string_member, text_member}
+use Rattle.flt_forms.specs.Preface.{preface}
 
 -- the numbers of a callback and of a point, from 0
 abbrev pub numbers : Site → List Token
@@ -46,7 +47,7 @@ suppressed (Some reason) = text_member (codes "suppressed") reason
 -- a warning of a file
 abbrev pub warning : List ℕ → WarningDetail → List Token
 warning name d =
-    begin_object ∷ string_member (codes "file") name ++ (place d ++ (words d ++ (related d ++ (suppressed d.reason ++ end_object ∷ []))))
+    begin_object ∷ preface (codes "warning") name ++ (place d ++ (words d ++ (related d ++ (suppressed d.reason ++ end_object ∷ []))))
 
 -- a line for each warning, in order
 abbrev pub warning_line : List ℕ → WarningDetail → List ℕ

@@ -4,6 +4,7 @@ use Rattle.json.specs.Token.{Token}
 use Rattle.flt_warnings.specs.declared.warning.Site.{Site}
 use Rattle.flt_warning_details.specs.declared.detail.RelatedPlace.{RelatedPlace}
 use Rattle.flt_warning_details.specs.declared.detail.WarningDetail.{WarningDetail}
+use Rattle.flt_forms.specs.Fingerprints.{numbered, warning_key}
 use Rattle.flt_forms.specs.Members.{array_member, filled_member, object_member, string_member, text_member}
 use Rattle.flt_forms.specs.Results.{fingerprints, item, locations, marked_location, message, not_suppressed}
 use Rattle.flt_forms.specs.Rules.{of_rule}
@@ -47,12 +48,16 @@ abbrev pub suppressions : Option (List ℕ) → List Token
 suppressions None = not_suppressed
 suppressions (Some reason) = array_member (codes "suppressions") (suppression reason)
 
--- a warning, with this title, in the callback of this head
-abbrev pub result_members : File → WarningDetail → List ℕ → List ℕ → List Token
-result_members file d title head =
+-- a warning of this fingerprint, with this title, in the callback of this head
+abbrev pub result_members : File → List ℕ → WarningDetail → List ℕ → List ℕ → List Token
+result_members file print d title head =
     of_rule (Warned d.kind) ++ (level ++ (message title ++ (locations file d.marks title
-    ++ (related file d ++ (fingerprints head title ++ (properties d ++ suppressions d.reason))))))
+    ++ (related file d ++ (fingerprints head title print ++ (properties d ++ suppressions d.reason))))))
 
--- a warning
-abbrev pub result : File → WarningDetail → List Token
-result file d = item (result_members file d d.title d.head)
+-- a warning of this fingerprint
+abbrev pub result : File → List ℕ → WarningDetail → List Token
+result file print d = item (result_members file print d d.title d.head)
+
+-- warnings of a text in their order, each with its fingerprint
+abbrev pub results_of : File → List WarningDetail → List Token
+results_of file warned = numbered (warning_key file.lines) (result file) [] warned

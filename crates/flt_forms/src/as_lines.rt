@@ -7,6 +7,7 @@ ghost use Rattle.flt_forms.specs.Lines as spec;
 ghost use Rattle.flt_details.specs.Reports.{IsJudged};
 ghost use Rattle.flt_syntax.specs.TextFails.{Fails};
 
+use crate::clean::put_clean_lines;
 use crate::fault::{help_of, put_fault_line};
 use crate::finding::put_lines;
 use crate::short::{put_short_fault, put_short_lines, put_short_warnings};
@@ -16,6 +17,7 @@ use flt_details::{Explained, Judged, Source, details, judge};
 use flt_explain::Finding;
 use flt_graph::Graph;
 use flt_hints::{describe, tell};
+use flt_places::Lines;
 use flt_syntax::{SyntaxFault, Tree, fails_exactly_where_nothing_is_spelled};
 use flt_warning_details::{WarningDetail, WarningOptions};
 use std::alloc::{AllocError, Global};
@@ -46,7 +48,8 @@ fn unread(
     };
     let told = tell(alloc, &trouble)?;
     let help = help_of(alloc, &told)?;
-    let written = put_fault_line(alloc, out, source.name, &trouble, &told, &help)?;
+    let lines = Lines::of(alloc, source.text)?;
+    let written = put_fault_line(alloc, out, source.name, &lines, &trouble, &told, &help)?;
     Ok(written)
 }
 
@@ -64,7 +67,8 @@ fn known(
         × (v.items ≡ out.items ++ printed)) }
 {
     let details = details(alloc, source.text, tree, graph, found)?;
-    put_lines(alloc, out, source.name, details.as_slice())
+    let lines = Lines::of(alloc, source.text)?;
+    put_lines(alloc, out, source.name, &lines, graph, details.as_slice())
 }
 
 fn put_judged(
@@ -120,7 +124,8 @@ fn put_source(
     let judged = judge(alloc, source.text)?;
     let warned = warned_of(alloc, options.allowed, source, &judged)?;
     let first = put_judged(alloc, out, style, source, &judged)?;
-    let output = put_warned(alloc, first, style, source.name, warned.as_slice())?;
+    let shown = put_warned(alloc, first, style, source.name, warned.as_slice())?;
+    let output = put_clean_lines(shown, style, source.name, &judged, warned.as_slice())?;
     Ok(Explained {
         output,
         status: status_of(options.is_strict, &judged, warned.as_slice()),
@@ -159,7 +164,7 @@ fn put_sources(
 }
 
 /// What is wrong with some texts, line by line: one for each finding of a text that parses, in their order, and one for a text
-/// that doesn't; then one for each of its warnings. docs/FORMATS.md says how they are written. The status is that of `explain`: 0 where nothing
+/// that doesn't; then one for each of its warnings; and, of objects, one for a text that has none of these. docs/FORMATS.md says how they are written. The status is that of `explain`: 0 where nothing
 /// is found, 1 where something is, or where warnings count and one is shown, 2 where a text doesn't parse.
 ///
 /// # Errors

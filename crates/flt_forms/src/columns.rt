@@ -59,6 +59,13 @@ pub(crate) fn column_behind(lines: &Lines<'_>, place: Position, count: usize) ->
     units(front(lines.line(place.line), place.column, count)) + 1
 }
 
+/// The column of the last of so many bytes from a column of a line on. It counts in bytes.
+pub(crate) fn column_up_to(lines: &Lines<'_>, line: usize, column: usize, count: usize) -> usize
+    ensures { result ≡ spec.column_up_to lines.now line column count }
+{
+    count_before(lines.line(line), column, count)
+}
+
 /// The column of a place.
 pub(crate) fn column_of(lines: &Lines<'_>, place: Position) -> usize
     ensures { result ≡ spec.column_of lines.now place }

@@ -2,14 +2,16 @@
 
 ghost use Rattle.std.specs.Prelude.{◌≡◌, ◌++◌, IfOk, codes, map, option_copied};
 ghost use Rattle.flt_forms.specs.Fault as spec;
-ghost use Rattle.flt_forms.specs.Members.{Adds, line_of, array_member, text_items};
+ghost use Rattle.flt_forms.specs.Members.{Adds, array_member, line_of, number_member, text_items};
 
+use crate::columns::column_up_to;
 use crate::members::{
     close_object, open_object, put_bytes, put_filled, put_number, put_string, put_text, put_texts,
 };
+use crate::preface::put_preface;
 use flt_details::fault_name;
 use flt_hints::{Choices, Expected, Told, Trouble};
-use flt_places::lines_of;
+use flt_places::{Lines, lines_of};
 use flt_syntax::SyntaxFault;
 use json::Writer;
 use sqlite_items::Items;
@@ -48,11 +50,31 @@ pub(crate) fn help_of(alloc: Global, told: &Told) -> Result<Vec<u8>, AllocError>
     Vec::from_slice(alloc, first_help(lines.as_slice()))
 }
 
-fn put_place(writer: &mut Writer, fault: SyntaxFault) -> Result<(), AllocError>
-    ensures { Adds result writer.old writer.new (spec.place fault) }
+/// The column of the last byte of what is found where a text is refused.
+fn put_end_column(
+    writer: &mut Writer,
+    lines: &Lines<'_>,
+    fault: SyntaxFault,
+    found: &[u8],
+) -> Result<(), AllocError>
+    ensures { Adds result writer.old writer.new (number_member (codes "end_column") (spec.last_column lines.now fault found.now)) }
+{
+    let last = column_up_to(lines, fault.line, fault.column, found.len());
+    put_number(writer, "end_column", last)
+}
+
+fn put_place(
+    writer: &mut Writer,
+    lines: &Lines<'_>,
+    fault: SyntaxFault,
+    found: &[u8],
+) -> Result<(), AllocError>
+    ensures { Adds result writer.old writer.new (spec.place lines.now fault found.now) }
 {
     put_number(writer, "line", fault.line)?;
     put_number(writer, "column", fault.column)?;
+    put_number(writer, "end_line", fault.line)?;
+    put_end_column(writer, lines, fault, found)?;
     put_string(writer, "rule", fault_name(fault.kind))
 }
 
@@ -98,16 +120,17 @@ fn put_fault(
     alloc: Global,
     writer: &mut Writer,
     name: &str,
+    lines: &Lines<'_>,
     trouble: &Trouble<'_>,
     told: &Told,
     help: &Vec<u8>,
 ) -> Result<(), AllocError>
     ensures { Adds result writer.old writer.new
-        (spec.fault name.now trouble.now told.now.title.items help.now.items) }
+        (spec.fault name.now lines.now trouble.now told.now.title.items help.now.items) }
 {
     open_object(writer)?;
-    put_string(writer, "file", name)?;
-    put_place(writer, trouble.spot.fault)?;
+    put_preface(writer, "fault", name)?;
+    put_place(writer, lines, trouble.spot.fault, trouble.spot.bytes)?;
     put_bytes(alloc, writer, "found", Some(trouble.spot.bytes))?;
     put_choices(alloc, writer, &trouble.choices)?;
     put_bytes(alloc, writer, "meant", trouble.meant)?;
@@ -121,15 +144,16 @@ pub(crate) fn put_fault_line(
     alloc: Global,
     out: Vec<u8>,
     name: &str,
+    lines: &Lines<'_>,
     trouble: &Trouble<'_>,
     told: &Told,
     help: &Vec<u8>,
 ) -> Result<Vec<u8>, AllocError>
     ensures { IfOk result (λ v. v.items ≡ out.items ++
-        line_of (spec.fault name.now trouble.now told.now.title.items help.now.items)) }
+        line_of (spec.fault name.now lines.now trouble.now told.now.title.items help.now.items)) }
 {
     let mut writer = Writer::new(out);
-    put_fault(alloc, &mut writer, name, trouble, told, help)?;
+    put_fault(alloc, &mut writer, name, lines, trouble, told, help)?;
     let mut out = writer.into_inner();
     out.push(b'\n')?;
     Ok(out)

@@ -3,6 +3,7 @@
 ghost use Rattle.std.specs.Prelude.{◌≡◌, ◌++◌, codes, flat_map, IfOk};
 ghost use Rattle.flt_forms.specs.Finding as spec;
 ghost use Rattle.flt_forms.specs.Members.{Adds, string_member};
+ghost use Rattle.flt_forms.specs.Points.{regions};
 ghost use Rattle.flt_rules.specs.Rule.{text as rule_text};
 ghost use Rattle.flt_details.specs.Closing.{rule_name};
 
@@ -10,9 +11,13 @@ use crate::members::{
     close_object, open_object, put_filled, put_key, put_marks, put_null, put_number, put_string,
     put_text,
 };
+use crate::points::Points;
+use crate::preface::put_preface;
 use crate::steps::{put_kind, put_like, put_maker_member, put_steps, put_steps_member};
 use flt_details::{Detail, Route, RuleName, Words};
 use flt_explain::Finding;
+use flt_graph::Graph;
+use flt_places::Lines;
 use flt_rules::{Rule, text};
 use json::Writer;
 use std::alloc::{AllocError, Global};
@@ -67,67 +72,93 @@ fn put_state(writer: &mut Writer, state: Option<&'static str>) -> Result<(), All
     }
 }
 
-fn put_way(alloc: Global, writer: &mut Writer, route: &Route) -> Result<(), AllocError>
-    ensures { Adds result writer.old writer.new (spec.way route.now) }
+/// How it is reached.
+fn put_path(
+    alloc: Global,
+    writer: &mut Writer,
+    points: &Points<'_>,
+    route: &Route,
+) -> Result<(), AllocError>
+    ensures { Adds result writer.old writer.new (spec.path (regions points.now) route.now) }
 {
-    put_key(writer, "way")?;
+    put_key(writer, "path")?;
     open_object(writer)?;
     put_kind(writer, route.kind)?;
     put_like(writer, route.like)?;
     put_key(writer, "steps")?;
-    put_steps(alloc, writer, &route.stages)?;
-    put_steps_member(alloc, writer, "other", &route.other)?;
+    put_steps(alloc, writer, points, &route.stages)?;
+    put_steps_member(alloc, writer, points, "other", &route.other)?;
     close_object(writer)
 }
 
-fn put_route(alloc: Global, writer: &mut Writer, route: &Route) -> Result<(), AllocError>
-    ensures { Adds result writer.old writer.new (spec.route route.now) }
+fn put_route(
+    alloc: Global,
+    writer: &mut Writer,
+    points: &Points<'_>,
+    route: &Route,
+) -> Result<(), AllocError>
+    ensures { Adds result writer.old writer.new (spec.route (regions points.now) route.now) }
 {
     put_state(writer, route.state)?;
     put_maker_member(alloc, writer, "origin", &route.origin)?;
-    put_way(alloc, writer, route)
+    put_path(alloc, writer, points, route)
 }
 
 fn put_finding(
     alloc: Global,
     writer: &mut Writer,
     name: &str,
+    points: &Points<'_>,
     detail: &Detail,
 ) -> Result<(), AllocError>
-    ensures { Adds result writer.old writer.new (spec.finding name.now detail.now) }
+    ensures { Adds result writer.old writer.new (spec.finding name.now (regions points.now) detail.now) }
 {
     open_object(writer)?;
-    put_string(writer, "file", name)?;
+    put_preface(writer, "finding", name)?;
     put_place(writer, detail)?;
     put_rule(alloc, writer, &detail.finding)?;
     put_words(alloc, writer, &detail.words)?;
-    put_route(alloc, writer, &detail.route)?;
+    put_route(alloc, writer, points, &detail.route)?;
     close_object(writer)
 }
 
 /// A finding on a line of its own, behind what is there.
-fn put_line(alloc: Global, out: Vec<u8>, name: &str, detail: &Detail) -> Result<Vec<u8>, AllocError>
-    ensures { IfOk result (λ v. v.items ≡ out.items ++ spec.finding_line name.now detail.now) }
+fn put_line(
+    alloc: Global,
+    out: Vec<u8>,
+    name: &str,
+    lines: &Lines<'_>,
+    graph: &Graph,
+    detail: &Detail,
+) -> Result<Vec<u8>, AllocError>
+    ensures { IfOk result (λ v. v.items ≡ out.items ++ spec.finding_line name.now lines.now graph.now detail.now) }
 {
+    let points = Points {
+        lines,
+        graph,
+        callback: detail.finding.callback,
+    };
     let mut writer = Writer::new(out);
-    put_finding(alloc, &mut writer, name, detail)?;
+    put_finding(alloc, &mut writer, name, &points, detail)?;
     let mut out = writer.into_inner();
     out.push(b'\n')?;
     Ok(out)
 }
 
-/// A line for each finding, behind what is there.
+/// A line for each finding of a text with this graph, after what is there.
 pub(crate) fn put_lines(
     alloc: Global,
     out: Vec<u8>,
     name: &str,
+    lines: &Lines<'_>,
+    graph: &Graph,
     details: &[Detail],
 ) -> Result<Vec<u8>, AllocError>
-    ensures { IfOk result (λ v. v.items ≡ out.items ++ flat_map (spec.finding_line name.now) details.now) }
+    ensures { IfOk result (λ v. v.items ≡ out.items ++ flat_map (spec.finding_line name.now lines.now graph.now) details.now) }
 {
     let mut out = out;
     for detail in details {
-        out = put_line(alloc, out, name, detail)?;
+        out = put_line(alloc, out, name, lines, graph, detail)?;
     }
     Ok(out)
 }

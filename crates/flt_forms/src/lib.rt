@@ -5,11 +5,16 @@
 mod artifacts;
 mod as_lines;
 mod as_sarif;
+mod clean;
 mod columns;
 mod fault;
 mod file;
 mod finding;
+mod fingerprints;
 mod members;
+mod paragraphs;
+mod points;
+mod preface;
 mod results;
 mod rules;
 mod short;

@@ -77,7 +77,7 @@ pub(crate) fn put_null(writer: &mut Writer, name: &str) -> Result<(), AllocError
 }
 
 /// The place of the first byte, and that of the last.
-fn put_region_members(writer: &mut Writer, region: Region) -> Result<(), AllocError>
+pub(crate) fn put_region_members(writer: &mut Writer, region: Region) -> Result<(), AllocError>
     ensures { spec.Adds result writer.old writer.new (spec.region_members region) }
 {
     put_number(writer, "line", region.first.line)?;

@@ -1,12 +1,14 @@
 //! Results of SARIF: findings and faults of texts.
 
-ghost use Rattle.std.specs.Prelude.{◌≡◌, codes, flat_map, length};
+ghost use Rattle.std.specs.Prelude.{◌≡◌, ◌∷◌, ◌++◌, [], OnOk, codes, flat_map, length};
 ghost use Rattle.flt_forms.specs.Columns.{column_behind, column_of};
-ghost use Rattle.flt_forms.specs.Members.{Adds, array_member, number_member};
+ghost use Rattle.flt_forms.specs.Fingerprints.{finding_key, fingerprint};
+ghost use Rattle.flt_forms.specs.Members.{Added, Adds, array_member, number_member};
 ghost use Rattle.flt_forms.specs.Results as spec;
 
 use crate::columns::{column_behind, column_of};
 use crate::file::File;
+use crate::fingerprints as keys;
 use crate::members::{
     close_array, close_object, open_array, open_object, put_filled, put_items, put_key, put_number,
     put_string, put_text,
@@ -476,19 +478,21 @@ fn put_related(
     close_array(writer)
 }
 
-/// The head of a callback, and what is said of it.
+/// The head of a callback, what is said of it, and a fingerprint.
 pub(crate) fn put_fingerprints(
     alloc: Global,
     writer: &mut Writer,
     head: &Vec<u8>,
     subject: &Vec<u8>,
+    print: &str,
 ) -> Result<(), AllocError>
-    ensures { Adds result writer.old writer.new (spec.fingerprints head.now.items subject.now.items) }
+    ensures { Adds result writer.old writer.new (spec.fingerprints head.now.items subject.now.items print.now) }
 {
     put_key(writer, "partialFingerprints")?;
     open_object(writer)?;
     put_text(alloc, writer, "callback/v1", head)?;
     put_text(alloc, writer, "subject/v1", subject)?;
+    put_string(writer, "callbackRuleSubject/v2", print)?;
     close_object(writer)
 }
 
@@ -509,8 +513,9 @@ fn put_result_members(
     writer: &mut Writer,
     file: &File<'_>,
     detail: &Detail,
+    print: &str,
 ) -> Result<(), AllocError>
-    ensures { Adds result writer.old writer.new (spec.result_members file.now detail.now) }
+    ensures { Adds result writer.old writer.new (spec.result_members file.now print.now detail.now) }
 {
     put_of_rule(alloc, writer, Reported::Broken(detail.finding.rule))?;
     put_level(writer)?;
@@ -518,23 +523,47 @@ fn put_result_members(
     put_marked_locations(alloc, writer, file, detail.marks, &detail.words.title)?;
     put_related(alloc, writer, file, &detail.route.origin)?;
     put_flows(alloc, writer, file, detail)?;
-    put_fingerprints(alloc, writer, &detail.words.head, &detail.words.subject)?;
+    put_fingerprints(
+        alloc,
+        writer,
+        &detail.words.head,
+        &detail.words.subject,
+        print,
+    )?;
     put_properties(alloc, writer, detail)?;
     put_not_suppressed(writer)
 }
 
-/// A finding.
+/// A finding of this fingerprint.
 fn put_result(
     alloc: Global,
     writer: &mut Writer,
     file: &File<'_>,
     detail: &Detail,
+    print: &str,
 ) -> Result<(), AllocError>
-    ensures { Adds result writer.old writer.new (spec.result file.now detail.now) }
+    ensures { Adds result writer.old writer.new (spec.result file.now print.now detail.now) }
 {
     open_object(writer)?;
-    put_result_members(alloc, writer, file, detail)?;
+    put_result_members(alloc, writer, file, detail, print)?;
     close_object(writer)
+}
+
+/// A finding with its fingerprint, where these are the keys of those before; its key is one of them from then on.
+fn put_next_result(
+    alloc: Global,
+    writer: &mut Writer,
+    file: &File<'_>,
+    before: &mut Items<Items<u8>>,
+    detail: &Detail,
+) -> Result<(), AllocError>
+    ensures { OnOk result ((before.new ≡ before.old ++ finding_key file.now.lines detail.now ∷ []) × Added writer.old writer.new
+        (spec.result file.now (fingerprint before.old (finding_key file.now.lines detail.now)) detail.now)) }
+{
+    let key = keys::finding_key(alloc, &file.lines, detail)?;
+    let print = keys::next_fingerprint(alloc, before, key.as_str())?;
+    put_result(alloc, writer, file, detail, print.as_str())?;
+    Ok(())
 }
 
 /// Findings, in their order.
@@ -544,10 +573,11 @@ pub(crate) fn put_results(
     file: &File<'_>,
     details: &[Detail],
 ) -> Result<(), AllocError>
-    ensures { Adds result writer.old writer.new (flat_map (spec.result file.now) details.now) }
+    ensures { Adds result writer.old writer.new (spec.results_of file.now details.now) }
 {
+    let mut before = Items::new(alloc);
     for detail in details {
-        put_result(alloc, writer, file, detail)?;
+        put_next_result(alloc, writer, file, &mut before, detail)?;
     }
     Ok(())
 }

@@ -2,12 +2,14 @@
 
 ghost use Rattle.std.specs.Prelude.{◌≡◌, ◌∷◌, [], IfOk, List, codes, string_bytes};
 ghost use Rattle.json.specs.Token.{Token, string};
-ghost use Rattle.flt_forms.specs.Members.{Added, Adds, array_member, number_member, object_member, string_member};
+ghost use Rattle.flt_forms.specs.Members.{Added, Adds, array_member, number_member, object_member, string_member, text_member};
+ghost use Rattle.flt_forms.specs.Paragraphs as paragraphs;
 ghost use Rattle.flt_forms.specs.Rules as spec;
 
 use crate::members::{
-    close_array, close_object, open_array, open_object, put_key, put_number, put_string,
+    close_array, close_object, open_array, open_object, put_key, put_number, put_string, put_text,
 };
+use crate::paragraphs::first_paragraph;
 use flt_details::{RuleName, fault_name};
 use flt_pages::page;
 use flt_rules::{Rule, text};
@@ -236,8 +238,7 @@ fn put_names(writer: &mut Writer, reported: Reported) -> Result<(), AllocError>
     ensures { Adds result writer.old writer.new (spec.names reported) }
 {
     put_words(writer, "name", reported)?;
-    put_words_member(writer, "shortDescription", reported)?;
-    put_words_member(writer, "fullDescription", reported)
+    put_words_member(writer, "shortDescription", reported)
 }
 
 fn put_level(writer: &mut Writer, name: &str, reported: Reported) -> Result<(), AllocError>
@@ -287,6 +288,33 @@ fn put_properties(writer: &mut Writer, reported: Reported) -> Result<(), AllocEr
     close_object(writer)
 }
 
+fn put_paragraph(alloc: Global, writer: &mut Writer, page: &str) -> Result<(), AllocError>
+    ensures { Adds result writer.old writer.new (text_member (codes "text") (paragraphs.first_paragraph page.now)) }
+{
+    let paragraph = first_paragraph(alloc, page.as_bytes())?;
+    put_text(alloc, writer, "text", &paragraph)
+}
+
+fn put_described(alloc: Global, writer: &mut Writer, page: &str) -> Result<(), AllocError>
+    ensures { Adds result writer.old writer.new
+        (object_member (codes "fullDescription") (text_member (codes "text") (paragraphs.first_paragraph page.now))) }
+{
+    put_key(writer, "fullDescription")?;
+    open_object(writer)?;
+    put_paragraph(alloc, writer, page)?;
+    close_object(writer)
+}
+
+/// What a page says first, if there is one.
+fn put_description(alloc: Global, writer: &mut Writer, page: Option<&str>) -> Result<(), AllocError>
+    ensures { Adds result writer.old writer.new (spec.description page.entry) }
+{
+    match page {
+        None => Ok(()),
+        Some(page) => put_described(alloc, writer, page),
+    }
+}
+
 fn put_page(writer: &mut Writer, page: &str) -> Result<(), AllocError>
     ensures { Adds result writer.old writer.new (object_member (codes "help") (spec.page_members page.now)) }
 {
@@ -308,6 +336,7 @@ fn put_help(writer: &mut Writer, page: Option<&str>) -> Result<(), AllocError>
 }
 
 fn put_rule_item(
+    alloc: Global,
     writer: &mut Writer,
     id: &str,
     reported: Reported,
@@ -318,6 +347,7 @@ fn put_rule_item(
     open_object(writer)?;
     put_string(writer, "id", id)?;
     put_names(writer, reported)?;
+    put_description(alloc, writer, page)?;
     put_help(writer, page)?;
     put_configuration(writer, reported)?;
     put_properties(writer, reported)?;
@@ -330,7 +360,7 @@ fn put_rule(alloc: Global, writer: &mut Writer, reported: Reported) -> Result<()
 {
     let id = id_of(alloc, reported)?;
     let page = page(id.as_str());
-    put_rule_item(writer, id.as_str(), reported, page)?;
+    put_rule_item(alloc, writer, id.as_str(), reported, page)?;
     Ok(())
 }
 

@@ -1,13 +1,15 @@
-//! Steps of ways, as JSON.
+//! Steps of paths, as JSON.
 
 ghost use Rattle.std.specs.Prelude.{◌≡◌, codes};
 ghost use Rattle.flt_forms.specs.Members.{Adds, string_member};
+ghost use Rattle.flt_forms.specs.Points.{regions};
 ghost use Rattle.flt_forms.specs.Steps as spec;
 
 use crate::members::{
     close_array, close_object, open_array, open_object, put_filled, put_key, put_marks, put_null,
-    put_number, put_string,
+    put_number, put_region_members, put_string,
 };
+use crate::points::Points;
 use flt_details::{Maker, Stage, WayKind};
 use json::Writer;
 use sqlite_items::Items;
@@ -31,14 +33,14 @@ fn kind_name(kind: WayKind) -> &'static str
     }
 }
 
-/// What a way is.
+/// What a path is.
 pub(crate) fn put_kind(writer: &mut Writer, kind: WayKind) -> Result<(), AllocError>
     ensures { Adds result writer.old writer.new (string_member (codes "kind") (spec.kind_name kind)) }
 {
     put_string(writer, "kind", kind_name(kind))
 }
 
-/// The number of the finding whose way serves, or null.
+/// The number of the finding whose path serves, or null.
 pub(crate) fn put_like(writer: &mut Writer, like: Option<usize>) -> Result<(), AllocError>
     ensures { Adds result writer.old writer.new (spec.like_member like) }
 {
@@ -48,13 +50,17 @@ pub(crate) fn put_like(writer: &mut Writer, like: Option<usize>) -> Result<(), A
     }
 }
 
-fn put_step(alloc: Global, writer: &mut Writer, stage: &Stage) -> Result<(), AllocError>
-    ensures { Adds result writer.old writer.new (spec.step stage.now) }
+fn put_step(
+    alloc: Global,
+    writer: &mut Writer,
+    points: &Points<'_>,
+    stage: &Stage,
+) -> Result<(), AllocError>
+    ensures { Adds result writer.old writer.new (spec.step (regions points.now) stage.now) }
 {
     open_object(writer)?;
     put_number(writer, "point", stage.point)?;
-    put_number(writer, "line", stage.place.line)?;
-    put_number(writer, "column", stage.place.column)?;
+    put_region_members(writer, points.region(stage.point))?;
     put_side(writer, stage.granted)?;
     put_filled(alloc, writer, "words", &stage.words)?;
     close_object(writer)
@@ -63,13 +69,14 @@ fn put_step(alloc: Global, writer: &mut Writer, stage: &Stage) -> Result<(), All
 pub(crate) fn put_steps(
     alloc: Global,
     writer: &mut Writer,
+    points: &Points<'_>,
     stages: &Items<Stage>,
 ) -> Result<(), AllocError>
-    ensures { Adds result writer.old writer.new (spec.steps stages.now) }
+    ensures { Adds result writer.old writer.new (spec.steps (regions points.now) stages.now) }
 {
     open_array(writer)?;
     for stage in stages.as_slice() {
-        put_step(alloc, writer, stage)?;
+        put_step(alloc, writer, points, stage)?;
     }
     close_array(writer)
 }
@@ -106,16 +113,17 @@ pub(crate) fn put_maker_member(
 pub(crate) fn put_steps_member(
     alloc: Global,
     writer: &mut Writer,
+    points: &Points<'_>,
     name: &str,
     stages: &Option<Items<Stage>>,
 ) -> Result<(), AllocError>
-    ensures { Adds result writer.old writer.new (spec.steps_member name.now stages.now) }
+    ensures { Adds result writer.old writer.new (spec.steps_member (regions points.now) name.now stages.now) }
 {
     match stages {
         None => put_null(writer, name),
         Some(stages) => {
             put_key(writer, name)?;
-            put_steps(alloc, writer, stages)
+            put_steps(alloc, writer, points, stages)
         }
     }
 }

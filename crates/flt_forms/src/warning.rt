@@ -9,6 +9,7 @@ use crate::members::{
     close_array, close_object, open_array, open_object, put_filled_items, put_items, put_key,
     put_marks, put_null, put_number, put_string,
 };
+use crate::preface::put_preface;
 use flt_warning_details::{RelatedPlace, WarningDetail};
 use flt_warnings::{Kind, Site};
 use json::Writer;
@@ -133,7 +134,7 @@ fn put_warning(
     ensures { Adds result writer.old writer.new (spec.warning name.now detail.now) }
 {
     open_object(writer)?;
-    put_string(writer, "file", name)?;
+    put_preface(writer, "warning", name)?;
     put_place(writer, detail)?;
     put_words(alloc, writer, detail)?;
     put_related(alloc, writer, detail)?;

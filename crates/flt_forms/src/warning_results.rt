@@ -1,10 +1,12 @@
 //! Results of SARIF: warnings.
 
-ghost use Rattle.std.specs.Prelude.{◌≡◌, IfOk, codes, flat_map};
-ghost use Rattle.flt_forms.specs.Members.{Adds, array_member};
+ghost use Rattle.std.specs.Prelude.{◌≡◌, ◌∷◌, ◌++◌, [], IfOk, OnOk, codes, flat_map};
+ghost use Rattle.flt_forms.specs.Fingerprints.{fingerprint, warning_key};
+ghost use Rattle.flt_forms.specs.Members.{Added, Adds, array_member};
 ghost use Rattle.flt_forms.specs.WarningResults as spec;
 
 use crate::file::File;
+use crate::fingerprints as keys;
 use crate::members::{
     close_array, close_object, open_array, open_object, put_filled_items, put_items, put_key,
     put_string,
@@ -146,7 +148,7 @@ fn put_suppressions(
 
 // ---- results
 
-/// A warning, with this title, in the callback of this head.
+/// A warning of this fingerprint, with this title, in the callback of this head.
 fn put_result_members(
     alloc: Global,
     writer: &mut Writer,
@@ -154,34 +156,53 @@ fn put_result_members(
     detail: &WarningDetail,
     title: &Vec<u8>,
     head: &Vec<u8>,
+    print: &str,
 ) -> Result<(), AllocError>
     ensures { Adds result writer.old writer.new
-        (spec.result_members file.now detail.now title.now.items head.now.items) }
+        (spec.result_members file.now print.now detail.now title.now.items head.now.items) }
 {
     put_of_rule(alloc, writer, Reported::Warned(detail.kind))?;
     put_warning_level(writer)?;
     put_message(alloc, writer, title)?;
     put_marked_locations(alloc, writer, file, detail.marks, title)?;
     put_related(alloc, writer, file, detail)?;
-    put_fingerprints(alloc, writer, head, title)?;
+    put_fingerprints(alloc, writer, head, title, print)?;
     put_properties(alloc, writer, detail)?;
     put_suppressions(alloc, writer, &detail.reason)
 }
 
-/// A warning.
+/// A warning of this fingerprint.
 fn put_result(
     alloc: Global,
     writer: &mut Writer,
     file: &File<'_>,
     detail: &WarningDetail,
+    print: &str,
 ) -> Result<(), AllocError>
-    ensures { Adds result writer.old writer.new (spec.result file.now detail.now) }
+    ensures { Adds result writer.old writer.new (spec.result file.now print.now detail.now) }
 {
     let title = vec_of(alloc, &detail.title)?;
     let head = vec_of(alloc, &detail.head)?;
     open_object(writer)?;
-    put_result_members(alloc, writer, file, detail, &title, &head)?;
+    put_result_members(alloc, writer, file, detail, &title, &head, print)?;
     close_object(writer)
+}
+
+/// A warning with its fingerprint, where these are the keys of those before; its key is one of them from then on.
+fn put_next_result(
+    alloc: Global,
+    writer: &mut Writer,
+    file: &File<'_>,
+    before: &mut Items<Items<u8>>,
+    detail: &WarningDetail,
+) -> Result<(), AllocError>
+    ensures { OnOk result ((before.new ≡ before.old ++ warning_key file.now.lines detail.now ∷ []) × Added writer.old writer.new
+        (spec.result file.now (fingerprint before.old (warning_key file.now.lines detail.now)) detail.now)) }
+{
+    let key = keys::warning_key(alloc, &file.lines, detail)?;
+    let print = keys::next_fingerprint(alloc, before, key.as_str())?;
+    put_result(alloc, writer, file, detail, print.as_str())?;
+    Ok(())
 }
 
 /// Warnings, in their order.
@@ -191,10 +212,11 @@ pub(crate) fn put_warning_results(
     file: &File<'_>,
     warned: &[WarningDetail],
 ) -> Result<(), AllocError>
-    ensures { Adds result writer.old writer.new (flat_map (spec.result file.now) warned.now) }
+    ensures { Adds result writer.old writer.new (spec.results_of file.now warned.now) }
 {
+    let mut before = Items::new(alloc);
     for detail in warned {
-        put_result(alloc, writer, file, detail)?;
+        put_next_result(alloc, writer, file, &mut before, detail)?;
     }
     Ok(())
 }

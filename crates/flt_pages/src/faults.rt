@@ -2,6 +2,8 @@
 
 pub(crate) const E01: &str = "E01: a byte that begins no token
 
+At this byte no token begins: no word, no number, and no symbol of the language.
+
     filter a altitude 100
     pre read {
       if n0 > 1 {
@@ -24,6 +26,9 @@ pub(crate) const E01: &str = "E01: a byte that begins no token
 ";
 
 pub(crate) const E02: &str = "E02: no word and no number
+
+A run of letters, digits and underscores is neither a word nor a number. A word has at most 64 bytes and begins with no digit; a number is
+decimal, less than 2^64, and has no leading zero.
 
     filter a altitude 100
     pre read {
@@ -50,6 +55,8 @@ A word of 65 bytes is E02, even where any word would be a fault.
 ";
 
 pub(crate) const E03: &str = "E03: an unexpected token
+
+The grammar allows other words, names, numbers or symbols there, or the text ends where more must follow.
 
     filter a altitude 100
     pre read {
@@ -116,6 +123,8 @@ pub(crate) const E03: &str = "E03: an unexpected token
 
 pub(crate) const E04: &str = "E04: an unknown name
 
+A word stands where only a variable, or something that the text declares, may stand, and it names none.
+
     filter a altitude 100
     pre read {
       FltReleaseContext c9
@@ -179,6 +188,8 @@ E04 is reported only where nothing but a name of one kind may stand. Where somet
 
 pub(crate) const E05: &str = "E05: declared twice
 
+The text declares a lock, a routine or another callback a second time.
+
     filter a altitude 100
     lock spin s
     lock push s
@@ -201,6 +212,8 @@ pub(crate) const E05: &str = "E05: declared twice
 ";
 
 pub(crate) const E06: &str = "E06: a limit is exceeded
+
+The text has more of something than the language allows, or a number that is out of its range.
 
     filter a altitude 100
     pre read {
@@ -250,6 +263,8 @@ pub(crate) const E06: &str = "E06: a limit is exceeded
 
 pub(crate) const E07: &str = "E07: a callback is missing
 
+The text lacks a callback that another part of it needs.
+
     filter a altitude 100
     post read {
       return FINISHED_PROCESSING
@@ -268,6 +283,8 @@ pub(crate) const E07: &str = "E07: a callback is missing
 ";
 
 pub(crate) const E08: &str = "E08: a variable twice in a call
+
+A call that reads one context variable and writes another is given the same variable for both.
 
     filter a altitude 100
     pre read {

@@ -1,6 +1,6 @@
 //! The layout of texts with comments and blank lines: what is laid out how, and that a layout is its own.
 
-use flt_layout::lay_out;
+use flt_layout::{FormatError, format, lay_out};
 use std::alloc::{AllocError, Global};
 use std::test::Fail;
 
@@ -59,5 +59,34 @@ fn wrong_layout(alloc: Global, rows: &[(&[u8], &[u8])]) -> Result<Option<usize>,
 #[test]
 fn texts_are_laid_out_within_memory(rt: HostRuntime) -> Result<(), Fail> {
     assert!(rt; wrong_layout(rt.alloc(), &LAYOUTS)?.is_none());
+    Ok(())
+}
+
+/// Whether `format` gives this layout of a text.
+fn is_formatted(alloc: Global, text: &[u8], layout: &[u8]) -> Result<bool, FormatError> {
+    Ok(format(alloc, text)?.as_slice() == layout)
+}
+
+/// Whether `format` reports a fault of a text at this place; lines and columns count from 1.
+fn is_refused_at(
+    alloc: Global,
+    text: &[u8],
+    line: usize,
+    column: usize,
+) -> Result<bool, FormatError> {
+    match format(alloc, text) {
+        Ok(_) => Ok(false),
+        Err(FormatError::Syntax(fault)) => Ok(fault.line == line && fault.column == column),
+        Err(why) => Err(why),
+    }
+}
+
+/// `tools/refuse-allocations.sh tests flt_tests memory` refuses each request for memory in turn.
+#[test]
+fn texts_are_formatted_within_memory(rt: HostRuntime) -> Result<(), Fail> {
+    let text = b"filter f altitude 1 pre read { return NO_CALLBACK }# end";
+    let layout = b"filter f altitude 1\npre read {\n  return NO_CALLBACK\n} # end\n";
+    assert!(rt; is_formatted(rt.alloc(), text, layout)?);
+    assert!(rt; is_refused_at(rt.alloc(), b"filter f @ altitude", 1, 10)?);
     Ok(())
 }

@@ -63,7 +63,8 @@ returns-in_ok-before-in-Show-clause-answers g c =
     c.fails_exactly_where_nothing_is_spelled.ensures.nowhere _ _ _ _ _ request _ _
     _ (rw c.in-Show.is at c.in_ok-text.ensures) said.1
     (kept_shown (g.P.Pictures.written c.show_files-said.new.pictures) _ c.in-Show.timeline c.in-Show.picture c.in-Show.journal.now
-    (map (λ name. name.now) c.in-Show.files.items) c.show_files-said.result c.show_files-said.ensures.untouched)
+    (map (λ name. name.now) c.in-Show.files.items) _ _ c.show_files-said.result c.show_files-said.ensures.drawn
+    c.show_files-said.ensures.untouched)
     (those_after _ _ _ _ _ c.report_on-in-Show.ensures.texts c.report_on-in-Show.ensures.journal said.2)
     c.report_on-in-Show.ensures.reported (remarked_after request _ _ _ c.in_ok-before-in-Show.ensures c.report_on-in-Show.ensures.remarked)
 

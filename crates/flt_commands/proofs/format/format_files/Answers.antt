@@ -12,4 +12,4 @@ returns-clause-said g c =
     (rw (c.as_slice.ensures.value, c.as_slice-2.ensures.value) at c.in_ok-files.ensures.are)
 
 pub returns-clause-kept : goal.returns-clause-kept
-returns-clause-kept g c = kept_formatted _ _ c.args.mode _ _ c.in_ok-files.ensures.done c.in_ok-files.ensures.still
+returns-clause-kept g c = kept_formatted _ _ c.args.mode _ _ _ c.in_ok-files.ensures.done c.in_ok-files.ensures.still

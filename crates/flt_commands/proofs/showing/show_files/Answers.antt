@@ -1,4 +1,5 @@
 use Rattle.std.proofs.Common.{◌≡◌, Err, [], refl, rules}
+use Rattle.flt_commands.proofs.Drawing.{no_picture}
 use Rattle.flt_commands.specs.Inputs.{given, unread}
 use Rattle.flt_commands.specs.declared.failure.Failure.TheVariants.{OutOfMemory}
 use Rattle.flt_commands.proofs.showing.show_files.Goals as goal
@@ -6,17 +7,17 @@ use Rattle.flt_commands.proofs.showing.show_files.Goals as goal
 pub returns-in_err-push : goal.returns-in_err-push
 returns-in_err-push g c =
     let fails : c.from_residual.result ≡ Err OutOfMemory = search rules in
-    rw fails (record { said = ([], unread OutOfMemory tt, refl); untouched = λ none. refl })
+    rw fails (record { said = ([], unread OutOfMemory tt, refl); drawn = no_picture _ c.args.name _ _; untouched = λ none. refl })
 
 pub returns-in_err-extend_from_slice : goal.returns-in_err-extend_from_slice
 returns-in_err-extend_from_slice g c =
     let fails : c.from_residual-in_err-extend_from_slice.result ≡ Err OutOfMemory = search rules in
-    rw fails (record { said = ([], unread OutOfMemory tt, refl); untouched = λ none. refl })
+    rw fails (record { said = ([], unread OutOfMemory tt, refl); drawn = no_picture _ c.args.name _ _; untouched = λ none. refl })
 
 pub returns-in_err-written : goal.returns-in_err-written
 returns-in_err-written g c =
     let fails : c.from_residual-in_err-written.result ≡ Err c.in_err-written.field-0.0 = search rules in
-    rw fails (record { said = ([], unread _ c.in_err-written.ensures.err, refl); untouched = λ none. refl })
+    rw fails (record { said = ([], unread _ c.in_err-written.ensures.err, refl); drawn = no_picture _ c.args.name _ _; untouched = λ none. refl })
 
 pub returns : goal.returns
 returns g c = record {
@@ -25,5 +26,6 @@ returns g c = record {
     given _ c.in_ok-written.ensures.ok (rw c.as_slice-2.ensures.value at c.show_texts.ensures.said),
     c.show_texts.ensures.kept refl,
   );
+  drawn = rw c.as_slice-2.ensures.value at c.show_texts.ensures.drawn;
   untouched = c.show_texts.ensures.untouched;
 }

@@ -12,9 +12,9 @@ returns c =
     let help : c.in_ok-help.help.items ≡ help_of c.in-Some.trouble =
     c.in_ok-help.ensures ∙ ap help_in c.in_ok-told.ensures.notes in
     let line : IsFaultLine c.args.source.name.now c.args.source.text.now
-    (line_of (fault c.args.source.name.now c.in-Some.trouble c.in_ok-told.told.title.items c.in_ok-help.help.items)) = record {
+    (line_of (fault c.args.source.name.now c.args.source.text.now c.in-Some.trouble c.in_ok-told.told.title.items c.in_ok-help.help.items)) = record {
       trouble = c.in-Some.trouble;
       described = described;
-      line = λ i. line_of (fault c.args.source.name.now c.in-Some.trouble (c.in_ok-told.ensures.title i) (help i));
+      line = λ i. line_of (fault c.args.source.name.now c.args.source.text.now c.in-Some.trouble (c.in_ok-told.ensures.title i) (help i));
     } in
-    (_, line, c.in_ok-written.ensures)
+    (_, line, rw c.in_ok-lines.ensures at c.in_ok-written.ensures)

@@ -1,14 +1,14 @@
-use Rattle.std.proofs.Common.{◌≡◌, ◌++◌, flat_map, ap, ◌∙◌, refl}
+use Rattle.std.proofs.Common.{◌≡◌, ◌++◌, ap, ◌∙◌, refl}
 use Rattle.flt_forms.specs.Sarif.{IsPart}
 use Rattle.flt_forms.specs.Warned.{status_of}
-use Rattle.flt_forms.specs.WarningResults.{result}
+use Rattle.flt_forms.specs.WarningResults.{results_of}
 use Rattle.flt_forms.proofs.Adding.{both}
 use Rattle.flt_forms.proofs.as_sarif.put_source.Goals as goal
 
 pub returns : goal.returns
 returns c =
     let first = c.in_ok-put_judged.ensures in
-    let shown = flat_map (result c.in_ok-file.file) c.in_ok-warned.warned in
+    let shown = results_of c.in_ok-file.file c.in_ok-warned.warned in
     let is : IsPart c.args.options c.args.names.now c.args.source (first.0 ++ shown) c.status_of.result = record {
       file = c.in_ok-file.file;
       of = c.in_ok-file.ensures;

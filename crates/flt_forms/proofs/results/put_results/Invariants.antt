@@ -1,7 +1,12 @@
-use Rattle.std.proofs.Common.{flat_map, take}
+use Rattle.std.proofs.Common.{◌≡◌, [], map, take}
+use Rattle.flt_forms.specs.Fingerprints.{finding_key, numbered}
 use Rattle.flt_forms.specs.Members.{Added}
 use Rattle.flt_forms.specs.Results.{result}
 use Rattle.flt_forms.proofs.results.put_results.Given as goal
 
+-- the keys so far, and the results with their fingerprints
 abbrev pub invariant-loop-detail : goal.invariant-loop-detail
-invariant-loop-detail l = Added l.initial.writer l.writer (flat_map (result l.file) (take l.detail-index l.details))
+invariant-loop-detail l = record {
+  keys : l.before ≡ map (finding_key l.file.lines) (take l.detail-index l.details);
+  added : Added l.initial.writer l.writer (numbered (finding_key l.file.lines) (result l.file) [] (take l.detail-index l.details));
+}

@@ -3,4 +3,4 @@ use Rattle.flt_forms.proofs.rules.put_names.Goals as goal
 
 pub returns : goal.returns
 returns c =
-    behind c.in_ok-put_words.ensures.ok (behind c.in_ok-put_words_member.ensures.ok c.put_words_member-2.ensures)
+    behind c.in_ok-put_words.ensures.ok c.put_words_member.ensures

@@ -1,5 +1,5 @@
 use Rattle.flt_forms.proofs.Adding.{behind}
-use Rattle.flt_forms.proofs.finding.put_way.Goals as goal
+use Rattle.flt_forms.proofs.finding.put_path.Goals as goal
 
 pub returns : goal.returns
 returns c =

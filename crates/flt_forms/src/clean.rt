@@ -1,0 +1,74 @@
+//! A text in which nothing is found and of which nothing is warned, as JSON.
+
+ghost use Rattle.std.specs.Prelude.{◌≡◌, ◌++◌, IfOk};
+ghost use Rattle.flt_forms.specs.Clean as spec;
+ghost use Rattle.flt_forms.specs.Members.{Adds, line_of};
+ghost use Rattle.flt_forms.specs.declared.as_lines.Style.TheVariants.{Object};
+
+use crate::as_lines::Style;
+use crate::members::{close_object, open_object};
+use crate::preface::put_preface;
+use flt_details::Judged;
+use flt_warning_details::WarningDetail;
+use json::Writer;
+use std::alloc::AllocError;
+
+/// Whether a text parses, nothing is found in it, and nothing is warned of.
+fn is_clean(judged: &Judged, warned: &[WarningDetail]) -> bool
+    ensures { result ≡ spec.is_clean judged.now warned.now }
+{
+    match judged {
+        Judged::Unread(_) => false,
+        Judged::Known(_, _, found) => found.as_slice().is_empty() && warned.is_empty(),
+    }
+}
+
+fn put_clean(writer: &mut Writer, name: &str) -> Result<(), AllocError>
+    ensures { Adds result writer.old writer.new (spec.clean name.now) }
+{
+    open_object(writer)?;
+    put_preface(writer, "clean", name)?;
+    close_object(writer)
+}
+
+/// The line of a text in which there is nothing, after what is there.
+fn put_line(out: Vec<u8>, name: &str) -> Result<Vec<u8>, AllocError>
+    ensures { IfOk result (λ v. v.items ≡ out.items ++ line_of (spec.clean name.now)) }
+{
+    let mut writer = Writer::new(out);
+    put_clean(&mut writer, name)?;
+    let mut out = writer.into_inner();
+    out.push(b'\n')?;
+    Ok(out)
+}
+
+fn put_object(
+    out: Vec<u8>,
+    name: &str,
+    judged: &Judged,
+    warned: &[WarningDetail],
+) -> Result<Vec<u8>, AllocError>
+    ensures { IfOk result (λ v. v.items ≡ out.items ++ spec.clean_lines Object name.now judged.now warned.now) }
+{
+    if is_clean(judged, warned) {
+        put_line(out, name)
+    } else {
+        Ok(out)
+    }
+}
+
+/// A line, if there is nothing in a text, after what is there.
+pub(crate) fn put_clean_lines(
+    out: Vec<u8>,
+    style: Style,
+    name: &str,
+    judged: &Judged,
+    warned: &[WarningDetail],
+) -> Result<Vec<u8>, AllocError>
+    ensures { IfOk result (λ v. v.items ≡ out.items ++ spec.clean_lines style name.now judged.now warned.now) }
+{
+    match style {
+        Style::Object => put_object(out, name, judged, warned),
+        Style::Sentence => Ok(out),
+    }
+}

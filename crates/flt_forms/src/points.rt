@@ -1,0 +1,25 @@
+//! Where the points of a callback are.
+
+ghost use Rattle.std.specs.Prelude.{◌≡◌};
+ghost use Rattle.flt_forms.specs.Points as spec;
+
+use flt_graph::Graph;
+use flt_places::{Lines, Region};
+
+/// A callback of a text, whose points have places.
+#[derive(Drop)]
+pub struct Points<'a> {
+    pub lines: &'a Lines<'a>,
+    pub graph: &'a Graph,
+    /// Its number, from 0.
+    pub callback: usize,
+}
+
+impl Points<'_> {
+    /// Where the statement of a point is; of an `if` what it asks. Points count from 0.
+    pub fn region(&self, point: usize) -> Region
+        ensures { result ≡ spec.regions self.now point }
+    {
+        self.lines.region(self.graph.span(self.callback, point))
+    }
+}
