@@ -1,10 +1,15 @@
 -- Tokens that are written one behind the other.
-use Rattle.std.proofs.Common.{◌≡◌, ℕ, ◌+◌, ◌<◌, List, [], ◌∷◌, ◌++◌, length, take, get_or, flat_map, Result, Ok, Err, ◌∙◌, ap, append_assoc, arith}
-use Rattle.std.proofs.lemmas.Grind.{common_steps}
+use Rattle.std.proofs.Common.{◌≡◌, ℕ, zero, suc, ◌+◌, ◌<◌, List, [], ◌∷◌, ◌++◌, length, take, get_or, flat_map, Result, Ok, Err, ◌∙◌, ap, append_assoc, append-nil, arith, refl, sym}
+use Rattle.std.proofs.lemmas.Grind.{common_steps, flat_map-append}
+use Rattle.std.specs.List.{range_with_len}
 use Rattle.json.specs.Print.{print}
 use Rattle.json.specs.Token.{Token}
 use Rattle.json.specs.Written.{Written}
 use Rattle.flt_forms.specs.Members.{Added, Adds, line_of}
+
+-- nothing is written
+pub none_added : (a : Written) → Added a a []
+none_added a = record { before = refl; tokens = sym (append-nil a.tokens) }
 
 module _ {a b c : Written} {xs ys : List Token} where
   -- what stands behind what stands behind
@@ -25,6 +30,24 @@ module _ {A : Type 0} (f : A → List Token) (all : List A) (i : ℕ) (one : A) 
       Added a c (flat_map f (take (i + 1) all))
   one_more {a} {b} {c} within is first second =
       let more : flat_map f (take (i + 1) all) ≡ flat_map f (take i all) ++ f one = grind (arith, common_steps) in
+      rw more (both first second)
+
+range_more : (from count : ℕ) → range_with_len from (count + 1) ≡ range_with_len from count ++ (from + count) ∷ []
+range_more from zero = let e : from ≡ from + 0 = omega arith in ap (λ n. n ∷ []) e
+range_more from (suc count) =
+    let e : suc count + 1 ≡ suc (count + 1) = omega arith in
+    let f : from + 1 + count ≡ from + suc count = omega arith in
+    rw e (ap (λ ns. from ∷ ns) (range_more (from + 1) count ∙ ap (λ n. range_with_len (from + 1) count ++ n ∷ []) f))
+
+module _ (f : ℕ → List Token) (count : ℕ) where
+  -- what is written of one number more
+  pub one_number_more : {a b c : Written} → Added a b (flat_map f (range_with_len 0 count)) → Added b c (f count) →
+      Added a c (flat_map f (range_with_len 0 (count + 1)))
+  one_number_more first second =
+      let e : 0 + count ≡ count = omega arith in
+      let more : flat_map f (range_with_len 0 (count + 1)) ≡ flat_map f (range_with_len 0 count) ++ f count =
+      ap (flat_map f) (range_more 0 count ∙ ap (λ n. range_with_len 0 count ++ n ∷ []) e)
+      ∙ flat_map-append f (range_with_len 0 count) (count ∷ []) ∙ ap (λ z. flat_map f (range_with_len 0 count) ++ z) (append-nil (f count)) in
       rw more (both first second)
 
 -- what a writer wrote behind some bytes, and a line feed

@@ -9,9 +9,28 @@ use crate::as_lines::Style;
 use crate::members::{close_object, open_object};
 use crate::preface::put_preface;
 use flt_details::Judged;
+use flt_explain::Finding;
 use flt_warning_details::WarningDetail;
 use json::Writer;
 use std::alloc::AllocError;
+
+fn has_none(warned: &[WarningDetail]) -> bool
+    ensures { result ≡ spec.has_none warned.now }
+{
+    match warned {
+        [] => true,
+        [_, ..] => false,
+    }
+}
+
+fn is_nothing(found: &[Finding], warned: &[WarningDetail]) -> bool
+    ensures { result ≡ spec.is_nothing found.now warned.now }
+{
+    match found {
+        [] => has_none(warned),
+        [_, ..] => false,
+    }
+}
 
 /// Whether a text parses, nothing is found in it, and nothing is warned of.
 fn is_clean(judged: &Judged, warned: &[WarningDetail]) -> bool
@@ -19,7 +38,7 @@ fn is_clean(judged: &Judged, warned: &[WarningDetail]) -> bool
 {
     match judged {
         Judged::Unread(_) => false,
-        Judged::Known(_, _, found) => found.as_slice().is_empty() && warned.is_empty(),
+        Judged::Known(_, _, found) => is_nothing(found.as_slice(), warned),
     }
 }
 

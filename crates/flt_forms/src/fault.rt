@@ -51,6 +51,12 @@ pub(crate) fn help_of(alloc: Global, told: &Told) -> Result<Vec<u8>, AllocError>
 }
 
 /// The column of the last byte of what is found where a text is refused.
+fn last_column(lines: &Lines<'_>, fault: SyntaxFault, found: &[u8]) -> usize
+    ensures { result ≡ spec.last_column lines.now fault found.now }
+{
+    column_up_to(lines, fault.line, fault.column, found.len())
+}
+
 fn put_end_column(
     writer: &mut Writer,
     lines: &Lines<'_>,
@@ -59,8 +65,7 @@ fn put_end_column(
 ) -> Result<(), AllocError>
     ensures { Adds result writer.old writer.new (number_member (codes "end_column") (spec.last_column lines.now fault found.now)) }
 {
-    let last = column_up_to(lines, fault.line, fault.column, found.len());
-    put_number(writer, "end_column", last)
+    put_number(writer, "end_column", last_column(lines, fault, found))
 }
 
 fn put_place(

@@ -1,7 +1,7 @@
 //! Steps of paths, as JSON.
 
 ghost use Rattle.std.specs.Prelude.{◌≡◌, codes};
-ghost use Rattle.flt_forms.specs.Members.{Adds, string_member};
+ghost use Rattle.flt_forms.specs.Members.{Adds, region_members, string_member};
 ghost use Rattle.flt_forms.specs.Points.{regions};
 ghost use Rattle.flt_forms.specs.Steps as spec;
 
@@ -50,6 +50,13 @@ pub(crate) fn put_like(writer: &mut Writer, like: Option<usize>) -> Result<(), A
     }
 }
 
+/// Where a point is.
+fn put_place(writer: &mut Writer, points: &Points<'_>, point: usize) -> Result<(), AllocError>
+    ensures { Adds result writer.old writer.new (region_members (regions points.now point)) }
+{
+    put_region_members(writer, points.region(point))
+}
+
 fn put_step(
     alloc: Global,
     writer: &mut Writer,
@@ -60,7 +67,7 @@ fn put_step(
 {
     open_object(writer)?;
     put_number(writer, "point", stage.point)?;
-    put_region_members(writer, points.region(stage.point))?;
+    put_place(writer, points, stage.point)?;
     put_side(writer, stage.granted)?;
     put_filled(alloc, writer, "words", &stage.words)?;
     close_object(writer)

@@ -1,6 +1,6 @@
 //! Results of SARIF: warnings.
 
-ghost use Rattle.std.specs.Prelude.{◌≡◌, ◌∷◌, ◌++◌, [], IfOk, OnOk, codes, flat_map};
+ghost use Rattle.std.specs.Prelude.{◌≡◌, ◌∷◌, ◌++◌, [], IfOk, codes, flat_map};
 ghost use Rattle.flt_forms.specs.Fingerprints.{fingerprint, warning_key};
 ghost use Rattle.flt_forms.specs.Members.{Added, Adds, array_member};
 ghost use Rattle.flt_forms.specs.WarningResults as spec;
@@ -196,7 +196,7 @@ fn put_next_result(
     before: &mut Items<Items<u8>>,
     detail: &WarningDetail,
 ) -> Result<(), AllocError>
-    ensures { OnOk result ((before.new ≡ before.old ++ warning_key file.now.lines detail.now ∷ []) × Added writer.old writer.new
+    ensures { IfOk result (λ _. (before.new ≡ before.old ++ warning_key file.now.lines detail.now ∷ []) × Added writer.old writer.new
         (spec.result file.now (fingerprint before.old (warning_key file.now.lines detail.now)) detail.now)) }
 {
     let key = keys::warning_key(alloc, &file.lines, detail)?;
