@@ -1,0 +1,4 @@
+pub mod Drifts
+pub mod Marks
+pub mod Names
+pub mod Reading

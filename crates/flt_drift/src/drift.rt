@@ -1,0 +1,238 @@
+//! Where a C file and its annotations say different things.
+
+ghost use Rattle.std.specs.Prelude.{◌≡◌, ◌++◌, [], IfOk, OnOk};
+ghost use Rattle.flt_drift.specs.Drifts as spec;
+ghost use Rattle.flt_drift.specs.Reading as reading;
+
+use crate::mark::{Mark, MarkKind};
+use crate::reader::marks;
+use flt_c::letters;
+use std::alloc::{AllocError, Global};
+
+/// How a C file and its annotations differ.
+#[derive(Clone, Copy, Debug)]
+pub enum DriftKind {
+    /// C01: an annotation names a call, and the code that it is about doesn't have its name. The place is that of the name in the annotation.
+    NotCalled,
+    /// C02: code has the name of a call, and the annotations about it don't name it. The place is that of the name in the code.
+    NotNamed,
+    /// C03: code returns a status, and the annotations about it return another one. The place is that of the status in the code, the other
+    /// place that of the first status in the annotations.
+    OtherStatus,
+}
+
+/// Some bytes of a file.
+#[derive(Clone, Copy, Debug)]
+pub struct Span {
+    /// How many bytes of the file stand before them.
+    pub start: usize,
+    /// How many they are.
+    pub length: usize,
+}
+
+/// A point in which a C file and its annotations differ.
+#[derive(Clone, Copy, Debug)]
+pub struct Drift {
+    pub kind: DriftKind,
+    /// How many bytes of the file stand before the word that it is about.
+    pub start: usize,
+    /// How many bytes this word has.
+    pub length: usize,
+    /// Another word of the file that it is about.
+    pub other: Option<Span>,
+}
+
+fn calls(call: usize, kind: MarkKind) -> bool
+    ensures { result ≡ spec.calls call kind }
+{
+    match kind {
+        MarkKind::Calls(other) => other == call,
+        _ => false,
+    }
+}
+
+fn names(call: usize, kind: MarkKind) -> bool
+    ensures { result ≡ spec.names call kind }
+{
+    match kind {
+        MarkKind::Names(other) => other == call,
+        _ => false,
+    }
+}
+
+fn answers(status: usize, kind: MarkKind) -> bool
+    ensures { result ≡ spec.answers status kind }
+{
+    match kind {
+        MarkKind::Answers(other) => other == status,
+        _ => false,
+    }
+}
+
+fn is_noted(kind: MarkKind) -> bool
+    ensures { result ≡ spec.is_noted kind }
+{
+    matches!(kind, MarkKind::Noted)
+}
+
+fn is_cut(kind: MarkKind) -> bool
+    ensures { result ≡ spec.is_cut kind }
+{
+    matches!(kind, MarkKind::Cut)
+}
+
+/// Whether the code of a stretch has the name of a call.
+fn is_called(call: usize, stretch: &[Mark]) -> bool
+    ensures { result ≡ spec.is_called call stretch.now }
+{
+    stretch.iter().any(|mark| calls(call, mark.kind))
+}
+
+/// Whether the annotations of a stretch name a call.
+fn is_named(call: usize, stretch: &[Mark]) -> bool
+    ensures { result ≡ spec.is_named call stretch.now }
+{
+    stretch.iter().any(|mark| names(call, mark.kind))
+}
+
+/// Whether a stretch has an annotation.
+fn is_annotated(stretch: &[Mark]) -> bool
+    ensures { result ≡ spec.is_annotated stretch.now }
+{
+    stretch.iter().any(|mark| is_noted(mark.kind))
+}
+
+/// Whether the annotations of a stretch return a status.
+fn is_answered(status: usize, stretch: &[Mark]) -> bool
+    ensures { result ≡ spec.is_answered status stretch.now }
+{
+    stretch.iter().any(|mark| answers(status, mark.kind))
+}
+
+/// The bytes of a return in an annotation.
+fn answer_of(mark: Mark) -> Option<Span>
+    ensures { result ≡ spec.answer_of mark mark.kind }
+{
+    match mark.kind {
+        MarkKind::Answers(_) => Some(Span {
+            start: mark.start,
+            length: mark.length,
+        }),
+        _ => None,
+    }
+}
+
+/// Those of the first return in the annotations of a stretch.
+fn first_answer(stretch: &[Mark]) -> Option<Span>
+    ensures { result ≡ spec.first_answer stretch.now }
+{
+    for mark in stretch {
+        if let Some(answer) = answer_of(*mark) {
+            return Some(answer);
+        }
+    }
+    None
+}
+
+/// A drift where a mark is.
+fn put(
+    out: &mut Vec<Drift>,
+    kind: DriftKind,
+    mark: Mark,
+    other: Option<Span>,
+) -> Result<(), AllocError>
+    ensures { OnOk result (out.new.items ≡ out.old.items ++ spec.at kind mark other) }
+{
+    out.push(Drift {
+        kind,
+        start: mark.start,
+        length: mark.length,
+        other,
+    })?;
+    Ok(())
+}
+
+/// A return that the annotations don't have, where they have another one.
+fn put_other_status(
+    out: &mut Vec<Drift>,
+    mark: Mark,
+    answer: Option<Span>,
+) -> Result<(), AllocError>
+    ensures { OnOk result (out.new.items ≡ out.old.items ++ spec.other_status mark answer) }
+{
+    if let Some(answer) = answer {
+        put(out, DriftKind::OtherStatus, mark, Some(answer))?;
+    }
+    Ok(())
+}
+
+/// The drift of what a mark of a stretch says.
+fn put_drift(out: &mut Vec<Drift>, stretch: &[Mark], mark: Mark) -> Result<(), AllocError>
+    ensures { OnOk result (out.new.items ≡ out.old.items ++ spec.drift_by stretch.now mark mark.kind) }
+{
+    match mark.kind {
+        MarkKind::Names(call) => {
+            if !is_called(call, stretch) {
+                put(out, DriftKind::NotCalled, mark, None)?;
+            }
+        }
+        MarkKind::Calls(call) => {
+            if !(is_named(call, stretch) || !is_annotated(stretch)) {
+                put(out, DriftKind::NotNamed, mark, None)?;
+            }
+        }
+        MarkKind::Returns(status) => {
+            if !is_answered(status, stretch) {
+                put_other_status(out, mark, first_answer(stretch))?;
+            }
+        }
+        MarkKind::Answers(_) | MarkKind::Noted | MarkKind::Cut => {}
+    }
+    Ok(())
+}
+
+/// The drifts of a stretch.
+fn put_stretch(out: &mut Vec<Drift>, stretch: &[Mark]) -> Result<(), AllocError>
+    ensures { OnOk result (out.new.items ≡ out.old.items ++ spec.drifts_of stretch.now) }
+{
+    for mark in stretch {
+        put_drift(out, stretch, *mark)?;
+    }
+    Ok(())
+}
+
+/// The drifts of a file's marks.
+fn drifts_of(alloc: Global, marks: &[Mark]) -> Result<Vec<Drift>, AllocError>
+    ensures { IfOk result (λ found. found.items ≡ spec.drifts_from [] marks.now) }
+{
+    let mut found = Vec::new(alloc);
+    let mut stretch: Vec<Mark> = Vec::new(alloc);
+    for mark in marks {
+        if is_cut(mark.kind) {
+            put_stretch(&mut found, stretch.as_slice())?;
+            stretch.clear();
+        } else {
+            stretch.push(*mark)?;
+        }
+    }
+    put_stretch(&mut found, stretch.as_slice())?;
+    Ok(found)
+}
+
+/// The points in which a C file and its annotations differ, in the order of their places. A file that can't be read has none: `flt_c`
+/// reports its fault.
+///
+/// # Errors
+///
+/// A growth was refused.
+pub fn drifts(alloc: Global, file: &[u8]) -> Result<Vec<Drift>, AllocError>
+    ensures { IfOk result (λ found. found.items ≡ spec.drifts file.now) }
+{
+    match letters(alloc, file)? {
+        Ok(letters) => {
+            let marks = marks(alloc, letters.as_slice())?;
+            drifts_of(alloc, marks.as_slice())
+        }
+        Err(_) => Ok(Vec::new(alloc)),
+    }
+}

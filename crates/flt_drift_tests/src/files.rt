@@ -1,0 +1,129 @@
+//! Small C files, and the drifts in them.
+
+use flt_drift::{Drift, DriftKind, drifts};
+use std::alloc::Global;
+use std::test::Fail;
+
+/// A file, and for each drift its kind, its word, and the other word, which is empty where there is none.
+type Case = (
+    &'static str,
+    &'static [(DriftKind, &'static str, &'static str)],
+);
+
+/// Files that agree with their annotations.
+const AGREEING: [&str; 8] = [
+    "",
+    "/* no annotation */ int f(void) { FltReleaseContext(c); return FLT_PREOP_COMPLETE; }\n",
+    "f(c); FltReleaseContext(c); //@flt FltReleaseContext c0\n",
+    "s = FltGetStreamContext(a,\n  b);\nif (s >= 0) { //@flt if FltGetStreamContext c0 {\n} //@flt }\n",
+    "return FLT_PREOP_SUCCESS_NO_CALLBACK; //@flt return NO_CALLBACK\n",
+    "x = y; /*@flt-only*/ //@flt FltReferenceContext c1 as c0\n",
+    "//@flt # FltReleaseContext comes later\nx = 1;\n",
+    "int g(void) {\nFltReleaseContext(c);\n}\nint h(void) { //@flt pre read {\n} //@flt }\n",
+];
+
+/// Files that don't.
+const DRIFTING: [Case; 8] = [
+    (
+        "f(c); //@flt FltReleaseContext c0\n",
+        &[(DriftKind::NotCalled, "FltReleaseContext", "")],
+    ),
+    (
+        "FltReleaseContext(c); //@flt c0 = NULL\n",
+        &[(DriftKind::NotNamed, "FltReleaseContext", "")],
+    ),
+    (
+        "return FLT_PREOP_SYNCHRONIZE; //@flt return NO_CALLBACK\n",
+        &[(
+            DriftKind::OtherStatus,
+            "FLT_PREOP_SYNCHRONIZE",
+            "NO_CALLBACK",
+        )],
+    ),
+    (
+        "/* FltReleaseContext */ \"FltReleaseContext\"; //@flt FltReleaseContext c0\n",
+        &[(DriftKind::NotCalled, "FltReleaseContext", "")],
+    ),
+    (
+        "#define R FltReleaseContext\nR(c); //@flt FltReleaseContext c0\n",
+        &[(DriftKind::NotCalled, "FltReleaseContext", "")],
+    ),
+    (
+        "FltReleaseContext(c); //@flt FltReleaseContext c0\nFltReleaseContext(c); //@flt value c0 = 1\n",
+        &[(DriftKind::NotNamed, "FltReleaseContext", "")],
+    ),
+    (
+        "FltDeleteContext(c); //@flt FltReleaseContext c0\n",
+        &[
+            (DriftKind::NotNamed, "FltDeleteContext", ""),
+            (DriftKind::NotCalled, "FltReleaseContext", ""),
+        ],
+    ),
+    (
+        "FltReleaseContextX(c); //@flt FltReleaseContext c0 return COMPLETE\nreturn FLT_PREOP_COMPLETE; //@flt return PENDING\n",
+        &[
+            (DriftKind::NotCalled, "FltReleaseContext", ""),
+            (DriftKind::OtherStatus, "FLT_PREOP_COMPLETE", "PENDING"),
+        ],
+    ),
+];
+
+/// Whether bytes at a place of a file are a word.
+fn is_word_at(file: &[u8], start: usize, length: usize, word: &str) -> bool {
+    length == word.len() && start <= file.len() && file[start..].starts_with(word.as_bytes())
+}
+
+fn is_kind(one: DriftKind, other: DriftKind) -> bool {
+    matches!(
+        (one, other),
+        (DriftKind::NotCalled, DriftKind::NotCalled)
+            | (DriftKind::NotNamed, DriftKind::NotNamed)
+            | (DriftKind::OtherStatus, DriftKind::OtherStatus)
+    )
+}
+
+/// Whether a drift is of a kind, about a word and another one.
+fn is_drift(file: &[u8], drift: Drift, wanted: (DriftKind, &str, &str)) -> bool {
+    let is_other = match drift.other {
+        Some(span) => is_word_at(file, span.start, span.length, wanted.2),
+        None => wanted.2.is_empty(),
+    };
+    is_kind(drift.kind, wanted.0)
+        && is_word_at(file, drift.start, drift.length, wanted.1)
+        && is_other
+}
+
+/// Whether a file has the drifts that are wanted, and no other.
+fn has_drifts(
+    alloc: Global,
+    file: &str,
+    wanted: &[(DriftKind, &'static str, &'static str)],
+) -> Result<bool, Fail> {
+    let found = drifts(alloc, file.as_bytes())?;
+    if found.len() != wanted.len() {
+        return Ok(false);
+    }
+    for (drift, one) in found.as_slice().iter().zip(wanted.iter()) {
+        if !is_drift(file.as_bytes(), *drift, *one) {
+            return Ok(false);
+        }
+    }
+    Ok(true)
+}
+
+#[test]
+fn files_that_agree_have_no_drift_within_memory(rt: HostRuntime) -> Result<(), Fail> {
+    for file in &AGREEING {
+        let found = drifts(rt.alloc(), file.as_bytes())?;
+        assert!(rt; found.is_empty());
+    }
+    Ok(())
+}
+
+#[test]
+fn drifts_are_found_within_memory(rt: HostRuntime) -> Result<(), Fail> {
+    for case in &DRIFTING {
+        assert!(rt; has_drifts(rt.alloc(), case.0, case.1)?);
+    }
+    Ok(())
+}
