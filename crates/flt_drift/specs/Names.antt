@@ -6,12 +6,12 @@ use Rattle.std.specs.Str.{bytes_eq}
 unfoldable pub calls : List (List ℕ)
 calls =
     codes "FltAllocateContext" ∷ codes "FltGetStreamContext" ∷ codes "FltGetInstanceContext" ∷ codes "FltSetStreamContext"
-    ∷ codes "FltSetInstanceContext" ∷ codes "FltDeleteStreamContext" ∷ codes "FltDeleteInstanceContext" ∷ codes "FltCbdqInsertIo"
-    ∷ codes "FltCbdqRemoveNextIo" ∷ codes "FltQueueDeferredIoWorkItem" ∷ codes "FltQueueGenericWorkItem"
-    ∷ codes "FltDeleteContext" ∷ codes "FltReferenceContext" ∷ codes "FltReleaseContext" ∷ codes "KeAcquireSpinLock"
-    ∷ codes "KeReleaseSpinLock" ∷ codes "ExAcquireFastMutex" ∷ codes "ExReleaseFastMutex" ∷ codes "FltAcquirePushLockExclusive"
-    ∷ codes "FltAcquirePushLockShared" ∷ codes "FltReleasePushLock" ∷ codes "FltCompletePendedPreOperation"
-    ∷ codes "FltCompletePendedPostOperation" ∷ []
+    ∷ codes "FltSetInstanceContext" ∷ codes "FltDeleteStreamContext" ∷ codes "FltDeleteInstanceContext"
+    ∷ codes "FltCbdqInsertIo" ∷ codes "FltCbdqRemoveNextIo" ∷ codes "FltQueueDeferredIoWorkItem"
+    ∷ codes "FltQueueGenericWorkItem" ∷ codes "FltDeleteContext" ∷ codes "FltReferenceContext" ∷ codes "FltReleaseContext"
+    ∷ codes "KeAcquireSpinLock" ∷ codes "KeReleaseSpinLock" ∷ codes "ExAcquireFastMutex" ∷ codes "ExReleaseFastMutex"
+    ∷ codes "FltAcquirePushLockExclusive" ∷ codes "FltAcquirePushLockShared" ∷ codes "FltReleasePushLock"
+    ∷ codes "FltCompletePendedPreOperation" ∷ codes "FltCompletePendedPostOperation" ∷ []
 
 -- what callbacks return, as annotations have it
 unfoldable pub statuses : List (List ℕ)

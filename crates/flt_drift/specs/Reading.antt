@@ -37,10 +37,10 @@ is_aside part.Aside = true
 is_aside _ = false
 
 abbrev pub same_part : Part → Part → Bool
-same_part part.Code other = is_code other
-same_part part.Note other = is_note other
-same_part part.Aside other = is_aside other
-same_part part.Other other = false
+same_part part.Code second = is_code second
+same_part part.Note second = is_note second
+same_part part.Aside second = is_aside second
+same_part part.Other second = false
 
 -- ---- words
 
