@@ -67,7 +67,7 @@ Release(PFLT_CALLBACK_DATA_QUEUE Queue, KIRQL Irql)
 static NTSTATUS
 InstanceSetup(PCFLT_RELATED_OBJECTS FltObjects, FLT_INSTANCE_SETUP_FLAGS Flags,
               DEVICE_TYPE Device, FLT_FILESYSTEM_TYPE FileSystem)
-{                                                                      //@flt pre create {
+{                                                        /*@flt-only*/ //@flt pre create {
     PFLT_CONTEXT context = NULL;
     PINSTANCE_CONTEXT instance;
     NTSTATUS status;

@@ -2,3 +2,4 @@ pub mod Drifts
 pub mod Marks
 pub mod Names
 pub mod Reading
+pub mod Wrappers

@@ -26,6 +26,16 @@ c_statuses =
     ∷ codes "FLT_PREOP_COMPLETE" ∷ codes "FLT_PREOP_PENDING" ∷ codes "FLT_PREOP_DISALLOW_FASTIO"
     ∷ codes "FLT_POSTOP_FINISHED_PROCESSING" ∷ codes "FLT_POSTOP_MORE_PROCESSING_REQUIRED" ∷ []
 
+-- the operations whose callbacks the language has
+unfoldable pub operations : List (List ℕ)
+operations =
+    codes "create" ∷ codes "read" ∷ codes "write" ∷ codes "cleanup" ∷ []
+
+-- the same, in the same order, as C has it
+unfoldable pub c_operations : List (List ℕ)
+c_operations =
+    codes "IRP_MJ_CREATE" ∷ codes "IRP_MJ_READ" ∷ codes "IRP_MJ_WRITE" ∷ codes "IRP_MJ_CLEANUP" ∷ []
+
 -- the place of a word among others of which so many stand before these
 abbrev pub place_from : ℕ → List (List ℕ) → List ℕ → Option ℕ
 place_from n [] word = None
@@ -46,3 +56,11 @@ status_of word = place_among statuses word
 -- the status of a word of C, by the same place
 unfoldable pub c_status_of : List ℕ → Option ℕ
 c_status_of word = place_among c_statuses word
+
+-- the operation of a word of an annotation, by its place among the operations
+unfoldable pub operation_of : List ℕ → Option ℕ
+operation_of word = place_among operations word
+
+-- the operation of a word of C, by the same place
+unfoldable pub c_operation_of : List ℕ → Option ℕ
+c_operation_of word = place_among c_operations word

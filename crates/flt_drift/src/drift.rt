@@ -4,6 +4,9 @@ ghost use Rattle.std.specs.Prelude.{◌≡◌, ◌++◌, [], IfOk, OnOk};
 ghost use Rattle.flt_drift.specs.Drifts as spec;
 ghost use Rattle.flt_drift.specs.Reading as reading;
 
+use crate::callbacks::{
+    has_heads, has_table, is_post_headed, is_post_registered, is_pre_headed, is_pre_registered,
+};
 use crate::mark::{Mark, MarkKind};
 use crate::reader::marks;
 use flt_c::letters;
@@ -19,6 +22,13 @@ pub enum DriftKind {
     /// C03: code returns a status, and the annotations about it return another one. The place is that of the status in the code, the other
     /// place that of the first status in the annotations.
     OtherStatus,
+    /// C04: a table registers a callback, and no annotation begins it. The place is that of the callback's name.
+    NotAnnotated,
+    /// C04: an annotation begins a callback, and no table registers one. The place is that of the operation in the annotation.
+    NotRegistered,
+    /// A comment `@flt-call` isn't as it should be: it ends too early, or its second word is no call. The place is that of `-call` or of
+    /// this word.
+    Malformed,
 }
 
 /// Some bytes of a file.
@@ -166,56 +176,109 @@ fn put_other_status(
     Ok(())
 }
 
-/// The drift of what a mark of a stretch says.
-fn put_drift(out: &mut Vec<Drift>, stretch: &[Mark], mark: Mark) -> Result<(), AllocError>
-    ensures { OnOk result (out.new.items ≡ out.old.items ++ spec.drift_by stretch.now mark mark.kind) }
+/// A drift where a mark is, unless this holds.
+fn put_unless(
+    out: &mut Vec<Drift>,
+    holds: bool,
+    kind: DriftKind,
+    mark: Mark,
+) -> Result<(), AllocError>
+    ensures { OnOk result (out.new.items ≡ out.old.items ++ spec.unless holds kind mark) }
+{
+    if !holds {
+        put(out, kind, mark, None)?;
+    }
+    Ok(())
+}
+
+/// The drift of a callback that an entry registers or an annotation begins.
+fn put_callback(out: &mut Vec<Drift>, all: &[Mark], mark: Mark) -> Result<(), AllocError>
+    ensures { OnOk result (out.new.items ≡ out.old.items ++ spec.callback_drift all.now mark mark.kind) }
+{
+    match mark.kind {
+        MarkKind::RegistersPre(operation) => {
+            let holds = is_pre_headed(operation, all) || !has_heads(all);
+            put_unless(out, holds, DriftKind::NotAnnotated, mark)
+        }
+        MarkKind::RegistersPost(operation) => {
+            let holds = is_post_headed(operation, all) || !has_heads(all);
+            put_unless(out, holds, DriftKind::NotAnnotated, mark)
+        }
+        MarkKind::HeadsPre(operation) => {
+            let holds = is_pre_registered(operation, all) || !has_table(all);
+            put_unless(out, holds, DriftKind::NotRegistered, mark)
+        }
+        MarkKind::HeadsPost(operation) => {
+            let holds = is_post_registered(operation, all) || !has_table(all);
+            put_unless(out, holds, DriftKind::NotRegistered, mark)
+        }
+        _ => Ok(()),
+    }
+}
+
+/// The drift of a status that code returns.
+fn put_return(
+    out: &mut Vec<Drift>,
+    stretch: &[Mark],
+    mark: Mark,
+    status: usize,
+) -> Result<(), AllocError>
+    ensures { OnOk result (out.new.items ≡ out.old.items ++ spec.return_drift stretch.now mark status) }
+{
+    if !is_answered(status, stretch) {
+        put_other_status(out, mark, first_answer(stretch))?;
+    }
+    Ok(())
+}
+
+/// The drift of what a mark of a stretch says, of a file that has all these marks.
+fn put_drift(
+    out: &mut Vec<Drift>,
+    all: &[Mark],
+    stretch: &[Mark],
+    mark: Mark,
+) -> Result<(), AllocError>
+    ensures { OnOk result (out.new.items ≡ out.old.items ++ spec.drift_by all.now stretch.now mark mark.kind) }
 {
     match mark.kind {
         MarkKind::Names(call) => {
-            if !is_called(call, stretch) {
-                put(out, DriftKind::NotCalled, mark, None)?;
-            }
+            put_unless(out, is_called(call, stretch), DriftKind::NotCalled, mark)
         }
         MarkKind::Calls(call) => {
-            if !(is_named(call, stretch) || !is_annotated(stretch)) {
-                put(out, DriftKind::NotNamed, mark, None)?;
-            }
+            let holds = is_named(call, stretch) || !is_annotated(stretch);
+            put_unless(out, holds, DriftKind::NotNamed, mark)
         }
-        MarkKind::Returns(status) => {
-            if !is_answered(status, stretch) {
-                put_other_status(out, mark, first_answer(stretch))?;
-            }
-        }
-        MarkKind::Answers(_) | MarkKind::Noted | MarkKind::Cut => {}
+        MarkKind::Returns(status) => put_return(out, stretch, mark, status),
+        MarkKind::Malformed => put(out, DriftKind::Malformed, mark, None),
+        _ => put_callback(out, all, mark),
     }
-    Ok(())
 }
 
 /// The drifts of a stretch.
-fn put_stretch(out: &mut Vec<Drift>, stretch: &[Mark]) -> Result<(), AllocError>
-    ensures { OnOk result (out.new.items ≡ out.old.items ++ spec.drifts_of stretch.now) }
+fn put_stretch(out: &mut Vec<Drift>, all: &[Mark], stretch: &[Mark]) -> Result<(), AllocError>
+    ensures { OnOk result (out.new.items ≡ out.old.items ++ spec.drifts_of all.now stretch.now) }
 {
     for mark in stretch {
-        put_drift(out, stretch, *mark)?;
+        put_drift(out, all, stretch, *mark)?;
     }
     Ok(())
 }
 
-/// The drifts of a file's marks.
-fn drifts_of(alloc: Global, marks: &[Mark]) -> Result<Vec<Drift>, AllocError>
-    ensures { IfOk result (λ found. found.items ≡ spec.drifts_from [] marks.now) }
+/// The drifts of the marks of a file.
+fn drifts_of(alloc: Global, all: &[Mark]) -> Result<Vec<Drift>, AllocError>
+    ensures { IfOk result (λ found. found.items ≡ spec.drifts_of_marks all.now) }
 {
     let mut found = Vec::new(alloc);
     let mut stretch: Vec<Mark> = Vec::new(alloc);
-    for mark in marks {
+    for mark in all {
         if is_cut(mark.kind) {
-            put_stretch(&mut found, stretch.as_slice())?;
+            put_stretch(&mut found, all, stretch.as_slice())?;
             stretch.clear();
         } else {
             stretch.push(*mark)?;
         }
     }
-    put_stretch(&mut found, stretch.as_slice())?;
+    put_stretch(&mut found, all, stretch.as_slice())?;
     Ok(found)
 }
 

@@ -51,6 +51,15 @@ const C_STATUSES: [&[u8]; 8] = [
     b"FLT_POSTOP_MORE_PROCESSING_REQUIRED",
 ];
 
+const OPERATIONS: [&[u8]; 4] = [b"create", b"read", b"write", b"cleanup"];
+
+const C_OPERATIONS: [&[u8]; 4] = [
+    b"IRP_MJ_CREATE",
+    b"IRP_MJ_READ",
+    b"IRP_MJ_WRITE",
+    b"IRP_MJ_CLEANUP",
+];
+
 /// The place of a word among others, from 0.
 fn place_among(names: &[&[u8]], word: &[u8]) -> Option<usize>
     ensures { result ≡ spec.place_among (map (λ name. name.now) names.now) word.now }
@@ -85,4 +94,20 @@ pub(crate) fn c_status_of(word: &[u8]) -> Option<usize>
     ensures { result ≡ spec.c_status_of word.now }
 {
     place_among(C_STATUSES.as_slice(), word)
+}
+
+/// The operation of a word of an annotation, by its place among the operations.
+#[tactic(auto, unfolding(crate::specs::Names::operations, crate::specs::Names::operation_of))]
+pub(crate) fn operation_of(word: &[u8]) -> Option<usize>
+    ensures { result ≡ spec.operation_of word.now }
+{
+    place_among(OPERATIONS.as_slice(), word)
+}
+
+/// The operation of a word of C, by the same place.
+#[tactic(auto, unfolding(crate::specs::Names::c_operations, crate::specs::Names::c_operation_of))]
+pub(crate) fn c_operation_of(word: &[u8]) -> Option<usize>
+    ensures { result ≡ spec.c_operation_of word.now }
+{
+    place_among(C_OPERATIONS.as_slice(), word)
 }

@@ -11,7 +11,7 @@ type Case = (
 );
 
 /// Files that agree with their annotations.
-const AGREEING: [&str; 8] = [
+const AGREEING: [&str; 12] = [
     "",
     "/* no annotation */ int f(void) { FltReleaseContext(c); return FLT_PREOP_COMPLETE; }\n",
     "f(c); FltReleaseContext(c); //@flt FltReleaseContext c0\n",
@@ -20,10 +20,14 @@ const AGREEING: [&str; 8] = [
     "x = y; /*@flt-only*/ //@flt FltReferenceContext c1 as c0\n",
     "//@flt # FltReleaseContext comes later\nx = 1;\n",
     "int g(void) {\nFltReleaseContext(c);\n}\nint h(void) { //@flt pre read {\n} //@flt }\n",
+    "//@flt-call MyRelease FltReleaseContext\nMyRelease(c); //@flt FltReleaseContext c0\n",
+    "//@flt pre read { }\nT Callbacks[] = { { IRP_MJ_READ, 0, PreRead, NULL }, { IRP_MJ_PNP, 0, PrePnp } };\n",
+    "T Callbacks[] = { { IRP_MJ_READ, 0, PreRead, PostRead } };\n",
+    "//@flt pre read { }\n",
 ];
 
 /// Files that don't.
-const DRIFTING: [Case; 8] = [
+const DRIFTING: [Case; 13] = [
     (
         "f(c); //@flt FltReleaseContext c0\n",
         &[(DriftKind::NotCalled, "FltReleaseContext", "")],
@@ -66,6 +70,30 @@ const DRIFTING: [Case; 8] = [
             (DriftKind::OtherStatus, "FLT_PREOP_COMPLETE", "PENDING"),
         ],
     ),
+    (
+        "MyRelease(c); //@flt FltReleaseContext c0\n//@flt-call MyRelease FltReleaseContext\n",
+        &[(DriftKind::NotCalled, "FltReleaseContext", "")],
+    ),
+    (
+        "//@flt-call MyRelease FltRelease\n/*@flt-call MyRelease*/ //@flt-call\n",
+        &[
+            (DriftKind::Malformed, "FltRelease", ""),
+            (DriftKind::Malformed, "-call", ""),
+            (DriftKind::Malformed, "-call", ""),
+        ],
+    ),
+    (
+        "//@flt-call MyRelease FltReleaseContext\nMyRelease(c); //@flt c0 = NULL\n",
+        &[(DriftKind::NotNamed, "MyRelease", "")],
+    ),
+    (
+        "//@flt pre read { } post read { }\nT Callbacks[] = { { IRP_MJ_READ, 0, PreRead, NULL } };\n",
+        &[(DriftKind::NotRegistered, "read", "")],
+    ),
+    (
+        "//@flt pre create { }\nT Callbacks[] = { { IRP_MJ_CREATE, 0, PreCreate }, { IRP_MJ_CLEANUP, FLAG, NULL, PostCleanup } };\n",
+        &[(DriftKind::NotAnnotated, "PostCleanup", "")],
+    ),
 ];
 
 /// Whether bytes at a place of a file are a word.
@@ -79,6 +107,9 @@ fn is_kind(one: DriftKind, other: DriftKind) -> bool {
         (DriftKind::NotCalled, DriftKind::NotCalled)
             | (DriftKind::NotNamed, DriftKind::NotNamed)
             | (DriftKind::OtherStatus, DriftKind::OtherStatus)
+            | (DriftKind::NotAnnotated, DriftKind::NotAnnotated)
+            | (DriftKind::NotRegistered, DriftKind::NotRegistered)
+            | (DriftKind::Malformed, DriftKind::Malformed)
     )
 }
 
