@@ -22,8 +22,8 @@ use Rattle.flt_drift.specs.declared.word.Before.TheVariants as before
 use Rattle.flt_drift.specs.declared.word.Entry.{Entry}
 use Rattle.flt_drift.specs.declared.word.Entry.TheVariants as entry
 
--- where reading is: the word that is being read and what is known of it, of its line and of the code; of a comment `@flt-call` how far it is
--- read, where it began, and its function; the functions that make calls, and the marks so far
+-- where reading is: the word that is being read and what is known of it, of its line and of the code; of a comment `@flt-call` how far
+-- it is read, where it began, and its function; the functions that make calls, and the marks so far
 pub record State : Type 0 where
   pub word : List ℕ
   pub spoken : Spoken
@@ -113,7 +113,10 @@ named_entry (Some operation) at = entry.Name operation
 -- an entry of a table begins with a `{` and the name of an operation
 abbrev pub code_after : Spoken → List ℕ → Code → Code
 code_after spoken word code =
-    record { brace = code.brace; entry = if is_code spoken.part && spoken.opens then named_entry (c_operation_of word) code.entry else code.entry }
+    record {
+      brace = code.brace;
+      entry = if is_code spoken.part && spoken.opens then named_entry (c_operation_of word) code.entry else code.entry;
+    }
 
 -- what a word says
 abbrev pub said_by : State → Part → Option MarkKind

@@ -15,7 +15,8 @@ use std::alloc::{AllocError, Global};
 /// How a C file and its annotations differ.
 #[derive(Clone, Copy, Debug)]
 pub enum DriftKind {
-    /// C01: an annotation names a call, and the code that it is about doesn't have its name. The place is that of the name in the annotation.
+    /// C01: an annotation names a call, and the code that it is about doesn't have its name. The place is that of the name in the
+    /// annotation.
     NotCalled,
     /// C02: code has the name of a call, and the annotations about it don't name it. The place is that of the name in the code.
     NotNamed,
