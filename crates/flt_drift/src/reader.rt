@@ -329,9 +329,12 @@ impl Reader {
     fn declare(&mut self) -> Result<(), AllocError>
         ensures { OnOk result (spec.state_in self.new ≡ spec.declare (spec.call_word (spec.state_in self.old)) (spec.state_in self.old)) }
     {
-        match call_of(self.word.as_slice()) {
+        let begin = self.spoken.begin;
+        let length = self.word.len();
+        let call = call_of(self.word.as_slice());
+        match call {
             Some(call) => self.wrap(call),
-            None => self.refuse(self.spoken.begin, self.word.len()),
+            None => self.refuse(begin, length),
         }
     }
 
@@ -386,7 +389,8 @@ impl Reader {
         ensures { OnOk result (spec.state_in self.new ≡ spec.left part (spec.state_in self.old)) }
     {
         if !is_aside(part) && is_under_way(self.stage) {
-            self.refuse(self.opened, 5)?;
+            let opened = self.opened;
+            self.refuse(opened, 5)?;
         }
         Ok(())
     }
