@@ -1,7 +1,7 @@
 //! Small C files, and the drifts in them.
 
 use flt_drift::{Drift, DriftKind, drifts};
-use std::alloc::Global;
+use std::alloc::{AllocError, Global};
 use std::test::Fail;
 
 /// A file, and for each drift its kind, its word, and the other word, which is empty where there is none.
@@ -10,8 +10,16 @@ type Case = (
     &'static [(DriftKind, &'static str, &'static str)],
 );
 
+/// A callback as the driver ctx has it.
+const CLEANUP: &str =
+    "static STATUS\nPreCleanup(DATA Data)\n{                                  //@flt pre cleanup {\n    CONTEXT context = NULL;\n\n    status = FltGetStreamContext(Instance, File, &context);\n    if (NT_SUCCESS(status)) {      //@flt   if FltGetStreamContext c0 {\n        FltReleaseContext(context); //@flt     FltReleaseContext c0\n    }                              //@flt   }\n    return FLT_PREOP_SUCCESS_NO_CALLBACK; //@flt   return NO_CALLBACK\n}                                  //@flt }\n";
+
+/// The same, where its release is deleted in C alone.
+const LEAKING: &str =
+    "static STATUS\nPreCleanup(DATA Data)\n{                                  //@flt pre cleanup {\n    CONTEXT context = NULL;\n\n    status = FltGetStreamContext(Instance, File, &context);\n    if (NT_SUCCESS(status)) {      //@flt   if FltGetStreamContext c0 {\n                                   //@flt     FltReleaseContext c0\n    }                              //@flt   }\n    return FLT_PREOP_SUCCESS_NO_CALLBACK; //@flt   return NO_CALLBACK\n}                                  //@flt }\n";
+
 /// Files that agree with their annotations.
-const AGREEING: [&str; 12] = [
+static AGREEING: [&str; 16] = [
     "",
     "/* no annotation */ int f(void) { FltReleaseContext(c); return FLT_PREOP_COMPLETE; }\n",
     "f(c); FltReleaseContext(c); //@flt FltReleaseContext c0\n",
@@ -24,10 +32,14 @@ const AGREEING: [&str; 12] = [
     "//@flt pre read { }\nT Callbacks[] = { { IRP_MJ_READ, 0, PreRead, NULL }, { IRP_MJ_PNP, 0, PrePnp } };\n",
     "T Callbacks[] = { { IRP_MJ_READ, 0, PreRead, PostRead } };\n",
     "//@flt pre read { }\n",
+    CLEANUP,
+    "#if 0\nx; //@flt FltReleaseContext c0\n#endif\n",
+    "return (FLT_PREOP_COMPLETE); //@flt return COMPLETE STATUS_SUCCESS\n",
+    "return status; //@flt return NO_CALLBACK\n",
 ];
 
 /// Files that don't.
-const DRIFTING: [Case; 13] = [
+static DRIFTING: [Case; 16] = [
     (
         "f(c); //@flt FltReleaseContext c0\n",
         &[(DriftKind::NotCalled, "FltReleaseContext", "")],
@@ -94,6 +106,19 @@ const DRIFTING: [Case; 13] = [
         "//@flt pre create { }\nT Callbacks[] = { { IRP_MJ_CREATE, 0, PreCreate }, { IRP_MJ_CLEANUP, FLAG, NULL, PostCleanup } };\n",
         &[(DriftKind::NotAnnotated, "PostCleanup", "")],
     ),
+    (LEAKING, &[(DriftKind::NotCalled, "FltReleaseContext", "")]),
+    (
+        "x; //@flt FltReferenceContext c1 as c0\n/*@flt-only*/ y; //@flt FltReferenceContext c1 as c0\n",
+        &[(DriftKind::NotCalled, "FltReferenceContext", "")],
+    ),
+    (
+        "int g(void) {\nreturn FLT_POSTOP_FINISHED_PROCESSING; /*@flt return\nMORE_PROCESSING_REQUIRED */\n}\n",
+        &[(
+            DriftKind::OtherStatus,
+            "FLT_POSTOP_FINISHED_PROCESSING",
+            "MORE_PROCESSING_REQUIRED",
+        )],
+    ),
 ];
 
 /// Whether bytes at a place of a file are a word.
@@ -124,37 +149,52 @@ fn is_drift(file: &[u8], drift: Drift, wanted: (DriftKind, &str, &str)) -> bool 
         && is_other
 }
 
-/// Whether a file has the drifts that are wanted, and no other.
-fn has_drifts(
-    alloc: Global,
-    file: &str,
-    wanted: &[(DriftKind, &'static str, &'static str)],
-) -> Result<bool, Fail> {
-    let found = drifts(alloc, file.as_bytes())?;
+/// Whether drifts are those that are wanted, and no other.
+fn are_drifts(file: &[u8], found: &[Drift], wanted: &[(DriftKind, &str, &str)]) -> bool {
     if found.len() != wanted.len() {
-        return Ok(false);
+        return false;
     }
-    for (drift, one) in found.as_slice().iter().zip(wanted.iter()) {
-        if !is_drift(file.as_bytes(), *drift, *one) {
-            return Ok(false);
+    for (drift, one) in found.iter().zip(wanted.iter()) {
+        if !is_drift(file, *drift, *one) {
+            return false;
         }
     }
-    Ok(true)
+    true
+}
+
+/// The first file that has a drift.
+fn first_drifting(alloc: Global, files: &[&str]) -> Result<Option<usize>, AllocError> {
+    for (at, file) in files.iter().enumerate() {
+        let found = drifts(alloc, file.as_bytes())?;
+        if !found.is_empty() {
+            return Ok(Some(at));
+        }
+    }
+    Ok(None)
+}
+
+/// The first file that hasn't the drifts that are wanted.
+fn first_wrong(alloc: Global, cases: &[Case]) -> Result<Option<usize>, AllocError> {
+    for (at, case) in cases.iter().enumerate() {
+        let file = case.0.as_bytes();
+        let found = drifts(alloc, file)?;
+        if !are_drifts(file, found.as_slice(), case.1) {
+            return Ok(Some(at));
+        }
+    }
+    Ok(None)
 }
 
 #[test]
 fn files_that_agree_have_no_drift_within_memory(rt: HostRuntime) -> Result<(), Fail> {
-    for file in &AGREEING {
-        let found = drifts(rt.alloc(), file.as_bytes())?;
-        assert!(rt; found.is_empty());
-    }
+    let wrong = first_drifting(rt.alloc(), AGREEING.as_slice())?;
+    assert!(rt; wrong.is_none());
     Ok(())
 }
 
 #[test]
 fn drifts_are_found_within_memory(rt: HostRuntime) -> Result<(), Fail> {
-    for case in &DRIFTING {
-        assert!(rt; has_drifts(rt.alloc(), case.0, case.1)?);
-    }
+    let wrong = first_wrong(rt.alloc(), DRIFTING.as_slice())?;
+    assert!(rt; wrong.is_none());
     Ok(())
 }
