@@ -67,7 +67,7 @@ Release(PFLT_CALLBACK_DATA_QUEUE Queue, KIRQL Irql)
 static NTSTATUS
 InstanceSetup(PCFLT_RELATED_OBJECTS FltObjects, FLT_INSTANCE_SETUP_FLAGS Flags,
               DEVICE_TYPE Device, FLT_FILESYSTEM_TYPE FileSystem)
-{                                                                      //@flt pre create {
+{                                                        /*@flt-only*/ //@flt pre create {
     PFLT_CONTEXT context = NULL;
     PINSTANCE_CONTEXT instance;
     NTSTATUS status;
@@ -75,7 +75,7 @@ InstanceSetup(PCFLT_RELATED_OBJECTS FltObjects, FLT_INSTANCE_SETUP_FLAGS Flags,
     UNREFERENCED_PARAMETER(Flags);
     UNREFERENCED_PARAMETER(Device);
     UNREFERENCED_PARAMETER(FileSystem);
-                                                                       //@flt   if FltGetInstanceContext c0 { } else {
+                                                         /*@flt-only*/ //@flt   if FltGetInstanceContext c0 { } else {
     status = FltAllocateContext(Filter, FLT_INSTANCE_CONTEXT, sizeof(INSTANCE_CONTEXT),
                                 NonPagedPool, &context);
     if (!NT_SUCCESS(status)) {
@@ -165,14 +165,14 @@ PreRead(PFLT_CALLBACK_DATA Data, PCFLT_RELATED_OBJECTS FltObjects, PVOID *Comple
         }
         first = FltCbdqRemoveNextIo(&instance->Queue, NULL);
         if (first != NULL) {                                           //@flt         if FltCbdqRemoveNextIo o0 context c1 {
-                                                                       //@flt           if c1 != NULL { FltReleaseContext c1 }
+                                                         /*@flt-only*/ //@flt           if c1 != NULL { FltReleaseContext c1 }
             FltCompletePendedPreOperation(first, FLT_PREOP_SUCCESS_NO_CALLBACK, NULL);
                                                                        //@flt           FltCompletePendedPreOperation o0 NO_CALLBACK
         }                                                              //@flt         }
     }                                                                  //@flt       }
 
     /* A status of a text is a word and no variable. So the text has the lines below this label once for each answer. */
-Cleanup:                                                               //@flt       if c0 != NULL { FltReleaseContext c0 }
+Cleanup:                                                 /*@flt-only*/ //@flt       if c0 != NULL { FltReleaseContext c0 }
                                                                        //@flt       return PENDING
                                                                        //@flt   } }
     if (context != NULL) {                                             //@flt   if c0 != NULL {
@@ -191,7 +191,7 @@ LetGo(PFLT_GENERIC_WORKITEM Item, PVOID Object, PVOID Context)
     /* This goes on until the queue is empty. A loop of a text has a number of turns. */
     while ((data = FltCbdqRemoveNextIo(&instance->Queue, NULL)) != NULL) {
                                                                        //@flt   repeat 16 { if FltCbdqRemoveNextIo o0 context c0 {
-                                                                       //@flt     if c0 != NULL { FltReleaseContext c0 }
+                                                         /*@flt-only*/ //@flt     if c0 != NULL { FltReleaseContext c0 }
         FltCompletePendedPreOperation(data, FLT_PREOP_SUCCESS_NO_CALLBACK, NULL);
                                                                        //@flt     FltCompletePendedPreOperation o0 NO_CALLBACK
     }                                                                  //@flt   } }
@@ -203,7 +203,7 @@ static void
 CompleteCanceledIo(PFLT_CALLBACK_DATA_QUEUE Queue, PFLT_CALLBACK_DATA Data)
 {                                                                      //@flt canceled {
     UNREFERENCED_PARAMETER(Queue);
-                                                                       //@flt   if arg != NULL { FltReleaseContext arg }
+                                                         /*@flt-only*/ //@flt   if arg != NULL { FltReleaseContext arg }
     Data->IoStatus.Status = STATUS_CANCELLED;
     FltCompletePendedPreOperation(Data, FLT_PREOP_COMPLETE, NULL);
                                                                        //@flt   FltCompletePendedPreOperation data COMPLETE STATUS_CANCELLED

@@ -54,7 +54,7 @@ PostCreate(PFLT_CALLBACK_DATA Data, PCFLT_RELATED_OBJECTS Objects, PVOID Complet
                                                             //@flt       if FltSetStreamContext KEEP_IF_EXISTS c0 old c1 {
             if (status == STATUS_FLT_CONTEXT_ALREADY_DEFINED) {
                 FltReleaseContext(opens);                   //@flt       } else { if c1 != NULL { FltReleaseContext c0
-                opens = linked;                             //@flt           FltReferenceContext c1 as c0 FltReleaseContext c1
+                opens = linked;               /*@flt-only*/ //@flt           FltReferenceContext c1 as c0 FltReleaseContext c1
             }                                               //@flt       } }
         }                                                                               //@flt     }
     }                                                                                   //@flt   }

@@ -37,7 +37,7 @@ InstanceSetup(PCFLT_RELATED_OBJECTS FltObjects, FLT_INSTANCE_SETUP_FLAGS Flags,
     UNREFERENCED_PARAMETER(Flags);
     UNREFERENCED_PARAMETER(Device);
     UNREFERENCED_PARAMETER(FileSystem);
-                                                                       //@flt   if FltGetInstanceContext c0 { } else {
+                                                         /*@flt-only*/ //@flt   if FltGetInstanceContext c0 { } else {
     status = FltAllocateContext(Filter, FLT_INSTANCE_CONTEXT, sizeof(INSTANCE_CONTEXT),
                                 NonPagedPool, &context);               //@flt     if FltAllocateContext c0 {
     if (NT_SUCCESS(status)) {
@@ -70,7 +70,7 @@ PostCreate(PFLT_CALLBACK_DATA Data, PCFLT_RELATED_OBJECTS FltObjects, PVOID Comp
     NTSTATUS status;
 
     /* PreCreate hands no context over. The rules don't look at that, so the text releases what there might be. */
-    UNREFERENCED_PARAMETER(CompletionContext);                         //@flt   if arg != NULL { FltReleaseContext arg }
+    UNREFERENCED_PARAMETER(CompletionContext);           /*@flt-only*/ //@flt   if arg != NULL { FltReleaseContext arg }
 
     if (FlagOn(Flags, FLTFL_POST_OPERATION_DRAINING)) {                //@flt   if draining {
         goto Cleanup;                                                  //@flt     return FINISHED_PROCESSING
@@ -100,8 +100,8 @@ PostCreate(PFLT_CALLBACK_DATA Data, PCFLT_RELATED_OBJECTS FltObjects, PVOID Comp
             FltReleaseContext(context);                                //@flt         FltReleaseContext c0
             context = NULL;                                            //@flt         c0 = NULL
             if (linked != NULL) {                                      //@flt         if c1 != NULL {
-                context = linked;                                      //@flt           FltReferenceContext c1 as c0
-                                                                       //@flt           FltReleaseContext c1
+                context = linked;                        /*@flt-only*/ //@flt           FltReferenceContext c1 as c0
+                                                         /*@flt-only*/ //@flt           FltReleaseContext c1
             }                                                          //@flt         }
         }                                                              //@flt       }
     }                                                                  //@flt   } }

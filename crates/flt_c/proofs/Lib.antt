@@ -3,6 +3,7 @@ pub mod Divided
 pub mod FilesOn
 pub mod Follow
 pub mod Kept
+pub mod Lettering
 pub mod Pieced
 pub mod Placing
 pub mod Reading

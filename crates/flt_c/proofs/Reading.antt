@@ -37,7 +37,7 @@ pub past_start : (at : Place) (b : ℕ) (x : Bool) → (b == 10) ≡ x → (past
 past_start at b true e = rw e refl
 past_start at b false e = rw e refl
 
-not_zero : (n : ℕ) → 0 < n → (n == 0) ≡ false
+pub not_zero : (n : ℕ) → 0 < n → (n == 0) ≡ false
 not_zero n h = by (n == 0) refl
   where
     by : (x : Bool) → (n == 0) ≡ x → x ≡ false
@@ -53,11 +53,11 @@ read_over (b ∷ z) (suc m) s next p l e h =
     let f : (suc m == 0) ≡ false = not_zero (suc m) p in
     rw (sym e, h, q, f) (read_skip m next z)
 
-past_line : (at : Place) (b : ℕ) (x : Bool) → (b == 10) ≡ x → at.line ≤ at.start + 1 → (past at b).line ≤ at.start + 1 + 1
+pub past_line : (at : Place) (b : ℕ) (x : Bool) → (b == 10) ≡ x → at.line ≤ at.start + 1 → (past at b).line ≤ at.start + 1 + 1
 past_line at b true e h = rw e (omega (arith, h))
 past_line at b false e h = rw e (omega (arith, h))
 
-past_column : (at : Place) (b : ℕ) (x : Bool) → (b == 10) ≡ x → at.column ≤ at.start + 1 → (past at b).column ≤ at.start + 1 + 1
+pub past_column : (at : Place) (b : ℕ) (x : Bool) → (b == 10) ≡ x → at.column ≤ at.start + 1 → (past at b).column ≤ at.start + 1 + 1
 past_column at b true e h = rw e (omega arith)
 past_column at b false e h = rw e (omega (arith, h))
 

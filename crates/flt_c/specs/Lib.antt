@@ -2,6 +2,7 @@ pub mod Files
 pub mod Fronts
 pub mod InPlace
 pub mod Laws
+pub mod Letters
 pub mod Modes
 pub mod Pieces
 pub mod Places

@@ -29,7 +29,7 @@ pub struct FileFlaw {
 }
 
 /// How many bytes a C file has at most.
-const MAX_FILE: usize = 16_777_216;
+pub(crate) const MAX_FILE: usize = 16_777_216;
 
 /// How many bytes the text has at most: as many as a filter's text.
 const MAX_TEXT: usize = 65_536;

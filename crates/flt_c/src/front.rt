@@ -159,7 +159,7 @@ fn depth_after(depth: usize, front: Front, b: u8) -> usize
 }
 
 /// Whether bytes of code are read.
-fn is_code(mode: Mode) -> bool
+pub(crate) fn is_code(mode: Mode) -> bool
     ensures { result ≡ spec.is_code mode }
 {
     matches!(mode, Mode::Code | Mode::LetterR | Mode::Slash)
@@ -178,7 +178,7 @@ pub(crate) fn next_depth(mode: Mode, front: Front, depth: usize, b: u8) -> usize
     }
 }
 
-fn is_directive(front: Front) -> bool
+pub(crate) fn is_directive(front: Front) -> bool
     ensures { result ≡ spec.is_directive front }
 {
     !matches!(front, Front::Nothing | Front::Code)

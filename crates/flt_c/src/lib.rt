@@ -2,7 +2,7 @@
 //!
 //! A file is read byte by byte, as far as C says what is a comment (`mode`) and which lines compilers skip (`front`). The annotations of
 //! several files make one text, each line of which knows where it begins in C (`text`, `files`); those of one file are laid where they
-//! stand in it (`laying`).
+//! stand in it (`laying`). Each byte of a file belongs to code, to an annotation, to a comment `@flt-`, or to something else (`letter`).
 //! That this is C's own division of a file into pieces is a law (`laws`).
 #![tactic(auto)]
 
@@ -11,6 +11,7 @@ mod files;
 mod front;
 mod laws;
 mod laying;
+mod letter;
 mod mode;
 mod place;
 mod scan;
@@ -20,5 +21,6 @@ pub use fault::{Fault, FaultKind};
 pub use files::{FileFlaw, Flaw, extract};
 pub use laws::{each_byte_stands_in_c, files_are_pieces, no_byte_is_left_out};
 pub use laying::{PlaceFlaw, in_place};
+pub use letter::{Letter, Part, letters};
 pub use place::Place;
 pub use text::{Annotations, Line};

@@ -1,0 +1,6 @@
+use Rattle.std.proofs.Common.{◌≡◌, drop}
+use Rattle.flt_drift.specs.Reading.{marks_from, marks_of, state_in}
+use Rattle.flt_drift.proofs.reader.marks.Given as goal
+
+abbrev pub invariant-loop-at : goal.invariant-loop-at
+invariant-loop-at l = marks_from l.at (state_in l.reader) (drop l.at l.letters) ≡ marks_of l.letters

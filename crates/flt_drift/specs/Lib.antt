@@ -1,0 +1,5 @@
+pub mod Drifts
+pub mod Marks
+pub mod Names
+pub mod Reading
+pub mod Wrappers

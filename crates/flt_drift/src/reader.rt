@@ -1,0 +1,487 @@
+//! How the marks of a file are found, letter by letter.
+
+ghost use Rattle.std.specs.Prelude.{◌≡◌, ◌++◌, [], ◌∷◌, map, IfOk, OnOk};
+ghost use Rattle.flt_drift.specs.Reading as spec;
+ghost use Rattle.flt_drift.specs.Wrappers.{wrapping_of};
+
+use crate::mark::{Mark, MarkKind};
+use crate::names::{c_operation_of, call_of};
+use crate::part::{is_aside, is_blank, is_code, is_note, is_of_word, same_part};
+use crate::word::{Before, Entry, before_of, said_by_code, said_by_note};
+use crate::wrapper::Wrapper;
+use flt_c::{Letter, Part};
+use std::alloc::{AllocError, Global};
+
+/// What is known of a word that is being read.
+#[derive(Clone, Copy)]
+pub(crate) struct Spoken {
+    /// What it belongs to.
+    part: Part,
+    /// How many bytes of the file stand before it.
+    begin: usize,
+    /// Whether a `{` is the code before it.
+    opens: bool,
+    /// What the word before is to it, if that belongs to the same part.
+    before: Before,
+    before_part: Part,
+}
+
+/// What is known of a line of the file.
+#[derive(Clone, Copy)]
+pub(crate) struct Line {
+    /// Whether a remark of an annotation is being read, which goes to the line's end.
+    remark: bool,
+    /// Whether the line's annotations are of the text alone.
+    alone: bool,
+    /// Whether the stretch ends with the next code: an earlier line of it has an annotation, or a function ended.
+    noted: bool,
+    /// Whether this line has an annotation.
+    here: bool,
+    /// Whether the line begins.
+    fresh: bool,
+    /// Whether the line begins with `}`, as the last one of a function does.
+    closing: bool,
+}
+
+/// What is known of the code.
+#[derive(Clone, Copy)]
+pub(crate) struct Code {
+    /// Whether its last byte is `{`, but for blanks.
+    brace: bool,
+    /// Where reading is in an entry of a table.
+    entry: Entry,
+}
+
+/// How far a comment `@flt-call FUNCTION CALL` is read.
+#[derive(Clone, Copy)]
+pub(crate) enum Stage {
+    /// None is being read, or all of it is.
+    Nothing,
+    /// Its function comes next.
+    Function,
+    /// Its call comes next.
+    Call,
+}
+
+/// A reader of letters.
+#[derive(Drop)]
+pub(crate) struct Reader {
+    alloc: Global,
+    /// The word that is being read.
+    word: Vec<u8>,
+    spoken: Spoken,
+    line: Line,
+    code: Code,
+    stage: Stage,
+    /// Where the comment `@flt-call` begins that is being read, or was last.
+    opened: usize,
+    /// Its function.
+    function: Vec<u8>,
+    wrappers: Vec<Wrapper>,
+    marks: Vec<Mark>,
+}
+
+/// What a letter is read as.
+fn seen(line: Line, letter: Letter) -> Part
+    ensures { result ≡ spec.seen line letter }
+{
+    if line.remark && is_note(letter.part) {
+        Part::Other
+    } else {
+        letter.part
+    }
+}
+
+/// What the word is after which a word stands.
+fn before_word(spoken: Spoken) -> Before
+    ensures { result ≡ spec.before_word spoken }
+{
+    if same_part(spoken.before_part, spoken.part) {
+        spoken.before
+    } else {
+        Before::Nothing
+    }
+}
+
+/// What is known after a word.
+fn spoken_after(spoken: Spoken, word: &[u8]) -> Spoken
+    ensures { result ≡ spec.spoken_after spoken word.now }
+{
+    Spoken {
+        before: before_of(word),
+        before_part: spoken.part,
+        ..spoken
+    }
+}
+
+/// What is known of the line after a word.
+fn line_after(part: Part, word: &[u8], line: Line) -> Line
+    ensures { result ≡ spec.line_after part word.now line }
+{
+    Line {
+        alone: line.alone || (is_aside(part) && word == b"-only".as_slice()),
+        ..line
+    }
+}
+
+/// An entry of a table begins with the name of an operation.
+fn named_entry(operation: Option<usize>, entry: Entry) -> Entry
+    ensures { result ≡ spec.named_entry operation entry }
+{
+    match operation {
+        Some(operation) => Entry::Name(operation),
+        None => entry,
+    }
+}
+
+/// What is known of the code after a word.
+fn code_after(spoken: Spoken, word: &[u8], code: Code) -> Code
+    ensures { result ≡ spec.code_after spoken word.now code }
+{
+    let entry = if is_code(spoken.part) && spoken.opens {
+        named_entry(c_operation_of(word), code.entry)
+    } else {
+        code.entry
+    };
+    Code { entry, ..code }
+}
+
+/// The next field of an entry.
+fn next_field(entry: Entry) -> Entry
+    ensures { result ≡ spec.next_field entry }
+{
+    match entry {
+        Entry::Name(operation) => Entry::Flags(operation),
+        Entry::Flags(operation) => Entry::Pre(operation),
+        Entry::Pre(operation) => Entry::Post(operation),
+        _ => Entry::Nothing,
+    }
+}
+
+/// Where an entry is after a byte of code.
+fn entry_after(b: u8, entry: Entry) -> Entry
+    ensures { result ≡ spec.entry_after b entry }
+{
+    match b {
+        b',' => next_field(entry),
+        b'}' => Entry::Nothing,
+        _ => entry,
+    }
+}
+
+/// What is known of the code after a letter.
+fn coded(part: Part, b: u8, code: Code) -> Code
+    ensures { result ≡ spec.coded part b code }
+{
+    if is_code(part) && !is_blank(b) {
+        Code {
+            brace: b == b'{',
+            entry: entry_after(b, code.entry),
+        }
+    } else {
+        code
+    }
+}
+
+/// What is known of the line after a letter.
+fn lined(part: Part, b: u8, line: Line) -> Line
+    ensures { result ≡ spec.lined part b line }
+{
+    if b == b'\n' {
+        Line {
+            remark: false,
+            alone: false,
+            noted: line.noted || line.here || line.closing,
+            here: false,
+            fresh: true,
+            closing: false,
+        }
+    } else {
+        Line {
+            remark: line.remark || (is_note(part) && b == b'#'),
+            fresh: false,
+            closing: line.closing || (line.fresh && is_code(part) && b == b'}'),
+            ..line
+        }
+    }
+}
+
+/// Whether a comment `@flt-call` is being read.
+fn is_under_way(stage: Stage) -> bool
+    ensures { result ≡ spec.is_under_way stage }
+{
+    match stage {
+        Stage::Nothing => false,
+        Stage::Function | Stage::Call => true,
+    }
+}
+
+impl Reader {
+    fn new(alloc: Global) -> Reader
+        ensures { spec.state_in result ≡ spec.start }
+    {
+        Reader {
+            alloc,
+            word: Vec::new(alloc),
+            spoken: Spoken {
+                part: Part::Other,
+                begin: 0,
+                opens: false,
+                before: Before::Nothing,
+                before_part: Part::Other,
+            },
+            line: Line {
+                remark: false,
+                alone: false,
+                noted: false,
+                here: false,
+                fresh: true,
+                closing: false,
+            },
+            code: Code {
+                brace: false,
+                entry: Entry::Nothing,
+            },
+            stage: Stage::Nothing,
+            opened: 0,
+            function: Vec::new(alloc),
+            wrappers: Vec::new(alloc),
+            marks: Vec::new(alloc),
+        }
+    }
+
+    /// What the word says.
+    fn said(&self) -> Option<MarkKind>
+        ensures { result ≡ spec.said_by (spec.state_in self.now) self.now.spoken.part }
+    {
+        let before = before_word(self.spoken);
+        match self.spoken.part {
+            Part::Code => said_by_code(
+                self.wrappers.as_slice(),
+                self.code.entry,
+                before,
+                self.word.as_slice(),
+            ),
+            Part::Note => said_by_note(self.line.alone, before, self.word.as_slice()),
+            Part::Aside | Part::Other => None,
+        }
+    }
+
+    /// What the word says is said.
+    fn say(&mut self) -> Result<(), AllocError>
+        ensures { OnOk result (spec.state_in self.new ≡ spec.say (spec.state_in self.old)) }
+    {
+        if let Some(kind) = self.said() {
+            self.marks.push(Mark {
+                kind,
+                start: self.spoken.begin,
+                length: self.word.len(),
+            })?;
+        }
+        Ok(())
+    }
+
+    /// The word ends.
+    fn forget(&mut self)
+        ensures { spec.state_in self.new ≡ spec.forget (spec.state_in self.old) }
+    {
+        self.code = code_after(self.spoken, self.word.as_slice(), self.code);
+        self.line = line_after(self.spoken.part, self.word.as_slice(), self.line);
+        self.spoken = spoken_after(self.spoken, self.word.as_slice());
+        self.word.clear();
+    }
+
+    /// A mark of a comment that isn't as it should be.
+    fn refuse(&mut self, start: usize, length: usize) -> Result<(), AllocError>
+        ensures { OnOk result (spec.state_in self.new ≡ spec.refused start length (spec.state_in self.old)) }
+    {
+        self.stage = Stage::Nothing;
+        self.marks.push(Mark {
+            kind: MarkKind::Malformed,
+            start,
+            length,
+        })?;
+        Ok(())
+    }
+
+    /// The function of the comment makes a call.
+    fn wrap(&mut self, call: usize) -> Result<(), AllocError>
+        ensures { OnOk result (spec.state_in self.new ≡ spec.wrapped call (spec.state_in self.old)) }
+    {
+        self.stage = Stage::Nothing;
+        let mut name = Vec::new(self.alloc);
+        name.extend_from_slice(self.function.as_slice())?;
+        self.wrappers.push(Wrapper { name, call })?;
+        Ok(())
+    }
+
+    /// The word is the function of the comment.
+    fn keep_function(&mut self) -> Result<(), AllocError>
+        ensures { OnOk result (spec.state_in self.new ≡ spec.with_function (spec.state_in self.old)) }
+    {
+        self.stage = Stage::Call;
+        self.function.clear();
+        self.function.extend_from_slice(self.word.as_slice())?;
+        Ok(())
+    }
+
+    /// The word is the call of the comment.
+    fn declare(&mut self) -> Result<(), AllocError>
+        ensures { OnOk result (spec.state_in self.new ≡ spec.declare (spec.call_word (spec.state_in self.old)) (spec.state_in self.old)) }
+    {
+        let begin = self.spoken.begin;
+        let length = self.word.len();
+        let call = call_of(self.word.as_slice());
+        match call {
+            Some(call) => self.wrap(call),
+            None => self.refuse(begin, length),
+        }
+    }
+
+    /// A comment `@flt-call` may begin with the word.
+    fn open(&mut self)
+        ensures { spec.state_in self.new ≡ spec.opened_by_word (spec.state_in self.old) }
+    {
+        if self.word.as_slice() == b"-call".as_slice() {
+            self.stage = Stage::Function;
+            self.opened = self.spoken.begin;
+        }
+    }
+
+    /// A word of a comment `@flt-` more.
+    fn read_aside(&mut self) -> Result<(), AllocError>
+        ensures { OnOk result (spec.state_in self.new ≡ spec.aside_by self.old.stage (spec.state_in self.old)) }
+    {
+        match self.stage {
+            Stage::Nothing => {
+                self.open();
+                Ok(())
+            }
+            Stage::Function => self.keep_function(),
+            Stage::Call => self.declare(),
+        }
+    }
+
+    /// What a word says is said where it ends.
+    fn end_word(&mut self) -> Result<(), AllocError>
+        ensures { OnOk result (spec.state_in self.new ≡ spec.end_word (spec.state_in self.old)) }
+    {
+        self.say()?;
+        if is_aside(self.spoken.part) {
+            self.read_aside()?;
+        }
+        self.forget();
+        Ok(())
+    }
+
+    /// The word ends before a letter that doesn't belong to it.
+    fn ended(&mut self, part: Part, b: u8) -> Result<(), AllocError>
+        ensures { OnOk result (spec.state_in self.new ≡ spec.ended part b (spec.state_in self.old)) }
+    {
+        if !(self.word.is_empty() || (same_part(self.spoken.part, part) && is_of_word(part, b))) {
+            self.end_word()?;
+        }
+        Ok(())
+    }
+
+    /// A comment `@flt-call` may end too early.
+    fn leave(&mut self, part: Part) -> Result<(), AllocError>
+        ensures { OnOk result (spec.state_in self.new ≡ spec.left part (spec.state_in self.old)) }
+    {
+        if !is_aside(part) && is_under_way(self.stage) {
+            let opened = self.opened;
+            self.refuse(opened, 5)?;
+        }
+        Ok(())
+    }
+
+    /// A stretch may begin at a letter.
+    fn cut(&mut self, at: usize, part: Part, b: u8) -> Result<(), AllocError>
+        ensures { OnOk result (spec.state_in self.new ≡ spec.cut at part b (spec.state_in self.old)) }
+    {
+        if self.line.noted && is_code(part) && !is_blank(b) {
+            self.line.noted = false;
+            self.marks.push(Mark {
+                kind: MarkKind::Cut,
+                start: at,
+                length: 1,
+            })?;
+        }
+        Ok(())
+    }
+
+    /// The first letter of an annotation in a line.
+    fn note(&mut self, at: usize, part: Part, b: u8) -> Result<(), AllocError>
+        ensures { OnOk result (spec.state_in self.new ≡ spec.noted at part b (spec.state_in self.old)) }
+    {
+        if !self.line.here && is_note(part) && !is_blank(b) {
+            self.line.here = true;
+            self.marks.push(Mark {
+                kind: MarkKind::Noted,
+                start: at,
+                length: 1,
+            })?;
+        }
+        Ok(())
+    }
+
+    /// A letter belongs to a word, or to none.
+    fn grow(&mut self, at: usize, part: Part, b: u8) -> Result<(), AllocError>
+        ensures { OnOk result (spec.state_in self.new ≡ spec.grown at part b (spec.state_in self.old)) }
+    {
+        if is_of_word(part, b) {
+            if self.word.is_empty() {
+                self.spoken.begin = at;
+                self.spoken.opens = self.code.brace;
+            }
+            self.spoken.part = part;
+            self.word.push(b)?;
+        }
+        Ok(())
+    }
+
+    /// One letter more, as this part.
+    #[tactic(auto, unfolding(crate::specs::Reading::taken_as))]
+    fn take_as(&mut self, at: usize, part: Part, b: u8) -> Result<(), AllocError>
+        ensures { OnOk result (spec.state_in self.new ≡ spec.taken_as at part b (spec.state_in self.old)) }
+    {
+        self.ended(part, b)?;
+        self.leave(part)?;
+        self.cut(at, part, b)?;
+        self.note(at, part, b)?;
+        self.grow(at, part, b)?;
+        self.line = lined(part, b, self.line);
+        self.code = coded(part, b, self.code);
+        Ok(())
+    }
+
+    /// One letter more.
+    fn take(&mut self, at: usize, letter: Letter) -> Result<(), AllocError>
+        ensures { OnOk result (spec.state_in self.new ≡ spec.taken at letter (spec.state_in self.old)) }
+    {
+        let part = seen(self.line, letter);
+        self.take_as(at, part, letter.byte)
+    }
+
+    /// The file ends.
+    fn end(&mut self) -> Result<(), AllocError>
+        ensures { OnOk result (spec.state_in self.new ≡ spec.at_end (spec.state_in self.old)) }
+    {
+        if !self.word.is_empty() {
+            self.end_word()?;
+        }
+        self.leave(Part::Other)
+    }
+}
+
+/// The marks of a file, in order.
+pub(crate) fn marks(alloc: Global, letters: &[Letter]) -> Result<Vec<Mark>, AllocError>
+    ensures { IfOk result (λ found. found.items ≡ spec.marks_of letters.now) }
+{
+    let mut reader = Reader::new(alloc);
+    for (at, letter) in letters.iter().enumerate() {
+        reader.take(at, *letter)?;
+    }
+    reader.end()?;
+    Ok(reader.marks)
+}

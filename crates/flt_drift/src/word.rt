@@ -1,0 +1,157 @@
+//! What a word says: of code, or of an annotation.
+
+ghost use Rattle.std.specs.Prelude.{◌≡◌, map};
+ghost use Rattle.flt_drift.specs.Marks as spec;
+ghost use Rattle.flt_drift.specs.Wrappers.{wrapping_of};
+
+use crate::mark::MarkKind;
+use crate::names::{c_operation_of, c_status_of, call_of, operation_of, status_of};
+use crate::wrapper::{Wrapper, call_in};
+
+/// What a word is to the word after it.
+#[derive(Clone, Copy)]
+pub(crate) enum Before {
+    Nothing,
+    Return,
+    Pre,
+    Post,
+}
+
+/// Where reading is in an entry of a table of callbacks, `{ IRP_MJ_READ, 0, PreRead, PostRead }`.
+#[derive(Clone, Copy)]
+pub(crate) enum Entry {
+    /// In none of one of the operations.
+    Nothing,
+    /// After its name; the operation's place among the operations, from 0.
+    Name(usize),
+    /// Where flags stand.
+    Flags(usize),
+    /// Where the pre callback stands.
+    Pre(usize),
+    /// Where the post callback stands.
+    Post(usize),
+}
+
+/// What a word is to the word after it.
+pub(crate) fn before_of(word: &[u8]) -> Before
+    ensures { result ≡ spec.before_of word.now }
+{
+    if word == b"return".as_slice() {
+        Before::Return
+    } else if word == b"pre".as_slice() {
+        Before::Pre
+    } else if word == b"post".as_slice() {
+        Before::Post
+    } else {
+        Before::Nothing
+    }
+}
+
+fn is_null(word: &[u8]) -> bool
+    ensures { result ≡ spec.is_null word.now }
+{
+    word == b"NULL".as_slice() || word == b"0".as_slice()
+}
+
+/// What a word of an entry registers.
+fn registered(entry: Entry) -> Option<MarkKind>
+    ensures { result ≡ spec.registered entry }
+{
+    match entry {
+        Entry::Pre(operation) => Some(MarkKind::RegistersPre(operation)),
+        Entry::Post(operation) => Some(MarkKind::RegistersPost(operation)),
+        _ => None,
+    }
+}
+
+/// The status that a word of code is, where it stands after `return`.
+fn returned(before: Before, word: &[u8]) -> Option<usize>
+    ensures { result ≡ spec.returned before word.now }
+{
+    match before {
+        Before::Return => c_status_of(word),
+        _ => None,
+    }
+}
+
+/// What a word of code says as a status, or else as a call.
+fn or_called(status: Option<usize>, call: Option<usize>) -> Option<MarkKind>
+    ensures { result ≡ spec.or_called status call }
+{
+    if let Some(status) = status {
+        return Some(MarkKind::Returns(status));
+    }
+    match call {
+        Some(call) => Some(MarkKind::Calls(call)),
+        None => None,
+    }
+}
+
+/// What a word says first, or else this.
+fn or_said(first: Option<MarkKind>, said: Option<MarkKind>) -> Option<MarkKind>
+    ensures { result ≡ spec.or_said first said }
+{
+    match first {
+        Some(first) => Some(first),
+        None => said,
+    }
+}
+
+/// What a word of code says.
+pub(crate) fn said_by_code(
+    wrappers: &[Wrapper],
+    entry: Entry,
+    before: Before,
+    word: &[u8],
+) -> Option<MarkKind>
+    ensures { result ≡ spec.said_by_code (map wrapping_of wrappers.now) entry before word.now }
+{
+    let first = if is_null(word) {
+        None
+    } else {
+        registered(entry)
+    };
+    let second = or_called(returned(before, word), call_in(wrappers, word));
+    or_said(first, second)
+}
+
+/// What a word of an annotation says by the word before it.
+fn said_after(before: Before, word: &[u8]) -> Option<MarkKind>
+    ensures { result ≡ spec.said_after before word.now }
+{
+    match before {
+        Before::Nothing => None,
+        Before::Return => match status_of(word) {
+            Some(status) => Some(MarkKind::Answers(status)),
+            None => None,
+        },
+        Before::Pre => match operation_of(word) {
+            Some(operation) => Some(MarkKind::HeadsPre(operation)),
+            None => None,
+        },
+        Before::Post => match operation_of(word) {
+            Some(operation) => Some(MarkKind::HeadsPost(operation)),
+            None => None,
+        },
+    }
+}
+
+/// What a word of an annotation says as a call.
+fn named(call: Option<usize>) -> Option<MarkKind>
+    ensures { result ≡ spec.named call }
+{
+    match call {
+        Some(call) => Some(MarkKind::Names(call)),
+        None => None,
+    }
+}
+
+/// What a word of an annotation says.
+pub(crate) fn said_by_note(alone: bool, before: Before, word: &[u8]) -> Option<MarkKind>
+    ensures { result ≡ spec.said_by_note alone before word.now }
+{
+    if alone {
+        return None;
+    }
+    or_said(said_after(before, word), named(call_of(word)))
+}

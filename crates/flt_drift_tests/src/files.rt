@@ -1,0 +1,200 @@
+//! Small C files, and the drifts in them.
+
+use flt_drift::{Drift, DriftKind, drifts};
+use std::alloc::{AllocError, Global};
+use std::test::Fail;
+
+/// A file, and for each drift its kind, its word, and the other word, which is empty where there is none.
+type Case = (
+    &'static str,
+    &'static [(DriftKind, &'static str, &'static str)],
+);
+
+/// A callback as the driver ctx has it.
+const CLEANUP: &str =
+    "static STATUS\nPreCleanup(DATA Data)\n{                                  //@flt pre cleanup {\n    CONTEXT context = NULL;\n\n    status = FltGetStreamContext(Instance, File, &context);\n    if (NT_SUCCESS(status)) {      //@flt   if FltGetStreamContext c0 {\n        FltReleaseContext(context); //@flt     FltReleaseContext c0\n    }                              //@flt   }\n    return FLT_PREOP_SUCCESS_NO_CALLBACK; //@flt   return NO_CALLBACK\n}                                  //@flt }\n";
+
+/// The same, where its release is deleted in C alone.
+const LEAKING: &str =
+    "static STATUS\nPreCleanup(DATA Data)\n{                                  //@flt pre cleanup {\n    CONTEXT context = NULL;\n\n    status = FltGetStreamContext(Instance, File, &context);\n    if (NT_SUCCESS(status)) {      //@flt   if FltGetStreamContext c0 {\n                                   //@flt     FltReleaseContext c0\n    }                              //@flt   }\n    return FLT_PREOP_SUCCESS_NO_CALLBACK; //@flt   return NO_CALLBACK\n}                                  //@flt }\n";
+
+/// Files that agree with their annotations.
+static AGREEING: [&str; 16] = [
+    "",
+    "/* no annotation */ int f(void) { FltReleaseContext(c); return FLT_PREOP_COMPLETE; }\n",
+    "f(c); FltReleaseContext(c); //@flt FltReleaseContext c0\n",
+    "s = FltGetStreamContext(a,\n  b);\nif (s >= 0) { //@flt if FltGetStreamContext c0 {\n} //@flt }\n",
+    "return FLT_PREOP_SUCCESS_NO_CALLBACK; //@flt return NO_CALLBACK\n",
+    "x = y; /*@flt-only*/ //@flt FltReferenceContext c1 as c0\n",
+    "//@flt # FltReleaseContext comes later\nx = 1;\n",
+    "int g(void) {\nFltReleaseContext(c);\n}\nint h(void) { //@flt pre read {\n} //@flt }\n",
+    "//@flt-call MyRelease FltReleaseContext\nMyRelease(c); //@flt FltReleaseContext c0\n",
+    "//@flt pre read { }\nT Callbacks[] = { { IRP_MJ_READ, 0, PreRead, NULL }, { IRP_MJ_PNP, 0, PrePnp } };\n",
+    "T Callbacks[] = { { IRP_MJ_READ, 0, PreRead, PostRead } };\n",
+    "//@flt pre read { }\n",
+    CLEANUP,
+    "#if 0\nx; //@flt FltReleaseContext c0\n#endif\n",
+    "return (FLT_PREOP_COMPLETE); //@flt return COMPLETE STATUS_SUCCESS\n",
+    "return status; //@flt return NO_CALLBACK\n",
+];
+
+/// Files that don't.
+static DRIFTING: [Case; 16] = [
+    (
+        "f(c); //@flt FltReleaseContext c0\n",
+        &[(DriftKind::NotCalled, "FltReleaseContext", "")],
+    ),
+    (
+        "FltReleaseContext(c); //@flt c0 = NULL\n",
+        &[(DriftKind::NotNamed, "FltReleaseContext", "")],
+    ),
+    (
+        "return FLT_PREOP_SYNCHRONIZE; //@flt return NO_CALLBACK\n",
+        &[(
+            DriftKind::OtherStatus,
+            "FLT_PREOP_SYNCHRONIZE",
+            "NO_CALLBACK",
+        )],
+    ),
+    (
+        "/* FltReleaseContext */ \"FltReleaseContext\"; //@flt FltReleaseContext c0\n",
+        &[(DriftKind::NotCalled, "FltReleaseContext", "")],
+    ),
+    (
+        "#define R FltReleaseContext\nR(c); //@flt FltReleaseContext c0\n",
+        &[(DriftKind::NotCalled, "FltReleaseContext", "")],
+    ),
+    (
+        "FltReleaseContext(c); //@flt FltReleaseContext c0\nFltReleaseContext(c); //@flt value c0 = 1\n",
+        &[(DriftKind::NotNamed, "FltReleaseContext", "")],
+    ),
+    (
+        "FltDeleteContext(c); //@flt FltReleaseContext c0\n",
+        &[
+            (DriftKind::NotNamed, "FltDeleteContext", ""),
+            (DriftKind::NotCalled, "FltReleaseContext", ""),
+        ],
+    ),
+    (
+        "FltReleaseContextX(c); //@flt FltReleaseContext c0 return COMPLETE\nreturn FLT_PREOP_COMPLETE; //@flt return PENDING\n",
+        &[
+            (DriftKind::NotCalled, "FltReleaseContext", ""),
+            (DriftKind::OtherStatus, "FLT_PREOP_COMPLETE", "PENDING"),
+        ],
+    ),
+    (
+        "MyRelease(c); //@flt FltReleaseContext c0\n//@flt-call MyRelease FltReleaseContext\n",
+        &[(DriftKind::NotCalled, "FltReleaseContext", "")],
+    ),
+    (
+        "//@flt-call MyRelease FltRelease\n/*@flt-call MyRelease*/ //@flt-call\n",
+        &[
+            (DriftKind::Malformed, "FltRelease", ""),
+            (DriftKind::Malformed, "-call", ""),
+            (DriftKind::Malformed, "-call", ""),
+        ],
+    ),
+    (
+        "//@flt-call MyRelease FltReleaseContext\nMyRelease(c); //@flt c0 = NULL\n",
+        &[(DriftKind::NotNamed, "MyRelease", "")],
+    ),
+    (
+        "//@flt pre read { } post read { }\nT Callbacks[] = { { IRP_MJ_READ, 0, PreRead, NULL } };\n",
+        &[(DriftKind::NotRegistered, "read", "")],
+    ),
+    (
+        "//@flt pre create { }\nT Callbacks[] = { { IRP_MJ_CREATE, 0, PreCreate }, { IRP_MJ_CLEANUP, FLAG, NULL, PostCleanup } };\n",
+        &[(DriftKind::NotAnnotated, "PostCleanup", "")],
+    ),
+    (LEAKING, &[(DriftKind::NotCalled, "FltReleaseContext", "")]),
+    (
+        "x; //@flt FltReferenceContext c1 as c0\n/*@flt-only*/ y; //@flt FltReferenceContext c1 as c0\n",
+        &[(DriftKind::NotCalled, "FltReferenceContext", "")],
+    ),
+    (
+        "int g(void) {\nreturn FLT_POSTOP_FINISHED_PROCESSING; /*@flt return\nMORE_PROCESSING_REQUIRED */\n}\n",
+        &[(
+            DriftKind::OtherStatus,
+            "FLT_POSTOP_FINISHED_PROCESSING",
+            "MORE_PROCESSING_REQUIRED",
+        )],
+    ),
+];
+
+/// Whether bytes at a place of a file are a word.
+fn is_word_at(file: &[u8], start: usize, length: usize, word: &str) -> bool {
+    length == word.len() && start <= file.len() && file[start..].starts_with(word.as_bytes())
+}
+
+fn is_kind(one: DriftKind, other: DriftKind) -> bool {
+    matches!(
+        (one, other),
+        (DriftKind::NotCalled, DriftKind::NotCalled)
+            | (DriftKind::NotNamed, DriftKind::NotNamed)
+            | (DriftKind::OtherStatus, DriftKind::OtherStatus)
+            | (DriftKind::NotAnnotated, DriftKind::NotAnnotated)
+            | (DriftKind::NotRegistered, DriftKind::NotRegistered)
+            | (DriftKind::Malformed, DriftKind::Malformed)
+    )
+}
+
+/// Whether a drift is of a kind, about a word and another one.
+fn is_drift(file: &[u8], drift: Drift, wanted: (DriftKind, &str, &str)) -> bool {
+    let is_other = match drift.other {
+        Some(span) => is_word_at(file, span.start, span.length, wanted.2),
+        None => wanted.2.is_empty(),
+    };
+    is_kind(drift.kind, wanted.0)
+        && is_word_at(file, drift.start, drift.length, wanted.1)
+        && is_other
+}
+
+/// Whether drifts are those that are wanted, and no other.
+fn are_drifts(file: &[u8], found: &[Drift], wanted: &[(DriftKind, &str, &str)]) -> bool {
+    if found.len() != wanted.len() {
+        return false;
+    }
+    for (drift, one) in found.iter().zip(wanted.iter()) {
+        if !is_drift(file, *drift, *one) {
+            return false;
+        }
+    }
+    true
+}
+
+/// The first file that has a drift.
+fn first_drifting(alloc: Global, files: &[&str]) -> Result<Option<usize>, AllocError> {
+    for (at, file) in files.iter().enumerate() {
+        let found = drifts(alloc, file.as_bytes())?;
+        if !found.is_empty() {
+            return Ok(Some(at));
+        }
+    }
+    Ok(None)
+}
+
+/// The first file that hasn't the drifts that are wanted.
+fn first_wrong(alloc: Global, cases: &[Case]) -> Result<Option<usize>, AllocError> {
+    for (at, case) in cases.iter().enumerate() {
+        let file = case.0.as_bytes();
+        let found = drifts(alloc, file)?;
+        if !are_drifts(file, found.as_slice(), case.1) {
+            return Ok(Some(at));
+        }
+    }
+    Ok(None)
+}
+
+#[test]
+fn files_that_agree_have_no_drift_within_memory(rt: HostRuntime) -> Result<(), Fail> {
+    let wrong = first_drifting(rt.alloc(), AGREEING.as_slice())?;
+    assert!(rt; wrong.is_none());
+    Ok(())
+}
+
+#[test]
+fn drifts_are_found_within_memory(rt: HostRuntime) -> Result<(), Fail> {
+    let wrong = first_wrong(rt.alloc(), DRIFTING.as_slice())?;
+    assert!(rt; wrong.is_none());
+    Ok(())
+}
