@@ -1,13 +1,17 @@
 -- What the loop over a file's letters keeps: the letters so far and those of the rest are the file's; and that letters are the file's bytes.
-use Rattle.std.proofs.Common.{◌≡◌, ℕ, zero, suc, ◌+◌, ◌-◌, ◌≤◌, ◌<◌, Bool, true, false, List, [], ◌∷◌, ◌++◌, length, drop, take, map, refl, sym, ap, ◌∙◌, arith, length-drop, get_or, append_assoc}
-use Rattle.std.specs.Prelude.{◌==◌, Result, Ok, Err}
+use Rattle.std.proofs.Common.{◌≡◌, ℕ, zero, suc, ◌+◌, ◌-◌, ◌≤◌, ◌<◌, Bool, true, false, List, [], ◌∷◌, ◌++◌, length, drop, take, map, refl, sym, ap, ◌∙◌, arith, length-drop, get_or, append_assoc, subst}
+use Rattle.std.specs.Prelude.{◌==◌, if◌then◌else◌, nat_lt, Option, Some, None, Result, Ok, Err}
+use Rattle.flt_c.proofs.Follow.{differ}
 use Rattle.flt_c.proofs.Reading.{not_zero, past_start, past_line, past_column}
 use Rattle.flt_c.specs.declared.fault.Fault.{Fault}
+use Rattle.flt_c.specs.declared.fault.FaultKind.{FaultKind}
+use Rattle.flt_c.specs.declared.files.Flaw.{Flaw}
+use Rattle.flt_c.specs.declared.files.Flaw.TheVariants.{Large}
 use Rattle.flt_c.specs.declared.letter.Letter.{Letter}
 use Rattle.flt_c.specs.declared.scan.Scanner.{Scanner}
-use Rattle.flt_c.specs.Letters.{is_aside, letter_of, letters_from, letters_of, other, with_letters}
+use Rattle.flt_c.specs.Letters.{LettersAreTheFile, flawed, is_aside, letter_of, letters_end, letters_from, letters_of, other, with_letters}
 use Rattle.flt_c.specs.Places.{past, past_continuation}
-use Rattle.flt_c.specs.Scan.{continuation, join, step}
+use Rattle.flt_c.specs.Scan.{◌>>=◌, continuation, join, open_at_end, start, step}
 
 pub record AreLetters (file : List ℕ) (out : List Letter) (s : Scanner) (aside : Bool) (rest : List ℕ) : Type 0 where
   pub same : with_letters out (letters_from zero s aside rest) ≡ letters_of file
@@ -93,3 +97,89 @@ joined_on file out more s next aside rest n i e m l h t p d =
       column = rw p (omega (arith, some));
       depth = rw (p, d) (omega (arith, deep));
     }
+
+-- ---- letters are the file's bytes
+
+abbrev bytes : List Letter → List ℕ
+bytes ls = map (λ letter. letter.byte) ls
+
+abbrev or_none : Result (List Letter) Fault → List Letter
+or_none (Ok ls) = ls
+or_none (Err f) = []
+
+abbrev is_ok : Result (List Letter) Fault → Bool
+is_ok (Ok ls) = true
+is_ok (Err f) = false
+
+abbrev or_nothing : Result (List Letter) Flaw → List Letter
+or_nothing (Ok ls) = ls
+or_nothing (Err f) = []
+
+abbrev is_fine : Result (List Letter) Flaw → Bool
+is_fine (Ok ls) = true
+is_fine (Err f) = false
+
+abbrev okay : List Letter → Result (List Letter) Fault
+okay ls = Ok ls
+
+front_kept : (l : Letter) (b : ℕ) (z : List ℕ) (found : List Letter) → l.byte ≡ b → (r : Result (List Letter) Fault) →
+    ((more : List Letter) → r ≡ Ok more → bytes more ≡ z) → with_letters (l ∷ []) r ≡ Ok found → bytes found ≡ b ∷ z
+front_kept l b z found e (Ok more) ih w =
+    let same : l ∷ more ≡ found = ap or_none w in
+    let first : bytes (l ∷ more) ≡ b ∷ z = rw (e, ih more refl) refl in
+    subst (λ ls. bytes ls ≡ b ∷ z) same first
+front_kept l b z found e (Err f) ih w = elim (differ (ap is_ok w)) [ ]
+
+end_kept : (s : Scanner) (unclosed : Option FaultKind) (found : List Letter) → letters_end s unclosed ≡ Ok found → bytes found ≡ []
+end_kept s None found e =
+    let same : [] ≡ found = ap or_none e in
+    subst (λ ls. bytes ls ≡ []) same refl
+end_kept s (Some kind) found e = elim (differ (ap is_ok e)) [ ]
+
+-- letters that are read on are the bytes that are left
+abbrev KeptFrom : List ℕ → Type 0
+KeptFrom z = (left : ℕ) (s : Scanner) (aside : Bool) (found : List Letter) → letters_from left s aside z ≡ Ok found → bytes found ≡ z
+
+step_kept : (s : Scanner) (aside : Bool) (b : ℕ) (z : List ℕ) (found : List Letter) → KeptFrom z → (r : Result Scanner Fault) →
+    (r >>= (λ next. with_letters (letter_of s b (is_aside s b aside next) next ∷ []) (letters_from zero next (is_aside s b aside next) z))) ≡ Ok found →
+    bytes found ≡ b ∷ z
+step_kept s aside b z found ih (Ok next) e =
+    let on = is_aside s b aside next in
+    front_kept (letter_of s b on next) b z found refl (letters_from zero next on z) (λ more h. ih zero next on more h) e
+step_kept s aside b z found ih (Err f) e = elim (differ (ap is_ok e)) [ ]
+
+join_kept : (n : ℕ) (aside : Bool) (b : ℕ) (z : List ℕ) (found : List Letter) → KeptFrom z → (r : Result Scanner Fault) →
+    (r >>= (λ next. with_letters (other b ∷ []) (letters_from (n - 1) next aside z))) ≡ Ok found → bytes found ≡ b ∷ z
+join_kept n aside b z found ih (Ok next) e =
+    front_kept (other b) b z found refl (letters_from (n - 1) next aside z) (λ more h. ih (n - 1) next aside more h) e
+join_kept n aside b z found ih (Err f) e = elim (differ (ap is_ok e)) [ ]
+
+choose : (x : Bool) (one two : Result (List Letter) Fault) (found : List Letter) (z : List ℕ) → (one ≡ Ok found → bytes found ≡ z) →
+    (two ≡ Ok found → bytes found ≡ z) → (if x then one else two) ≡ Ok found → bytes found ≡ z
+choose true one two found z f g e = f e
+choose false one two found z f g e = g e
+
+kept : (z : List ℕ) → KeptFrom z
+kept [] zero s aside found e = end_kept s (open_at_end s) found e
+kept [] (suc left) s aside found e = end_kept s (open_at_end s) found e
+kept (b ∷ z) (suc left) s aside found e =
+    front_kept (other b) b z found refl (letters_from left s aside z) (λ more h. kept z left s aside more h) e
+kept (b ∷ z) zero s aside found e =
+    let n = continuation (b ∷ z) in
+    choose (n == 0)
+    (step s b >>= (λ next. with_letters (letter_of s b (is_aside s b aside next) next ∷ []) (letters_from zero next (is_aside s b aside next) z)))
+    (join s n >>= (λ next. with_letters (other b ∷ []) (letters_from (n - 1) next aside z))) found (b ∷ z)
+    (step_kept s aside b z found (kept z) (step s b)) (join_kept n aside b z found (kept z) (join s n)) e
+
+flaw_kept : (file : List ℕ) (found : List Letter) (r : Result (List Letter) Fault) → letters_of file ≡ r → flawed r ≡ Ok found → bytes found ≡ file
+flaw_kept file found (Ok ls) a e =
+    let same : ls ≡ found = ap or_nothing e in
+    kept file zero start false found (a ∙ ap okay same)
+flaw_kept file found (Err f) a e = elim (differ (ap is_fine e)) [ ]
+
+size_kept : (file : List ℕ) (found : List Letter) (x : Bool) → (if x then Err Large else flawed (letters_of file)) ≡ Ok found → bytes found ≡ file
+size_kept file found true e = elim (differ (ap is_fine e)) [ ]
+size_kept file found false e = flaw_kept file found (letters_of file) refl e
+
+pub letters_are_the_file : LettersAreTheFile
+letters_are_the_file file found e = size_kept file found (nat_lt 16777216 (length file)) e

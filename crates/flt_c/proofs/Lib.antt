@@ -2,6 +2,7 @@ pub mod Beside
 pub mod Divided
 pub mod FilesOn
 pub mod Follow
+pub mod InPlaces
 pub mod Kept
 pub mod Lettering
 pub mod Pieced

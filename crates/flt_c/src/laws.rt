@@ -1,6 +1,8 @@
 //! What the text of annotations is in C.
 
+ghost use Rattle.flt_c.specs.InPlace.{EachByteIsInItsPlace};
 ghost use Rattle.flt_c.specs.Laws as spec;
+ghost use Rattle.flt_c.specs.Letters.{LettersAreTheFile};
 ghost use Rattle.flt_c.specs.Pieces as pieces;
 
 /// Each byte of the text of some files stands in C at its line's place plus its column, or ends a line where its annotation ends; each line
@@ -21,4 +23,18 @@ pub fn no_byte_is_left_out()
 #[tactic(auto, using(crate::proofs::Divided::files_are_pieces))]
 pub fn files_are_pieces()
     ensures { pieces.FilesArePieces }
+{}
+
+/// The letters of a file are its bytes, all of them and in order: so a place among them is a place in the file. It does nothing: its clause
+/// is the law.
+#[tactic(auto, using(crate::proofs::Lettering::letters_are_the_file))]
+pub fn letters_are_the_file()
+    ensures { LettersAreTheFile }
+{}
+
+/// Each byte of the annotations of a file, where they stand in it, is in the file at the same line and column, or ends a line where its
+/// annotation ends; the others are blanks and line feeds before a line. It does nothing: its clause is the law.
+#[tactic(auto, using(crate::proofs::InPlaces::each_byte_is_in_its_place))]
+pub fn each_byte_is_in_its_place()
+    ensures { EachByteIsInItsPlace }
 {}

@@ -19,7 +19,10 @@ mod text;
 
 pub use fault::{Fault, FaultKind};
 pub use files::{FileFlaw, Flaw, extract};
-pub use laws::{each_byte_stands_in_c, files_are_pieces, no_byte_is_left_out};
+pub use laws::{
+    each_byte_is_in_its_place, each_byte_stands_in_c, files_are_pieces, letters_are_the_file,
+    no_byte_is_left_out,
+};
 pub use laying::{PlaceFlaw, in_place};
 pub use letter::{Letter, Part, letters};
 pub use place::Place;
