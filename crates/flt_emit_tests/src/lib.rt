@@ -1,6 +1,8 @@
-//! Tests of the emitter with ample memory: the source of a small filter, the header for its writer and the file for its installation. They
-//! stand apart from `flt_emit`, so that it is not proved twice.
+//! Tests of the emitter with ample memory: the source of a small filter, the header for its writer and the file for its installation; and
+//! the kinds of a filter's contexts. They stand apart from `flt_emit` and `flt_kinds`, so that these are not proved twice.
 #![tactic(auto)]
 
 #[cfg(test)]
 mod files;
+#[cfg(test)]
+mod kinds;

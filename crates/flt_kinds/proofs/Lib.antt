@@ -1,0 +1,7 @@
+mod Closing
+mod Deciding
+mod Marks
+mod Moves
+mod Narrow
+mod Opens
+mod Steps
