@@ -1,6 +1,6 @@
 //! Results of SARIF: findings and faults of texts.
 
-ghost use Rattle.std.specs.Prelude.{◌≡◌, ◌∷◌, ◌++◌, [], OnOk, codes, flat_map, length};
+ghost use Rattle.std.specs.Prelude.{◌≡◌, ◌∷◌, ◌++◌, [], IfOk, codes, flat_map, length};
 ghost use Rattle.flt_forms.specs.Columns.{column_behind, column_of};
 ghost use Rattle.flt_forms.specs.Fingerprints.{finding_key, fingerprint};
 ghost use Rattle.flt_forms.specs.Members.{Added, Adds, array_member, number_member};
@@ -557,7 +557,7 @@ fn put_next_result(
     before: &mut Items<Items<u8>>,
     detail: &Detail,
 ) -> Result<(), AllocError>
-    ensures { OnOk result ((before.new ≡ before.old ++ finding_key file.now.lines detail.now ∷ []) × Added writer.old writer.new
+    ensures { IfOk result (λ _. (before.new ≡ before.old ++ finding_key file.now.lines detail.now ∷ []) × Added writer.old writer.new
         (spec.result file.now (fingerprint before.old (finding_key file.now.lines detail.now)) detail.now)) }
 {
     let key = keys::finding_key(alloc, &file.lines, detail)?;
