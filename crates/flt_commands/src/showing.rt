@@ -2,10 +2,12 @@
 
 ghost use Rattle.std.specs.Prelude.{◌≡◌, [], ◌∷◌, ℕ, List, None, false, IfOk, OnOk, map, option_map};
 ghost use Rattle.flt_commands.specs.Commands.{IsKeptAs};
-ghost use Rattle.flt_commands.specs.Drawn.{IsDrawnFor, IsDrawnIn, IsDrawnOf};
+ghost use Rattle.flt_commands.specs.Drawn.{IsDrawnFor, IsDrawnIn};
 ghost use Rattle.flt_commands.specs.Inputs.{Says};
 ghost use Rattle.flt_commands.specs.Replay as spec;
 ghost use Rattle.flt_model.specs.Program.{filters_of};
+ghost use Rattle.flt_picture.specs.Pictures.{IsPicture};
+ghost use Rattle.flt_picture.specs.Titles.{title_of};
 
 use crate::answer::Answer;
 use crate::failure::Failure;
@@ -39,8 +41,8 @@ fn draw<P: Pictures>(
     timeline: &Timeline<'_>,
     pictures: &mut P,
 ) -> Result<Result<(), Unwritten>, AllocError>
-    ensures { IfOk result (λ done. OnOk done
-        (IsDrawnOf (P.written pictures.new) name.now (filters_of replayed.now.trees.items) replayed.now.verdict)) }
+    ensures { IfOk result (λ done. OnOk done ((drawn : List ℕ)
+        × IsPicture (title_of (filters_of replayed.now.trees.items) replayed.now.verdict) drawn × P.written pictures.new name.now drawn)) }
 {
     let trees = replayed.trees.as_slice();
     let (journal, verdict) = (&replayed.journal, replayed.verdict);
