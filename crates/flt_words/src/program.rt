@@ -8,10 +8,10 @@ ghost use Rattle.flt_words.specs.Program as spec;
 use clap::{Arg, ArgAction, Command, value_parser};
 use std::alloc::{AllocError, Global};
 
-/// What `--version` prints behind the program's name.
+/// The version that `--version` prints after the program's name.
 const VERSION: &str = "0.1.0";
 
-/// What is said of FILE.. where the texts are those of one stack.
+/// The help of FILE.. in a command whose texts are those of one stack.
 const STACK: &str = "The filters' texts, up to 16";
 
 // ---- arguments
@@ -218,7 +218,7 @@ fn write_argument<'a>(alloc: Global) -> Arg<'a>
 
 // ---- commands
 
-/// A command with an argument more, if memory was there for both.
+/// A command with one more argument, if memory sufficed for both.
 #[inline(always)]
 #[tactic(auto, using(crate::proofs::Commands::with_last_argument))]
 fn with_argument<'a>(
@@ -424,7 +424,7 @@ fn bare_program<'a>(alloc: Global) -> Command<'a>
         .no_binary_name(true)
 }
 
-/// A program with a command more, if memory was there for both.
+/// A program with one more command, if memory sufficed for both.
 #[inline(always)]
 fn with_command<'a>(
     program: Result<Command<'a>, AllocError>,
@@ -461,8 +461,8 @@ fn program_with<'a>(
     with_command(Ok(bare_program(alloc)), command)
 }
 
-/// The program as far as words need it that begin with this one: with the command that it names alone, since each that is built takes some
-/// 10,000 instructions, or whole where it names none.
+/// The program for words whose first is this one. It has only the command that the word names, since each command that is built takes some
+/// 10,000 instructions, or all commands if the word names none.
 #[inline(always)]
 pub(crate) fn program_for<'a>(alloc: Global, word: &str) -> Result<Command<'a>, AllocError>
     ensures { IfOk result (λ c. spec.IsCommand c (spec.app_for word.now)) }
