@@ -1,9 +1,9 @@
-//! What is probably wrong, and how to mend it.
+//! The probable mistakes, and how to fix them.
 
 ghost use Rattle.std.specs.Prelude.{◌≡◌};
 ghost use Rattle.flt_hints.specs.Hint as spec;
 
-/// What is probably wrong where a text doesn't parse.
+/// The probable mistake in a text that doesn't parse.
 #[derive(Clone, Copy)]
 pub enum Hint {
     // Of the text as a whole.
@@ -31,7 +31,7 @@ pub enum Hint {
     TooLongWord,
     // Of words that the language has, or the driver kit, or C.
     Prefix,
-    /// A word names what the language leaves out; `Absence` says what.
+    /// A word names a feature that the language leaves out: `Absence` says which.
     LeftOut,
     FinalStatus,
     Comparison,
@@ -77,7 +77,7 @@ pub enum Hint {
 }
 
 impl Hint {
-    /// One sentence on how to mend it.
+    /// One sentence that says how to fix it.
     pub(crate) fn sentence(self) -> &'static str
         ensures { result.now ≡ spec.sentence self }
     {
