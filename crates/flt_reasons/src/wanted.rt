@@ -1,8 +1,8 @@
-//! What is wanted in a place of a line.
+//! The things that are wanted at a place of a line.
 
 use std::fmt;
 
-/// What is wanted in a place of a line.
+/// A thing that is wanted at a place of a line.
 #[derive(Clone, Copy)]
 pub(crate) enum Wanted {
     // Of all.
@@ -48,7 +48,7 @@ pub(crate) enum Wanted {
     AnyNumber,
     // Of scripts.
     Command,
-    /// The mode of what comes in no other.
+    /// The mode of an operation that comes in no other.
     Packet,
     File,
     Serial,
@@ -110,7 +110,7 @@ impl Wanted {
         )
     }
 
-    /// The words that may stand there, where one of few is wanted.
+    /// The legal words, if one of few is wanted.
     pub(crate) fn words(self) -> &'static [&'static [u8]] {
         match self {
             Wanted::Entry => &ENTRIES,
@@ -124,7 +124,7 @@ impl Wanted {
         }
     }
 
-    /// How to mend what stands there instead.
+    /// How to fix a malformed place where this is wanted.
     pub(crate) fn help(self) -> &'static str {
         match self {
             Wanted::FirstLine(_) | Wanted::Format =>
