@@ -18,7 +18,7 @@ pub(crate) fn comment_begin(out: &mut Vec<u8>) -> Result<(), AllocError>
     )
 }
 
-/// What the source is, up to the filter's name.
+/// The title of the source, up to the filter's name.
 #[tactic(auto, unfolding(crate::specs::Fixed::source_title))]
 pub(crate) fn source_title(out: &mut Vec<u8>) -> Result<(), AllocError>
     ensures { OnOk result (out.new.items ≡ out.old.items ++ spec.source_title) }
@@ -34,7 +34,7 @@ pub(crate) fn altitude_title(out: &mut Vec<u8>) -> Result<(), AllocError>
     text(out, b"`, altitude ")
 }
 
-/// What stands at the head of the source, behind the filter's name.
+/// The head of the source after the filter's name.
 #[tactic(auto, unfolding(crate::specs::Fixed::written))]
 pub(crate) fn written(out: &mut Vec<u8>) -> Result<(), AllocError>
     ensures { OnOk result (out.new.items ≡ out.old.items ++ spec.written) }
@@ -52,7 +52,7 @@ pub(crate) fn written(out: &mut Vec<u8>) -> Result<(), AllocError>
     )
 }
 
-/// The contexts, which post callbacks look at where nothing may be paged.
+/// The contexts, which post callbacks look at where no memory may be paged.
 #[tactic(auto, unfolding(crate::specs::Fixed::contexts))]
 pub(crate) fn contexts(out: &mut Vec<u8>) -> Result<(), AllocError>
     ensures { OnOk result (out.new.items ≡ out.old.items ++ spec.contexts) }
@@ -574,7 +574,7 @@ FilterUnload(
     )
 }
 
-/// What stands before the registered operations.
+/// The lines before the registered operations.
 #[tactic(auto, unfolding(crate::specs::Fixed::operations))]
 pub(crate) fn operations(out: &mut Vec<u8>) -> Result<(), AllocError>
     ensures { OnOk result (out.new.items ≡ out.old.items ++ spec.operations) }

@@ -6,7 +6,7 @@ ghost use Rattle.std.specs.Prelude.{◌≡◌, ◌++◌, OnOk};
 use crate::line::text;
 use std::alloc::AllocError;
 
-/// What the writer's header is, up to the filter's name.
+/// The title of the writer's header, up to the filter's name.
 #[tactic(auto, unfolding(crate::specs::FixedFiles::user_title))]
 pub(crate) fn user_title(out: &mut Vec<u8>) -> Result<(), AllocError>
     ensures { OnOk result (out.new.items ≡ out.old.items ++ spec.user_title) }
@@ -14,7 +14,7 @@ pub(crate) fn user_title(out: &mut Vec<u8>) -> Result<(), AllocError>
     text(out, b"_user.h - the writer's own part of the minifilter `")
 }
 
-/// What stands at the head of the writer's header, behind the filter's name.
+/// The head of the writer's header after the filter's name.
 #[tactic(auto, unfolding(crate::specs::FixedFiles::user_written))]
 pub(crate) fn user_written(out: &mut Vec<u8>) -> Result<(), AllocError>
     ensures { OnOk result (out.new.items ≡ out.old.items ++ spec.user_written) }
@@ -181,7 +181,7 @@ HKR,Parameters\\Instances\\",
     )
 }
 
-/// Up to the altitude, behind that name.
+/// Up to the altitude, after that name.
 #[tactic(auto, unfolding(crate::specs::FixedFiles::inf_altitude))]
 pub(crate) fn inf_altitude(out: &mut Vec<u8>) -> Result<(), AllocError>
     ensures { OnOk result (out.new.items ≡ out.old.items ++ spec.inf_altitude) }
@@ -201,7 +201,7 @@ HKR,Parameters\\Instances\\",
     )
 }
 
-/// Up to the name of the disk, behind that name.
+/// Up to the name of the disk, after that name.
 #[tactic(auto, unfolding(crate::specs::FixedFiles::inf_strings))]
 pub(crate) fn inf_strings(out: &mut Vec<u8>) -> Result<(), AllocError>
     ensures { OnOk result (out.new.items ≡ out.old.items ++ spec.inf_strings) }
