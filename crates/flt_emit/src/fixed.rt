@@ -52,7 +52,7 @@ pub(crate) fn written(out: &mut Vec<u8>) -> Result<(), AllocError>
     )
 }
 
-/// The contexts, which post callbacks look at where no memory may be paged.
+/// The contexts, which are never paged, since post callbacks access them at DISPATCH_LEVEL.
 #[tactic(auto, unfolding(crate::specs::Fixed::contexts))]
 pub(crate) fn contexts(out: &mut Vec<u8>) -> Result<(), AllocError>
     ensures { OnOk result (out.new.items ≡ out.old.items ++ spec.contexts) }

@@ -73,7 +73,7 @@ fn nearer(one: Option<NearAbsence>, other: Option<NearAbsence>) -> Option<NearAb
     }
 }
 
-/// The nearest of a first candidate and the features that the beginnings of a table name.
+/// The nearest of the candidate so far and the features that the beginnings of a table name.
 #[tactic(auto, using(crate::proofs::Nearer::nearer_in_turn))]
 fn nearest_among(
     alloc: Global,

@@ -26,7 +26,7 @@ fn reach(a: &[u8], b: &[u8]) -> usize
     (letters(a).max(letters(b)) / 3).max(1)
 }
 
-/// The nearest of a first candidate and words of the language.
+/// The nearest of the candidate so far and words of the language.
 fn nearest_expected<'a>(
     alloc: Global,
     written: &[u8],
@@ -42,7 +42,7 @@ fn nearest_expected<'a>(
     Ok(nearest)
 }
 
-/// The nearest of a first candidate and some names.
+/// The nearest of the candidate so far and some names.
 fn nearest_name<'a>(
     alloc: Global,
     written: &[u8],

@@ -72,7 +72,7 @@ pub(crate) fn begun_at(graph: &Graph, callback: usize, point: usize) -> Option<S
     }
 }
 
-/// What a call gives a context of, as it comes out.
+/// The stream or the instance whose context a call gives, by its outcome.
 fn giver(call: Call, outcome: bool) -> Option<Anchor>
     ensures { result ≡ spec.giver call outcome }
 {
