@@ -23,7 +23,7 @@ pub enum Need {
     Nothing,
     /// It is surely held.
     Held,
-    /// It is surely held, and goes to whom the call names.
+    /// It is surely held, and goes to the receiver that the call names.
     HandedOver,
     /// It receives what the call gives, so it must not be held.
     Output,
