@@ -71,8 +71,7 @@ fn call_above(tokens: &[Token], token: Token) -> Option<OpenCall>
     }
 }
 
-/// Whether the legal words are operands of a call: none that follows a call, and none that follows a variable at the beginning of a
-/// statement.
+/// Whether an operand of a call is legal there, and not a word that follows a call or a variable at the beginning of a statement.
 fn take_operand(choices: &Choices<'_>) -> bool
     ensures { result ≡ spec.take_operand choices.now }
 {

@@ -82,7 +82,7 @@ fn said(out: &mut Vec<u8>, phrase: Phrase<'_>) -> Result<(), AllocError>
     }
 }
 
-/// The words between a phrase and those after it.
+/// The separator between a phrase and those after it.
 fn joint(behind: &[Phrase<'_>]) -> &'static str
     ensures { result.now ≡ spec.joint (map phrase_of behind.now) }
 {

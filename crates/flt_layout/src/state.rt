@@ -105,7 +105,7 @@ fn may_begin(kind: Kind) -> bool
     is_first(kind) || is_plain_call(kind) || is_set(kind)
 }
 
-/// Words after which an operand, a call or a test follows, which begins none of these.
+/// Words after which an operand, a call or a test follows, which begins no statement.
 fn wants_more(kind: Kind) -> bool
     ensures { result ≡ spec.wants_more kind }
 {

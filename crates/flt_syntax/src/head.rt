@@ -182,7 +182,7 @@ fn begins_head(kind: Kind) -> bool
     )
 }
 
-/// The error if another head is read and there are enough callbacks.
+/// The error if another head is read and there are as many callbacks as a text may have.
 #[tactic(auto, unfolding(crate::specs::Head::crowded))]
 fn crowded(tokens: &mut Tokens<'_>, found: &[Callback]) -> ParseError
     ensures { result ≡ ParseError.Syntax (spec.crowded found.now tokens.old.rest.now) }

@@ -1,5 +1,5 @@
-//! Reads statements and blocks. The statements of the blocks that are being read are on a stack, from which each block takes its own at its
-//! end: a block in another one as a copy in as much memory as they need, that of a callback as the stack itself.
+//! Reads statements and blocks. The statements of unfinished blocks are on a stack, from which each block takes its own at its end: a
+//! nested block as a copy of exactly their size, that of a callback as the stack itself.
 
 ghost use Rattle.flt_syntax.specs.Cursor.{Reads, ReadsOnto, onto};
 ghost use Rattle.flt_syntax.specs.Scope.{scope_of};

@@ -70,7 +70,7 @@ pub enum Request<'a> {
         script: &'a str,
         files: Vec<&'a str>,
     },
-    /// Replay a journal on the texts of some files, and report how it ends.
+    /// Replay a journal on the texts of some files, and report the outcome.
     Replay {
         journal: &'a str,
         files: Vec<&'a str>,

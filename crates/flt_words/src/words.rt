@@ -57,7 +57,7 @@ const FEW_LAYOUTS: &str =
 const NO_INPUT: &str =
     "error: `--write` takes the names of files\n\nUsage: fltstack format <FILE>\n       fltstack format --check <FILE>...\n       fltstack format --write <FILE>...\n\nFor more information, try '--help'.\n";
 
-/// The error for malformed words if `clap` finds none.
+/// The error for malformed words if `clap` reports none for them.
 const NO_WORDS: &str = "error: these words can't be taken\n\nFor more information, try '--help'.\n";
 
 // ---- values
