@@ -33,7 +33,7 @@ fn is_alike(one: &Finding, other: &Finding) -> bool
         && is_same_subject(one.subject, other.subject)
 }
 
-/// For each of so many findings, the first one of its group, unless it is the first itself.
+/// For each of `count` findings, the first one of its group, unless it is the first itself.
 ///
 /// # Errors
 ///

@@ -1,4 +1,4 @@
-//! The findings of texts, and all words about them: `judge` finds them, `details` describes them for other forms, and a `Scene` with its
+//! The findings of texts, and all words about them. `judge` finds them, `details` describes them for other forms, and a `Scene` with its
 //! `Traces` has the data that `flt_reports` draws for people. Here too are the lines that end reports, and the `Page` on which words are
 //! written.
 #![tactic(auto)]

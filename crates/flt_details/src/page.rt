@@ -221,7 +221,7 @@ fn is_in(byte: u8, range: (u8, u8)) -> bool
     range.0 <= byte && byte <= range.1
 }
 
-/// Whether bytes begin with some in these ranges.
+/// Whether bytes begin with one in each of these ranges.
 fn begins(bytes: &[u8], ranges: &[(u8, u8)]) -> bool
     ensures value { result ≡ spec.begins ranges.now bytes.now }
     ensures fits { IsTrue result → length ranges.now ≤ length bytes.now }

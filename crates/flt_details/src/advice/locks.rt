@@ -102,7 +102,7 @@ pub(crate) fn tell_release_help(page: &mut Page, case: &Case<'_>) -> Result<(), 
     }
 }
 
-/// Writes how to fix that a lock is taken twice (R11): on a path, where it was taken first.
+/// Writes how to fix that a lock is taken twice (R11); if a path is known, with the line that took it first.
 #[tactic(auto, unfolding(crate::specs::Advice::Locks::twice_help))]
 pub(crate) fn tell_twice_help(page: &mut Page, case: &Case<'_>) -> Result<(), AllocError>
     ensures { Writes result page.old page.new (spec.twice_help (of_case case.now)) }

@@ -32,11 +32,11 @@ enum Wrong {
     Held,
     /// The operation was given away, and the status says that it is held.
     GivenAway,
-    /// The status asks for an IRP.
+    /// The status needs an IRP.
     FastIo,
-    /// The status asks for fast I/O.
+    /// The status needs fast I/O.
     Irp,
-    /// The operation is always an IRP, and the status asks for fast I/O.
+    /// The operation is always an IRP, and the status needs fast I/O.
     NeverFast(Operation),
     Draining,
     /// A fast I/O is put into the queue.
