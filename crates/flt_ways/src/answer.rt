@@ -9,7 +9,7 @@ pub struct Step {
     pub point: usize,
     /// The call succeeds, the test holds, or a turn is left. It is true if nothing is asked.
     pub granted: bool,
-    /// A call that may give a context gives one. No other call reads it.
+    /// A call that may give a context gives one. It matters to no other call.
     pub gives: bool,
 }
 

@@ -82,7 +82,7 @@ fn is_free(graph: &Graph, finding: &Finding, member: &Member) -> bool
     !may_break(graph, finding, &member.state)
 }
 
-/// Whether a state of the cover isn't at the point of another one, or its lock list isn't another.
+/// Whether a state of the cover is at another point than `next`, or their lock lists aren't apart.
 fn is_with(subject: Subject, next: &Successor, member: &Member) -> bool
     ensures { result ≡ spec.is_with subject next.now member.now }
 {
@@ -90,14 +90,14 @@ fn is_with(subject: Subject, next: &Successor, member: &Member) -> bool
         || !are_lists_apart(subject, next.state.locks(), member.state.locks())
 }
 
-/// Whether none of these states is at the point of another one with another lock list.
+/// Whether none of these states is at the point of `next` with a lock list apart from its own.
 fn are_with(subject: Subject, next: &Successor, these: &[Member]) -> bool
     ensures { result ≡ list_all (spec.is_with subject next.now) these.now }
 {
     these.iter().all(|member| is_with(subject, next, member))
 }
 
-/// Whether what follows, if something does, meets no state of the cover with another lock list.
+/// Whether a successor, if there is one, meets no state of the cover with a lock list apart from its own.
 fn meets_none(subject: Subject, members: &[Member], next: &Option<Successor>) -> bool
     ensures { result ≡ spec.meets_none subject members.now next.now }
 {
@@ -107,7 +107,7 @@ fn meets_none(subject: Subject, members: &[Member], next: &Option<Successor>) ->
     }
 }
 
-/// Whether what follows a state at the finding's point meets no state of the cover with another lock list.
+/// Whether the successors of a state, if it is at the finding's point, meet no state of the cover with a lock list apart from their own.
 fn is_alone(graph: &Graph, finding: &Finding, members: &[Member], member: &Member) -> bool
     ensures { result ≡ spec.is_alone graph.now finding.now members.now member.now }
 {
@@ -130,7 +130,8 @@ fn are_free(graph: &Graph, finding: &Finding, these: &[Member]) -> bool
     these.iter().all(|member| is_free(graph, finding, member))
 }
 
-/// Whether what follows these states, where they are at the finding's point, meets no state of the cover with another lock list.
+/// Whether the successors of these states, if they are at the finding's point, meet no state of the cover with a lock list apart from their
+/// own.
 fn are_alone(graph: &Graph, finding: &Finding, members: &[Member], these: &[Member]) -> bool
     ensures { result ≡ list_all (spec.is_alone graph.now finding.now members.now) these.now }
 {

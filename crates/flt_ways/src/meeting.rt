@@ -22,7 +22,7 @@ struct Pair {
     stop: Option<Stop>,
 }
 
-/// The better one of two pairs: the first, unless only the second has no stop.
+/// The better one of two pairs: the first, unless it was stopped and the second wasn't.
 fn better(first: Option<Pair>, second: Option<Pair>) -> Option<Pair> {
     match (first, second) {
         (Some(pair), Some(other)) if pair.stop.is_some() && other.stop.is_none() => second,

@@ -229,7 +229,7 @@ impl Search {
         })
     }
 
-    /// The moment to which a side leads, if the point may come out so.
+    /// The moment to which a side leads, if the point may have that outcome.
     fn by(&self, number: usize, left: Node, granted: bool, side: Option<Side>) -> Option<Node> {
         let side = side?;
         let (all, part) = kept(self.manner.followed.parts, left.all, side.keeps)?;
@@ -286,7 +286,7 @@ impl Search {
         Ok(())
     }
 
-    /// Continues until all aims are met, nothing more can be reached, or so many moments were looked at.
+    /// Continues until all aims are met, nothing more can be reached, or `limit` moments were looked at.
     pub(crate) fn run(
         &mut self,
         alloc: Global,
@@ -308,7 +308,7 @@ impl Search {
         Ok(())
     }
 
-    /// Continues until nothing more can be reached, or so many moments were looked at.
+    /// Continues until nothing more can be reached, or `limit` moments were looked at.
     pub(crate) fn reach_all(
         &mut self,
         alloc: Global,
