@@ -15,7 +15,7 @@ use std::alloc::AllocError;
 
 // ---- title
 
-/// The name of the call; that of the test where it is one.
+/// The name of the call, or of the test if it is one.
 fn name_of(call: Option<Invocation>) -> &'static str
     ensures { result.now ≡ spec.name_of call }
 {
@@ -25,7 +25,7 @@ fn name_of(call: Option<Invocation>) -> &'static str
     }
 }
 
-/// When it isn't legal, where that isn't always.
+/// The words for when a call isn't legal, if it is legal at other times.
 fn when_of(call: Option<Invocation>, subject: Subject) -> &'static str
     ensures { result.now ≡ spec.when_of call subject }
 {
@@ -53,7 +53,7 @@ fn tell_not_allowed<'a>(
     ])
 }
 
-/// Writes what isn't legal, and where.
+/// Writes which call or test isn't legal, and where.
 #[tactic(auto, unfolding(crate::specs::Advice::Places::title))]
 pub(crate) fn tell_title(page: &mut Page, case: &Case<'_>) -> Result<(), AllocError>
     ensures { Writes result page.old page.new (spec.title (of_case case.now)) }
@@ -69,7 +69,7 @@ pub(crate) fn tell_title(page: &mut Page, case: &Case<'_>) -> Result<(), AllocEr
 
 // ---- help
 
-/// What to do in place of completing the operation that the callback was given.
+/// The help for completing the operation that the callback was given, by the callback's place.
 fn completion_help(place: Place) -> &'static str
     ensures { result.now ≡ spec.completion_help place }
 {
@@ -83,7 +83,7 @@ fn completion_help(place: Place) -> &'static str
     }
 }
 
-/// What to do in place of going on with an operation on its path up.
+/// The help for continuing an operation on its path up, by the callback's place.
 fn post_completion_help(place: Place) -> &'static str
     ensures { result.now ≡ spec.post_completion_help place }
 {
@@ -96,7 +96,7 @@ fn post_completion_help(place: Place) -> &'static str
     }
 }
 
-/// The same by the call.
+/// The help for a call, by the callback's place.
 fn call_help(call: Call, place: Place) -> &'static str
     ensures { result.now ≡ spec.call_help call place }
 {
@@ -107,7 +107,7 @@ fn call_help(call: Call, place: Place) -> &'static str
     }
 }
 
-/// Where a call may be made.
+/// The help for a call that is legal at `places` and is made at `place`.
 fn places_help(places: Places, call: Call, place: Place) -> &'static str
     ensures { result.now ≡ spec.places_help places call place }
 {
@@ -122,7 +122,7 @@ fn places_help(places: Places, call: Call, place: Place) -> &'static str
     }
 }
 
-/// Where the call or the test is legal.
+/// The help that says where the call or the test is legal.
 fn help(call: Option<Invocation>, subject: Subject, place: Place) -> &'static str
     ensures { result.now ≡ spec.help_by call subject place }
 {
