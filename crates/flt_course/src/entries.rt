@@ -1,4 +1,4 @@
-//! Moves, steps and entries are made, whatever they break: their events aren't read.
+//! Makes moves, steps and entries, whatever they break: their events aren't read.
 
 ghost use Rattle.std.specs.Prelude.{List, IfOk};
 ghost use Rattle.flt_model.specs.declared.event.Event.{Event};

@@ -21,7 +21,7 @@ pub(crate) struct Setting {
     pub(crate) outcomes: Vec<Outcome>,
 }
 
-/// The start of a line of a number.
+/// The text before a line: its number and a bar.
 fn line_head(alloc: Global, line: usize) -> Result<String, AllocError>
     ensures { IfOk result (λ head. string_bytes head ≡ rows.line_head line) }
 {
@@ -181,7 +181,7 @@ impl Setting {
         }
     }
 
-    /// The lines after that on a run: the lines of the callback, and the run as rows.
+    /// The lines after the one on a run: those of the callback, and the run as rows.
     ///
     /// # Errors
     ///

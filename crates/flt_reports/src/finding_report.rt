@@ -151,7 +151,7 @@ fn before_line(is_below: bool) -> &'static str
     }
 }
 
-/// Writes the lines of the others of a group, each once.
+/// Writes the line numbers of the others of a group, each once.
 #[tactic(auto, unfolding(crate::specs::Finding::others_told))]
 fn tell_others(page: &mut Page, others: &[Traced]) -> Result<(), AllocError>
     ensures { Writes result page.old page.new (spec.others_told others.now) }

@@ -10,7 +10,7 @@ use flt_details::{Page, Scene, step_outcome, tell_branch};
 use flt_ways::{Step, Way};
 use std::alloc::AllocError;
 
-/// Writes the line of a statement, its question, and the outcome.
+/// Writes the line number of a statement, its question, and the outcome.
 #[tactic(auto, unfolding(crate::specs::Ways::branch_line))]
 fn tell_step(
     page: &mut Page,

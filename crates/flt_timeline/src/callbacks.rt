@@ -1,4 +1,4 @@
-//! Which callback an activation runs, and where.
+//! The callback that an activation runs, and its lines.
 
 ghost use Rattle.std.specs.Prelude.{◌≡◌, ◌≤◌, List, length, slice_get, [], ◌∷◌, MatchOption};
 ghost use Rattle.flt_model.specs.Program as program;

@@ -104,7 +104,7 @@ fn is_happening(one: Happening, other: Happening) -> bool
     }
 }
 
-/// Whether two descriptions are the same; never if an entry isn't enabled.
+/// Whether two descriptions are the same; never if their entries aren't enabled.
 pub(crate) fn is_same(one: Telling, other: Telling) -> bool
     ensures { IsTrue result → one ≡ other }
 {

@@ -1,4 +1,4 @@
-//! Entries are cut into rows: stretches in which one activation or the system is on.
+//! Rows of entries: stretches in which one activation or the system is on.
 
 ghost use Rattle.std.specs.Prelude.{◌≡◌, ◌≤◌, ◌<◌, ◌+◌, ◌^◌, ◌++◌, ◌∷◌, List, length, IfOk};
 ghost use Rattle.flt_timeline.specs.declared.telling.Who.{Who as Told};

@@ -82,7 +82,7 @@ fn put_blanks(out: &mut String, count: usize) -> Result<(), AllocError>
     Ok(())
 }
 
-/// A text to the right of a field, and two blanks.
+/// A text at the right of a field, and two blanks.
 fn put_right(out: &mut String, field: usize, text: &str) -> Result<(), AllocError>
     ensures { Puts result (string_bytes out.old) (string_bytes out.new) (spec.to_right field text.now) }
 {
@@ -488,7 +488,7 @@ impl<'a> Timeline<'a> {
         }
     }
 
-    /// The verdict on the run, after the row of its last entry.
+    /// The violation, or the reason why an entry isn't enabled, after the row of the run's last entry.
     fn put_end(&self, out: &mut String, row: Row) -> Result<(), AllocError>
         ensures { Puts result (string_bytes out.old) (string_bytes out.new) (spec.end_words self.now row) }
     {
