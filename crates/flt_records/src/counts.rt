@@ -78,7 +78,7 @@ impl Counts {
         Ok(())
     }
 
-    /// Counts a number once more. It fails if a count would reach 2^32.
+    /// Adds one to the count of a number. It fails if a count would reach 2^32.
     #[inline(always)]
     #[tactic(auto, using(crate::proofs::Counting::raised, crate::proofs::Counting::past_the_end))]
     pub fn add(&mut self, number: usize) -> Result<(), AllocError>
@@ -95,7 +95,7 @@ impl Counts {
         Ok(())
     }
 
-    /// Counts a number that counts once less.
+    /// Takes one off the count of a number, which is at least 1.
     #[tactic(auto, using(crate::proofs::Counting::once_less, crate::proofs::Counting::past_the_end))]
     pub fn take(&mut self, number: usize)
         ensures { 0 < spec.count self.old number → (n : ℕ) → spec.count self.old n ≡ spec.count self.new n + one_if number n }
@@ -106,7 +106,7 @@ impl Counts {
         *place = place.saturating_sub(1);
     }
 
-    /// Counts each of some numbers once more.
+    /// Adds one to the count of each of some numbers.
     pub fn add_each(&mut self, numbers: &[usize]) -> Result<(), AllocError>
         ensures { OnOk result ((n : ℕ) → spec.count self.new n ≡ spec.count self.old n + spec.occurs n numbers.now) }
     {
@@ -116,7 +116,7 @@ impl Counts {
         Ok(())
     }
 
-    /// Counts each of some numbers that count once less.
+    /// Takes one off the count of each of some numbers, if these counts suffice.
     pub fn take_each(&mut self, numbers: &[usize])
         ensures { ((n : ℕ) → spec.occurs n numbers.now ≤ spec.count self.old n) → (n : ℕ) →
             spec.count self.old n ≡ spec.count self.new n + spec.occurs n numbers.now }

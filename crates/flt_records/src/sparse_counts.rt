@@ -49,7 +49,7 @@ impl SparseCounts {
         }
     }
 
-    /// Counts a number once more. The count is a number that no journal in memory reaches the end of.
+    /// Adds one to the count of a number. The count is a number that no journal in memory reaches the end of.
     #[tactic(auto, unfolding(crate::specs::Counts::count_in, flt_model::specs::Trace::one_if))]
     pub fn add(&mut self, number: usize) -> Result<(), AllocError>
         ensures ok { OnOk result ((n : ℕ) → spec.count_in self.new n ≡ spec.count_in self.old n + one_if number n) }
@@ -64,7 +64,7 @@ impl SparseCounts {
         }
     }
 
-    /// Counts a number that counts once less.
+    /// Takes one off the count of a number, which is at least 1.
     #[tactic(auto, unfolding(crate::specs::Counts::count_in, flt_model::specs::Trace::one_if))]
     pub fn take(&mut self, number: usize)
         ensures { 0 < spec.count_in self.old number → (n : ℕ) → spec.count_in self.old n ≡ spec.count_in self.new n + one_if number n }
