@@ -308,7 +308,7 @@ fn put_detaching(mix: &mut Mix, world: &World) {
     }
 }
 
-/// The number of a world, in which this activation is running.
+/// The number of a world in which this activation, or none, is running.
 pub(crate) fn key_of(plan: &Plan, world: &World, runner: Option<u8>) -> u64 {
     let mut mix = Mix {
         number: 1,

@@ -22,7 +22,7 @@ fn is_clean(rt: &impl Abort, alloc: Global, texts: &[&str], journal: &Journal) -
     Ok(())
 }
 
-/// Runs an activation to its end, or until something stops it. Returns the number of its steps that were made, and the last answer.
+/// Runs an activation to its end, or until something stops it. Returns how many times it continued, and the last answer.
 fn go_on(scene: &mut Scene, alloc: Global, activation: u32) -> (usize, Answer) {
     for count in 0..1_000_000usize {
         let answer = scene.go(alloc, activation, None, true);

@@ -369,7 +369,7 @@ fn first_wrong(
     None
 }
 
-/// Plays a stack with a seed on a board. Returns the monitor's finding of the run, or 0 as finding at a turn that went wrong.
+/// Plays a stack with a seed on a board. Returns the monitor's finding of the run, or 0 and the turn if a turn went wrong.
 fn play_on(
     scene: &mut Scene,
     alloc: Global,

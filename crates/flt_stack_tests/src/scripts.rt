@@ -338,7 +338,7 @@ fn goes_so_again<R: Wait>(rt: &R, alloc: Global, row: &Refused) -> Result<bool, 
     Ok(fine)
 }
 
-/// The first row whose steps don't.
+/// The first row whose steps don't succeed.
 fn wrong_row<R: Wait>(rt: &R, alloc: Global, rows: &[Refused]) -> Result<Option<usize>, Fail> {
     for (number, row) in rows.iter().enumerate() {
         if !goes_so_again(rt, alloc, row)? {

@@ -15,8 +15,8 @@ const NUMBERS: &str =
 /// Sees each read, above the other.
 const SEES: &str = "filter b altitude 200\npre read {\nreturn NO_CALLBACK\n}\n";
 
-/// Texts, the most states to expand in a search for the breaks that the first one's findings allow, and the least and the greatest number
-/// that may be reported last.
+/// Texts, the most states to expand in a search for runs to the findings of the first one, and the least and the greatest number that may
+/// be reported last.
 type Case<'a> = (&'a [&'a str], u32, u32, u32);
 
 /// If there are two texts, the first of two searches has half of the states.
