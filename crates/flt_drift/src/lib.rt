@@ -1,4 +1,4 @@
-//! Where a driver in C and its annotations say different things, as far as their words show it.
+//! The drifts of a driver in C: the places where it and its annotations disagree, as far as their words show it.
 //!
 //! For each letter of a file, `flt_c` says whether it belongs to code or to an annotation (`part`). Words of both leave marks (`reader`,
 //! `word`, `mark`), by the names that both have (`names`) and by those of functions that are declared to make a call (`wrapper`). Marks are
