@@ -1,4 +1,4 @@
-//! Warnings: mistakes beside the rules that an accepted text may still make, by its least certificate and its graph. It exports `warnings`,
+//! Warnings: mistakes beside the rules that an accepted text may still have, by its least certificate and its graph. It exports `warnings`,
 //! which lists all of them, and `Warning`, which says where each of them is and which items it is about.
 #![tactic(auto)]
 
