@@ -1,4 +1,4 @@
-//! Past a broken rule: each rule by itself, and where a point leads whatever it breaks.
+//! Past a broken rule: each rule by itself, and where a point leads whichever rules it breaks.
 
 ghost use Rattle.std.specs.Prelude.{◌≡◌, ◌↔◌, Bool, true, [], IsSome, IfSome, IsTrue};
 ghost use Rattle.flt_abs.specs.Breaks.{breaks};
@@ -35,8 +35,8 @@ pub fn leads_past(graph: &Graph, callback: usize, point: usize, state: &Abs) -> 
     leads_to(state, &graph.instruction(callback, point))
 }
 
-/// Each outcome that an instruction may have in a situation of a state has its successor, whatever the state breaks there, and the
-/// successor's state means what is left of the situation. It does nothing: its clause is the law.
+/// Each outcome that an instruction may have in a situation of a state has its successor, whichever rules the state breaks there, and the
+/// successor's state means the situation after the instruction. It does nothing: its clause is the law.
 pub fn leads_past_follows_situations()
     ensures { (i : Instruction) (x : State) (t : Situation) (outcome gives : Bool) → Means x t →
         outcome_spec.may_come_out i t outcome ≡ true →

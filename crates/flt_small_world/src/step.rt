@@ -14,7 +14,7 @@ use flt_rules::{
 };
 use flt_tree::Atom;
 
-/// What comes of a step or a move.
+/// The result of a step or a move.
 #[derive(Clone, Copy)]
 pub enum Course {
     /// It is made.
@@ -67,7 +67,7 @@ impl World {
         self.used_context(a, variable?)
     }
 
-    /// What a call hands over that may name a context.
+    /// The context that a call hands over, if it has that operand; none if that isn't held.
     pub(crate) fn handed(
         &mut self,
         a: u8,
@@ -321,7 +321,7 @@ impl World {
 // ---- locks
 
 impl World {
-    /// Whether others hold a lock in a way that refuses it.
+    /// Whether others hold a lock so that it is refused.
     fn is_refused(&self, a: u8, lock: LockNumber, access: Access) -> bool {
         let filter = self.activation(a).filter;
         for place in 0..MAX_ACTIVATIONS {
@@ -434,7 +434,7 @@ impl World {
         Ending::Granted
     }
 
-    /// False where there is no room.
+    /// Queues a work item. False if no place is free.
     fn push_item(
         &mut self,
         a: u8,
@@ -630,7 +630,7 @@ impl World {
         Course::Goes
     }
 
-    /// An activation makes its next step that others see, and then its local steps. Nothing is kept of what is broken.
+    /// An activation makes its next step that others see, and then its local steps, unless that step breaks something.
     pub fn step(&mut self, plan: &Plan, a: u8, grant: bool, left: &mut u32) -> Course {
         let activation = self.activation(a);
         if !activation.is_on {
