@@ -1,4 +1,5 @@
-//! The laws of covering: to cover is to have no fault, and what thin certificates have to do with those that follow from them.
+//! The laws of covering: a certificate covers exactly if it has no fault, and how thin certificates relate to the full ones that follow
+//! from them.
 
 ghost use Rattle.std.specs.Prelude.{◌≡◌, IsTrue};
 ghost use Rattle.flt_cert.specs.Format.{Certificate, is_certificate};
@@ -32,8 +33,8 @@ pub fn one_fault_is_least()
     ensures { (g : Graph) (k : Certificate) (f h : Refusal) → IsLeastFault g k f → IsLeastFault g k h → f ≡ h }
 {}
 
-/// Where a certificate of a text covers, what is left of it in a thin one covers, and what follows from that is below the certificate. It
-/// does nothing: its clauses are the law.
+/// If a certificate of a text covers, the thin one that is left of it covers, and the full one that follows from that is below the
+/// certificate. It does nothing: its clauses are the law.
 pub fn thin_certificates_cover()
     ensures rising { (g : Graph) (k : Certificate) → IsRising g → IsTrue (is_certificate k) → Covers g k → CoversThin g (thin g k) }
     ensures covers { (f : Filter) (g : Graph) (k : Certificate) → IsWellFormed f → IsLowered f g → IsTrue (is_certificate k) →
@@ -46,7 +47,8 @@ pub fn thin_certificates_cover()
     edges_lead_onwards();
 }
 
-/// What follows from a thin certificate is a certificate, and it covers where the thin one does. It does nothing: its clauses are the law.
+/// The full points that follow from a thin certificate are a certificate, which covers if the thin one does. It does nothing: its clauses
+/// are the law.
 pub fn thin_certificates_fill_up()
     ensures certificate { (g : Graph) (t : Thin) → IsTrue (is_thin t) → IsTrue (is_certificate (full g t)) }
     ensures covers { (g : Graph) (t : Thin) → CoversThin g t → Covers g (full g t) }
@@ -63,8 +65,8 @@ pub fn one_thin_fault_is_least()
     one_fault_is_least();
 }
 
-/// What a certificate of either format that covers stands for covers too: a full one stands for itself, a thin one for what follows from
-/// it. It does nothing: its clauses are the law.
+/// A certificate of either format stands for a full one, which covers if it does: a full one stands for itself, a thin one for the one that
+/// follows from it. It does nothing: its clauses are the law.
 pub fn accepted_certificates_fill_up()
     ensures certificate { (g : Graph) (c : Cert) → IsTrue (is_cert c) → IsTrue (is_certificate (full_of g c)) }
     ensures covers { (g : Graph) (c : Cert) → CertCovers g c → Covers g (full_of g c) }

@@ -1,4 +1,4 @@
-//! What a worker does in one hold of the lock: a ticket's move, or the step after an advance.
+//! The work that a worker does in one hold of the lock: a ticket's move, or the step after an advance.
 ghost use Rattle.std.specs.Prelude.{◌≡◌, ◌≢◌, ◌+◌, ◌<◌, [], true, false, length, Err, IfOk, OnErr, OnOk};
 ghost use Rattle.std.specs.BTreeSet.{insert_key};
 ghost use Rattle.std.specs.Ordering.{nat_cmp};
@@ -17,17 +17,17 @@ use flt_run::{Choices, TurnFault};
 use std::alloc::Global;
 use std::sync::ledger::Share;
 
-/// What stands behind the lock of a stack: its core, and the system's choices.
+/// The state that a stack's lock guards: its core, and the system's choices.
 #[derive(Drop)]
 pub struct Locked<N: StackName> {
     pub core: Core<N>,
     pub choices: Choices,
 }
 
-/// What a ticket's turn came to.
+/// The result of a ticket's turn.
 #[derive(Drop)]
 pub struct Turned {
-    /// What gets a ticket by it.
+    /// The subjects that get a ticket by it.
     pub next: Vec<Subject>,
     /// Whether the ticket goes to the back.
     pub stays: bool,

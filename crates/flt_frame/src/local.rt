@@ -35,7 +35,7 @@ impl Standing {
         }
     }
 
-    /// What a test says of the activation's own variables and flag; none where it asks of the operation.
+    /// The result of a test of the activation's own variables and flag; none if it is about the operation.
     fn test(&self, draining: bool, test: Test) -> Option<bool>
         ensures { result ≡ model.holds_test draining (activation_with self.now []) test }
     {
@@ -54,8 +54,8 @@ impl Standing {
         }
     }
 
-    /// A turn of the `repeat` at the standing's point, whose text has so many: to its body where one is left, otherwise behind it.
-    /// False, and nothing is changed, where the body would nest too deep.
+    /// Makes a turn of the `repeat` at the point, whose text has `text` turns: to its body if a turn is left, otherwise past it. False, and
+    /// nothing is changed, if the body would nest too deep.
     fn turn(&mut self, text: u64, body: usize, behind: usize) -> bool
         ensures local { result ≡ is_some (spec.turned text body behind self.old) }
         ensures after { self.new ≡ unwrap_or (spec.turned text body behind self.old) self.old }

@@ -12,7 +12,7 @@ use std::marker::Model;
 /// How deep repeats may nest.
 const MAX_REPEATS: usize = 4;
 
-/// What stands in an unused place.
+/// The value of an unused place.
 const NO_TURN: Turn = Turn { point: 0, left: 0 };
 
 /// The repeats in progress round a point, the innermost first, at most four. Unused places are blank, so that equal repeats are
@@ -68,7 +68,7 @@ fn with_first(turns: [Turn; 4], first: Turn) -> [Turn; 4]
     [first, a, b, c]
 }
 
-/// The turns without the first one, and a blank behind them.
+/// The turns without the first one, and a blank after them.
 fn without_first(turns: [Turn; 4]) -> [Turn; 4]
     ensures { result ≡ spec.without_first turns }
 {

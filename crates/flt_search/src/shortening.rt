@@ -89,7 +89,7 @@ fn shortened(
     }
 }
 
-/// Leaves out what isn't needed, from the last entry back, where several operations or activations came.
+/// Leaves out entries that aren't needed, from the last one back, if there are several operations or activations.
 pub(crate) fn shorten(
     alloc: Global,
     trees: &[Tree],
