@@ -81,7 +81,7 @@ impl Operations {
         self.visits.len()
     }
 
-    /// What an operation is. One that isn't there reads file 0 by an I/O request packet.
+    /// The kind, mode and file of an operation. One that isn't there reads file 0 by an I/O request packet.
     pub fn arrival(&self, serial: u32) -> Arrival
         ensures { result ≡ machine.arrival_at (store_of self.now) serial }
     {
@@ -95,7 +95,7 @@ impl Operations {
         }
     }
 
-    /// Where an operation stands. One that isn't there is up.
+    /// The position of an operation. One that isn't there is up.
     pub fn position(&self, serial: u32) -> Position
         ensures { position_of result ≡ (route_of self.now serial).position }
     {
@@ -182,7 +182,7 @@ impl Operations {
         matches!(way, Way::Frames) && self.is_led(visit)
     }
 
-    /// The filter that an operation is at on its way down.
+    /// The filter that an operation is at while it goes down.
     pub fn filter_at(&self, serial: u32) -> Option<usize>
         ensures { result ≡ filter_at self.now serial }
     {
@@ -192,7 +192,7 @@ impl Operations {
         }
     }
 
-    /// The frame whose post callback is next: the last one, where the operation is on its way up.
+    /// The frame whose post callback is next: the last one, if the operation goes up.
     pub fn frame_at(&self, serial: u32) -> Option<Frame>
         ensures { result ≡ frame_at self.now serial }
     {
@@ -243,7 +243,7 @@ impl Operations {
         Ok(serial as u32)
     }
 
-    /// The pre callback of the filter that the operation is at starts. `None` where it isn't at one on its way down.
+    /// The pre callback of the filter that the operation is at starts. `None` if it isn't at one while it goes down.
     pub fn start_pre(
         &mut self,
         heap: &mut Heap,
@@ -277,7 +277,7 @@ impl Operations {
         }))
     }
 
-    /// The operation passes the filter that it is at, and `true` is answered. `false` where it isn't at one on its way down.
+    /// The operation passes the filter that it is at, and `true` is answered. `false` if it isn't at one while it goes down.
     pub fn skip(&mut self, serial: u32) -> bool
         ensures { MatchOption (filter_at self.old serial) ((result ≡ false) × (self.new ≡ self.old))
             (λ f. (result ≡ true) × (self.new ≡ after (past_filter serial f) self.old)) }
@@ -391,7 +391,7 @@ impl Operations {
         !self.visits.is_settled(visit) && !self.visits.get(visit).draining
     }
 
-    /// The visit's operation goes on, where the visit still moves it.
+    /// Leads the visit's operation, if the visit still moves it.
     #[tactic(auto, using(std::proofs::lemmas::Grind::common_steps, crate::proofs::OtherFrames::led_within, crate::proofs::OtherFrames::led_framed, crate::proofs::Changes::is_seen))]
     fn lead(
         &mut self,

@@ -79,7 +79,7 @@ fn is_frame_of(filter: usize, frame: Frame) -> bool
     frame.filter == filter
 }
 
-/// Where the first frame of a filter stands.
+/// The place of the first frame of a filter.
 fn first_place(frames: &[Frame], filter: usize) -> Option<usize>
     ensures { result ≡ position (moves.is_frame_of filter) frames.now }
 {
@@ -121,7 +121,7 @@ impl Routes {
         }
     }
 
-    /// Where an operation stands; one that isn't there is up.
+    /// The position of an operation; one that isn't there is up.
     pub(crate) fn position(&self, operation: u32) -> Position
         ensures { position_of result ≡ (get_or self.now operation machine.no_route).position }
     {
@@ -204,7 +204,7 @@ impl Routes {
         heap.push(&mut self.routes, route)
     }
 
-    /// The operation stands there from now on.
+    /// Sets the position of an operation.
     pub(crate) fn set_position(&mut self, operation: u32, position: Position)
         ensures { self.new ≡ set self.old operation
             (record (get_or self.old operation machine.no_route) { position = position_of position }) }

@@ -22,8 +22,7 @@ use flt_tree::{Action, Condition, FallibleCall, PlainCall, Routine, Statement, T
 use flt_world::{Stack, World};
 use std::alloc::AllocError;
 
-/// What a step is made from: its activation, the choice that it leaves to the system, and whether the activation holds the visit
-/// that it was given.
+/// The input of a step: its activation, the system's choice, and whether the activation holds the visit that it was given.
 #[derive(Clone, Copy)]
 pub struct Setup {
     pub activation: usize,
@@ -53,7 +52,7 @@ fn leaves_choice(condition: &Condition) -> bool
 
 // ---- the first statement
 
-/// Whether the first statement can go on with this choice.
+/// Whether the first statement can be done with this choice.
 fn may_go(world: &World<'_>, a: usize, grant: bool, statement: &Statement) -> bool
     ensures { result ≡ steps.may_go world.now a grant (out-Statement statement.now) }
 {
@@ -240,7 +239,7 @@ fn statement_step<'a>(
     }
 }
 
-/// False where the choice isn't there, or others hold a lock in a way that refuses it.
+/// The step of the first statement. False if it hasn't this choice, or if others hold a lock so that it is refused.
 fn first_step<'a>(
     world: &mut World<'a>,
     stack: &Stack<'a>,
@@ -273,7 +272,7 @@ fn first<'a>(world: &mut World<'a>, a: usize) -> Result<Option<Upcoming<'a>>, Al
     }
 }
 
-/// By the first statement, or at the end of the body where there is none.
+/// The step of the first statement, or of the end of the body if none remains.
 fn list_step<'a>(
     world: &mut World<'a>,
     stack: &Stack<'a>,

@@ -215,7 +215,7 @@ fn kept<'a>(
     }
 }
 
-/// The context is linked where the link is free, or by what is wanted where it isn't.
+/// The context is linked if the link is free; otherwise the call keeps or replaces the context that is there.
 fn set_there<'a>(
     world: &mut World<'a>,
     a: usize,

@@ -7,7 +7,7 @@ use flt_model::{Event, Object};
 use flt_world::push_event;
 use std::alloc::AllocError;
 
-/// What a context variable names, as an object.
+/// The context that a variable names, as an object.
 pub(crate) fn context(variable: Option<usize>) -> Option<Object>
     ensures { result ≡ spec.context variable }
 {
@@ -17,7 +17,7 @@ pub(crate) fn context(variable: Option<usize>) -> Option<Object>
     }
 }
 
-/// What an operation variable names, as an object.
+/// The visit that an operation variable names, as an object.
 pub(crate) fn operation(variable: Option<usize>) -> Option<Object>
     ensures { result ≡ spec.operation variable }
 {
@@ -84,7 +84,7 @@ pub(crate) fn need_one(
     }
 }
 
-/// What a call names: an operation, and a context that the call need not have.
+/// The operands of a call: an operation, and a context that the call need not have.
 #[derive(Clone, Copy)]
 pub(crate) struct Named {
     pub(crate) visit: Option<usize>,

@@ -1,4 +1,4 @@
-//! The locks of a filter: what is held already isn't taken again, and what isn't held isn't released.
+//! The locks of a filter: a lock that is held already isn't taken again, and one that isn't held isn't released.
 
 ghost use Rattle.std.specs.Prelude.{◌≡◌, [], OnOk};
 ghost use Rattle.flt_model.specs.Calls as calls;

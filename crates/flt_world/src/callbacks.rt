@@ -91,7 +91,7 @@ pub(crate) fn canceled_body(callbacks: &[Callback]) -> &[Statement]
     }
 }
 
-/// The number of the routine that a call names; past all callbacks where there is none.
+/// The number of the routine that a call names; past all callbacks if the filter hasn't it.
 pub(crate) fn routine_of(callbacks: &[Callback], routine: &Routine) -> usize
     ensures number { result ≡ spec.routine_of callbacks.now routine.now }
     ensures within { result ≤ length callbacks.now }

@@ -1,4 +1,4 @@
-//! The world of the monitor, and what is there at a number: what isn't there has ended, is settled and counts nothing.
+//! The world of the monitor, and reads of it by number: an object that isn't there has ended, is settled and counts nothing.
 
 ghost use Rattle.std.specs.Prelude.{◌≡◌, ◌+◌, true, get_or, set, replicate, sum_by, find, filter, ◌==◌, is_some, length, Some, None, [], ◌∷◌, ◌++◌, OnOk, IfOk, MatchOption};
 ghost use Rattle.flt_model.specs.Effects.{onward};
@@ -25,7 +25,7 @@ use sqlite_items::{Items, at};
 use std::alloc::{AllocError, Global};
 use std::marker::Model;
 
-/// What activations share. Presences, queues and lock holders are by filter.
+/// The monitor's world: the activations and all that they share. Presences, queues and lock holders are by filter.
 #[derive(Drop)]
 pub struct World<'a> {
     pub actors: Vec<Actor>,
@@ -128,7 +128,7 @@ impl<'a> World<'a> {
         matches!(self.presence(filter), Presence::Detaching)
     }
 
-    /// What an operation asks for; a read where it isn't there.
+    /// The kind of an operation; a read if it isn't there.
     #[tactic(auto, using(crate::proofs::Reading::found, crate::proofs::Reading::missing))]
     pub fn kind(&self, operation: usize) -> Operation
         ensures { result ≡ (spec.arrival_at self.now.store operation).kind }
@@ -161,7 +161,7 @@ impl<'a> World<'a> {
         }
     }
 
-    /// Where an operation stands; up where it isn't there.
+    /// The position of an operation; up if it isn't there.
     #[tactic(auto, using(crate::proofs::Reading::found, crate::proofs::Reading::missing))]
     pub fn position(&self, operation: usize) -> Position
         ensures { position_of result ≡ (spec.route_at self.now.store operation).position }
@@ -172,7 +172,7 @@ impl<'a> World<'a> {
         }
     }
 
-    /// Whether an operation was cancelled; so is one that isn't there.
+    /// Whether an operation was cancelled; true of one that isn't there.
     #[tactic(auto, using(crate::proofs::Reading::found, crate::proofs::Reading::missing))]
     pub fn is_cancelled(&self, operation: usize) -> bool
         ensures { result ≡ (spec.route_at self.now.store operation).cancelled }
@@ -218,7 +218,7 @@ impl<'a> World<'a> {
         self.visits.are_settled(operation)
     }
 
-    /// How often a visit stands in an entry or in a work item.
+    /// How often a visit is in an entry or in a work item.
     pub fn waiting(&self, visit: usize) -> u64
         ensures { result ≡ sum_by (in_queue visit) self.now.store.queues + sum_by (in_item visit) self.now.store.items }
     {
@@ -265,7 +265,7 @@ impl<'a> World<'a> {
         }
     }
 
-    /// Whether a visit is one of a teardown; so is one that isn't there.
+    /// Whether a visit is one of a teardown; true of one that isn't there.
     #[tactic(auto, using(crate::proofs::Reading::found, crate::proofs::Reading::missing))]
     pub fn is_draining(&self, visit: usize) -> bool
         ensures { result ≡ (spec.visit_at self.now.store visit).draining }
@@ -276,7 +276,7 @@ impl<'a> World<'a> {
         }
     }
 
-    /// Whether the filter's part in the operation is over; so it is of a visit that isn't there.
+    /// Whether the filter's part in the operation is over; true of a visit that isn't there.
     #[tactic(auto, using(crate::proofs::Reading::found, crate::proofs::Reading::missing))]
     pub fn is_settled(&self, visit: usize) -> bool
         ensures { result ≡ spec.is_settled self.now.store visit }
@@ -287,7 +287,7 @@ impl<'a> World<'a> {
         }
     }
 
-    /// What the operation of a visit asks for.
+    /// The kind of a visit's operation.
     pub fn kind_of(&self, visit: usize) -> Operation
         ensures { result ≡ (spec.arrival_of self.now.store visit).kind }
     {
@@ -356,7 +356,7 @@ impl<'a> World<'a> {
         }
     }
 
-    /// What the callback of an activation is registered for.
+    /// The place for which the callback of an activation is registered.
     #[tactic(auto, using(crate::proofs::Reading::found, crate::proofs::Reading::missing))]
     pub fn place(&self, activation: usize) -> Place
         ensures { result ≡ (spec.actor_at self.now activation).place }
@@ -378,7 +378,7 @@ impl<'a> World<'a> {
         }
     }
 
-    /// Whether an activation may take a lock of a filter so, beside those that hold it.
+    /// Whether an activation may take a lock of a filter with this access, beside those that hold it.
     #[tactic(auto, using(crate::proofs::Reading::found, crate::proofs::Reading::missing))]
     pub fn is_free_for(
         &self,
@@ -395,7 +395,7 @@ impl<'a> World<'a> {
         }
     }
 
-    /// Whether an activation ended; so did one that isn't there.
+    /// Whether an activation ended; true of one that isn't there.
     #[tactic(auto, using(crate::proofs::Reading::found, crate::proofs::Reading::missing))]
     pub fn has_ended(&self, activation: usize) -> bool
         ensures { result ≡ (spec.activation_at self.now activation).ended }
@@ -426,7 +426,7 @@ impl<'a> World<'a> {
         }
     }
 
-    /// What a variable names that a call need not have.
+    /// The context that an optional operand names; none if the call hasn't the operand.
     pub fn named_in(
         &self,
         activation: usize,
@@ -511,7 +511,7 @@ impl<'a> World<'a> {
         Ok(())
     }
 
-    /// An activation goes on with a block in place of its first statement.
+    /// An activation continues with a block in place of its first statement.
     #[inline(always)]
     pub fn go_on(
         &mut self,
@@ -530,7 +530,7 @@ impl<'a> World<'a> {
         Ok(())
     }
 
-    /// The filter is so from now on.
+    /// Sets the presence of a filter.
     pub fn set_presence(&mut self, filter: usize, presence: Presence)
         ensures { self.new ≡ record self.old { store = spec.with_presence self.old.store filter (presence_of presence) } }
     {
@@ -539,7 +539,7 @@ impl<'a> World<'a> {
         }
     }
 
-    /// The operation stands there from now on.
+    /// Sets the position of an operation.
     pub fn set_position(&mut self, operation: usize, position: Position)
         ensures { self.new ≡ record self.old {
           store =
