@@ -1,4 +1,4 @@
-//! What the rule comes to: laws of the pads between any two steps.
+//! The consequences of the rule: laws of the pads between any two steps.
 ghost use Rattle.flt_cancel.specs.Laws.{NoneIsInvented, NoneIsLost, OneHistory};
 
 /// Between any two steps each serial was collected at most as often as it was asked, where its present bit counts as one collection more;

@@ -1,4 +1,4 @@
-//! What the caller and the workers tell one another beside the stack.
+//! The progress of a run, which the caller and the workers share beside the stack.
 
 use std::sync::atomic::{AtomicBool, AtomicU64, Ordering};
 

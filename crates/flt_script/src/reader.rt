@@ -35,7 +35,7 @@ fn command_of(made: Move) -> Option<Command>
     }
 }
 
-/// The command whose line comes next, whether or not it may stand there.
+/// The command whose line comes next, whether or not it is legal there.
 fn command_at(text: &mut &[u8]) -> Option<Command>
     ensures spelled { IfSome result (λ command. text.old.now ≡ spec.command_line command ++ text.new.now) }
     ensures read { (command : Command) → IsTrue (spec.is_command command) → (behind : Text) →
@@ -52,7 +52,7 @@ fn command_at(text: &mut &[u8]) -> Option<Command>
     command_of(read_move(text, *first).ok()?)
 }
 
-/// The command whose line comes next, if it may stand behind those before it.
+/// The command whose line comes next, if it is legal after those before it.
 fn next_command(stack: Option<&[Tree]>, before: &[Command], text: &mut &[u8]) -> Option<Command>
     ensures spelled { IfSome result (λ command. text.old.now ≡ spec.command_line command ++ text.new.now) }
     ensures follows { IfSome result (λ command. IsTrue (spec.may_follow (option_map (λ trees. filters_of trees.now) stack.entry) before.now command)) }
