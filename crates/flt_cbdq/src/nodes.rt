@@ -26,7 +26,7 @@ pub(crate) fn entry_of(entries: &[Entry], node: NodeId) -> &Entry
     }
 }
 
-/// Makes room for the entry of a node. The rows up to it are filled with what is read where there is none.
+/// Makes room for the entry of a node. The rows up to it are filled with the entry that is read where no row is.
 fn make_room(heap: &mut Heap, entries: &mut Vec<Entry>, node: NodeId) -> Result<(), AllocError>
     ensures room { OnOk result (node < length entries.new.items) }
     ensures same { (other : ℕ) → entry_at entries.new.items other ≡ entry_at entries.old.items other }

@@ -1,4 +1,4 @@
-//! Contexts with counted references, and what they are linked to: the streams and instances of filters.
+//! Contexts with counted references, and their links to the streams and instances of filters.
 //!
 //! Contexts are numbered from 0 in the order in which they were made, and no number is used again. A context that is freed keeps its
 //! number, its value and its owner; calls that are given one leave its references and its value as they are.
@@ -24,5 +24,5 @@ mod stream_set;
 pub use answers::{Release, SetAnswer, Unlinked};
 pub use contexts::Contexts;
 pub use key::{Key, Target};
-/// What `new`, `alloc` and `set` answer where memory is refused.
+/// The answer of `new`, `alloc` and `set` if memory is refused.
 pub use std::alloc::AllocError as OutOfMemory;
