@@ -11,7 +11,7 @@ use flt_graph::Graph;
 use flt_rules::LockNumber;
 use std::marker::Model;
 
-/// What stands where a path has no acquisition.
+/// The value of an unused place of a path.
 const UNUSED: Acquisition = Acquisition {
     callback: 0,
     point: 0,

@@ -166,7 +166,7 @@ pub(crate) fn any_left(left: &[bool; 8]) -> Option<LockNumber>
     None
 }
 
-/// What is left when locks are taken away one after the other, each only where none that is left is held while it is taken.
+/// The locks that are left when locks are taken away one after the other, each only if none that is left is held while it is taken.
 pub(crate) fn reduce(graph: &Graph, cert: &FullCert) -> [bool; 8]
     ensures ranked { spec.AreRanked graph.now cert.now result 8 }
     ensures rest { (spec.count_left result ≡ 0) ⊎ spec.AreTakenBefore graph.now cert.now result 8 }
