@@ -12,13 +12,13 @@ pub struct Start {
     pub filter: usize,
     pub place: Place,
     pub draining: bool,
-    /// From 0; past all callbacks where there is none, and then its body is empty.
+    /// From 0; past all callbacks if the filter has no such callback, and then its body is empty.
     pub callback: usize,
     pub given: Option<usize>,
     pub arg: Option<usize>,
 }
 
-/// What a move comes to.
+/// The effect of a move.
 #[derive(Clone, Copy)]
 pub struct Decision {
     pub start: Option<Start>,

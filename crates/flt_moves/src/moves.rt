@@ -157,7 +157,7 @@ fn visit_last_frame(world: &mut World<'_>, operation: usize) -> Option<Frame>
     }
 }
 
-/// The operation is on its way up.
+/// The operation goes up: the post callback of its last frame starts.
 fn post_last<'a>(
     world: &mut World<'a>,
     alloc: Global,

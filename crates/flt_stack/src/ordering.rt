@@ -1,5 +1,5 @@
-//! Whether locks are taken in an order, by any certificate that covers. If one shows an order, the least one does: it says no more of what
-//! is reached and held. A greater one may show a circle where the least one shows an order.
+//! Whether locks are taken in an order, by any certificate that covers. If one shows an order, the least one does: it has no more reached
+//! points and held locks. A greater one may show a circle although the least one shows an order.
 
 ghost use Rattle.std.specs.Prelude.{◌≡◌, ◌<◌, ◌↔◌, IsTrue, IfOk};
 ghost use Rattle.flt_analyse.specs.Least.{NoneCovers};
