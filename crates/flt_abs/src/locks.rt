@@ -96,7 +96,7 @@ impl LockList {
         }
     }
 
-    /// The same, where a list isn't empty.
+    /// The same, for a list that isn't empty.
     #[inline(never)]
     fn copy_from(&mut self, other: &LockList)
         ensures { self.new ≡ other.now }

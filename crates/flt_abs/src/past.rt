@@ -28,7 +28,7 @@ pub fn breaks_rule(graph: &Graph, callback: usize, point: usize, state: &Abs, ru
     breaks(&setting, state, &graph.instruction(callback, point), rule)
 }
 
-/// Where the point of a callback leads from a state, even where it breaks a rule: each call is taken as made.
+/// Where the point of a callback leads from a state, even if it breaks a rule: each call is taken as made.
 pub fn leads_past(graph: &Graph, callback: usize, point: usize, state: &Abs) -> Successors
     ensures { result ≡ leads_to state.now (instruction_at graph.now callback point) }
 {
@@ -50,7 +50,7 @@ pub fn breaks_rule_is_monotone()
 {}
 
 impl Abs {
-    /// The state with these sets and the same locks; none where a set is empty.
+    /// The state with these sets and the same locks; none if a set is empty.
     pub fn with_sets(
         &self,
         contexts: [Statuses; CONTEXTS],

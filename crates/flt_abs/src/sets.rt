@@ -141,7 +141,7 @@ impl Statuses {
         }
     }
 
-    /// The digit that a certificate writes for the set; 0 where it is empty.
+    /// The digit that a certificate writes for the set; 0 if it is empty.
     pub fn digit(self) -> u8
         ensures { result ≡ spec.status_bits self }
     {
@@ -297,7 +297,7 @@ impl Modes {
         }
     }
 
-    /// The digit that a certificate writes for the set; 0 where it is empty.
+    /// The digit that a certificate writes for the set; 0 if it is empty.
     pub fn digit(self) -> u8
         ensures { result ≡ spec.mode_bits self }
     {
@@ -437,7 +437,7 @@ impl Draining {
         }
     }
 
-    /// The digit that a certificate writes for the set; 0 where it is empty.
+    /// The digit that a certificate writes for the set; 0 if it is empty.
     pub fn digit(self) -> u8
         ensures { result ≡ spec.draining_bits self }
     {

@@ -38,7 +38,7 @@ impl Model for Abs {
 }
 
 impl Abs {
-    /// The state with these sets and locks; none where a set is empty.
+    /// The state with these sets and locks; none if a set is empty.
     #[inline(always)]
     pub fn new(
         contexts: [Statuses; CONTEXTS],

@@ -401,7 +401,7 @@ pub fn transfer_is_monotone()
         spec.IsOutcomeBelow (spec.transfer g callback point x) (spec.transfer g callback point y) }
 {}
 
-/// Where no rule is broken, a state without an empty set leads to states without one. It does nothing: its clause is the law.
+/// If no rule is broken, a state without an empty set leads to states without one. It does nothing: its clause is the law.
 pub fn transfer_keeps_states_proper()
     ensures { (g : Graph) (callback point : ℕ) (x : State) (next : Successors) → IsTrue (is_proper x) →
         spec.transfer g callback point x ≡ Ok next → AreProper next }

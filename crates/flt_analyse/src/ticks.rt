@@ -40,7 +40,7 @@ impl<L: Ledger, const CALLBACK: usize, const POINT: usize> Ticks<L, CALLBACK, PO
         Ticks { book, share }
     }
 
-    /// `flt_abs::transfer_into`, counted where the point is the one that is watched.
+    /// `flt_abs::transfer_into`, counted if the point is the one that is watched.
     pub fn transfer_into(
         &mut self,
         graph: &Graph,

@@ -89,7 +89,7 @@ pub(crate) struct Named {
     pub(crate) context: Option<Option<usize>>,
 }
 
-/// Both are used, or reported where they are NULL.
+/// Both are used, or reported if they are NULL.
 pub(crate) fn need_named(
     heap: &mut Heap,
     a: usize,

@@ -44,7 +44,7 @@ fn handed(standing: &Standing, variable: Option<ContextVariable>) -> Named
     }
 }
 
-/// A context that a call need not have.
+/// Adds the events for a context that a call need not have.
 fn need_optional(
     heap: &mut Heap,
     a: usize,
@@ -97,7 +97,7 @@ fn enqueued(
     }
 }
 
-/// Nothing is queued where the operation or the named context is NULL.
+/// Nothing is queued if the operation or the named context is NULL.
 fn insert_by(
     heap: &mut Heap,
     store: &Store,
@@ -202,7 +202,7 @@ fn deferred(
     }
 }
 
-/// Nothing is queued where the operation or the named context is NULL, or the system refuses.
+/// Nothing is queued if the operation or the named context is NULL, or the system refuses.
 fn defer_by(
     heap: &mut Heap,
     caller: &Caller,
@@ -254,7 +254,7 @@ fn queued(
     }
 }
 
-/// Nothing is queued where the named context is NULL, or the system refuses.
+/// Nothing is queued if the named context is NULL, or the system refuses.
 fn queue_by(
     heap: &mut Heap,
     caller: &Caller,

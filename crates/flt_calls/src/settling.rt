@@ -299,7 +299,7 @@ fn tell_back(
     Ok(())
 }
 
-/// A status is given, or is missing where one is wanted; the context that goes with it is used.
+/// A status is given, or is missing if one is needed; the context that goes with it is used.
 fn tell_status(
     heap: &mut Heap,
     a: usize,

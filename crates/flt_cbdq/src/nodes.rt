@@ -112,7 +112,7 @@ pub(crate) fn find_node(
     None
 }
 
-/// The same, where the nodes of each visit are noted: a walk along the list is made only where several of the visits have a node.
+/// The same, if the nodes of each visit are noted: it walks along the list only if several of the visits have a node.
 pub(crate) fn first_node(
     lists: &Lists,
     entries: &[Entry],

@@ -47,7 +47,7 @@ fn reached_by(to: usize, leads: &Leads) -> Option<Abs>
     reaching(to, leads.first(), second)
 }
 
-/// With which state a point reaches another; none where it isn't reached itself, breaks a rule or doesn't lead there.
+/// With which state a point reaches another; none if it isn't reached itself, breaks a rule or doesn't lead there.
 fn reached_from(
     graph: &Graph,
     callback: usize,

@@ -22,7 +22,7 @@ ghost use Rattle.flt_tree.specs.declared.filter.Filter.{Filter};
 use flt_abs::{joins_are_least, transfer_is_monotone, transfer_keeps_states_proper};
 use flt_graph::edges_lead_onwards;
 
-/// A certificate covers a graph exactly where no fault is computed at any point. It does nothing: its clauses are the law.
+/// A certificate covers a graph exactly if no fault is computed at any point. It does nothing: its clauses are the law.
 pub fn covering_is_faultless()
     ensures covers { (g : Graph) (k : Certificate) → IsTrue (is_certificate k) → IsFaultless g k → Covers g k }
     ensures faultless { (g : Graph) (k : Certificate) → Covers g k → IsFaultless g k }
@@ -74,7 +74,7 @@ pub fn accepted_certificates_fill_up()
     thin_certificates_fill_up();
 }
 
-/// Where a certificate of a text covers, the thin one that is left of it covers. It does nothing: its clause is the law.
+/// If a certificate of a text covers, the thin one that is left of it covers. It does nothing: its clause is the law.
 pub fn thinned_certificates_cover()
     ensures { (f : Filter) (g : Graph) (c : Cert) → IsWellFormed f → IsLowered f g → IsTrue (is_cert c) → CertCovers g c →
         CertCovers g (thinned g c) }
@@ -82,7 +82,7 @@ pub fn thinned_certificates_cover()
     thin_certificates_cover();
 }
 
-/// A certificate of either format has one least fault at most, and none where it covers. It does nothing: its clauses are the law.
+/// A certificate of either format has one least fault at most, and none if it covers. It does nothing: its clauses are the law.
 pub fn one_refusal_at_most()
     ensures one { (g : Graph) (c : Cert) (f h : Refusal) → IsCertFault g c f → IsCertFault g c h → f ≡ h }
     ensures none { (g : Graph) (c : Cert) (f : Refusal) → CertCovers g c → ¬ IsCertFault g c f }

@@ -152,7 +152,7 @@ fn own_fault(
     }
 }
 
-/// The same by the points that follow from the slots; where nothing is wrong, all is ready for the next point.
+/// The same by the points that follow from the slots; if nothing is wrong, all is ready for the next point.
 fn ready_fault(
     graph: &Graph,
     slots: &[Slot],

@@ -202,7 +202,7 @@ impl<N: StackName> Core<N> {
         }
     }
 
-    /// Why the teardown of the filter at an altitude can't begin; none where only memory can refuse it.
+    /// Why the teardown of the filter at an altitude can't begin; none if only memory can refuse it.
     pub fn detach_fault(&self, loaded: &Loaded, altitude: u32) -> Option<DetachFault>
         requires loaded { AreLoaded N.trees loaded.now }
         ensures fault { result ≡ spec.detach_fault N.trees self.now altitude }
@@ -395,7 +395,7 @@ impl<N: StackName> Core<N> {
         self.board.tickets(&mut Heap::new(alloc), loaded, step)
     }
 
-    /// Whether there are as many entries as may be, or as many operations where one more arrives.
+    /// Whether there are as many entries as may be, or as many operations if one more arrives.
     pub fn is_full_for(&self, step: Move) -> bool
         ensures { IsTrue result ↔ IsFullFor self.now step }
     {

@@ -70,7 +70,7 @@ impl<N: StackName> Locked<N> {
         Ok(())
     }
 
-    /// Makes the move that a ticket asks for, where it is enabled. An activation's ticket asks for none: it goes by steps.
+    /// Makes the move that a ticket asks for, if it is enabled. An activation's ticket asks for none: it makes steps.
     pub fn move_on(
         &mut self,
         alloc: Global,
@@ -109,7 +109,7 @@ impl<N: StackName> Locked<N> {
         }
     }
 
-    /// Makes the local steps of an advance, and the step after them, by the system's next choice. The ticket goes where the activation
+    /// Makes the local steps of an advance, and the step after them, by the system's next choice. The ticket leaves if the activation
     /// isn't in the state that it was advanced from.
     pub fn go_on(
         &mut self,
@@ -152,7 +152,7 @@ impl<N: StackName> Locked<N> {
         }
     }
 
-    /// Cancels an operation, where it can be.
+    /// Cancels an operation, if it can be cancelled.
     pub fn cancel(
         &mut self,
         alloc: Global,

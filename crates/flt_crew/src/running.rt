@@ -30,7 +30,7 @@ use std::thread::Threads;
 pub struct Ran {
     /// The journal, as it is written.
     pub journal: Vec<u8>,
-    /// How many entries the workers were answered that they made. Where the run ends whole, they made no others.
+    /// How many entries the workers were answered that they made. If the run ends whole, they made no others.
     pub made: u64,
     /// How it ends.
     pub ending: Ending,

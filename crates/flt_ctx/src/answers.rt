@@ -25,6 +25,6 @@ pub enum SetAnswer {
     Deleting,
     /// The context is linked already, or freed.
     Linked,
-    /// This other context is linked there and stays. It has one reference more where the caller wanted it.
+    /// This other context is linked there and stays. It has one reference more if the caller wanted it.
     Defined(usize),
 }

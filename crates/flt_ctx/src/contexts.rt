@@ -329,7 +329,7 @@ impl Contexts {
         }
     }
 
-    /// Links the context there, where none is linked. Its references stay as they are.
+    /// Links the context there, if none is linked. Its references stay as they are.
     fn put_link(&mut self, heap: &mut Heap, context: usize, key: Key) -> Result<(), OutOfMemory>
         requires there { context < length self.old.contexts }
         requires free { (context_at self.old context).link ≡ None }

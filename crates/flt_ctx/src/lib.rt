@@ -5,11 +5,11 @@
 //!
 //! `new`, `alloc` and `set` may take memory; `set` does so only for a link that is new, and before anything is changed.
 //!
-//! Calls that are given a key go through the links of its target, one for each filter at most (streams whose numbers are equal modulo
-//! 1,024 share their list). `first_key` takes constant time where the filter has no link; otherwise it goes through the links of the
-//! instances, and finds the first stream in an index, in logarithmic time. A link that is made or taken away changes that index, in
-//! logarithmic time too; one that another context takes over leaves it as it is. `new` goes through the filters. Every other call takes
-//! constant time, `alloc` on average.
+//! Calls that are given a key go through the links of its target, one for each filter at most (streams whose numbers are equal modulo 1,024
+//! share their list). `first_key` takes constant time if the filter has no link; otherwise it goes through the links of the instances, and
+//! finds the first stream in an index, in logarithmic time. A link that is made or taken away changes that index, in logarithmic time too;
+//! one that another context takes over leaves it as it is. `new` goes through the filters. Every other call takes constant time, `alloc` on
+//! average.
 //!
 //! Counted in instructions, with 65,536 contexts over 1,024 files of 16 filters, of which 16,384 are linked: to make a context, to link
 //! it in place of another and to release it takes 350; `linked_at` and `first_key` together take 700.

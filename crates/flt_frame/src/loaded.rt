@@ -64,7 +64,7 @@ impl Loaded {
         first_equal(altitudes, altitude).unwrap_or(altitudes.len())
     }
 
-    /// The altitude of a filter; none where it isn't there.
+    /// The altitude of a filter; none if it isn't there.
     pub fn altitude(&self, filter: usize) -> Option<u32>
         ensures { (p : List Filter) → spec.AreLoaded p self.now → result ≡ option_map (λ f. f.altitude) (slice_get p filter) }
     {
@@ -73,7 +73,7 @@ impl Loaded {
 
     // ---- callbacks
 
-    /// The callbacks of a filter; none where it isn't there.
+    /// The callbacks of a filter; none if it isn't there.
     fn callbacks(&self, filter: usize) -> &[CallbackGraph]
         ensures { result.now ≡ (spec.graph_at self.now.graphs filter).callbacks }
     {
@@ -146,7 +146,7 @@ impl Loaded {
         self.callback_for(filter, Place::Canceled)
     }
 
-    /// Where a callback runs; as a generic routine where it isn't there.
+    /// Where a callback runs; as a generic routine if it isn't there.
     pub fn place(&self, filter: usize, callback: usize) -> Place
         ensures { (p : List Filter) → spec.AreLoaded p self.now → result ≡ program.place_at (program.callbacks_at p filter) callback }
     {

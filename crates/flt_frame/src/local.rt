@@ -11,7 +11,7 @@ use flt_graph::{Instruction, Turn};
 use flt_tree::{Action, OperationVariable, Test};
 
 impl Standing {
-    /// Computes a number, or sets a variable to NULL, and answers whether it did: where others see the action, nothing is changed.
+    /// Computes a number, or sets a variable to NULL, and answers whether it did: if others see the action, nothing is changed.
     fn act(&mut self, action: &Action) -> bool
         ensures local { result ≡ is_some (model.after_action (activation_with self.old []) action.now) }
         ensures after { self.new
@@ -77,7 +77,7 @@ impl Standing {
         false
     }
 
-    /// Makes the step of an instruction, and answers whether it is local: where others see it, nothing is changed.
+    /// Makes the step of an instruction, and answers whether it is local: if others see it, nothing is changed.
     pub(crate) fn step_locally(&mut self, draining: bool, instruction: &Instruction) -> bool
         ensures local { result ≡ is_some (spec.stepped draining instruction.now self.old) }
         ensures after { self.new ≡ unwrap_or (spec.stepped draining instruction.now self.old) self.old }

@@ -74,14 +74,14 @@ impl Standing {
         self.numbers[variable.place()]
     }
 
-    /// The number of the context that a variable names; none where it is NULL.
+    /// The number of the context that a variable names; none if it is NULL.
     pub fn context(&self, variable: ContextVariable) -> Option<usize>
         ensures { result ≡ model.context_in (spec.activation_with self.now []) variable }
     {
         self.contexts[variable.place()]
     }
 
-    /// The number of the visit that a variable names; none where it is NULL.
+    /// The number of the visit that a variable names; none if it is NULL.
     pub fn operation(&self, variable: OperationVariable) -> Option<usize>
         ensures { result ≡ model.operation_in (spec.activation_with self.now []) variable }
     {

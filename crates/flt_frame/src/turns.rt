@@ -94,7 +94,7 @@ impl Turns {
         &self.turns[..self.used]
     }
 
-    /// How many turns are left of the `repeat` at a point; where it isn't in progress, as many as its text has.
+    /// How many turns are left of the `repeat` at a point; if it isn't in progress, as many as its text has.
     pub(crate) fn left_at(&self, point: usize, text: u64) -> u64
         ensures { result ≡ graph.left_at point text self.now }
     {

@@ -47,7 +47,7 @@ impl Graph {
         self.callbacks.len()
     }
 
-    /// How many points a callback has; none where it isn't there.
+    /// How many points a callback has; none if it isn't there.
     #[tactic(auto, using(crate::proofs::Reading::found, crate::proofs::Reading::missing))]
     pub fn points(&self, callback: usize) -> usize
         ensures { result ≡ spec.points_at self.now callback }
@@ -58,7 +58,7 @@ impl Graph {
         }
     }
 
-    /// The place of a callback; that of a generic routine where it isn't there.
+    /// The place of a callback; that of a generic routine if it isn't there.
     #[tactic(auto, using(crate::proofs::Reading::found, crate::proofs::Reading::missing))]
     pub fn place(&self, callback: usize) -> Place
         ensures { result ≡ spec.place_at self.now callback }
@@ -85,8 +85,8 @@ impl Graph {
         }
     }
 
-    /// The line of a point, from 1: that of the first token of its statement, or of the closing brace for the end. It is 0
-    /// where the point isn't there.
+    /// The line of a point, from 1: that of the first token of its statement, or of the closing brace for the end. It is 0 if the point
+    /// isn't there.
     pub fn line(&self, callback: usize, point: usize) -> usize
         ensures { result ≡ spec.line_at self.now callback point }
     {

@@ -130,8 +130,7 @@ impl Board {
         flt_dispatch::next_of(loaded, &self.store, serial)
     }
 
-    /// The move of the teardown of the filter at an altitude; none where it isn't being detached, or where only its activations are
-    /// left.
+    /// The move of the teardown of the filter at an altitude; none if it isn't being detached, or if only its activations are left.
     pub fn next_detach(&self, loaded: &Loaded, altitude: u32) -> Option<Move>
         requires own { IsOwn loaded.now self.now }
         ensures next { Now loaded.now self.now (λ p m. turns.ComesNextOf p m.world altitude result) }
@@ -246,7 +245,7 @@ impl Board {
     }
 }
 
-/// How far an activation that starts has come. It has gained the visit that it is given.
+/// The `Standing` of an activation that starts. It has gained the visit that it is given.
 fn standing_of(start: Start) -> Standing
     ensures { (p : List Filter) → Begins p (Some start) (Some result) }
 {

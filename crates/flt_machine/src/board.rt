@@ -107,7 +107,7 @@ impl Board {
         }
     }
 
-    /// An activation as it is, where it has started and not ended.
+    /// An activation as it is, if it has started and not ended.
     pub fn checkout(&self, activation: u32) -> Option<Frame>
         ensures frame { result ≡ option_map (spec.frame_of self.now activation) (spec.standing_of self.now activation) }
         ensures stands { (p : List Filter) (m : Moment) → IsAt p self.now m →

@@ -252,7 +252,7 @@ fn entry_of(advanced: &Advanced, instruction: Instruction, grant: bool) -> Journ
     }
 }
 
-/// How far the caller has come after a plan's step; none where the step ends the activation.
+/// How far the caller has come after a plan's step; none if the step ends the activation.
 fn standing_after(caller: &Caller, instruction: Instruction, plan: &Plan) -> Option<Standing>
     requires leads { is_end plan.now.write ≡ false → leads_on instruction ≡ true }
     requires free { TakesNone caller.now.standing.locks plan.now.write }

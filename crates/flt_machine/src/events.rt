@@ -19,7 +19,7 @@ pub struct Events {
     pub next: Vec<Subject>,
 }
 
-/// The events of a move, where the number of the activation that it may start is this.
+/// The events of a move, given the number of the activation that it may start.
 pub(crate) fn events_of(
     heap: &mut Heap,
     activation: usize,

@@ -189,7 +189,7 @@ fn is_cancelled_at(store: &Store, filter: usize, serial: u32) -> bool
     is_there(store, serial) && stands(store, filter, serial) && !store.is_detaching(filter)
 }
 
-/// The entries of an operation that is cancelled, but where the filter is being detached.
+/// The entries of an operation that is cancelled, unless the filter is being detached.
 fn push_cancelled(
     heap: &mut Heap,
     loaded: &Loaded,

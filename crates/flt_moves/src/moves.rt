@@ -224,7 +224,7 @@ fn cancel(world: &mut World<'_>, operation: usize) -> bool
     true
 }
 
-/// Makes a move, with its events. False where it isn't enabled.
+/// Makes a move, with its events. False if it isn't enabled.
 pub fn make<'a>(
     world: &mut World<'a>,
     alloc: Global,

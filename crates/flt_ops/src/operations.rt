@@ -291,7 +291,7 @@ impl Operations {
         }
     }
 
-    /// The operation is carried out below the last filter, and `true` is answered. `false` where it isn't there.
+    /// The operation is carried out below the last filter, and `true` is answered. `false` if it isn't there.
     pub fn lower(&mut self, serial: u32) -> bool
         ensures answer { result ≡ is_past_filters self.old serial }
         ensures lowered { self.new ≡ (if is_past_filters self.old serial then after (lowered serial) self.old else self.old) }
@@ -304,7 +304,7 @@ impl Operations {
         is_past
     }
 
-    /// The last frame is taken off, and its post callback starts. `None` where the operation isn't up or has no frame.
+    /// The last frame is taken off, and its post callback starts. `None` if the operation isn't up or has no frame.
     #[tactic(auto, using(std::proofs::lemmas::Grind::common_steps, crate::proofs::OtherFrames::any_front, crate::proofs::OtherFrames::any_last, crate::proofs::Changes::is_last))]
     pub fn pop_frame(
         &mut self,
@@ -337,7 +337,7 @@ impl Operations {
     }
 
     /// The first frame of a filter is taken out, and its post callback starts with the draining flag; the operation stays where it is.
-    /// `None` where it has no frame of the filter.
+    /// `None` if it has no frame of the filter.
     #[tactic(auto, using(std::proofs::lemmas::Grind::common_steps, crate::proofs::OtherFrames::any_left, crate::proofs::OtherFrames::found_of))]
     pub fn drain(
         &mut self,
@@ -371,7 +371,7 @@ impl Operations {
         }))
     }
 
-    /// The operation is cancelled, and `true` is answered. `false` where it is over or cancelled already.
+    /// The operation is cancelled, and `true` is answered. `false` if it is over or cancelled already.
     pub fn cancel(&mut self, serial: u32) -> bool
         ensures answer { result ≡ not (moves.is_done (store_of self.old) serial || (route_of self.old serial).cancelled) }
         ensures cancelled { self.new ≡ (if moves.is_done (store_of self.old) serial || (route_of self.old serial).cancelled

@@ -102,7 +102,7 @@ fn from_callback(
     None
 }
 
-/// An acquisition of the lock that holds one that is left; none where it is taken only while none that is left is held.
+/// An acquisition of the lock that holds one that is left; none if it is taken only while none that is left is held.
 pub(crate) fn taken_from(
     graph: &Graph,
     cert: &FullCert,

@@ -1,4 +1,4 @@
-//! Where a worker can be held up.
+//! Gates, at which a worker can be held up.
 
 /// A gate, which a worker calls before each change that it makes. A test holds one worker here until another has come as far.
 pub trait Gate {

@@ -31,7 +31,7 @@ impl Way {
         Way { thief, pass }
     }
 
-    /// The ticket at the front, if there is one. It tries again where another thread was faster.
+    /// The ticket at the front, if there is one. It tries again if another thread was faster.
     pub(crate) fn steal<R: Wait>(&mut self, rt: &R) -> Option<Ticket>
         ensures some { IfSome result (λ ticket. view self.new.pass ≡ having_taken ticket (view self.old.pass)) }
         ensures none { IfNone result (view self.new.pass ≡ view self.old.pass) }

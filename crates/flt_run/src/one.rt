@@ -74,7 +74,7 @@ pub fn stays_after(teardown: bool, made: Move) -> bool
     teardown && !matches!(made, Move::Detached { .. })
 }
 
-/// Makes a subject's move, where it has one that is enabled.
+/// Makes a subject's move, if it has one that is enabled.
 fn move_on(
     heap: &mut Heap,
     board: &mut Board,

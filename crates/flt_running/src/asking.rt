@@ -165,7 +165,7 @@ fn put_one<R: Wait>(
     }
 }
 
-/// Puts tickets where any worker finds them, in their order. Where one is refused, those before it stay.
+/// Puts tickets where any worker finds them, in their order. If one is refused, those before it stay.
 fn put_all<R: Wait>(
     rt: &R,
     exchange: &Exchange,

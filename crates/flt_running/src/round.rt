@@ -54,7 +54,7 @@ impl Round {
         }
     }
 
-    /// How many turns of so many that are left can be passed over: whole rounds, where the deque has `held` tickets.
+    /// How many turns of so many that are left can be passed over: whole rounds, if the deque has `held` tickets.
     pub(crate) fn passes(&self, held: u64, left: u32) -> u32
         ensures { result ≤ left }
     {

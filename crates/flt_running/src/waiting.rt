@@ -53,7 +53,7 @@ impl Waiting {
         self.held
     }
 
-    /// A ticket was taken: from the own deque, where one lay there.
+    /// A ticket was taken: from the own deque, if one lay there.
     pub(crate) fn take(&mut self)
         ensures { spec.tickets self.new ≡ spec.tickets self.old }
     {
@@ -91,7 +91,7 @@ impl Waiting {
         }
     }
 
-    /// A ticket waits, where none did.
+    /// A ticket waits, if none did before.
     fn keep(&mut self, ticket: Ticket)
         requires { spec.tickets self.old ≡ [] }
         ensures { spec.tickets self.new ≡ ticket ∷ [] }

@@ -147,7 +147,7 @@ impl<N: StackName> Stack<N> {
 
     // ---- tickets
 
-    /// A ticket's turn. It answers whether an entry was made. The ticket stays in the seat where the turn is refused.
+    /// A ticket's turn. It answers whether an entry was made. The ticket stays in the seat if the turn is refused.
     fn serve<R: Wait, G: Gate>(
         &self,
         rt: &R,
@@ -309,8 +309,8 @@ impl<N: StackName> Stack<N> {
         Ok(made + more)
     }
 
-    /// Takes all marks, collects the words of the groups that had one, and cancels the operations that can be. It answers how many entries
-    /// were made. If it is refused something it sets the marks again, since some words weren't looked at.
+    /// Takes all marks, collects the words of the groups that had one, and cancels the operations that can be cancelled. It answers how
+    /// many entries were made. If it is refused something it sets the marks again, since some words weren't looked at.
     fn sweep_marked<R: Wait, G: Gate>(
         &self,
         rt: &R,
@@ -364,8 +364,8 @@ impl<N: StackName> Stack<N> {
         }
     }
 
-    /// Collects the words of these groups, one bit each, in their order, and cancels the operations that can be. It answers how many
-    /// entries were made.
+    /// Collects the words of these groups, one bit each, in their order, and cancels the operations that can be cancelled. It answers how
+    /// many entries were made.
     fn sweep<R: Wait, G: Gate>(
         &self,
         rt: &R,
@@ -404,7 +404,8 @@ impl<N: StackName> Stack<N> {
         Ok(made)
     }
 
-    /// Collects the words of a group in their order, and cancels the operations that can be. It answers how many entries were made.
+    /// Collects the words of a group in their order, and cancels the operations that can be cancelled. It answers how many entries were
+    /// made.
     fn sweep_group<R: Wait, G: Gate>(
         &self,
         rt: &R,
@@ -444,7 +445,7 @@ impl<N: StackName> Stack<N> {
         Ok(made)
     }
 
-    /// Cancels the operations of the seat's requests that can be. It answers how many entries were made.
+    /// Cancels the operations of the seat's requests that can be cancelled. It answers how many entries were made.
     fn cancel_all<R: Wait, G: Gate>(
         &self,
         rt: &R,
@@ -479,7 +480,7 @@ impl<N: StackName> Stack<N> {
         Ok(made)
     }
 
-    /// Cancels the operation that a bit of the seat's requests stands for, where it can be. It answers whether an entry was made.
+    /// Cancels the operation that a bit of the seat's requests stands for, if it can be cancelled. It answers whether an entry was made.
     fn cancel_one<R: Wait, G: Gate>(
         &self,
         rt: &R,
@@ -520,7 +521,7 @@ impl<N: StackName> Stack<N> {
         Ok(seat.waiting.settle(&mut seat.place, turned, None)?)
     }
 
-    /// Cancels an operation, where it can be.
+    /// Cancels an operation, if it can be cancelled.
     fn try_cancel<R: Wait, G: Gate>(
         &self,
         rt: &R,

@@ -67,7 +67,7 @@ fn next_command(stack: Option<&[Tree]>, before: &[Command], text: &mut &[u8]) ->
     }
 }
 
-/// The script that the text spells, all of it, for a stack of these filters, where it is known.
+/// The script that the text spells, all of it, for a stack of these filters, if it is known.
 pub fn read(alloc: Global, stack: Option<&[Tree]>, text: &[u8]) -> Result<Script, ScriptFault>
     // What is read is spelled so.
     ensures spelled { IfOk result (λ script. text.now ≡ spec.spelling script) }

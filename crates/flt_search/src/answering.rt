@@ -30,7 +30,7 @@ pub(crate) struct Proposals<'s> {
     pub(crate) is_cut: bool,
 }
 
-/// Judges each run that is proposed: none where the monitor doesn't agree.
+/// Judges each run that is proposed: none if the monitor doesn't agree.
 fn judge_all(
     alloc: Global,
     trees: &[Tree],

@@ -80,7 +80,7 @@ impl Broken {
     }
 }
 
-/// Replays some entries; none where they don't break anything by the last one.
+/// Replays some entries; none if they don't break anything by the last one.
 pub(crate) fn judge(
     alloc: Global,
     trees: &[Tree],

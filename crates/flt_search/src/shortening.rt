@@ -73,7 +73,7 @@ fn still_breaks(
     }
 }
 
-/// The entries without that of a number, where they break the same; none otherwise.
+/// The entries without that of a number, if they break the same; none otherwise.
 fn shortened(
     alloc: Global,
     trees: &[Tree],

@@ -373,7 +373,7 @@ impl World {
         });
     }
 
-    /// Makes a move of the system. None where it isn't enabled or there is no room; else the activation that it starts, if it does.
+    /// Makes a move of the system. None if it isn't enabled or there is no room; else the activation that it starts, if it does.
     pub fn make_move(
         &mut self,
         plan: &Plan,

@@ -154,7 +154,7 @@ impl World {
         }
     }
 
-    /// The visit of a place is over. It breaks V4 where somebody has it still.
+    /// The visit of a place is over. It breaks V4 if somebody has it still.
     fn settle(&mut self, place: u8) {
         if self.owners(place) > 0 {
             self.broken.add(Violation::V4);

@@ -39,7 +39,7 @@ enum Ending {
 // ---- variables
 
 impl World {
-    /// The context that an activation holds by a variable. It breaks V1 where it holds none.
+    /// The context that an activation holds by a variable. It breaks V1 if it holds none.
     fn used_context(&mut self, a: u8, variable: ContextVariable) -> Option<u8> {
         let activation = self.activation(a);
         if let Named::At(place) = activation.context(variable) {
@@ -51,7 +51,7 @@ impl World {
         None
     }
 
-    /// The visit that an activation holds by a variable. It breaks V1 where it holds none.
+    /// The visit that an activation holds by a variable. It breaks V1 if it holds none.
     pub(crate) fn used_visit(&mut self, a: u8, variable: OperationVariable) -> Option<u8> {
         let activation = self.activation(a);
         if let Named::At(place) = activation.operation(variable) {
@@ -177,7 +177,7 @@ impl World {
 // ---- contexts
 
 impl World {
-    /// The link that a call works on. It breaks V1 where that is of an operation that isn't held.
+    /// The link that a call works on. It breaks V1 if that is of an operation that isn't held.
     fn link_of(&mut self, a: u8, anchor: Anchor) -> Option<Anchored> {
         match anchor {
             Anchor::Instance => Some(Anchored::Instance),

@@ -50,8 +50,8 @@ fn shows_order(graph: &Graph, cert: &Cert) -> bool
     }
 }
 
-/// Whether locks are taken in an order by some certificate that covers; the given one does. Where it shows a circle or is a thin one, the
-/// least one is made and asked.
+/// Whether locks are taken in an order by some certificate that covers; the given one does. If it shows a circle or is a thin one, the
+/// least one is made and decides.
 pub(crate) fn is_ordered(alloc: Global, graph: &Graph, cert: &Cert) -> Result<bool, AllocError>
     requires covers { CertCovers graph.now cert.now }
     requires certificate { IsTrue (is_cert cert.now) }

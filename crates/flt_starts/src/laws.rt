@@ -21,7 +21,7 @@ pub fn unasked_callbacks_never_start()
     ensures never { (cs : List Callback) (may_start : ℕ → Bool) (k : ℕ) → IsClosed cs may_start → may_start k ≡ false → NeverStarts cs k }
 {}
 
-/// A transition starts what `starts_callback` says: there is one activation more, and all of that callback is still to come. Where it says
+/// A transition starts what `starts_callback` says: there is one activation more, and all of that callback is still to come. If it says
 /// that none starts, there are as many as there were. It does nothing: its clauses are the law.
 pub fn starts_are_told()
     ensures one { (p : List Filter) (m : Moment) (x : Transition) (s : Step) (c : Callee) → next p m x ≡ Some s →

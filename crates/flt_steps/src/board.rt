@@ -68,7 +68,7 @@ fn may_go(world: &World<'_>, a: usize, grant: bool, statement: &Statement) -> bo
     }
 }
 
-/// False where nobody else sees the action.
+/// The step of an action. False if nobody else sees it.
 fn act_step(
     world: &mut World<'_>,
     a: usize,
@@ -162,7 +162,7 @@ fn fallible_step<'a>(
     }
 }
 
-/// False where nobody else sees the test.
+/// The step of a test. False if nobody else sees it.
 fn test_step<'a>(
     world: &mut World<'a>,
     a: usize,
@@ -205,7 +205,7 @@ fn if_step<'a>(
     }
 }
 
-/// False where nobody else sees the statement.
+/// The step of a statement. False if nobody else sees it.
 fn statement_step<'a>(
     world: &mut World<'a>,
     stack: &Stack<'a>,
@@ -297,7 +297,7 @@ fn list_step<'a>(
     }
 }
 
-/// A step that others see, with its events. False where the next one isn't seen, or isn't enabled.
+/// A step that others see, with its events. False if the next one isn't seen, or isn't enabled.
 pub fn step_seen<'a>(
     world: &mut World<'a>,
     stack: &Stack<'a>,
@@ -314,7 +314,7 @@ pub fn step_seen<'a>(
     list_step(world, stack, setup, first, events)
 }
 
-/// A step that nobody else sees. False where the next one is seen, or isn't enabled; the first statement is then gone.
+/// A step that nobody else sees. False if the next one is seen, or isn't enabled; the first statement is then gone.
 pub fn step_unseen(world: &mut World<'_>, a: usize) -> Result<bool, AllocError>
     ensures { IfOk result (λ enabled. (p : List Filter) → (t : List Event) →
         ComesOf (steps.local p t world.old a) enabled world.new [] []) }
@@ -329,7 +329,7 @@ pub fn step_unseen(world: &mut World<'_>, a: usize) -> Result<bool, AllocError>
     }
 }
 
-/// So many steps that nobody else sees, in place. False where one of them is seen, or isn't enabled.
+/// So many steps that nobody else sees, in place. False if one of them is seen, or isn't enabled.
 #[tactic(auto, using(crate::proofs::Together::ended_unseen))]
 pub fn steps_unseen(world: &mut World<'_>, a: usize, steps: u32) -> Result<bool, AllocError>
     ensures { IfOk result (λ all. unseen steps world.old a ≡ (if all then Some world.new else None)) }

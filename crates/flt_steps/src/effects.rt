@@ -91,7 +91,7 @@ pub(crate) struct Named {
     pub(crate) context: Option<Option<usize>>,
 }
 
-/// Both are used, or reported where they are NULL.
+/// Both are used, or reported if they are NULL.
 pub(crate) fn need_named(a: usize, named: Named, events: &mut Vec<Event>) -> Result<(), AllocError>
     ensures { OnOk result (events.new.items ≡ events.old.items
         ++ (spec.uses a (spec.operation named.visit ∷ spec.optional named.context)

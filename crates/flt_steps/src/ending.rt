@@ -47,8 +47,8 @@ fn end_activation(world: &mut World<'_>, a: usize)
     }
 }
 
-/// A status is given, or is missing where one is needed. Here and below, a clause has `[]` for filters or a trace that the definition
-/// doesn't read.
+/// A status is given, or is missing if one is needed. Here and below, a clause has `[]` for filters or a trace that the definition doesn't
+/// read.
 fn give_status(
     world: &World<'_>,
     a: usize,

@@ -70,7 +70,7 @@ fn enqueued<'a>(
     }
 }
 
-/// Nothing is queued where the operation or the named context is NULL.
+/// Nothing is queued if the operation or the named context is NULL.
 fn insert_by<'a>(
     world: &mut World<'a>,
     a: usize,
@@ -175,7 +175,7 @@ fn deferred<'a>(
     lose_context(a, context, events)
 }
 
-/// Nothing is queued where the operation or the named context is NULL, or the system refuses.
+/// Nothing is queued if the operation or the named context is NULL, or the system refuses.
 fn defer_by<'a>(
     world: &mut World<'a>,
     a: usize,
@@ -242,7 +242,7 @@ fn queued<'a>(
     lose_context(a, context, events)
 }
 
-/// Nothing is queued where the named context is NULL, or the system refuses.
+/// Nothing is queued if the named context is NULL, or the system refuses.
 fn queue_by<'a>(
     world: &mut World<'a>,
     a: usize,

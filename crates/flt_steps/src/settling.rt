@@ -224,7 +224,7 @@ fn completed<'a>(
     settled_by(world, visit, context, way)
 }
 
-/// Nothing is completed where the operation or the named context is NULL.
+/// Nothing is completed if the operation or the named context is NULL.
 fn complete_by<'a>(
     world: &mut World<'a>,
     stack: &Stack<'a>,

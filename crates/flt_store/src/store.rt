@@ -181,7 +181,7 @@ impl Store {
         }
     }
 
-    /// The value of a context, which a freed one keeps; 0 where it isn't there.
+    /// The value of a context, which a freed one keeps; 0 if it isn't there.
     pub fn value(&self, context: usize) -> u64
         ensures { result ≡ (spec.context_at self.now context).value }
     {
@@ -195,7 +195,7 @@ impl Store {
         self.contexts.is_linked(context)
     }
 
-    /// A context isn't linked where the filter isn't attached, or where the context is linked or freed.
+    /// A context isn't linked if the filter isn't attached, or if the context is linked or freed.
     pub fn cannot_set(&self, filter: usize, context: usize) -> bool
         ensures { result ≡ (not (spec.is_attached (spec.presence_at self.now filter))
             || (is_some (spec.context_at self.now context).link || spec.is_freed (spec.context_at self.now context))) }

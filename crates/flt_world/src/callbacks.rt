@@ -60,7 +60,7 @@ pub(crate) fn are_paired(callbacks: &[Callback]) -> bool
         && is_paired(callbacks, Operation::Cleanup)
 }
 
-/// The statements of the pre callback of an operation; none where it isn't there.
+/// The statements of the pre callback of an operation; none if it isn't there.
 pub(crate) fn pre_body(callbacks: &[Callback], kind: Operation) -> &[Statement]
     ensures { result.now ≡ spec.body_for (spec.is_pre_of kind) callbacks.now }
 {

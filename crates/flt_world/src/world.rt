@@ -139,7 +139,7 @@ impl<'a> World<'a> {
         }
     }
 
-    /// How an operation was sent; as a packet where it isn't there.
+    /// How an operation was sent; as a packet if it isn't there.
     #[tactic(auto, using(crate::proofs::Reading::found, crate::proofs::Reading::missing))]
     pub fn mode(&self, operation: usize) -> Mode
         ensures { result ≡ (spec.arrival_at self.now.store operation).mode }
@@ -150,7 +150,7 @@ impl<'a> World<'a> {
         }
     }
 
-    /// The number of an operation's file; 0 where it isn't there.
+    /// The number of an operation's file; 0 if it isn't there.
     #[tactic(auto, using(crate::proofs::Reading::found, crate::proofs::Reading::missing))]
     pub fn file(&self, operation: usize) -> u32
         ensures { result ≡ (spec.arrival_at self.now.store operation).file }
@@ -254,7 +254,7 @@ impl<'a> World<'a> {
         }
     }
 
-    /// Whether a visit is before or after the filters below; after where it isn't there.
+    /// Whether a visit is before or after the filters below; after if it isn't there.
     #[tactic(auto, using(crate::proofs::Reading::found, crate::proofs::Reading::missing))]
     pub fn stage(&self, visit: usize) -> Stage
         ensures { result ≡ (spec.visit_at self.now.store visit).stage }
@@ -316,7 +316,7 @@ impl<'a> World<'a> {
         self.contexts.owner(context)
     }
 
-    /// The references of a context; 0 where it is freed or not there.
+    /// The references of a context; 0 if it is freed or not there.
     #[inline(always)]
     pub fn references(&self, context: usize) -> u64
         ensures { result ≡ (spec.context_at self.now.store context).references }
@@ -331,7 +331,7 @@ impl<'a> World<'a> {
         self.references(context) == 0
     }
 
-    /// The value of a context, which a freed one keeps; 0 where it isn't there.
+    /// The value of a context, which a freed one keeps; 0 if it isn't there.
     pub fn value(&self, context: usize) -> u64
         ensures { result ≡ (spec.context_at self.now.store context).value }
     {
@@ -345,7 +345,7 @@ impl<'a> World<'a> {
         self.contexts.link(context).is_some()
     }
 
-    /// The filter whose callback an activation runs; 0 where it isn't there.
+    /// The filter whose callback an activation runs; 0 if it isn't there.
     #[tactic(auto, using(crate::proofs::Reading::found, crate::proofs::Reading::missing))]
     pub fn filter(&self, activation: usize) -> usize
         ensures { result ≡ (spec.actor_at self.now activation).filter }
@@ -416,7 +416,7 @@ impl<'a> World<'a> {
         }
     }
 
-    /// The context that a variable of an activation names; none where it is NULL or the activation isn't there.
+    /// The context that a variable of an activation names; none if it is NULL or the activation isn't there.
     pub fn context_in(&self, activation: usize, variable: ContextVariable) -> Option<usize>
         ensures { result ≡ variables.context_in (spec.activation_at self.now activation) variable }
     {
@@ -440,7 +440,7 @@ impl<'a> World<'a> {
         }
     }
 
-    /// The visit that a variable of an activation names; none where it is NULL or the activation isn't there.
+    /// The visit that a variable of an activation names; none if it is NULL or the activation isn't there.
     pub fn operation_in(&self, activation: usize, variable: OperationVariable) -> Option<usize>
         ensures { result ≡ variables.operation_in (spec.activation_at self.now activation) variable }
     {
@@ -450,7 +450,7 @@ impl<'a> World<'a> {
         }
     }
 
-    /// The value of a number or of a variable of an activation; 0 where that isn't there.
+    /// The value of a number or of a variable of an activation; 0 if that isn't there.
     pub fn atom_in(&self, activation: usize, atom: Atom) -> u64
         ensures { result ≡ variables.atom_value (spec.activation_at self.now activation) atom }
     {
@@ -588,7 +588,7 @@ impl<'a> World<'a> {
         }
     }
 
-    /// A new context, with the value 0 and one reference. It fails where the owner is 2^32 or greater.
+    /// A new context, with the value 0 and one reference. It fails if the owner is 2^32 or greater.
     pub fn add_context(&mut self, owner: usize) -> Result<usize, AllocError>
         ensures { IfOk result (λ x. (x ≡ length self.old.store.contexts)
             × (self.new ≡ record self.old {
@@ -611,7 +611,7 @@ impl<'a> World<'a> {
         self.contexts.set_value(context, value)
     }
 
-    /// One reference more; a freed context stays as it is. It fails where they would reach 2^32.
+    /// One reference more; a freed context stays as it is. It fails if they would reach 2^32.
     pub fn add_reference(&mut self, context: usize) -> Result<(), AllocError>
         ensures { OnOk result (self.new ≡ record self.old { store = spec.add_reference self.old.store context }) }
     {
