@@ -100,7 +100,7 @@ pub(crate) fn setting_of(graph: &Graph, callback: usize, state: &Abs) -> Setting
     }
 }
 
-/// The same setting for one who doesn't ask which callbacks are registered.
+/// The same setting for a reader that doesn't ask which callbacks are registered.
 pub(crate) fn standing_of(graph: &Graph, callback: usize, state: &Abs) -> Setting
     ensures { result ≡ spec.unregistered (spec.setting_of graph.now callback state.now) }
 {

@@ -90,7 +90,7 @@ pub const NOBODY: Activation = Activation {
 };
 
 impl Activation {
-    /// One that has just started, of this number in the journal.
+    /// An activation that has just started, with this number in the journal.
     pub fn starting(start: Start, serial: u32, is_packet: bool) -> Activation {
         let mut activation = Activation {
             is_on: true,

@@ -53,7 +53,7 @@ impl Turns {
         }
     }
 
-    /// So many turns are left of the innermost `repeat`.
+    /// Sets how many turns are left of the innermost `repeat`.
     pub fn set_last_left(&mut self, left: u64) {
         if let Some(last) = self.used.checked_sub(1) {
             if let Some(turn) = self.turns.get_mut(last) {

@@ -594,7 +594,7 @@ pub(crate) fn delete(
 
 // ---- references
 
-/// One reference more, and the second variable names the context too.
+/// Adds a reference, and the second variable names the context too.
 fn referenced(
     heap: &mut Heap,
     store: &Store,

@@ -68,7 +68,7 @@ struct Settled {
     way: Way,
 }
 
-/// A call that completes an operation: the call, the status that it gives, what it names, and what it settles.
+/// A call that completes an operation: the call, the status that it gives, its operands, and the visit that it settles.
 #[derive(Clone, Copy)]
 struct Completion {
     call: Call,

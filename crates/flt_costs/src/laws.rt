@@ -26,7 +26,7 @@ pub fn journals_stay_within_costs()
         IsTrue (list_all are_small p) → steps_of a entries ≤ max_cost }
 {}
 
-/// Each step of an activation, one of its own or one that others see, lowers what it may still spend, by one at least, and leaves the other
+/// Each step of an activation, one of its own or one that others see, lowers its remaining cost by one at least, and leaves the other
 /// activations as they are. It does nothing: its clauses are the law.
 pub fn steps_spend()
     ensures hidden { (p : List Filter) (t : List Event) (w : World) (a : ℕ) (s : Step) → local p t w a ≡ Some s →

@@ -30,7 +30,7 @@ impl Progress {
         self.is_given.load(Ordering::SeqCst)
     }
 
-    /// So many more entries were made.
+    /// Counts this many more entries.
     pub(crate) fn add(&self, made: u64) {
         self.entries.fetch_add(made, Ordering::SeqCst);
     }

@@ -152,7 +152,7 @@ fn follow_together<N: StackName + Send + Sync, R: Threads + Wait + Sync, W: Watc
     Ok(followed)
 }
 
-/// So many workers follow the script, alone or together.
+/// This many workers follow the script, alone or together.
 fn follow<N: StackName + Send + Sync, R: Threads + Wait + Sync, W: Watch>(
     rt: &R,
     alloc: Global,

@@ -1,4 +1,4 @@
-//! Who watches a script being driven.
+//! Watchers of a script being driven.
 
 /// Watches a script being driven. Nothing that it does changes the run.
 pub trait Watch {

@@ -5,8 +5,8 @@ ghost use Rattle.std.specs.Prelude.{◌≡◌, None};
 use flt_rules::Place;
 use flt_store::Change;
 
-/// An activation that starts: its filter, what its callback is registered for, the draining flag, the number of the callback, and the
-/// visit and the context that it is given.
+/// An activation that starts: its filter, the place for which its callback is registered, the draining flag, the number of the callback,
+/// and the visit and the context that it is given.
 #[derive(Clone, Copy)]
 pub struct Start {
     pub filter: usize,

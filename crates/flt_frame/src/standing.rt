@@ -11,8 +11,8 @@ use crate::turns::Turns;
 use flt_graph::lists_have_turns;
 use flt_tree::{Atom, ContextVariable, Expression, NumberVariable, OperationVariable};
 
-/// How far an activation has come: its point, its variables and the locks that it holds. A variable keeps its number when what it names
-/// is released or handed over.
+/// How far an activation has come: its point, its variables and the locks that it holds. A variable keeps its number when the object that
+/// it names is released or handed over.
 #[derive(Clone, Copy)]
 pub struct Standing {
     /// The number of its callback, from 0.

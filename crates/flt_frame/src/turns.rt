@@ -114,7 +114,7 @@ impl Turns {
         }
     }
 
-    /// The `repeat` at a point is left, if it is in progress: what remains are those round it.
+    /// Leaves the `repeat` at a point, if it is in progress: those round it remain.
     pub(crate) fn leave(&mut self, point: usize)
         ensures { self.new ≡ graph.turns_round point self.old }
     {

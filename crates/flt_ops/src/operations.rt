@@ -413,7 +413,7 @@ impl Operations {
         Ok(())
     }
 
-    /// The visit is settled, and its operation led so, with this context for a frame. A visit that is settled already moves
+    /// The visit is settled, and its operation led by this `Way`, with this context for a frame. A visit that is settled already moves
     /// nothing, nor does a draining one; `Way::Stays` settles nothing.
     pub fn settle(
         &mut self,

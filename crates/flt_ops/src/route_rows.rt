@@ -192,7 +192,7 @@ impl Routes {
 // ---- changes: each is made, or nothing is
 
 impl Routes {
-    /// One more operation, at the highest filter.
+    /// Adds an operation, at the highest filter.
     pub(crate) fn add(&mut self, heap: &mut Heap) -> Result<(), AllocError>
         ensures ok { OnOk result (self.new ≡ self.old
             ++ record { position = machine.Down 0; frames = []; cancelled = false; outcome = None } ∷ []) }
@@ -258,7 +258,7 @@ impl Routes {
         Ok(())
     }
 
-    /// The operation is led so from a filter, with this context for the frame.
+    /// The operation is led by this `Way` from a filter, with this context for the frame.
     pub(crate) fn lead(
         &mut self,
         heap: &mut Heap,

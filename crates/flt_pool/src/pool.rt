@@ -58,7 +58,7 @@ impl Pool {
 
     /// Takes a ticket. It looks at the seat's own deque, then at the injector, and then at the others' deques in the order of the workers,
     /// and takes the front ticket of the first one in which it finds any. This order is in no contract, and neither is that all of them
-    /// were empty, each at its moment, if it answers none: a seat knows nothing of what others put and took.
+    /// were empty, each at its moment, if it answers none: a seat knows nothing of the tickets that others put and took.
     pub fn take<R: Wait>(&self, rt: &R, seat: &mut TakeSeat) -> Option<Ticket>
         requires { IsTakeSeatOf self.now seat.old }
         ensures seat { IsTakeSeatOf self.now seat.new }

@@ -46,7 +46,7 @@ fn judge_all(
     Ok(runs)
 }
 
-/// A run on some filters as the answer of a goal, if it breaks what that wants.
+/// A run on some filters as the answer of a goal, if it breaks a violation that the goal wants.
 fn breaks(
     alloc: Global,
     _trees: &[Tree],

@@ -1,4 +1,4 @@
-//! One search for all findings of some filters: for each a run of the machine that breaks what its rule prevents.
+//! One search for all findings of some filters: for each a run of the machine with a violation that its rule prevents.
 //!
 //! `search` goes through the rounds of `flt_explore`, and picks a run that each has found for each goal (`searching`). Each pick is
 //! replayed: it is a run only if the monitor judges it to break something by its last entry (`judging`), entries that a run doesn't need

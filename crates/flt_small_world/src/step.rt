@@ -1,4 +1,4 @@
-//! The steps that others see, and what each of them breaks.
+//! The steps that others see, and the violations of each.
 
 use crate::entries::Entry;
 use crate::world::{Anchored, Context, Item, MAX_ACTIVATIONS, MAX_VISITS, NO_CONTEXT, World};
@@ -23,7 +23,7 @@ pub enum Course {
     Breaks(Violation),
     /// It isn't enabled.
     Stuck,
-    /// There is no room for what it makes.
+    /// There is no room for its effect.
     Full,
 }
 
@@ -680,7 +680,7 @@ fn is_choice(instruction: &Instruction) -> bool {
 }
 
 impl World {
-    /// Whether anything but an activation reaches what its variable names.
+    /// Whether anything but an activation reaches the context that its variable names.
     fn is_shared(&self, a: u8, variable: ContextVariable) -> bool {
         let Named::At(context) = self.activation(a).context(variable) else {
             return false;

@@ -183,7 +183,7 @@ impl World {
         }
     }
 
-    /// Takes out what nothing reaches.
+    /// Takes out all that nothing reaches.
     pub fn sweep(&mut self, plan: &Plan) {
         for place in 0..MAX_ACTIVATIONS {
             self.leak(plan, place);

@@ -214,7 +214,7 @@ impl World {
         self.is_detaching.iter().any(|detaching| *detaching)
     }
 
-    /// The context of a filter that is linked so.
+    /// The context of a filter that has this link.
     pub(crate) fn linked(&self, filter: u8, link: Anchored) -> Option<u8> {
         for place in 0..MAX_CONTEXTS {
             let context = self.context(place);
@@ -277,7 +277,7 @@ impl World {
         self.activation(a).turns.last_left()
     }
 
-    /// So many turns are left of it.
+    /// Sets how many turns are left of it.
     pub fn set_turns_left(&mut self, a: u8, left: u64) {
         if let Some(activation) = self.activations.get_mut(usize::from(a)) {
             activation.turns.set_last_left(left);

@@ -12,8 +12,8 @@ ghost use Rattle.flt_tree.specs.declared.filter.Filter.{Filter};
 
 use flt_costs::steps_spend;
 
-/// No run, whatever it breaks and whatever other filters take part, starts a callback of a filter outside a closed set of its
-/// callbacks. It does nothing: its clauses are the law, said of what starts and of what never does.
+/// No run, whatever it breaks and whatever other filters take part, starts a callback of a filter outside a closed set of its callbacks. It
+/// does nothing: its clauses are the law, for the callbacks that start and for those that never do.
 pub fn unasked_callbacks_never_start()
     ensures law { (p : List Filter) (f : ℕ) (may_start : ℕ → Bool) (xs : List Transition) (m : Moment) (x : Transition) (s : Step) (k : ℕ) →
         IsClosed (callbacks_at p f) may_start → run p xs ≡ Some m → next p m x ≡ Some s →

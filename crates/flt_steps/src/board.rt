@@ -329,7 +329,7 @@ pub fn step_unseen(world: &mut World<'_>, a: usize) -> Result<bool, AllocError>
     }
 }
 
-/// So many steps that nobody else sees, in place. False if one of them is seen, or isn't enabled.
+/// Makes this many steps that nobody else sees, in place. False if one of them is seen, or isn't enabled.
 #[tactic(auto, using(crate::proofs::Together::ended_unseen))]
 pub fn steps_unseen(world: &mut World<'_>, a: usize, steps: u32) -> Result<bool, AllocError>
     ensures { IfOk result (λ all. unseen steps world.old a ≡ (if all then Some world.new else None)) }

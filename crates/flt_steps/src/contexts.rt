@@ -411,7 +411,7 @@ pub(crate) fn delete(
     deleted(world, a, x, events)
 }
 
-/// One reference more, and the second variable names the context too.
+/// Adds a reference, and the second variable names the context too.
 fn referenced(
     world: &mut World<'_>,
     a: usize,

@@ -1,4 +1,4 @@
-//! Who holds a filter's locks.
+//! The holders of a filter's locks.
 
 ghost use Rattle.std.specs.Prelude.{◌≡◌, ◌≢◌, [], ◌∷◌, ◌++◌, not, ◌==◌, filter, replicate, set, get_or, OnOk, OnErr};
 ghost use Rattle.std.specs.List.{list_all};
@@ -33,7 +33,7 @@ impl Model for Holder {
 /// taken. The holders are searched only if an activation once took the lock while it held it, which no callback's step does.
 #[derive(Drop)]
 pub(crate) struct Holders {
-    /// In the order in which they took it. Who gave it back leaves an empty place until nobody holds the lock.
+    /// In the order in which they took it. A holder that gave it back leaves an empty place until nobody holds the lock.
     places: Vec<Option<Holder>>,
     noted: Places,
     count: usize,
@@ -68,7 +68,7 @@ impl Holders {
         }
     }
 
-    /// One more holder.
+    /// Adds a holder.
     pub(crate) fn push(&mut self, heap: &mut Heap, holder: Holder) -> Result<(), AllocError>
         ensures ok { OnOk result (self.new ≡ self.old ++ holder ∷ []) }
         ensures refused { OnErr result (self.new ≡ self.old) }

@@ -92,7 +92,7 @@ impl WorkItems {
         }
     }
 
-    /// One more item.
+    /// Adds an item.
     pub(crate) fn push(&mut self, heap: &mut Heap, item: Item) -> Result<(), AllocError>
         ensures ok { OnOk result (self.new ≡ self.old ++ Some item ∷ []) }
         ensures refused { OnErr result (self.new ≡ self.old) }

@@ -413,7 +413,7 @@ impl Store {
         self.operations.is_led(visit)
     }
 
-    /// Whether settling a visit so makes a frame, which takes the completion context over.
+    /// Whether settling a visit by this `Way` makes a frame, which takes the completion context over.
     pub fn makes_frame(&self, visit: usize, way: Way) -> bool
         ensures { result ≡ settling.makes_frame self.now visit (way_of way) }
     {

@@ -1,4 +1,4 @@
-//! The exchange: opening it, and what callers and workers do there.
+//! The exchange: opening it, and the calls of callers and workers on it.
 ghost use Rattle.std.specs.Prelude.{◌≡◌, ◌<◌, ◌≤◌, ◌++◌, ◌∷◌, [], ℕ, All, IfErr, IfNone, IfOk, IfSome, OnOk, length, map};
 ghost use Rattle.flt_cancel.specs.Serials.{group_of, serials, IsPresent};
 ghost use Rattle.flt_cancel.specs.Steps.{words_after, IsNext, WasAsked};

@@ -1,4 +1,4 @@
-//! The callbacks of a filter by what they are registered for, and its locks.
+//! The callbacks of a filter by the places for which they are registered, and its locks.
 
 ghost use Rattle.std.specs.Prelude.{◌≡◌, ◌≤◌, length};
 ghost use Rattle.flt_model.specs.Levels as levels;

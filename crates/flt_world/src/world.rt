@@ -492,7 +492,7 @@ impl<'a> World<'a> {
         }
     }
 
-    /// One more filter, which is there, has an empty queue and whose locks nobody holds.
+    /// Adds a filter, which is attached and has an empty queue, and whose locks nobody holds.
     pub fn add_filter(&mut self, alloc: Global) -> Result<(), AllocError>
         ensures { OnOk result (self.new ≡ record self.old {
           store =
@@ -564,7 +564,7 @@ impl<'a> World<'a> {
         }
     }
 
-    /// One more holder of a lock of a filter.
+    /// Adds a holder of a lock of a filter.
     pub fn add_holder(
         &mut self,
         filter: usize,
@@ -611,14 +611,14 @@ impl<'a> World<'a> {
         self.contexts.set_value(context, value)
     }
 
-    /// One reference more; a freed context stays as it is. It fails if they would reach 2^32.
+    /// Adds a reference; a freed context stays as it is. It fails if the references would reach 2^32.
     pub fn add_reference(&mut self, context: usize) -> Result<(), AllocError>
         ensures { OnOk result (self.new ≡ record self.old { store = spec.add_reference self.old.store context }) }
     {
         self.contexts.add_reference(context)
     }
 
-    /// One reference less; a freed context stays as it is.
+    /// Drops a reference; a freed context stays as it is.
     pub fn drop_reference(&mut self, context: usize)
         ensures { self.new ≡ record self.old { store = spec.drop_reference self.old.store context } }
     {
@@ -639,7 +639,7 @@ impl<'a> World<'a> {
         self.contexts.clear_link(context);
     }
 
-    /// One more entry at the end of a filter's queue.
+    /// Adds an entry at the end of a filter's queue.
     pub fn add_entry(&mut self, filter: usize, entry: Entry) -> Result<(), AllocError>
         ensures { OnOk result (self.new ≡ record self.old {
           store =
@@ -716,7 +716,7 @@ impl<'a> World<'a> {
         Ok(self.waiting.take_entry(filter, visits.as_slice()))
     }
 
-    /// One more work item.
+    /// Adds a work item.
     pub fn add_item(&mut self, item: Item) -> Result<(), AllocError>
         ensures { OnOk result (self.new ≡ record self.old {
           store =
