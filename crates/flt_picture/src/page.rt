@@ -43,7 +43,7 @@ const KEY: [(Colour, &str); 5] = [
 
 /// What the numbers of operations say where columns are shared.
 const SHARED: &str =
-    "the number in a box is its operation's; above a column stands the first operation that has it";
+    "the number in a box is its operation's; above a column is the first operation that has it";
 
 /// What stands above the lanes.
 const HEADS: [&str; 5] = [
