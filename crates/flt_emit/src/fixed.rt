@@ -43,7 +43,7 @@ pub(crate) fn written(out: &mut Vec<u8>) -> Result<(), AllocError>
         out,
         b" *
  *  Written by fltstack from the filter's text. Each statement of the text is one statement here, in the text's order; its
- *  point and its line in the text stand behind it. Your own code goes to the header that is named below. Don't change this
+ *  point and its line in the text follow it. Your own code goes to the header that is named below. Don't change this
  *  file: change the text and write it anew.
  */
 
@@ -447,7 +447,7 @@ CsqRelease(
 }
 
 //
-//  From here on an insert fails, and what is in the queue goes the way of a cancelled operation.
+//  From here on an insert fails, and the operations in the queue are treated as cancelled ones.
 //
 
 VOID FLTAPI

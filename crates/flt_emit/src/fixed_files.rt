@@ -22,10 +22,10 @@ pub(crate) fn user_written(out: &mut Vec<u8>) -> Result<(), AllocError>
     text(
         out,
         b" *
- *  Written once by fltstack; it is yours from then on. What stands here must not hand over, complete or keep Data or a
- *  context, take a lock of the text, or raise the IRQL: what was proved of the text holds for the driver only then. A hook
- *  stands at the beginning of its callback, which runs at most at APC_LEVEL where it is named PRE or CANCELED, at
- *  DISPATCH_LEVEL where it is named POST, and else at PASSIVE_LEVEL. What it is given as Context may be NULL.
+ *  Written once by fltstack; it is yours from then on. Your code here must not hand over, complete or keep Data or a
+ *  context, take a lock of the text, or raise the IRQL: the proofs about the text hold for the driver only then. A hook
+ *  is at the beginning of its callback, which runs at most at APC_LEVEL where it is named PRE or CANCELED, at
+ *  DISPATCH_LEVEL where it is named POST, and else at PASSIVE_LEVEL. The Context that it is given may be NULL.
  */
 
 #pragma once

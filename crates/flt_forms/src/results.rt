@@ -444,7 +444,7 @@ fn put_origin(
 ) -> Result<(), AllocError>
     ensures { Adds result writer.old writer.new (spec.origin file.now maker.now) }
 {
-    let words = Vec::from_slice(alloc, b"this makes it so")?;
+    let words = Vec::from_slice(alloc, b"this caused it")?;
     put_marked_location(alloc, writer, file, maker.marks, &words)
 }
 

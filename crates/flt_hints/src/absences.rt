@@ -422,7 +422,7 @@ impl Absence {
             Absence::FileName =>
                 "there are no file names: `n0 = file data` gives the number of the file",
             Absence::FinalStatus =>
-                "there are no other final statuses: write the nearest, since the rules refuse `STATUS_PENDING` and tell no others apart",
+                "there are no other final statuses: write the nearest, since the rules refuse `STATUS_PENDING` and distinguish no others",
             Absence::Change => "what an operation asks for can't be changed: leave this call out",
             Absence::Memory =>
                 "there is no memory but the number of a context, `value c0`: leave this call out",

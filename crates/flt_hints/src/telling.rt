@@ -267,7 +267,7 @@ fn title_by_fault(
         FaultKind::E04 => unknown(out, trouble, phrases),
         FaultKind::E05 => around(out, "the name ", trouble, " is declared twice"),
         FaultKind::E06 => around(out, "a limit is passed at ", trouble, ""),
-        FaultKind::E08 => around(out, "", trouble, " stands twice in one call"),
+        FaultKind::E08 => around(out, "", trouble, " appears twice in one call"),
         FaultKind::E01 | FaultKind::E03 | FaultKind::E07 => expected(out, trouble, phrases),
     }
 }
@@ -284,7 +284,7 @@ fn title_by_hint(
     match own_title(trouble.hint) {
         Some(words) => text(out, words),
         None if is_callback_twice(trouble.hint) => {
-            around(out, "this ", trouble, " callback stands twice")
+            around(out, "this ", trouble, " callback appears twice")
         }
         None => title_by_fault(out, trouble, phrases),
     }

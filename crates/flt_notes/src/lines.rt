@@ -20,7 +20,7 @@ const INDENT: usize = 4;
 
 /// The legend of a journal's rows.
 const LEGEND: &str =
-    "    (in front: entries; behind: lines, without those that nobody else sees; `yes` and `no`: how a call went)\n";
+    "    (left: entries; right: lines, without those that nobody else sees; `yes` and `no`: how a call went)\n";
 
 /// The note that the rule demands the release of `arg` all the same.
 const IS_STRICTER: &str =

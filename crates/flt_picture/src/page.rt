@@ -43,7 +43,7 @@ const KEY: [(Colour, &str); 5] = [
 
 /// The meaning of the numbers of operations if columns are shared.
 const SHARED: &str =
-    "the number in a box is its operation's; above a column stands the first operation that has it";
+    "the number in a box is its operation's; above a column is the first operation that has it";
 
 /// The words above the lanes.
 const HEADS: [&str; 5] = [

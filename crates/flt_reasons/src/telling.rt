@@ -106,14 +106,14 @@ fn title(alloc: Global, kind: Kind, trouble: &Trouble<'_>) -> Result<Vec<u8>, Al
         (_, Subject::Callback(0)) => format!(in alloc; "the line of callback 0 is malformed")?,
         (_, Subject::Callback(callback)) => {
             let before = callback.saturating_sub(1);
-            format!(in alloc; "the line behind callback {before} is malformed")?
+            format!(in alloc; "the line after callback {before} is malformed")?
         }
         (_, Subject::Point(callback, point)) => {
             format!(in alloc; "the line of callback {callback} point {point} is malformed")?
         }
         (_, Subject::Among(callback, least, _)) => {
             let point = least.saturating_sub(1);
-            format!(in alloc; "the line behind callback {callback} point {point} is malformed")?
+            format!(in alloc; "the line after callback {callback} point {point} is malformed")?
         }
         (_, Subject::Entry(entry)) => format!(in alloc; "the line of entry {entry} is malformed")?,
         (_, Subject::Command(line)) => format!(in alloc; "line {line} of the {name} is malformed")?,

@@ -189,7 +189,7 @@ pub(crate) fn tell_lost_note(
 {
     page.say(&[
         Part::Text(
-            "where another context is set already, no other callback sees what is written in ",
+            "where another context is set already, no other callback sees values written in ",
         ),
         context_part(text, worked_on(&text.instruction(site))),
     ])

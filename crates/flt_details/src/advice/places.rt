@@ -78,7 +78,7 @@ fn completion_help(place: Place) -> &'static str
             "a `pre` callback ends its operation by the status that it returns: `return COMPLETE STATUS_SUCCESS`",
         Place::Post(_) => "the operation is completed already: return `FINISHED_PROCESSING`",
         Place::DeferredPost =>
-            "`deferred_post` goes on with its operation by `FltCompletePendedPostOperation data`",
+            "`deferred_post` resumes its operation by `FltCompletePendedPostOperation data`",
         _ => "a generic routine has no operation: complete one that was removed from the queue",
     }
 }
@@ -90,7 +90,7 @@ fn post_completion_help(place: Place) -> &'static str
     match place {
         Place::Post(_) => "return `FINISHED_PROCESSING`: only a deferred operation needs this call",
         Place::Canceled | Place::DeferredPre =>
-            "an operation on its way down is completed by `FltCompletePendedPreOperation`",
+            "an operation that goes down is completed by `FltCompletePendedPreOperation`",
         _ =>
             "only the routine of `FltQueueDeferredIoWorkItem` in a `post` callback needs this call",
     }
@@ -113,9 +113,9 @@ fn places_help(places: Places, call: Call, place: Place) -> &'static str
 {
     match places {
         Places::NotPreCreate =>
-            "a create has no stream on its way down: make the call in `post create`, after the test of `draining`",
+            "a create has no stream while it goes down: make the call in `post create`, after the test of `draining`",
         Places::PreOrDeferredPre =>
-            "an operation is queued on its way down alone: in a `pre` callback, or in `deferred_pre`",
+            "an operation is queued only while it goes down: in a `pre` callback, or in `deferred_pre`",
         Places::PreOrPost =>
             "an operation is deferred by its `pre` or `post` callback alone: do the work here, or in the routine of a generic work item",
         _ => call_help(call, place),
