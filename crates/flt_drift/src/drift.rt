@@ -1,6 +1,6 @@
 //! Where a C file and its annotations say different things.
 
-ghost use Rattle.std.specs.Prelude.{◌≡◌, ◌++◌, [], IfOk, OnOk};
+ghost use Rattle.std.specs.Prelude.{◌≡◌, ◌++◌, [], Err, IfOk, MatchResult, Ok, OnOk};
 ghost use Rattle.flt_drift.specs.Drifts as spec;
 ghost use Rattle.flt_drift.specs.Reading as reading;
 
@@ -9,7 +9,7 @@ use crate::callbacks::{
 };
 use crate::mark::{Mark, MarkKind};
 use crate::reader::marks;
-use flt_c::letters;
+use flt_c::{Flaw, letters};
 use std::alloc::{AllocError, Global};
 
 /// How a C file and its annotations differ.
@@ -283,20 +283,22 @@ fn drifts_of(alloc: Global, all: &[Mark]) -> Result<Vec<Drift>, AllocError>
     Ok(found)
 }
 
-/// The points in which a C file and its annotations differ, in the order of their places. A file that can't be read has none: `flt_c`
-/// reports its fault.
+/// The points in which a C file and its annotations differ, in the order of their places, or why the file can't be read.
 ///
 /// # Errors
 ///
-/// A growth was refused.
-pub fn drifts(alloc: Global, file: &[u8]) -> Result<Vec<Drift>, AllocError>
-    ensures { IfOk result (λ found. found.items ≡ spec.drifts file.now) }
+/// `AllocError` if memory is refused.
+pub fn drifts(alloc: Global, file: &[u8]) -> Result<Result<Vec<Drift>, Flaw>, AllocError>
+    ensures { IfOk result (λ done. MatchResult done
+        (λ found. spec.drifts file.now ≡ Ok found.items)
+        (λ flaw. spec.drifts file.now ≡ Err flaw)) }
 {
     match letters(alloc, file)? {
         Ok(letters) => {
             let marks = marks(alloc, letters.as_slice())?;
-            drifts_of(alloc, marks.as_slice())
+            let found = drifts_of(alloc, marks.as_slice())?;
+            Ok(Ok(found))
         }
-        Err(_) => Ok(Vec::new(alloc)),
+        Err(flaw) => Ok(Err(flaw)),
     }
 }

@@ -162,10 +162,24 @@ fn are_drifts(file: &[u8], found: &[Drift], wanted: &[(DriftKind, &str, &str)]) 
     true
 }
 
+/// The drifts of a file; none if it can't be read.
+fn found_in(alloc: Global, file: &[u8]) -> Result<Vec<Drift>, AllocError> {
+    match drifts(alloc, file)? {
+        Ok(found) => Ok(found),
+        Err(_) => Ok(Vec::new(alloc)),
+    }
+}
+
+/// Whether a file can't be read.
+fn is_unread(alloc: Global, file: &[u8]) -> Result<bool, AllocError> {
+    let found = drifts(alloc, file)?;
+    Ok(found.is_err())
+}
+
 /// The first file that has a drift.
 fn first_drifting(alloc: Global, files: &[&str]) -> Result<Option<usize>, AllocError> {
     for (at, file) in files.iter().enumerate() {
-        let found = drifts(alloc, file.as_bytes())?;
+        let found = found_in(alloc, file.as_bytes())?;
         if !found.is_empty() {
             return Ok(Some(at));
         }
@@ -177,7 +191,7 @@ fn first_drifting(alloc: Global, files: &[&str]) -> Result<Option<usize>, AllocE
 fn first_wrong(alloc: Global, cases: &[Case]) -> Result<Option<usize>, AllocError> {
     for (at, case) in cases.iter().enumerate() {
         let file = case.0.as_bytes();
-        let found = drifts(alloc, file)?;
+        let found = found_in(alloc, file)?;
         if !are_drifts(file, found.as_slice(), case.1) {
             return Ok(Some(at));
         }
@@ -196,5 +210,14 @@ fn files_that_agree_have_no_drift_within_memory(rt: HostRuntime) -> Result<(), F
 fn drifts_are_found_within_memory(rt: HostRuntime) -> Result<(), Fail> {
     let wrong = first_wrong(rt.alloc(), DRIFTING.as_slice())?;
     assert!(rt; wrong.is_none());
+    Ok(())
+}
+
+#[test]
+fn file_without_end_of_a_comment_is_not_read_within_memory(rt: HostRuntime) -> Result<(), Fail> {
+    let unread = is_unread(rt.alloc(), b"/* FltReleaseContext")?;
+    assert!(rt; unread);
+    let read = is_unread(rt.alloc(), b"/* FltReleaseContext */")?;
+    assert!(rt; !read);
     Ok(())
 }
