@@ -15,7 +15,7 @@ use Rattle.flt_commands.specs.Names.{names_of}
 use Rattle.flt_commands.specs.Replay.{IsReplayed}
 use Rattle.flt_commands.specs.Single.{AreSame, AskForOne, GivesOne, HasOneAnswer, SaysOne, seen, told}
 use Rattle.flt_commands.specs.Thin.{IsThinned}
-use Rattle.flt_words.specs.Request.{Asked, Check, Analyse, Thin, Run, Replay, Show, Explain, Extract, Format, Pages}
+use Rattle.flt_words.specs.Request.{Asked, Check, Analyse, Thin, Run, Replay, Show, Explain, Extract, Format, Pages, Emit}
 use Rattle.flt_commands.specs.declared.answer.Answer.{Answer}
 use Rattle.flt_commands.specs.declared.failure.Failure.{Failure}
 use Rattle.flt_commands.specs.declared.failure.Failure.TheVariants.{OutOfMemory}
@@ -87,6 +87,7 @@ module _ (gives : Giving) (one : GivesOne gives) where
   gives_one (Extract of_map files) = one
   gives_one (Format mode files) = one
   gives_one (Pages names) = one
+  gives_one (Emit part file cert) = but_once cert
 
 module _ (checked : SaysOne IsChecked) (analysed : SaysOne IsAnalysed) (thinned : SaysOne IsThinned) (replayed : SaysOne IsReplayed)
     (nowhere : SpelledFailsNowhere) where
@@ -112,6 +113,7 @@ module _ (checked : SaysOne IsChecked) (analysed : SaysOne IsAnalysed) (thinned 
       layouts_said_once nowhere gives one modes.Check (λ e. cc) files texts more a b x y
   said_once gives shown showing (Format modes.Write files) texts more a b has one x y = absurd has
   said_once gives shown showing (Pages names) texts more a b has one x y = absurd has
+  said_once gives shown showing (Emit part file cert) texts more a b has one x y = absurd has
 
   -- one thing is printed at most, with one exit status
   pub printed_once : (gives : Giving) (written others : Text → Text → Type 0) (untouched kept : Type 0) (shown showing : Bool) (request : Option Asked)

@@ -6,6 +6,7 @@ pub mod Check
 pub mod Clean
 pub mod Commands
 pub mod Drawn
+pub mod Emit
 pub mod Explain
 pub mod Extract
 pub mod Failure

@@ -3,6 +3,7 @@
 ghost use Rattle.std.specs.Prelude.{◌≡◌, ◌≢◌, [], ◌∷◌, ◌++◌, Some, IfOk};
 ghost use Rattle.flt_commands.specs.Answer as spec;
 
+use crate::emit::Unemitted;
 use crate::outcomes::{Outcomes, files_status, printed_files};
 use flt_check::Refusal;
 use flt_crew::{Ending, Ran};
@@ -39,6 +40,10 @@ pub enum Answer {
     Shown(Vec<u8>, Verdict),
     /// A point of the text of one of several files, numbered from 0, is refused.
     FileRefused(usize, Refusal),
+    /// A part of the driver that an accepted text is.
+    Emitted(Vec<u8>),
+    /// Why an accepted text can't be emitted.
+    NotEmitted(Unemitted),
 }
 
 impl Answer {
@@ -50,6 +55,7 @@ impl Answer {
         match self {
             Answer::Accepted | Answer::Certificate(_) | Answer::Judged(Verdict::Legal) => 0,
             Answer::Extracted(_) | Answer::Pages(_) | Answer::Shown(_, Verdict::Legal) => 0,
+            Answer::Emitted(_) => 0,
             Answer::Explained(told, unread) => {
                 told_status(told.explained.status, unread.as_slice())
             }
@@ -58,7 +64,7 @@ impl Answer {
                 told_status(status, found.unread.as_slice())
             }
             Answer::Refused(_) | Answer::FileRefused(_, _) | Answer::Judged(_) => 1,
-            Answer::Shown(_, _) => 1,
+            Answer::Shown(_, _) | Answer::NotEmitted(_) => 1,
             Answer::Ran(ran) => ended_status(ran.ending),
         }
     }
@@ -74,6 +80,7 @@ impl Answer {
             Answer::Judged(_) | Answer::Explained(_, _) | Answer::Pages(_) => Ending::Whole,
             Answer::FileRefused(_, _) | Answer::Shown(_, _) => Ending::Whole,
             Answer::Extracted(_) | Answer::Formatted(_, _) => Ending::Whole,
+            Answer::Emitted(_) | Answer::NotEmitted(_) => Ending::Whole,
         }
     }
 
@@ -84,6 +91,7 @@ impl Answer {
         let line = match self {
             Answer::Certificate(bytes) => return Ok(bytes),
             Answer::Extracted(bytes) => return Ok(bytes),
+            Answer::Emitted(bytes) => return Ok(bytes),
             Answer::Formatted(mode, found) => {
                 return printed_files(alloc, mode, found.files.as_slice());
             }
@@ -102,6 +110,10 @@ impl Answer {
             }
             Answer::Judged(verdict) => {
                 let line = VerdictLine(verdict);
+                format!(in alloc; "{line}\n")?
+            }
+            Answer::NotEmitted(why) => {
+                let line = UnemittedLine(why);
                 format!(in alloc; "{line}\n")?
             }
         };
@@ -242,6 +254,31 @@ impl fmt::Display for VerdictLine {
                 let number = violation_number(violation);
                 write!(f, "breaks V{number} at {entry}")
             }
+        }
+    }
+}
+
+/// Why a text can't be emitted, as it is printed.
+#[derive(Drop)]
+struct UnemittedLine(Unemitted);
+
+impl fmt::Display for UnemittedLine {
+    ghost output = { λ u. Some (spec.unemitted_line u.0) };
+
+    fn fmt<W: fmt::Write>(&self, f: &mut fmt::Formatter<W>) -> fmt::Result {
+        match self.0 {
+            Unemitted::Kinds {
+                line,
+                stream,
+                instance,
+            } => write!(
+                f,
+                "not emitted line {line} a context that may be set on a stream (line {stream}) and on the instance (line {instance})"
+            ),
+            Unemitted::Create { line } => write!(
+                f,
+                "not emitted line {line} a pre create that completes with STATUS_SUCCESS"
+            ),
         }
     }
 }

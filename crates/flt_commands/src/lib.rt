@@ -10,6 +10,7 @@ mod check;
 mod clean;
 mod commands;
 mod deadlock;
+mod emit;
 mod explain;
 mod explained;
 mod extract;

@@ -76,8 +76,8 @@ fn one_verdict_at_most()
     one_first_fault_at_most();
 }
 
-/// A command line has one answer at most, where the inputs give one thing for each name, and it asks for no run, no reports, no page and no
-/// layout that is written. What is printed is one, and so is the exit status; why there is none is one too, unless memory ran out. It does
+/// A command line has one answer at most, where the inputs give one thing for each name, and it asks for no run, no reports, no page, no
+/// layout that is written and no part of a driver. What is printed is one, and so is the exit status; why there is none is one too, unless memory ran out. It does
 /// nothing: its clauses are the law.
 pub fn one_answer_at_most<I: Inputs, P: Pictures>()
     ensures one { (inputs : I) (before pictures past others : P) (shown showing : Bool) (words : List (List ℕ)) (a b : Report) → spec.AskForOne (asked words) →

@@ -16,10 +16,12 @@ use Rattle.flt_pages.specs.Pages.{has_page}
 use Rattle.flt_words.specs.declared.request.Form.{Form}
 use Rattle.flt_words.specs.declared.request.Form.TheVariants.{Human, Lines, Sarif, Short}
 use Rattle.flt_words.specs.declared.request.FormatMode.TheVariants.{Print, Check as CheckOnly, Write}
+use Rattle.flt_words.specs.declared.request.Part.{Part}
+use Rattle.flt_words.specs.declared.request.Part.TheVariants.{Source, User, Inf}
 use Rattle.flt_words.specs.declared.request.Colour.{Colour}
 use Rattle.flt_words.specs.declared.request.Colour.TheVariants.{Auto, Always, Never}
 use Rattle.flt_words.specs.Workers.{within}
-use Rattle.flt_words.specs.Request.{Asked, Choice, Check, Analyse, Thin, Run, Replay, Show, Explain, Extract, Format, Pages}
+use Rattle.flt_words.specs.Request.{Asked, Choice, Check, Analyse, Thin, Run, Replay, Show, Explain, Extract, Format, Pages, Emit}
 
 -- ---- values
 
@@ -76,6 +78,17 @@ colour_named name =
 -- the time behind `--color`, that of a terminal where there is none
 abbrev pub colour_of : List Row → Option Colour
 colour_of rows = option_map_or colour_named (first_of (codes "color") rows) (Some Auto)
+
+-- the part of a driver of a name
+abbrev pub part_named : Text → Option Part
+part_named name =
+    if bytes_eq name (codes "source") then Some Source
+    else (if bytes_eq name (codes "user") then Some User
+    else (if bytes_eq name (codes "inf") then Some Inf else None))
+
+-- the part behind `--part`, the source where there is none
+abbrev pub part_of : List Row → Option Part
+part_of rows = option_map_or part_named (first_of (codes "part") rows) (Some Source)
 
 -- the name of a kind of warning
 abbrev pub is_kind : Text → Bool
@@ -177,6 +190,13 @@ explain_as rows form = option_and_then (explain_in rows form) (colour_of rows)
 abbrev pub explain_by : List Row → Option Asked
 explain_by rows = option_and_then (explain_as rows) (form_of rows)
 
+abbrev pub emit_with : List Row → Part → Asked
+emit_with rows part = Emit part (text_of (codes "FILE") rows) (first_of (codes "CERT") rows)
+
+-- a part that there isn't asks for nothing
+abbrev pub emit_of : List Row → Option Asked
+emit_of rows = option_map (emit_with rows) (part_of rows)
+
 -- what a subcommand with its arguments asks for
 abbrev pub asked_by : Text × List Row → Option Asked
 asked_by (name, rows) =
@@ -187,7 +207,8 @@ asked_by (name, rows) =
     else (if bytes_eq name (codes "run") then run_of rows
     else (if bytes_eq name (codes "replay") then replay_of rows
     else (if bytes_eq name (codes "extract") then Some (extract_of rows)
-    else (if bytes_eq name (codes "format") then format_of rows else None)))))))
+    else (if bytes_eq name (codes "format") then format_of rows
+    else (if bytes_eq name (codes "emit") then emit_of rows else None))))))))
 
 -- ---- all of it
 

@@ -36,6 +36,14 @@ fn cert_argument<'a>(alloc: Global) -> Arg<'a>
     )
 }
 
+/// The argument CERT of a command that analyses a text where none is given.
+fn certificate_argument<'a>(alloc: Global) -> Arg<'a>
+    ensures rule { rule_of result ≡ spec.cert_rule }
+    ensures own { result.global ≡ false }
+{
+    Arg::new(alloc, "CERT").help("Its certificate; without it, the text is analysed")
+}
+
 /// The argument FILE.. of a command on several texts, with what its help says.
 fn texts_argument<'a>(alloc: Global, help: &'a str) -> Arg<'a>
     ensures rule { rule_of result ≡ spec.texts_rule }
@@ -214,6 +222,16 @@ fn write_argument<'a>(alloc: Global) -> Arg<'a>
         .long("write")
         .action(ArgAction::SetTrue)
         .help("Write the layouts into the files that differ from them")
+}
+
+/// The option `--part`.
+fn part_argument<'a>(alloc: Global) -> Arg<'a>
+    ensures rule { rule_of result ≡ spec.part_rule }
+    ensures own { result.global ≡ false }
+{
+    Arg::new(alloc, "part").long("part").value_name("PART").help(
+        "Which part is printed: `source`, `user` (the user's header) or `inf`; `source` where nothing is said",
+    )
 }
 
 // ---- commands
@@ -406,6 +424,28 @@ fn format_command<'a>(alloc: Global) -> Result<Command<'a>, AllocError>
     )
 }
 
+/// The command `emit` without its arguments.
+fn bare_emit<'a>(alloc: Global) -> Command<'a>
+    ensures { spec.IsCommand result spec.bare_emit_app }
+{
+    Command::new(alloc, "emit")
+        .about(
+            "Prints the C source of the driver that a filter's text is, its user's header or its INF file",
+        )
+        .override_usage("fltstack emit [--part <PART>] <FILE> [CERT]")
+        .after_help(
+            "Analyses the text, or checks CERT. Prints the part (exit 0); or the point and rule for which there is no\ncertificate, or `not emitted`, the line and why (exit 1). Errors go to the standard error with exit 2.\n\n`docs/EMIT.md` says what is emitted, what you must fill in, and what was tried.\n\nExample: fltstack emit examples/pending_reads.flt",
+        )
+}
+
+fn emit_command<'a>(alloc: Global) -> Result<Command<'a>, AllocError>
+    ensures { IfOk result (λ c. spec.IsCommand c spec.emit_app) }
+{
+    let command = with_argument(Ok(bare_emit(alloc)), part_argument(alloc));
+    let command = with_argument(command, text_argument(alloc));
+    with_argument(command, certificate_argument(alloc))
+}
+
 // ---- the program
 
 /// The program without its commands.
@@ -418,7 +458,7 @@ fn bare_program<'a>(alloc: Global) -> Command<'a>
             "A static verifier for Windows file-system minifilters, and the stack that runs what it accepts",
         )
         .after_help(
-            "With no words it acts as `check -`. `fltstack <COMMAND> --help` says more of a command.\n\nExit status: 0 for `accepted`, a certificate, a journal, a text, `legal` or nothing found; 1 for any other answer;\n2 where there is none, and the standard error says why.\n\nExample: fltstack analyse examples/pending_reads.flt",
+            "With no words it acts as `check -`. `fltstack <COMMAND> --help` says more of a command.\n\nExit status: 0 for `accepted`, a certificate, a journal, a text, a source, `legal` or nothing found; 1 for any other answer;\n2 where there is none, and the standard error says why.\n\nExample: fltstack analyse examples/pending_reads.flt",
         )
         .subcommand_required(true)
         .no_binary_name(true)
@@ -447,7 +487,8 @@ pub(crate) fn program<'a>(alloc: Global) -> Result<Command<'a>, AllocError>
     let program = with_command(program, run_command(alloc));
     let program = with_command(program, replay_command(alloc));
     let program = with_command(program, extract_command(alloc));
-    with_command(program, format_command(alloc))
+    let program = with_command(program, format_command(alloc));
+    with_command(program, emit_command(alloc))
 }
 
 /// The program with one of its commands alone.
@@ -476,6 +517,7 @@ pub(crate) fn program_for<'a>(alloc: Global, word: &str) -> Result<Command<'a>, 
         "replay" => program_with(alloc, replay_command(alloc)),
         "extract" => program_with(alloc, extract_command(alloc)),
         "format" => program_with(alloc, format_command(alloc)),
+        "emit" => program_with(alloc, emit_command(alloc)),
         _ => program(alloc),
     }
 }

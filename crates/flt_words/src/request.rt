@@ -44,6 +44,17 @@ pub enum FormatMode {
     Write,
 }
 
+/// A part of a driver that `emit` prints.
+#[derive(Clone, Copy, Debug)]
+pub enum Part {
+    /// The C source.
+    Source,
+    /// The header in which the user writes.
+    User,
+    /// The file for the installation.
+    Inf,
+}
+
 /// What the words ask for.
 #[derive(Debug, Drop)]
 pub enum Request<'a> {
@@ -112,4 +123,10 @@ pub enum Request<'a> {
     },
     /// They can't be taken, or ask for help or the version: the text that says so.
     Usage(String),
+    /// Emit a part of the driver that the text of a file is, with the certificate of another one or after an analysis.
+    Emit {
+        part: Part,
+        file: &'a str,
+        cert: Option<&'a str>,
+    },
 }

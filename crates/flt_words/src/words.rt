@@ -10,7 +10,7 @@ ghost use Rattle.flt_words.specs.Request.{asked_of, choice_of};
 ghost use Rattle.flt_words.specs.Words as spec;
 
 use crate::program::{program, program_for};
-use crate::request::{Colour, Form, FormatMode, Request, WarningChoice};
+use crate::request::{Colour, Form, FormatMode, Part, Request, WarningChoice};
 use crate::shown::visible;
 use crate::workers::Workers;
 use clap::ArgMatches;
@@ -56,6 +56,10 @@ const FEW_LAYOUTS: &str =
 /// The same where the standard input is to be written.
 const NO_INPUT: &str =
     "error: `--write` takes the names of files\n\nUsage: fltstack format <FILE>\n       fltstack format --check <FILE>...\n       fltstack format --write <FILE>...\n\nFor more information, try '--help'.\n";
+
+/// What is said where a part of a driver is asked for that there isn't.
+const NO_PART: &str =
+    "error: `--part` takes `source`, `user` or `inf`\n\nUsage: fltstack emit [--part <PART>] <FILE> [CERT]\n\nFor more information, try '--help'.\n";
 
 /// What is said of words that can't be taken, where nothing else is.
 const NO_WORDS: &str = "error: these words can't be taken\n\nFor more information, try '--help'.\n";
@@ -162,6 +166,28 @@ fn colour_of(matches: &ArgMatches) -> Option<Colour>
     match matches.get_str("color") {
         Some(name) => colour_named(name),
         None => Some(Colour::Auto),
+    }
+}
+
+/// The part of a driver of a name.
+fn part_named(name: &str) -> Option<Part>
+    ensures { result ≡ spec.part_named name.now }
+{
+    match name {
+        "source" => Some(Part::Source),
+        "user" => Some(Part::User),
+        "inf" => Some(Part::Inf),
+        _ => None,
+    }
+}
+
+/// The part of a driver that is asked for, if there is such a part; the source where nothing is said.
+fn part_of(matches: &ArgMatches) -> Option<Part>
+    ensures { result ≡ spec.part_of (rows_of (found_of matches.now)) }
+{
+    match matches.get_str("part") {
+        Some(name) => part_named(name),
+        None => Some(Part::Source),
     }
 }
 
@@ -485,6 +511,27 @@ fn asked_format<'a>(alloc: Global, format: &ArgMatches<'a>) -> Result<Request<'a
     )
 }
 
+/// What the matches of `emit` ask for, of a part.
+fn emit_with<'a>(emit: &ArgMatches<'a>, part: Part) -> Request<'a>
+    ensures { asked_of result ≡ Some (spec.emit_with (rows_of (found_of emit.now)) part) }
+{
+    Request::Emit {
+        part,
+        file: text_of(emit, "FILE"),
+        cert: emit.get_str("CERT"),
+    }
+}
+
+/// What the matches of `emit` ask for.
+fn asked_emit<'a>(alloc: Global, emit: &ArgMatches<'a>) -> Result<Request<'a>, AllocError>
+    ensures { IfOk result (λ r. asked_of r ≡ spec.emit_of (rows_of (found_of emit.now))) }
+{
+    let Some(part) = part_of(emit) else {
+        return Ok(Request::Usage(String::from_str(alloc, NO_PART)?));
+    };
+    Ok(emit_with(emit, part))
+}
+
 /// What the matches of a command line ask for.
 fn matched<'a>(alloc: Global, matches: &ArgMatches<'a>) -> Result<Request<'a>, AllocError>
     ensures { IfOk result (λ r. asked_of r ≡ option_and_then spec.asked_by (subcommand_rows_of matches.now)) }
@@ -510,8 +557,11 @@ fn matched<'a>(alloc: Global, matches: &ArgMatches<'a>) -> Result<Request<'a>, A
     if let Some(extract) = matches.subcommand_matches("extract") {
         return asked_extract(alloc, extract);
     }
-    match matches.subcommand_matches("format") {
-        Some(format) => asked_format(alloc, format),
+    if let Some(format) = matches.subcommand_matches("format") {
+        return asked_format(alloc, format);
+    }
+    match matches.subcommand_matches("emit") {
+        Some(emit) => asked_emit(alloc, emit),
         None => Ok(Request::Usage(String::new(alloc))),
     }
 }

@@ -1,6 +1,6 @@
 use Rattle.std.proofs.Common.{ap, map, option_map, refl}
 use Rattle.flt_commands.proofs.Reported.{answers_asked, answers_of, cut_asked, held_asked, kept_shown, quiet_asked, remarked_after, says_of_pages, those_after, those_of}
-use Rattle.flt_words.specs.Request.{Check, Analyse, Thin, Run, Replay, Show, Extract, Pages, choice_of}
+use Rattle.flt_words.specs.Request.{Check, Analyse, Thin, Run, Replay, Show, Extract, Pages, Emit, choice_of}
 use Rattle.flt_commands.proofs.commands.report_of.Goals as goal
 
 pub returns-in-Check-clause-answers : goal.returns-in-Check-clause-answers
@@ -85,6 +85,14 @@ returns-in-Pages-clause-answers g c =
     (rw c.in-Pages.is at c.in_ok-text.ensures)
     (says_of_pages _ _ _ _ (ap (map (λ t. t.items)) c.new-contents.ensures.texts) (rw c.as_slice-in-Pages.ensures.value at c.pages_of-said.ensures)) refl
     (those_of _ _ c.report_on-in-Pages.ensures.texts) c.report_on-in-Pages.ensures.reported (remarked_after request _ _ _ c.new-in-Pages.ensures.items c.report_on-in-Pages.ensures.remarked)
+
+pub returns-in-Emit-clause-answers : goal.returns-in-Emit-clause-answers
+returns-in-Emit-clause-answers g c =
+    let request = Emit c.in-Emit.part c.in-Emit.file.now (option_map (λ name. name.now) c.in-Emit.cert) in
+    answers_of c.covered_texts_break_nothing.ensures c.driven_texts_break_nothing.ensures
+    c.fails_exactly_where_nothing_is_spelled.ensures.nowhere _ _ _ _ _ request _ _ _
+    (rw c.in-Emit.is at c.in_ok-text.ensures) c.emit_files-said.ensures refl (those_of _ _ c.report_on-in-Emit.ensures.texts)
+    c.report_on-in-Emit.ensures.reported (remarked_after request _ _ _ c.new-in-Emit.ensures.items c.report_on-in-Emit.ensures.remarked)
 
 pub returns-in-Explain-clause-answers : goal.returns-in-Explain-clause-answers
 returns-in-Explain-clause-answers g c =
