@@ -53,9 +53,9 @@ use Rattle.flt_commands.specs.Explain.{IsExplained, IsTold, look_in}
 use Rattle.flt_commands.specs.Inputs.{Giving, given, Says, Text, unread}
 use Rattle.flt_commands.specs.Running.{IsRan}
 use Rattle.flt_commands.specs.Thin.{IsThinned, Decides as DecidesThin}
-use Rattle.flt_words.specs.Request.{Asked, Choice, Check, Analyse, Thin, Run, Replay, Show, Explain, Extract, Format, Pages, Emit}
+use Rattle.flt_words.specs.Request.{Asked, Choice, Check, Analyse, Thin, Run, Replay, Show, Explain, Extract, Format, Pages, Emit, Compare}
 use Rattle.flt_commands.specs.declared.answer.Answer.{Answer}
-use Rattle.flt_commands.specs.declared.answer.Answer.TheVariants.{Accepted, Refused, Certificate as Written, Judged, Ran as has_run, FileRefused, Explained, Extracted as has_text, Formatted as has_layouts, Pages as has_pages, Shown, Emitted, NotEmitted}
+use Rattle.flt_commands.specs.declared.answer.Answer.TheVariants.{Accepted, Refused, Certificate as Written, Judged, Ran as has_run, FileRefused, Explained, Extracted as has_text, Formatted as has_layouts, Pages as has_pages, Shown, Emitted, NotEmitted, Compared}
 use Rattle.flt_commands.specs.declared.failure.Failure.{Failure}
 
 -- the laws' clauses
@@ -107,6 +107,7 @@ module _ (law : Law) (runs : LawOfRuns) (nowhere : SpelledFailsNowhere) where
   judged text certificate (has_pages t) said good = absurd said.decided
   judged text certificate (Emitted b) said good = absurd said.decided
   judged text certificate (NotEmitted w) said good = absurd said.decided
+  judged text certificate (Compared w) said good = absurd said.decided
 
   checked : (texts : List Text) (answer : Answer) (file : Text) (cert : Option Text) → IsChecked texts (Ok answer) →
       status_of answer ≡ 0 → IsClean (Check file cert) texts
@@ -130,6 +131,7 @@ module _ (law : Law) (runs : LawOfRuns) (nowhere : SpelledFailsNowhere) where
   left text certificate (has_pages t) said good = absurd said.decided
   left text certificate (Emitted b) said good = absurd said.decided
   left text certificate (NotEmitted w) said good = absurd said.decided
+  left text certificate (Compared w) said good = absurd said.decided
 
   thinned : (texts : List Text) (answer : Answer) (file : Text) (cert : Option Text) → IsThinned texts (Ok answer) →
       status_of answer ≡ 0 → IsClean (Thin file cert) texts
@@ -154,6 +156,7 @@ module _ (law : Law) (runs : LawOfRuns) (nowhere : SpelledFailsNowhere) where
   analysed (text ∷ []) (has_pages t) file said good = absurd said
   analysed (text ∷ []) (Emitted b) file said good = absurd said
   analysed (text ∷ []) (NotEmitted w) file said good = absurd said
+  analysed (text ∷ []) (Compared w) file said good = absurd said
   analysed (text ∷ more ∷ texts) answer file said good = said
 
   driven : (texts : List Text) (answer : Answer) (workers : ℕ) (quiet : Bool) (script : Text) (files : List Text) →
@@ -169,6 +172,7 @@ module _ (law : Law) (runs : LawOfRuns) (nowhere : SpelledFailsNowhere) where
   driven (bytes ∷ texts) (has_pages t) workers quiet script files said good = absurd said
   driven (bytes ∷ texts) (Emitted b) workers quiet script files said good = absurd said
   driven (bytes ∷ texts) (NotEmitted w) workers quiet script files said good = absurd said
+  driven (bytes ∷ texts) (Compared w) workers quiet script files said good = absurd said
   driven (bytes ∷ texts) (Refused f) workers quiet script files said good = absurd said
   driven (bytes ∷ texts) (Written c) workers quiet script files said good = absurd said
   driven (bytes ∷ texts) (Judged v) workers quiet script files said good = absurd said
@@ -279,6 +283,7 @@ module _ (law : Law) (runs : LawOfRuns) (nowhere : SpelledFailsNowhere) where
   explained gives form colour states look journal warnings files texts (has_pages t) said good = absurd said
   explained gives form colour states look journal warnings files texts (Emitted b) said good = absurd said
   explained gives form colour states look journal warnings files texts (NotEmitted w) said good = absurd said
+  explained gives form colour states look journal warnings files texts (Compared w) said good = absurd said
   explained gives form colour states look journal warnings files texts (has_run ran) said good = absurd said
   explained gives form colour states look journal warnings files texts (FileRefused n f) said good = absurd said
   explained gives form colour states look journal warnings files texts Accepted said good = absurd said
@@ -336,5 +341,6 @@ module _ (law : Law) (runs : LawOfRuns) (nowhere : SpelledFailsNowhere) where
   clean_of shown gives (Extract of_map files) texts said bytes status is reported good = tt
   clean_of shown gives (Format mode files) texts said bytes status is reported good = tt
   clean_of shown gives (Pages names) texts said bytes status is reported good = tt
+  clean_of shown gives (Compare files) texts said bytes status is reported good = tt
   clean_of shown gives (Emit part file cert) texts said bytes status is reported good =
       says_clean gives _ texts (IsEmitted part) _ said bytes status (λ answer is well. emitted texts answer part file cert is well) is reported good

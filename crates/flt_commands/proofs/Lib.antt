@@ -12,6 +12,7 @@ pub mod OneAnalysis
 pub mod OneAnnotation
 pub mod OneAnswer
 pub mod OneCheck
+pub mod OneComparison
 pub mod OneDecision
 pub mod OneExtraction
 pub mod OneLayout

@@ -15,7 +15,7 @@ use Rattle.flt_model.specs.declared.verdict.Violation.TheVariants.{V1, V2, V3, V
 use Rattle.flt_commands.specs.Outcomes.{files_status, printed}
 use Rattle.flt_commands.specs.declared.failure.Failure.{Failure}
 use Rattle.flt_commands.specs.declared.answer.Answer.{Answer}
-use Rattle.flt_commands.specs.declared.answer.Answer.TheVariants.{Accepted, Refused, Certificate, Judged, Explained, Extracted, Formatted, Pages, Ran, FileRefused, Shown, Emitted, NotEmitted}
+use Rattle.flt_commands.specs.declared.answer.Answer.TheVariants.{Accepted, Refused, Certificate, Judged, Explained, Extracted, Formatted, Pages, Ran, FileRefused, Shown, Emitted, NotEmitted, Compared}
 use Rattle.flt_commands.specs.declared.emit.Unemitted.{Unemitted}
 use Rattle.flt_commands.specs.declared.emit.Unemitted.TheVariants.{Kinds, Create}
 
@@ -79,6 +79,7 @@ output (Shown rows v) = rows.items ++ (verdict_line v ++ 10 ∷ [])
 output (FileRefused file f) = file_refusal_line file f ++ 10 ∷ []
 output (Emitted bytes) = bytes.items
 output (NotEmitted why) = unemitted_line why ++ 10 ∷ []
+output (Compared reports) = reports.items
 
 -- how many of these bytes went out before the end; only of reports some do
 abbrev pub sent_of : Answer → ℕ
@@ -95,6 +96,11 @@ sent_in (Err f) = 0
 abbrev pub ended_status : Ending → ℕ
 ended_status Whole = 0
 ended_status _ = 2
+
+-- the exit status of reports on C files: 1 if there is one
+abbrev pub compared_status : List ℕ → ℕ
+compared_status [] = 0
+compared_status (b ∷ more) = 1
 
 -- the exit status of reports, or of what files come to: their own, or 2 where a file isn't read
 abbrev pub told_status : ℕ → List UnreadFile → ℕ
@@ -119,6 +125,7 @@ status_of (Shown rows Legal) = 0
 status_of (Shown rows _) = 1
 status_of (Emitted bytes) = 0
 status_of (NotEmitted why) = 1
+status_of (Compared reports) = compared_status reports.items
 
 -- how the run ended of which an answer is the journal; all other answers are whole
 abbrev pub ending_of : Answer → Ending

@@ -8,6 +8,7 @@ use Rattle.flt_commands.specs.Annotated.{gives_annotations}
 use Rattle.flt_commands.specs.Answer.{ending_of, output, remark, status_of}
 use Rattle.flt_commands.specs.Check.{IsChecked}
 use Rattle.flt_commands.specs.Clean.{IsClean}
+use Rattle.flt_commands.specs.Compare.{IsCompared}
 use Rattle.flt_commands.specs.Drawn.{IsDrawn}
 use Rattle.flt_commands.specs.Emit.{IsEmitted}
 use Rattle.flt_commands.specs.Explain as explain
@@ -22,7 +23,7 @@ use Rattle.flt_commands.specs.Replay.{IsReplayed, IsShown}
 use Rattle.flt_commands.specs.Running.{IsRan}
 use Rattle.flt_commands.specs.Thin.{IsThinned}
 use Rattle.flt_model.specs.JournalText.{Entries, spelling}
-use Rattle.flt_words.specs.Request.{Asked, Check, Analyse, Thin, Run, Replay, Show, Explain, Extract, Format, Pages, Emit}
+use Rattle.flt_words.specs.Request.{Asked, Check, Analyse, Thin, Run, Replay, Show, Explain, Extract, Format, Pages, Emit, Compare}
 use Rattle.flt_words.specs.Words.{asked}
 use Rattle.flt_words.specs.declared.request.FormatMode.TheVariants.{Write}
 use Rattle.flt_commands.specs.declared.answer.Answer.{Answer}
@@ -60,6 +61,7 @@ IsSaid shown gives (Extract of_map files) = Says gives (names_of (Extract of_map
 IsSaid shown gives (Format mode files) = IsFormatSaid gives mode files
 IsSaid shown gives (Pages names) = Says gives (names_of (Pages names)) (λ texts. ArePaged names)
 IsSaid shown gives (Emit part file cert) = Says gives (names_of (Emit part file cert)) (IsEmitted part)
+IsSaid shown gives (Compare files) = Says gives (names_of (Compare files)) (IsCompared files)
 
 -- ---- how that is printed
 

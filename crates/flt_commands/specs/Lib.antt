@@ -5,6 +5,7 @@ pub mod Answer
 pub mod Check
 pub mod Clean
 pub mod Commands
+pub mod Compare
 pub mod Drawn
 pub mod Emit
 pub mod Explain

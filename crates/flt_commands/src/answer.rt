@@ -44,6 +44,18 @@ pub enum Answer {
     Emitted(Vec<u8>),
     /// Why an accepted text can't be emitted.
     NotEmitted(Unemitted),
+    /// The reports on C files that differ from their annotations.
+    Compared(Vec<u8>),
+}
+
+/// The exit status of reports on C files: 1 if there is one.
+fn compared_status(reports: &[u8]) -> u8
+    ensures { result ≡ spec.compared_status reports.now }
+{
+    match reports {
+        [] => 0,
+        [_, ..] => 1,
+    }
 }
 
 impl Answer {
@@ -65,6 +77,7 @@ impl Answer {
             }
             Answer::Refused(_) | Answer::FileRefused(_, _) | Answer::Judged(_) => 1,
             Answer::Shown(_, _) | Answer::NotEmitted(_) => 1,
+            Answer::Compared(reports) => compared_status(reports.as_slice()),
             Answer::Ran(ran) => ended_status(ran.ending),
         }
     }
@@ -80,7 +93,7 @@ impl Answer {
             Answer::Judged(_) | Answer::Explained(_, _) | Answer::Pages(_) => Ending::Whole,
             Answer::FileRefused(_, _) | Answer::Shown(_, _) => Ending::Whole,
             Answer::Extracted(_) | Answer::Formatted(_, _) => Ending::Whole,
-            Answer::Emitted(_) | Answer::NotEmitted(_) => Ending::Whole,
+            Answer::Emitted(_) | Answer::NotEmitted(_) | Answer::Compared(_) => Ending::Whole,
         }
     }
 
@@ -92,6 +105,7 @@ impl Answer {
             Answer::Certificate(bytes) => return Ok(bytes),
             Answer::Extracted(bytes) => return Ok(bytes),
             Answer::Emitted(bytes) => return Ok(bytes),
+            Answer::Compared(reports) => return Ok(reports),
             Answer::Formatted(mode, found) => {
                 return printed_files(alloc, mode, found.files.as_slice());
             }

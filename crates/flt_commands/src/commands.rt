@@ -10,6 +10,7 @@ use crate::allowed::options_of;
 use crate::analyse::analyse_file;
 use crate::check::check_files;
 use crate::clean::{covered_texts_break_nothing, driven_texts_break_nothing};
+use crate::compare::compare_files;
 use crate::deadlock::tell_deadlock;
 use crate::emit::emit_files;
 use crate::explain::{Asked, pages_of};
@@ -211,6 +212,10 @@ fn report_of<'a, R: Threads + Wait + Sync, I: Inputs, P: Pictures, O: Sink, W: W
                 cert,
                 &mut contents,
             );
+            report_on(alloc, Vec::new(alloc), said, contents)
+        }
+        Request::Compare { files } => {
+            let said = compare_files(alloc, inputs, files.as_slice(), &mut contents);
             report_on(alloc, Vec::new(alloc), said, contents)
         }
     }

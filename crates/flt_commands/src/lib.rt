@@ -9,6 +9,7 @@ mod answer;
 mod check;
 mod clean;
 mod commands;
+mod compare;
 mod deadlock;
 mod emit;
 mod explain;

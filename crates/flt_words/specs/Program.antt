@@ -161,6 +161,13 @@ bare_emit_app = new_app (codes "emit")
 abbrev pub emit_app : App
 emit_app = with_rule (with_rule (with_rule bare_emit_app part_rule) text_rule) cert_rule
 
+abbrev pub bare_compare_app : App
+bare_compare_app = new_app (codes "compare")
+
+-- `compare FILE..`
+abbrev pub compare_app : App
+compare_app = with_rule bare_compare_app texts_rule
+
 -- the program without its commands: one is asked for, the program's own name is left out, and `--version` answers
 abbrev pub bare_app : App
 bare_app = let a = new_app (codes "fltstack") in
@@ -170,8 +177,8 @@ bare_app = let a = new_app (codes "fltstack") in
 abbrev pub program_app : App
 program_app =
     with_subcommand (with_subcommand (with_subcommand (with_subcommand (with_subcommand (with_subcommand (with_subcommand (with_subcommand
-    (with_subcommand bare_app check_app.top) analyse_app.top) thin_app.top) explain_app.top) run_app.top) replay_app.top) extract_app.top)
-    format_app.top) emit_app.top
+    (with_subcommand (with_subcommand bare_app check_app.top) analyse_app.top) thin_app.top) explain_app.top) run_app.top) replay_app.top)
+    extract_app.top) format_app.top) emit_app.top) compare_app.top
 
 -- ---- what of it words need
 
@@ -190,4 +197,5 @@ app_for word =
     else (if bytes_eq word (codes "replay") then program_with replay_app
     else (if bytes_eq word (codes "extract") then program_with extract_app
     else (if bytes_eq word (codes "format") then program_with format_app
-    else (if bytes_eq word (codes "emit") then program_with emit_app else program_app))))))))
+    else (if bytes_eq word (codes "emit") then program_with emit_app
+    else (if bytes_eq word (codes "compare") then program_with compare_app else program_app)))))))))

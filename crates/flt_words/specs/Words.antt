@@ -21,7 +21,7 @@ use Rattle.flt_words.specs.declared.request.Part.TheVariants.{Source, User, Inf}
 use Rattle.flt_words.specs.declared.request.Colour.{Colour}
 use Rattle.flt_words.specs.declared.request.Colour.TheVariants.{Auto, Always, Never}
 use Rattle.flt_words.specs.Workers.{within}
-use Rattle.flt_words.specs.Request.{Asked, Choice, Check, Analyse, Thin, Run, Replay, Show, Explain, Extract, Format, Pages, Emit}
+use Rattle.flt_words.specs.Request.{Asked, Choice, Check, Analyse, Thin, Run, Replay, Show, Explain, Extract, Format, Pages, Emit, Compare}
 
 -- ---- values
 
@@ -197,6 +197,9 @@ emit_with rows part = Emit part (text_of (codes "FILE") rows) (first_of (codes "
 abbrev pub emit_of : List Row → Option Asked
 emit_of rows = option_map (emit_with rows) (part_of rows)
 
+abbrev pub compare_of : List Row → Asked
+compare_of rows = Compare (files_of rows)
+
 -- what a subcommand with its arguments asks for
 abbrev pub asked_by : Text × List Row → Option Asked
 asked_by (name, rows) =
@@ -208,7 +211,8 @@ asked_by (name, rows) =
     else (if bytes_eq name (codes "replay") then replay_of rows
     else (if bytes_eq name (codes "extract") then Some (extract_of rows)
     else (if bytes_eq name (codes "format") then format_of rows
-    else (if bytes_eq name (codes "emit") then emit_of rows else None))))))))
+    else (if bytes_eq name (codes "emit") then emit_of rows
+    else (if bytes_eq name (codes "compare") then Some (compare_of rows) else None)))))))))
 
 -- ---- all of it
 

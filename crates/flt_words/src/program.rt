@@ -446,6 +446,27 @@ fn emit_command<'a>(alloc: Global) -> Result<Command<'a>, AllocError>
     with_argument(command, certificate_argument(alloc))
 }
 
+/// The command `compare` without its arguments.
+fn bare_compare<'a>(alloc: Global) -> Command<'a>
+    ensures { spec.IsCommand result spec.bare_compare_app }
+{
+    Command::new(alloc, "compare")
+        .about("Reports where the code of C files and their annotations differ")
+        .override_usage("fltstack compare <FILE>...")
+        .after_help(
+            "Prints a report for each annotated call that the code beside it doesn't make, each call that isn't annotated,\neach other status and each callback that only the code or only the annotations have (exit 1), or nothing (exit 0).\nIt compares words, and doesn't read the C. Errors go to the standard error with exit 2.\n\nExample: fltstack compare examples/c/ctx.c",
+        )
+}
+
+fn compare_command<'a>(alloc: Global) -> Result<Command<'a>, AllocError>
+    ensures { IfOk result (λ c. spec.IsCommand c spec.compare_app) }
+{
+    with_argument(
+        Ok(bare_compare(alloc)),
+        texts_argument(alloc, "The C files; `-` is the standard input"),
+    )
+}
+
 // ---- the program
 
 /// The program without its commands.
@@ -488,7 +509,8 @@ pub(crate) fn program<'a>(alloc: Global) -> Result<Command<'a>, AllocError>
     let program = with_command(program, replay_command(alloc));
     let program = with_command(program, extract_command(alloc));
     let program = with_command(program, format_command(alloc));
-    with_command(program, emit_command(alloc))
+    let program = with_command(program, emit_command(alloc));
+    with_command(program, compare_command(alloc))
 }
 
 /// The program with one of its commands alone.
@@ -518,6 +540,7 @@ pub(crate) fn program_for<'a>(alloc: Global, word: &str) -> Result<Command<'a>, 
         "extract" => program_with(alloc, extract_command(alloc)),
         "format" => program_with(alloc, format_command(alloc)),
         "emit" => program_with(alloc, emit_command(alloc)),
+        "compare" => program_with(alloc, compare_command(alloc)),
         _ => program(alloc),
     }
 }

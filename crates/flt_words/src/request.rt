@@ -129,4 +129,8 @@ pub enum Request<'a> {
         file: &'a str,
         cert: Option<&'a str>,
     },
+    /// Compare the code of some C files with their annotations.
+    Compare {
+        files: Vec<&'a str>,
+    },
 }

@@ -532,6 +532,15 @@ fn asked_emit<'a>(alloc: Global, emit: &ArgMatches<'a>) -> Result<Request<'a>, A
     Ok(emit_with(emit, part))
 }
 
+/// The request of the matches of `compare`.
+fn asked_compare<'a>(alloc: Global, compare: &ArgMatches<'a>) -> Result<Request<'a>, AllocError>
+    ensures { IfOk result (λ r. asked_of r ≡ Some (spec.compare_of (rows_of (found_of compare.now)))) }
+{
+    Ok(Request::Compare {
+        files: files_of(alloc, compare)?,
+    })
+}
+
 /// What the matches of a command line ask for.
 fn matched<'a>(alloc: Global, matches: &ArgMatches<'a>) -> Result<Request<'a>, AllocError>
     ensures { IfOk result (λ r. asked_of r ≡ option_and_then spec.asked_by (subcommand_rows_of matches.now)) }
@@ -560,8 +569,11 @@ fn matched<'a>(alloc: Global, matches: &ArgMatches<'a>) -> Result<Request<'a>, A
     if let Some(format) = matches.subcommand_matches("format") {
         return asked_format(alloc, format);
     }
-    match matches.subcommand_matches("emit") {
-        Some(emit) => asked_emit(alloc, emit),
+    if let Some(emit) = matches.subcommand_matches("emit") {
+        return asked_emit(alloc, emit);
+    }
+    match matches.subcommand_matches("compare") {
+        Some(compare) => asked_compare(alloc, compare),
         None => Ok(Request::Usage(String::new(alloc))),
     }
 }

@@ -10,4 +10,5 @@ returns c =
     let six = c.with_command-program-6.ensures _ _ five c.replay_command.ensures in
     let seven = c.with_command-program-7.ensures _ _ six c.extract_command.ensures in
     let eight = c.with_command-program-8.ensures _ _ seven c.format_command.ensures in
-    c.with_command.ensures _ _ eight c.emit_command.ensures
+    let nine = c.with_command-program-9.ensures _ _ eight c.emit_command.ensures in
+    c.with_command.ensures _ _ nine c.compare_command.ensures

@@ -26,3 +26,6 @@ returns-in-format c = rw c.in-format.is (c.program_with-in-format.ensures _ c.fo
 
 pub returns-in-emit : goal.returns-in-emit
 returns-in-emit c = rw c.in-emit.is (c.program_with-in-emit.ensures _ c.emit_command.ensures)
+
+pub returns-in-compare : goal.returns-in-compare
+returns-in-compare c = rw c.in-compare.is (c.program_with-in-compare.ensures _ c.compare_command.ensures)
