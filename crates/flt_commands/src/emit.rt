@@ -1,4 +1,4 @@
-//! What `emit` says of the names that it is given.
+//! The command `emit`: the answer on the names that it is given.
 
 ghost use Rattle.flt_commands.specs.Emit as spec;
 ghost use Rattle.flt_commands.specs.Inputs.{Says};
@@ -40,7 +40,7 @@ pub enum Unemitted {
 
 // ---- a part of a driver
 
-/// Adds the allocations that stand at some statements.
+/// Adds the allocations of some statements.
 fn add_allocations(out: &mut Vec<Allocation>, mut spots: &[Spot]) -> Result<(), AllocError>
     ensures { OnOk result (out.new.items ≡ out.old.items ++ map spec.allocation_of spots.entry.now) }
 {
@@ -92,7 +92,7 @@ fn mixed_lines(graph: &Graph, mixed: Mixed) -> Unemitted
     }
 }
 
-/// What is emitted of a filter in which each context has one kind.
+/// The part of a filter in which each context has one kind, or why there is none.
 fn emit_known(
     alloc: Global,
     part: Part,
@@ -115,7 +115,7 @@ fn emit_known(
     }
 }
 
-/// What is emitted of a filter, or why nothing is.
+/// The part of a filter, or why there is none.
 fn emit_filter(alloc: Global, part: Part, tree: &Tree, graph: &Graph) -> Result<Answer, AllocError>
     requires { IsLowered tree.now.filter graph.now }
     ensures { IfOk result (spec.Emits part tree.now.filter graph.now) }
@@ -128,7 +128,7 @@ fn emit_filter(alloc: Global, part: Part, tree: &Tree, graph: &Graph) -> Result<
 
 // ---- texts
 
-/// What is emitted of a text that is analysed. The transfers are counted in a ledger that nobody reads.
+/// The part of a text that is analysed. The transfers are counted in a ledger that nobody reads.
 fn emit_analysed<'a, L: Ledger>(
     alloc: Global,
     part: Part,
@@ -150,7 +150,7 @@ fn emit_analysed<'a, L: Ledger>(
     }
 }
 
-/// What is emitted of a text that is checked.
+/// The part of a text that is checked.
 fn emit_checked<'a>(
     alloc: Global,
     part: Part,
@@ -168,7 +168,7 @@ fn emit_checked<'a>(
     }
 }
 
-/// What `emit` says of the names that it is given, and what these give.
+/// The answer of `emit` on the names that it is given, and the bytes that these give.
 pub fn emit_files<'a, I: Inputs>(
     alloc: Global,
     inputs: &I,

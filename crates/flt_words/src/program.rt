@@ -230,7 +230,7 @@ fn part_argument<'a>(alloc: Global) -> Arg<'a>
     ensures own { result.global ≡ false }
 {
     Arg::new(alloc, "part").long("part").value_name("PART").help(
-        "Which part is printed: `source`, `user` (the user's header) or `inf`; `source` where nothing is said",
+        "The part that is printed: `source`, `user` (the user's header) or `inf`; `source` if none is named",
     )
 }
 
@@ -434,7 +434,7 @@ fn bare_emit<'a>(alloc: Global) -> Command<'a>
         )
         .override_usage("fltstack emit [--part <PART>] <FILE> [CERT]")
         .after_help(
-            "Analyses the text, or checks CERT. Prints the part (exit 0); or the point and rule for which there is no\ncertificate, or `not emitted`, the line and why (exit 1). Errors go to the standard error with exit 2.\n\n`docs/EMIT.md` says what is emitted, what you must fill in, and what was tried.\n\nExample: fltstack emit examples/pending_reads.flt",
+            "Analyses the text, or checks CERT. Prints the part (exit 0); or the point and rule for which there is no\ncertificate, or `not emitted`, the line and why (exit 1). Errors go to the standard error with exit 2.\n\n`docs/EMIT.md` has the form of each line, and says which parts you must fill in.\n\nExample: fltstack emit examples/pending_reads.flt",
         )
 }
 

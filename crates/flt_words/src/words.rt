@@ -57,7 +57,7 @@ const FEW_LAYOUTS: &str =
 const NO_INPUT: &str =
     "error: `--write` takes the names of files\n\nUsage: fltstack format <FILE>\n       fltstack format --check <FILE>...\n       fltstack format --write <FILE>...\n\nFor more information, try '--help'.\n";
 
-/// What is said where a part of a driver is asked for that there isn't.
+/// The error for a part of a driver that there isn't.
 const NO_PART: &str =
     "error: `--part` takes `source`, `user` or `inf`\n\nUsage: fltstack emit [--part <PART>] <FILE> [CERT]\n\nFor more information, try '--help'.\n";
 
@@ -181,7 +181,7 @@ fn part_named(name: &str) -> Option<Part>
     }
 }
 
-/// The part of a driver that is asked for, if there is such a part; the source where nothing is said.
+/// The part of a driver that the words name, if there is such a part; the source if they name none.
 fn part_of(matches: &ArgMatches) -> Option<Part>
     ensures { result ≡ spec.part_of (rows_of (found_of matches.now)) }
 {
@@ -511,7 +511,7 @@ fn asked_format<'a>(alloc: Global, format: &ArgMatches<'a>) -> Result<Request<'a
     )
 }
 
-/// What the matches of `emit` ask for, of a part.
+/// The request of the matches of `emit`, of a part.
 fn emit_with<'a>(emit: &ArgMatches<'a>, part: Part) -> Request<'a>
     ensures { asked_of result ≡ Some (spec.emit_with (rows_of (found_of emit.now)) part) }
 {
@@ -522,7 +522,7 @@ fn emit_with<'a>(emit: &ArgMatches<'a>, part: Part) -> Request<'a>
     }
 }
 
-/// What the matches of `emit` ask for.
+/// The request of the matches of `emit`.
 fn asked_emit<'a>(alloc: Global, emit: &ArgMatches<'a>) -> Result<Request<'a>, AllocError>
     ensures { IfOk result (λ r. asked_of r ≡ spec.emit_of (rows_of (found_of emit.now))) }
 {
