@@ -45,7 +45,7 @@ _fltstack() {
         if [[ $word == -* ]]; then
             _fltstack_words --help --version
         else
-            _fltstack_words check analyse thin explain run replay extract format emit help
+            _fltstack_words check analyse thin explain run replay extract format emit compare help
         fi
         return
     fi
@@ -95,6 +95,9 @@ _fltstack() {
         options='--part --help'
         valued='--part'
         ;;
+    compare)
+        options='--help'
+        ;;
     esac
     # bash takes `--form=short` for three words
     while ((at < COMP_CWORD)); do
@@ -140,7 +143,8 @@ _fltstack() {
         'format '*) _fltstack_files .flt ;;
         'emit 0') _fltstack_files .flt ;;
         'emit 1') _fltstack_files .cert ;;
-        'help 0') _fltstack_words check analyse thin explain run replay extract format emit help ;;
+        'compare '*) _fltstack_files .c .h .cc .cpp ;;
+        'help 0') _fltstack_words check analyse thin explain run replay extract format emit compare help ;;
         esac
     fi
 }

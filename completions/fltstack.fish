@@ -154,6 +154,7 @@ complete -c fltstack -n '__fltstack_first' -a extract -d 'Prints the text that t
 complete -c fltstack -n '__fltstack_first' -a format -d 'Lays out filters\' texts, with their comments and blank lines'
 complete -c fltstack -n '__fltstack_first' -a emit \
     -d 'Prints the C source of the driver that a filter\'s text is, its user\'s header or its INF file'
+complete -c fltstack -n '__fltstack_first' -a compare -d 'Reports where the code of C files and their annotations differ'
 complete -c fltstack -n '__fltstack_first' -a help -d 'Print this message or the help of the given subcommand(s)'
 complete -c fltstack -n '__fltstack_first' -s h -l help -d 'Print help'
 complete -c fltstack -n '__fltstack_first' -s V -l version -d 'Print version'
@@ -214,10 +215,14 @@ complete -c fltstack -n '__fltstack_after format --help' -s h -l help -d 'Print 
 complete -c fltstack -n '__fltstack_at format 0+' -a '(__fltstack_files .flt)'
 
 # emit
-complete -c fltstack -n '__fltstack_after emit --part' -l part -x -a 'source user inf' -d 'Which part is printed'
+complete -c fltstack -n '__fltstack_after emit --part' -l part -x -a 'source user inf' -d 'The part that is printed'
 complete -c fltstack -n '__fltstack_after emit --help' -s h -l help -d 'Print help'
 complete -c fltstack -n '__fltstack_at emit 0' -a '(__fltstack_files .flt)'
 complete -c fltstack -n '__fltstack_at emit 1' -a '(__fltstack_files .cert)'
 
+# compare
+complete -c fltstack -n '__fltstack_after compare --help' -s h -l help -d 'Print help'
+complete -c fltstack -n '__fltstack_at compare 0+' -a '(__fltstack_files .c .h .cc .cpp)'
+
 # help
-complete -c fltstack -n '__fltstack_at help 0' -a 'check analyse thin explain run replay extract format emit help'
+complete -c fltstack -n '__fltstack_at help 0' -a 'check analyse thin explain run replay extract format emit compare help'
