@@ -1,1 +1,2 @@
 mod Flagged
+mod Wrapped

@@ -221,3 +221,77 @@ fn file_without_end_of_a_comment_is_not_read_within_memory(rt: HostRuntime) -> R
     assert!(rt; !read);
     Ok(())
 }
+
+/// A part of a file again and again, and its end.
+fn repeated(alloc: Global, part: &str, times: usize, end: &str) -> Result<Vec<u8>, AllocError> {
+    let mut file = Vec::new(alloc);
+    for _ in 0..times {
+        file.extend_from_slice(part.as_bytes())?;
+    }
+    file.extend_from_slice(end.as_bytes())?;
+    Ok(file)
+}
+
+/// Of a part of a file, how often it is repeated, and the file's end: how many drifts there are.
+static REPEATED: [(&str, usize, &str, usize); 8] = [
+    (
+        "FltReleaseContext(c);\n",
+        80,
+        "//@flt FltReleaseContext c0\n",
+        0,
+    ),
+    (
+        "FltReleaseContext(c);\n",
+        80,
+        "//@flt FltReferenceContext c0\n",
+        81,
+    ),
+    ("FltReleaseContext(c);\n", 80, "", 0),
+    (
+        "return FLT_PREOP_PENDING;\n",
+        80,
+        "//@flt return PENDING\n",
+        0,
+    ),
+    (
+        "return FLT_PREOP_PENDING;\n",
+        80,
+        "//@flt return COMPLETE\n",
+        80,
+    ),
+    ("{ IRP_MJ_READ, 0, A, B },\n", 80, "//@flt pre read {\n", 80),
+    (
+        "{ IRP_MJ_READ, 0, A, B },\n",
+        80,
+        "//@flt pre write {\n",
+        161,
+    ),
+    (
+        "//@flt-call F FltReleaseContext\n//@flt-call F FltReferenceContext\n",
+        80,
+        "F(c); //@flt FltReleaseContext c0\n",
+        0,
+    ),
+];
+
+/// The first of them that has another number of drifts.
+fn first_miscounted(
+    alloc: Global,
+    cases: &[(&str, usize, &str, usize)],
+) -> Result<Option<usize>, AllocError> {
+    for (at, case) in cases.iter().enumerate() {
+        let file = repeated(alloc, case.0, case.1, case.2)?;
+        let found = found_in(alloc, file.as_slice())?;
+        if found.len() != case.3 {
+            return Ok(Some(at));
+        }
+    }
+    Ok(None)
+}
+
+#[test]
+fn many_marks_are_compared_within_memory(rt: HostRuntime) -> Result<(), Fail> {
+    let wrong = first_miscounted(rt.alloc(), REPEATED.as_slice())?;
+    assert!(rt; wrong.is_none());
+    Ok(())
+}
