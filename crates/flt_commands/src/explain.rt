@@ -8,6 +8,7 @@ ghost use Rattle.flt_notes.specs.Noted.{AreNotes, first_journal};
 ghost use Rattle.flt_details.specs.Reports.{texts_of};
 
 use crate::answer::Answer;
+use crate::drawings::pictures_of;
 use crate::failure::Failure;
 use crate::fault::CommandFault;
 use crate::in_turn::lines_in_turn;
@@ -18,6 +19,7 @@ use crate::unwritten::Unwritten;
 use flt_details::{Explained, Source};
 use flt_driven::journal_bytes;
 use flt_forms::{Style, UnreadFile, lines, sarif};
+use flt_html::html_page;
 use flt_model::Sink;
 use flt_notes::{Asking, Noted, SearchWatch, Told, explain, first_journal};
 use flt_pages::page;
@@ -132,6 +134,31 @@ fn unsent(explained: Explained, noted: Items<Noted>) -> Told
     }
 }
 
+/// The page on reports of texts, with pictures of the runs in them.
+fn paged(alloc: Global, sources: &[Source<'_>], told: Told) -> Result<Told, AllocError> {
+    let pictures = pictures_of(alloc, sources, told.noted.as_slice())?;
+    let printed = told.explained.output.as_slice();
+    let output = html_page(alloc, sources, printed, pictures.as_slice())?;
+    let status = told.explained.status;
+    Ok(unsent(Explained { output, status }, told.noted))
+}
+
+/// What is found of some texts, as a page.
+fn told_page<O: Sink, W: SearchWatch>(
+    alloc: Global,
+    asked: Asked<'_>,
+    sources: &[Source<'_>],
+    out: &mut O,
+    watch: &mut W,
+) -> Result<Told, CommandFault> {
+    let plain = Asked {
+        coloured: false,
+        ..asked
+    };
+    let told = explain(alloc, asking(plain, true), sources, out, watch)?;
+    Ok(paged(alloc, sources, told)?)
+}
+
 /// What is found of some texts, in a form, beside files that aren't read. Each text's part goes out as soon as it is made, but where the
 /// form is one document.
 #[tactic(auto, using(crate::proofs::Sent::none_sent, crate::proofs::Faults::write_of, crate::proofs::Faults::memory_of))]
@@ -167,6 +194,7 @@ fn told_in_turn<O: Sink, W: SearchWatch>(
             lines_in_turn(alloc, Style::Object, options, sources, out)?,
         )),
         Form::Sarif => Ok(unsent(sarif(alloc, options, sources, unread)?, Items::new(alloc))),
+        Form::Html => told_page(alloc, asked, sources, out, watch),
     }
 }
 
@@ -194,6 +222,7 @@ fn told_whole<O: Sink, W: SearchWatch>(
         Form::Short => lines(alloc, Style::Sentence, asked.options, sources)?,
         Form::Lines => lines(alloc, Style::Object, asked.options, sources)?,
         Form::Sarif => sarif(alloc, asked.options, sources, unread)?,
+        Form::Html => return told_page(alloc, asked, sources, out, watch),
     };
     let told = explain(alloc, held, sources, out, watch)?;
     Ok(unsent(explained, told.noted))

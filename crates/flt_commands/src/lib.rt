@@ -10,6 +10,7 @@ mod check;
 mod clean;
 mod commands;
 mod deadlock;
+mod drawings;
 mod explain;
 mod explained;
 mod extract;
