@@ -3,23 +3,23 @@
 ghost use Rattle.std.specs.Io.KnownBytes.{Appends};
 ghost use Rattle.std.specs.Prelude.{◌≡◌, ◌≢◌, [], None, IfErr, IfOk, OnErr, OnOk, length, map, option_map, string_bytes, take};
 ghost use Rattle.flt_commands.specs.Explain as spec;
+ghost use Rattle.flt_commands.specs.Html.{IsPageOn, IsPaged};
 ghost use Rattle.flt_commands.specs.Remarks.{unread_in};
 ghost use Rattle.flt_notes.specs.Noted.{AreNotes, first_journal};
 ghost use Rattle.flt_details.specs.Reports.{texts_of};
 
 use crate::answer::Answer;
-use crate::drawings::pictures_of;
 use crate::failure::Failure;
 use crate::fault::CommandFault;
 use crate::in_turn::lines_in_turn;
 use crate::inputs::{Inputs, Pictures, read_each};
+use crate::html::page_on;
 use crate::remarks::unread_lines;
 use crate::report::Contents;
 use crate::unwritten::Unwritten;
 use flt_details::{Explained, Source};
 use flt_driven::journal_bytes;
 use flt_forms::{Style, UnreadFile, lines, sarif};
-use flt_html::html_page;
 use flt_model::Sink;
 use flt_notes::{Asking, Noted, SearchWatch, Told, explain, first_journal};
 use flt_pages::page;
@@ -134,29 +134,32 @@ fn unsent(explained: Explained, noted: Items<Noted>) -> Told
     }
 }
 
-/// The page on reports of texts, with pictures of the runs in them.
-fn paged(alloc: Global, sources: &[Source<'_>], told: Told) -> Result<Told, AllocError> {
-    let pictures = pictures_of(alloc, sources, told.noted.as_slice())?;
-    let printed = told.explained.output.as_slice();
-    let output = html_page(alloc, sources, printed, pictures.as_slice())?;
-    let status = told.explained.status;
-    Ok(unsent(Explained { output, status }, told.noted))
-}
-
-/// What is found of some texts, as a page.
+/// What is found of some texts, as a page, of which nothing has gone out.
 fn told_page<O: Sink, W: SearchWatch>(
     alloc: Global,
     asked: Asked<'_>,
     sources: &[Source<'_>],
     out: &mut O,
     watch: &mut W,
-) -> Result<Told, CommandFault> {
-    let plain = Asked {
+) -> Result<Told, CommandFault>
+    ensures page { IfOk result (λ t. IsPageOn asked.entry.options sources.now t.explained.output.items t.explained.status) }
+    ensures paged { IfOk result (λ t. IsPaged (spec.look_of asked.entry) sources.now t.noted t.explained.output.items t.explained.status) }
+    ensures noted { IfOk result (λ t. AreNotes (texts_of sources.now) t.noted) }
+    ensures sent { IfOk result (λ t. t.sent ≡ 0) }
+    ensures held { out.new ≡ out.old }
+    ensures err { IfErr result (λ e. e ≡ CommandFault.OutOfMemory) }
+{
+    let plain = Asking {
         coloured: false,
-        ..asked
+        states: asked.states,
+        is_held: true,
+        options: asked.options,
     };
-    let told = explain(alloc, asking(plain, true), sources, out, watch)?;
-    Ok(paged(alloc, sources, told)?)
+    let told = explain(alloc, plain, sources, out, watch)?;
+    let printed = told.explained.output.as_slice();
+    let output = page_on(alloc, sources, printed, told.noted.as_slice())?;
+    let status = told.explained.status;
+    Ok(unsent(Explained { output, status }, told.noted))
 }
 
 /// What is found of some texts, in a form, beside files that aren't read. Each text's part goes out as soon as it is made, but where the
