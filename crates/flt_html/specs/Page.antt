@@ -15,7 +15,7 @@ last_row (r ∷ s ∷ []) = r
 last_row (r ∷ s ∷ t ∷ rs) = last_row (s ∷ t ∷ rs)
 
 -- what is in front of the links to the texts
-abbrev pub opening : Text → Text → Text
+unfoldable pub opening : Text → Text → Text
 opening style summary =
     codes "<!DOCTYPE html>\n<html lang=\"en\"><head><meta charset=\"utf-8\"><title>" ++ escaped summary
     ++ codes " - fltstack explain</title><meta name=\"viewport\" content=\"width=device-width\"><style>" ++ style
@@ -26,7 +26,7 @@ abbrev pub lines_in : Text → List Text
 lines_in printed = slice_split (λ b. b == 10) printed
 
 -- the page with a style sheet, where these are the rows of the reports
-abbrev pub page : Text → List ShownText → List Text → List Text → Text
+unfoldable pub page : Text → List ShownText → List Text → List Text → Text
 page style texts rows pictures =
     opening style (last_row rows) ++ links_from 0 texts ++ codes "</nav></header><main><div class=\"texts\">"
     ++ texts_from (places (heads texts) rows) 0 texts ++ codes "</div><div class=\"reports\" id=\"reports\">"

@@ -9,11 +9,11 @@ use Rattle.flt_html.specs.declared.places.Place.{Place}
 use Rattle.flt_html.specs.declared.texts.ShownText.{ShownText}
 
 -- the anchor of a line of a text, by the digits of its number
-abbrev pub anchor : ℕ → Text → Text
+unfoldable pub anchor : ℕ → Text → Text
 anchor text line = codes "f" ++ decimal text ++ codes "-l" ++ line
 
 -- the beginning of rows that name a line of a text of this name
-abbrev pub head : Text → Text
+unfoldable pub head : Text → Text
 head name = codes "  --> " ++ name ++ codes ":"
 
 -- the same of some texts

@@ -8,7 +8,7 @@ use Rattle.flt_html.specs.Rows.{begins, is_run, kind_word}
 -- ---- elements
 
 -- the beginning of a report that begins with a row
-abbrev pub beginning : Text → Text
+unfoldable pub beginning : Text → Text
 beginning row = codes "<article class=\"" ++ kind_word row ++ codes "\"><div><pre>"
 
 -- the end of the rows of a report
@@ -16,7 +16,7 @@ abbrev pub ending : Text
 ending = codes "</pre></div></article>"
 
 -- the beginning of the rows of a run, behind its picture
-abbrev pub picture_before : Text → Text
+unfoldable pub picture_before : Text → Text
 picture_before picture = codes "</pre></div><div class=\"run\"><figure>" ++ picture ++ codes "</figure><pre>"
 
 -- the tags between a row and the one before it, where the next picture is this one
@@ -36,7 +36,7 @@ before (suc n) row picture = between row picture
 -- ---- words
 
 -- a row that names a line, as a link to it
-abbrev pub link : Text → ℕ → Text → Text
+unfoldable pub link : Text → ℕ → Text → Text
 link anchor number row =
     codes "<a id=\"r" ++ decimal number ++ codes "\" href=\"#" ++ anchor ++ codes "\">" ++ escaped row ++ codes "</a>"
 

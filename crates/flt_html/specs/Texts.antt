@@ -12,7 +12,7 @@ target (Some row) own = codes "\" class=\"place\"><a href=\"#r" ++ decimal row
 target None own = codes "\"><a href=\"#" ++ own
 
 -- a line with its number, where it has this anchor
-abbrev pub line_at : List Place → Text → ℕ → Text → Text
+unfoldable pub line_at : List Place → Text → ℕ → Text → Text
 line_at places own number line =
     codes "<span id=\"" ++ own ++ target (row_on places own) own ++ codes "\">" ++ decimal number ++ codes "</a>" ++ escaped line
     ++ codes "\n</span>"
@@ -27,7 +27,7 @@ lines_from places text n [] = []
 lines_from places text n (l ∷ ls) = line places text (suc n) l ++ lines_from places text (suc n) ls
 
 -- a text under its name
-abbrev pub text : List Place → ℕ → ShownText → Text
+unfoldable pub text : List Place → ℕ → ShownText → Text
 text places number t =
     codes "<section id=\"f" ++ decimal number ++ codes "\"><h2>" ++ escaped t.name ++ codes "</h2><pre>"
     ++ lines_from places number 0 t.lines ++ codes "</pre></section>"
@@ -38,7 +38,7 @@ texts_from places n [] = []
 texts_from places n (t ∷ ts) = text places n t ++ texts_from places (suc n) ts
 
 -- a link to a text
-abbrev pub link : ℕ → ShownText → Text
+unfoldable pub link : ℕ → ShownText → Text
 link number t = codes "<a href=\"#f" ++ decimal number ++ codes "\">" ++ escaped t.name ++ codes "</a> "
 
 -- links to texts before which so many come

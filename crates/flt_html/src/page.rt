@@ -23,6 +23,7 @@ fn last_row<'a>(rows: &[&'a [u8]]) -> &'a [u8]
 }
 
 /// Everything before the links to the texts.
+#[tactic(auto, unfolding(crate::specs::Page::opening))]
 fn put_opening(out: &mut Vec<u8>, style: &[u8], summary: &[u8]) -> Result<(), AllocError>
     ensures { OnOk result (out.new.items ≡ out.old.items ++ spec.opening style.now summary.now) }
 {
@@ -42,6 +43,7 @@ fn put_opening(out: &mut Vec<u8>, style: &[u8], summary: &[u8]) -> Result<(), Al
 }
 
 /// The page with a style sheet.
+#[tactic(auto, unfolding(crate::specs::Page::page))]
 fn put_page(
     alloc: Global,
     out: &mut Vec<u8>,

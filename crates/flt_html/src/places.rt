@@ -18,6 +18,7 @@ pub(crate) struct Place {
 }
 
 /// The anchor of a line of a text, by the digits of its number.
+#[tactic(auto, unfolding(crate::specs::Places::anchor))]
 pub(crate) fn anchor(alloc: Global, text: usize, line: &[u8]) -> Result<Items<u8>, AllocError>
     ensures { IfOk result (λ anchor. anchor ≡ spec.anchor text line.now) }
 {
@@ -30,6 +31,7 @@ pub(crate) fn anchor(alloc: Global, text: usize, line: &[u8]) -> Result<Items<u8
 }
 
 /// The beginning of rows that name a line of a text of this name.
+#[tactic(auto, unfolding(crate::specs::Places::head))]
 fn head(alloc: Global, name: &[u8]) -> Result<Items<u8>, AllocError>
     ensures { IfOk result (λ head. head ≡ spec.head name.now) }
 {

@@ -10,6 +10,7 @@ use sqlite_items::Items;
 use std::alloc::{AllocError, Global};
 
 /// The beginning of a report that begins with a row.
+#[tactic(auto, unfolding(crate::specs::Reports::beginning))]
 fn put_beginning(out: &mut Vec<u8>, row: &[u8]) -> Result<(), AllocError>
     ensures { OnOk result (out.new.items ≡ out.old.items ++ spec.beginning row.now) }
 {
@@ -19,6 +20,7 @@ fn put_beginning(out: &mut Vec<u8>, row: &[u8]) -> Result<(), AllocError>
 }
 
 /// The beginning of the rows of a run, after its picture.
+#[tactic(auto, unfolding(crate::specs::Reports::picture_before))]
 fn put_picture(out: &mut Vec<u8>, picture: &[u8]) -> Result<(), AllocError>
     ensures { OnOk result (out.new.items ≡ out.old.items ++ spec.picture_before picture.now) }
 {
@@ -58,6 +60,7 @@ fn put_before(
 }
 
 /// A row that names a line, as a link to it.
+#[tactic(auto, unfolding(crate::specs::Reports::link))]
 fn put_link(
     alloc: Global,
     out: &mut Vec<u8>,

@@ -37,6 +37,7 @@ fn put_target(
 }
 
 /// A line of a text, after its number.
+#[tactic(auto, unfolding(crate::specs::Texts::line_at))]
 fn put_line(
     alloc: Global,
     out: &mut Vec<u8>,
@@ -77,6 +78,7 @@ fn put_lines(
 }
 
 /// A text under its name.
+#[tactic(auto, unfolding(crate::specs::Texts::text))]
 fn put_text(
     alloc: Global,
     out: &mut Vec<u8>,
@@ -111,6 +113,7 @@ pub(crate) fn put_texts(
 }
 
 /// A link to a text.
+#[tactic(auto, unfolding(crate::specs::Texts::link))]
 fn put_link(
     alloc: Global,
     out: &mut Vec<u8>,
