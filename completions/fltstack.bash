@@ -117,7 +117,7 @@ _fltstack() {
     if ((at > COMP_CWORD)); then
         [[ $word != = ]] || word=
         case "$command $it" in
-        'explain --form') _fltstack_words human lines sarif short ;;
+        'explain --form') _fltstack_words html human lines sarif short ;;
         'explain --color') _fltstack_words auto always never ;;
         'explain --journal') _fltstack_files .journal ;;
         'explain --allow') _fltstack_words W00 W01 W02 W03 W04 W05 W06 W07 ;;

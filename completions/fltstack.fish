@@ -174,7 +174,7 @@ complete -c fltstack -n '__fltstack_at thin 0' -a '(__fltstack_files .flt)'
 complete -c fltstack -n '__fltstack_at thin 1' -a '(__fltstack_files .cert)'
 
 # explain
-complete -c fltstack -n '__fltstack_after explain --form' -l form -x -a 'human lines sarif short' -d 'How it is reported'
+complete -c fltstack -n '__fltstack_after explain --form' -l form -x -a 'html human lines sarif short' -d 'How it is reported'
 complete -c fltstack -n '__fltstack_after explain --color' -l color -x -a 'auto always never' -d 'When reports have colours'
 complete -c fltstack -n '__fltstack_after explain --states' -l states -x \
     -d 'How many states the search for runs of a FILE continues from at most'

@@ -32,7 +32,7 @@ use Rattle.flt_warning_details.specs.declared.options.WarningOptions.{WarningOpt
 use Rattle.flt_words.specs.declared.request.Colour.{Colour}
 use Rattle.flt_words.specs.declared.request.Part.{Part}
 use Rattle.flt_words.specs.declared.request.Form.{Form}
-use Rattle.flt_words.specs.declared.request.Form.TheVariants.{Human, Lines, Sarif, Short}
+use Rattle.flt_words.specs.declared.request.Form.TheVariants.{Html, Human, Lines, Sarif, Short}
 use Rattle.json.specs.Token.{Token}
 use Rattle.flt_details.specs.declared.judged.Judged.{Judged as Found}
 use Rattle.flt_details.specs.declared.judged.Judged.TheVariants.{Unread, Known}
@@ -265,6 +265,7 @@ module _ (law : Law) (runs : LawOfRuns) (nowhere : SpelledFailsNowhere) where
   told_well Short options sources missed e told good = in_lines Sentence options sources [] e.output.items e.status told good
   told_well Lines options sources missed e told good = in_lines Object options sources [] e.output.items e.status told good
   told_well Sarif options sources missed e told good = in_document options sources missed e.output.items e.status told good
+  told_well Html options sources missed e told good = all_reported options told.reports.filters (texts_of sources) told.printed e.status told.reports.are good
 
   -- where a file isn't read, the status isn't 0
   own_zero : (status : ℕ) (missed : List UnreadFile) → told_status status missed ≡ 0 → status ≡ 0

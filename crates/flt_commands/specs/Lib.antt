@@ -14,6 +14,7 @@ pub mod Failure
 pub mod Fault
 pub mod Flaws
 pub mod Format
+pub mod Html
 pub mod InTurn
 pub mod Inputs
 pub mod Names

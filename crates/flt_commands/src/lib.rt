@@ -19,6 +19,7 @@ mod fault;
 mod folders;
 mod format;
 mod host;
+mod html;
 mod in_turn;
 mod inputs;
 mod kept;

@@ -14,7 +14,7 @@ use Rattle.clap.specs.declared.error.kind.ErrorKind.TheVariants.{OutOfMemory}
 use Rattle.flt_words.specs.Program.{program_app}
 use Rattle.flt_pages.specs.Pages.{has_page}
 use Rattle.flt_words.specs.declared.request.Form.{Form}
-use Rattle.flt_words.specs.declared.request.Form.TheVariants.{Human, Lines, Sarif, Short}
+use Rattle.flt_words.specs.declared.request.Form.TheVariants.{Html, Human, Lines, Sarif, Short}
 use Rattle.flt_words.specs.declared.request.FormatMode.TheVariants.{Print, Check as CheckOnly, Write}
 use Rattle.flt_words.specs.declared.request.Part.{Part}
 use Rattle.flt_words.specs.declared.request.Part.TheVariants.{Source, User, Inf}
@@ -59,10 +59,11 @@ is_set id rows = option_map_or (λ text. bytes_eq text (codes "true")) (first_of
 -- the form of a name
 abbrev pub form_named : Text → Option Form
 form_named name =
-    if bytes_eq name (codes "human") then Some Human
+    if bytes_eq name (codes "html") then Some Html
+    else (if bytes_eq name (codes "human") then Some Human
     else (if bytes_eq name (codes "lines") then Some Lines
     else (if bytes_eq name (codes "sarif") then Some Sarif
-    else (if bytes_eq name (codes "short") then Some Short else None)))
+    else (if bytes_eq name (codes "short") then Some Short else None))))
 
 -- the form behind `--form`, that for people where there is none
 abbrev pub form_of : List Row → Option Form

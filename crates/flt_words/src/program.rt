@@ -104,7 +104,7 @@ fn form_argument<'a>(alloc: Global) -> Arg<'a>
     ensures own { result.global ≡ false }
 {
     Arg::new(alloc, "form").long("form").value_name("FORM").help(
-        "How it is reported: `human`, `short` (a line a finding), or `lines` (JSON) or `sarif` for other programs",
+        "How it is reported: `human`, `html` (a page), `short` (a line a finding), or `lines` (JSON) or `sarif` for other programs",
     )
 }
 
@@ -355,7 +355,7 @@ fn bare_explain<'a>(alloc: Global) -> Command<'a>
             "fltstack explain [--form <FORM>] [--color <WHEN>] [--states <N>] [--journal <JOURNAL>] [--strict] [--allow <KIND>]... <FILE>...\n       fltstack explain <R01 to R15, W00 to W07, V1 to V8, E01 to E08, a call or a status>...",
         )
         .after_help(
-            "Prints a report for each finding, with a run that breaks something because of it, and last what `analyse`\nsays (exit 1), or a report for each warning and `nothing found` (exit 0; with `--strict` warnings make it 1).\nWhere a text doesn't parse, it says where and why (exit 2). `--form short` prints a line for each of them,\n`--form lines` a JSON object, `--form sarif` a SARIF document. A comment `# allow W03: why`, alone on the line\nbefore a statement, leaves a warning out there. Of rules, warnings, violations, faults of a text, calls or\nstatuses it prints the pages (exit 0); `./R02` is a file of that name. Of a C file (`.c`, `.h`, `.cc`, `.cpp`) it reads\nthe annotations, and its places are those of the C file. Errors go to the standard error with exit 2.\n\nExample: fltstack explain examples/leaked_context.flt",
+            "Prints a report for each finding, with a run that breaks something because of it, and last what `analyse`\nsays (exit 1), or a report for each warning and `nothing found` (exit 0; with `--strict` warnings make it 1).\nWhere a text doesn't parse, it says where and why (exit 2). `--form short` prints a line for each of them,\n`--form lines` a JSON object, `--form sarif` a SARIF document. `--form html` is a page with the texts, the reports and\npictures. A comment `# allow W03: why`, alone on the line before a statement, leaves a warning out there. Of rules,\nwarnings, violations, faults of a text, calls or statuses it prints the pages (exit 0); `./R02` is a file of that name.\nOf a C file (`.c`, `.h`, `.cc`, `.cpp`) it reads the annotations, and its places are those of the C file. Errors go to\nthe standard error with exit 2.\n\nExample: fltstack explain examples/leaked_context.flt",
         )
 }
 

@@ -5,6 +5,8 @@ use crate::workers::Workers;
 /// The form of a report of findings.
 #[derive(Clone, Copy, Debug)]
 pub enum Form {
+    /// A page in HTML.
+    Html,
     /// For people.
     Human,
     /// A JSON object a line.

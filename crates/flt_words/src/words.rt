@@ -27,7 +27,7 @@ pub const DEFAULT_STATES: u32 = 40_000;
 
 /// The error if no form has the given name.
 const NO_FORM: &str =
-    "error: `--form` takes `human`, `short`, `lines` or `sarif`\n\nUsage: fltstack explain [--form <FORM>] [--color <WHEN>] [--states <N>] [--journal <JOURNAL>] [--strict] [--allow <KIND>]... <FILE>...\n\nFor more information, try '--help'.\n";
+    "error: `--form` takes `human`, `html`, `short`, `lines` or `sarif`\n\nUsage: fltstack explain [--form <FORM>] [--color <WHEN>] [--states <N>] [--journal <JOURNAL>] [--strict] [--allow <KIND>]... <FILE>...\n\nFor more information, try '--help'.\n";
 
 /// The error if no time of colours has the given name.
 const NO_COLOUR: &str =
@@ -129,6 +129,7 @@ fn form_named(name: &str) -> Option<Form>
     ensures { result ≡ spec.form_named name.now }
 {
     match name {
+        "html" => Some(Form::Html),
         "human" => Some(Form::Human),
         "lines" => Some(Form::Lines),
         "sarif" => Some(Form::Sarif),

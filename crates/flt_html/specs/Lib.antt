@@ -1,0 +1,6 @@
+pub mod Escaping
+pub mod Page
+pub mod Places
+pub mod Reports
+pub mod Rows
+pub mod Texts
