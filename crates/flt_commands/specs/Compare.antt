@@ -1,5 +1,5 @@
 -- The output of `compare`. This project's own program.
-use Rattle.std.specs.Prelude.{◌≡◌, ℕ, ◌+◌, false, List, [], ◌∷◌, ◌++◌, slice_index_or, Result, Ok, Err}
+use Rattle.std.specs.Prelude.{◌≡◌, ℕ, ◌+◌, List, [], ◌∷◌, ◌++◌, slice_index_or, Result, Ok, Err}
 use Rattle.flt_c.specs.declared.files.FileFlaw.{FileFlaw}
 use Rattle.flt_c.specs.declared.files.Flaw.{Flaw}
 use Rattle.flt_drift.specs.Drifts.{drifts}
@@ -18,7 +18,7 @@ before reports (Err f) = Err f
 
 -- the reports of the file of a name and a number, and those of more files after them, or why the file can't be read
 abbrev pub reports_before : Text → ℕ → Text → Result (List Drift) Flaw → Result Text FileFlaw → Result Text FileFlaw
-reports_before name number file (Ok found) more = before (drift_reports false name file found) more
+reports_before name number file (Ok found) more = before (drift_reports name file found) more
 reports_before name number file (Err flaw) more = Err (record { file = number; flaw = flaw })
 
 -- the reports of files, the first of which has this number, or the first of them that can't be read
@@ -45,6 +45,6 @@ ComesTo names found (Err (Flawed name flaw)) = AreFlawed names found name.now fl
 ComesTo names found (Err OutOfMemory) = Unit {0}
 ComesTo names found (Err _) = ⊥
 
--- the answer on the bytes of each FILE, of these names: the reports of all drifts, without colours
+-- the answer on the bytes of each FILE, of these names: the reports of all drifts
 abbrev pub IsCompared : List Text → List Text → Result Answer Failure → Type 0
 IsCompared names files result = ComesTo names (compared_from names 0 files) result

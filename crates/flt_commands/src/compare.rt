@@ -28,7 +28,7 @@ fn compare_texts<'a>(
         let name = name_of(names, number);
         match drifts(alloc, file.as_slice())? {
             Ok(found) => {
-                let more = report_drifts(alloc, false, name, file.as_slice(), found.as_slice())?;
+                let more = report_drifts(alloc, name, file.as_slice(), found.as_slice())?;
                 reports.extend_from_slice(more.as_slice())?;
             }
             Err(flaw) => return Err(Failure::Flawed(name, flaw)),

@@ -1,18 +1,19 @@
 //! The reports of drifts.
 
-ghost use Rattle.std.specs.Prelude.{◌≡◌, ◌++◌, OnOk, IfOk, drop, take};
+ghost use Rattle.std.specs.Prelude.{◌≡◌, ◌<◌, ◌++◌, [], ◌∷◌, OnOk, IfOk, decimal, drop, length, take};
 ghost use Rattle.flt_drift_reports.specs.Report as spec;
 ghost use Rattle.flt_places.specs.Places.{first_line, place_in};
 
 use crate::words::{code, help, opening};
 use flt_drift::{Drift, Span};
 use flt_places::Lines;
-use flt_reports::{WarnedLine, report_warned_line};
 use flt_tree::Position;
 use std::alloc::{AllocError, Global};
 
 /// The greatest number of bytes of a line that a report shows.
 const MAX_SHOWN: usize = 1000;
+
+// ---- bytes
 
 /// The bytes of a file from one on.
 fn rest_of(file: &[u8], start: usize) -> &[u8]
@@ -57,7 +58,99 @@ fn first_line(bytes: &[u8]) -> &[u8]
     &bytes[..length]
 }
 
-/// The line of a place, before whose byte so many stand in the file, or its first thousand bytes; nothing if the place is after them.
+/// A byte as it is shown: a blank for one that a terminal would obey.
+fn shown_byte(byte: u8) -> u8
+    ensures { result ≡ spec.shown_byte byte }
+{
+    if byte < 32 || byte == 127 { b' ' } else { byte }
+}
+
+// ---- pieces
+
+/// Adds bytes as they are.
+fn put(out: &mut Vec<u8>, bytes: &[u8]) -> Result<(), AllocError>
+    ensures { OnOk result (out.new.items ≡ out.old.items ++ bytes.now) }
+{
+    out.extend_from_slice(bytes)
+}
+
+/// Adds bytes as they are shown.
+fn put_shown(out: &mut Vec<u8>, bytes: &[u8]) -> Result<(), AllocError>
+    ensures { OnOk result (out.new.items ≡ out.old.items ++ spec.shown bytes.now) }
+{
+    for byte in bytes {
+        out.push(shown_byte(*byte))?;
+    }
+    Ok(())
+}
+
+/// Adds so many times the same byte.
+fn put_row(out: &mut Vec<u8>, byte: u8, count: usize) -> Result<(), AllocError>
+    ensures { OnOk result (out.new.items ≡ out.old.items ++ spec.row_of byte count) }
+{
+    for _at in 0..count {
+        out.push(byte)?;
+    }
+    Ok(())
+}
+
+/// The digits of a number.
+fn digits(alloc: Global, number: usize) -> Result<Vec<u8>, AllocError>
+    ensures { IfOk result (λ digits. digits.items ≡ decimal number) }
+{
+    let digits = format!(in alloc; "{number}")?;
+    Ok(digits.into_bytes())
+}
+
+// ---- a report
+
+/// Adds the words on the word that the annotations have in its place, if there is one.
+fn put_beside(out: &mut Vec<u8>, file: &[u8], other: Option<Span>) -> Result<(), AllocError>
+    ensures { OnOk result (out.new.items ≡ out.old.items ++ spec.beside file.now other) }
+{
+    if let Some(other) = other {
+        put(out, b"`, and its annotation returns `")?;
+        put_shown(out, word_at(file, other.start, other.length))?;
+    }
+    Ok(())
+}
+
+/// Adds the code of a drift, and what is wrong.
+#[tactic(auto, unfolding(crate::specs::Report::message))]
+fn put_message(out: &mut Vec<u8>, file: &[u8], drift: Drift) -> Result<(), AllocError>
+    ensures { OnOk result (out.new.items ≡ out.old.items ++ spec.message file.now drift) }
+{
+    put(out, b"warning[")?;
+    put(out, code(drift.kind).as_bytes())?;
+    put(out, b"]: ")?;
+    put(out, opening(drift.kind))?;
+    put_shown(out, word_at(file, drift.start, drift.length))?;
+    put_beside(out, file, drift.other)?;
+    put(out, b"`\n")
+}
+
+/// Adds the line that names the place of a drift.
+#[tactic(auto, unfolding(crate::specs::Report::place_line))]
+fn put_place(
+    alloc: Global,
+    out: &mut Vec<u8>,
+    name: &str,
+    place: Position,
+) -> Result<(), AllocError>
+    ensures { OnOk result (out.new.items ≡ out.old.items ++ spec.place_line name.now place) }
+{
+    let line = digits(alloc, place.line)?;
+    let column = digits(alloc, place.column)?;
+    put(out, b"  --> ")?;
+    put_shown(out, name.as_bytes())?;
+    put(out, b":")?;
+    put(out, line.as_slice())?;
+    put(out, b":")?;
+    put(out, column.as_slice())?;
+    put(out, b"\n")
+}
+
+/// The line of a place, before whose byte so many are in the file, or its first thousand bytes; nothing if the place is after them.
 #[tactic(auto, unfolding(crate::specs::Report::shown_line))]
 fn shown_line(file: &[u8], start: usize, place: Position) -> &[u8]
     ensures { result.now ≡ spec.shown_line file.now start place }
@@ -69,77 +162,93 @@ fn shown_line(file: &[u8], start: usize, place: Position) -> &[u8]
     first_line(first_of(rest_of(file, begin), MAX_SHOWN))
 }
 
-/// Writes the words on the word that the annotations have in its place, if there is one.
-fn put_beside(out: &mut Vec<u8>, file: &[u8], other: Option<Span>) -> Result<(), AllocError>
-    ensures { OnOk result (out.new.items ≡ out.old.items ++ spec.beside file.now other) }
-{
-    if let Some(other) = other {
-        out.extend_from_slice(b"`, and its annotation returns `")?;
-        out.extend_from_slice(word_at(file, other.start, other.length))?;
-    }
-    out.push(b'`')?;
-    Ok(())
-}
-
-/// The message of a drift.
-#[tactic(auto, unfolding(crate::specs::Report::message))]
-fn message(alloc: Global, file: &[u8], drift: Drift) -> Result<Vec<u8>, AllocError>
-    ensures { IfOk result (λ words. words.items ≡ spec.message file.now drift) }
-{
-    let mut out = Vec::new(alloc);
-    out.extend_from_slice(opening(drift.kind))?;
-    out.extend_from_slice(word_at(file, drift.start, drift.length))?;
-    put_beside(&mut out, file, drift.other)?;
-    Ok(out)
-}
-
-/// The report of a drift in a file with these lines.
-#[tactic(auto, unfolding(crate::specs::Report::drift_report))]
-fn drift_report(
+/// Adds a line with its number, and marks under so many bytes from a column on.
+#[tactic(auto, unfolding(crate::specs::Report::marked_line))]
+fn put_marked(
     alloc: Global,
-    coloured: bool,
+    out: &mut Vec<u8>,
+    place: Position,
+    marked: usize,
+    line: &[u8],
+) -> Result<(), AllocError>
+    ensures { OnOk result (out.new.items ≡ out.old.items ++ spec.marked_line place marked line.now) }
+{
+    let number = digits(alloc, place.line)?;
+    put(out, number.as_slice())?;
+    put(out, b" | ")?;
+    put_shown(out, line)?;
+    put(out, b"\n")?;
+    put_row(out, b' ', number.len())?;
+    put(out, b" | ")?;
+    put_row(out, b' ', place.column.saturating_sub(1))?;
+    put_row(out, b'^', marked)?;
+    put(out, b"\n")
+}
+
+/// Adds a line with its marks; nothing if it is empty.
+fn put_picture(
+    alloc: Global,
+    out: &mut Vec<u8>,
+    place: Position,
+    marked: usize,
+    line: &[u8],
+) -> Result<(), AllocError>
+    ensures { OnOk result (out.new.items ≡ out.old.items ++ spec.picture place marked line.now) }
+{
+    match line {
+        [] => Ok(()),
+        [_, ..] => put_marked(alloc, out, place, marked, line),
+    }
+}
+
+/// Adds the help on a drift.
+#[tactic(auto, unfolding(crate::specs::Report::help_line))]
+fn put_help(out: &mut Vec<u8>, drift: Drift) -> Result<(), AllocError>
+    ensures { OnOk result (out.new.items ≡ out.old.items ++ spec.help_line drift) }
+{
+    put(out, b"   = help: ")?;
+    put(out, help(drift.kind).as_bytes())?;
+    put(out, b"\n")
+}
+
+/// Adds the report of a drift at a place of the file of a name.
+#[tactic(auto, unfolding(crate::specs::Report::report_at))]
+fn put_report(
+    alloc: Global,
+    out: &mut Vec<u8>,
     name: &str,
     file: &[u8],
     place: Position,
     drift: Drift,
-) -> Result<Vec<u8>, AllocError>
-    requires { place ≡ place_in file.now drift.start }
-    ensures { IfOk result (λ report. report.items ≡ spec.drift_report coloured name.now file.now drift) }
+) -> Result<(), AllocError>
+    ensures { OnOk result (out.new.items ≡ out.old.items ++ spec.report_at name.now file.now place drift) }
 {
-    let message = message(alloc, file, drift)?;
-    let warned = WarnedLine {
-        code: code(drift.kind),
-        name,
-        place,
-        shown: shown_line(file, drift.start, place),
-        marked: drift.length,
-        message: message.as_slice(),
-        help: help(drift.kind),
-    };
-    report_warned_line(alloc, coloured, &warned)
+    put_message(out, file, drift)?;
+    put_place(alloc, out, name, place)?;
+    let line = shown_line(file, drift.start, place);
+    put_picture(alloc, out, place, drift.length, line)?;
+    put_help(out, drift)
 }
 
-/// The reports of drifts of the C file of a name, one below the other: the code of each, what is wrong and where, the line, and how to fix
-/// it. Whole lines. With `coloured`, escape sequences of a terminal colour them.
+/// The reports of drifts of the C file of a name, one below the other: the code of each, what is wrong and where, the first thousand bytes
+/// of its line, and how to fix it. Whole lines. Bytes that a terminal would obey are shown as blanks.
 ///
 /// # Errors
 ///
-/// `AllocError` if memory is refused.
+/// `AllocError` if a growth is refused.
 pub fn report_drifts(
     alloc: Global,
-    coloured: bool,
     name: &str,
     file: &[u8],
     drifts: &[Drift],
 ) -> Result<Vec<u8>, AllocError>
-    ensures { IfOk result (λ reports. reports.items ≡ spec.drift_reports coloured name.now file.now drifts.now) }
+    ensures { IfOk result (λ reports. reports.items ≡ spec.drift_reports name.now file.now drifts.now) }
 {
     let lines = Lines::of(alloc, file)?;
     let mut out = Vec::new(alloc);
     for drift in drifts {
         let place = lines.place(drift.start);
-        let report = drift_report(alloc, coloured, name, file, place, *drift)?;
-        out.extend_from_slice(report.as_slice())?;
+        put_report(alloc, &mut out, name, file, place, *drift)?;
     }
     Ok(out)
 }

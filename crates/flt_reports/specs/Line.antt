@@ -1,14 +1,13 @@
 -- The report of a line of a file that isn't the text of a filter. This project's own program.
-use Rattle.std.specs.Prelude.{◌==◌, ℕ, Bool, if◌then◌else◌, [], ◌∷◌, ◌++◌, None, codes, length}
+use Rattle.std.specs.Prelude.{◌==◌, Bool, if◌then◌else◌, [], ◌∷◌, ◌++◌, None, codes, length}
 use Rattle.flt_tree.specs.Names.{Text}
 use Rattle.flt_tree.specs.declared.filter.Position.{Position}
 use Rattle.flt_details.specs.Page.{shown}
 use Rattle.flt_places.specs.declared.places.Site.{Site}
-use Rattle.flt_reports.specs.Heading.{at_place, heading, warning_heading}
+use Rattle.flt_reports.specs.Heading.{at_place, heading}
 use Rattle.flt_reports.specs.Marks.{drawn, width}
 use Rattle.flt_reports.specs.declared.marks.Stroke.TheVariants as strokes
 use Rattle.flt_reports.specs.declared.line_report.MarkedLine.{MarkedLine}
-use Rattle.flt_reports.specs.declared.line_report.WarnedLine.{WarnedLine}
 
 -- which word is probably meant; nothing where there is none
 unfoldable pub meant : Text → Text
@@ -36,23 +35,3 @@ help_line help = if length help == 0 then [] else codes "   = help: " ++ help ++
 unfoldable pub line_report : Bool → MarkedLine → Text
 line_report coloured m =
     heading coloured None m.message.now m.name.now ++ (at_place (place_of m) ++ (10 ∷ (picture coloured m ++ help_line m.help.now)))
-
--- ---- warnings
-
--- a line with marks under the bytes that a warning is about; nothing where nothing is shown
-unfoldable pub warned_picture : Bool → Position → Text → ℕ → Text
-warned_picture coloured place line marked =
-    if length line == 0 then []
-    else drawn coloured (width place.line) 0 line (record { place = place; length = marked }) strokes.Warning ++ 10 ∷ []
-
--- the report of a warning of this code about a line of the file of a name: the message, the place, the line with so many marked bytes, and
--- how to fix it
-unfoldable pub warned_report : Bool → Text → Text → Position → Text → ℕ → Text → Text → Text
-warned_report coloured code name place line marked message help =
-    warning_heading coloured code message name
-    ++ (at_place place ++ (10 ∷ (warned_picture coloured place line marked ++ help_line help)))
-
--- the same
-abbrev pub warned_line_report : Bool → WarnedLine → Text
-warned_line_report coloured w =
-    warned_report coloured w.code.now w.name.now w.place w.shown.now w.marked w.message.now w.help.now

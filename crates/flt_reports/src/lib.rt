@@ -17,6 +17,6 @@ mod shown_lines;
 mod warning_report;
 mod way_lines;
 
-pub use line_report::{MarkedLine, WarnedLine, report_line, report_warned_line};
+pub use line_report::{MarkedLine, report_line};
 pub use reports::{Report, report_findings, report_nothing, report_unread};
 pub use warning_report::report_warning;

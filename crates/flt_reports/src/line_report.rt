@@ -4,7 +4,7 @@ ghost use Rattle.std.specs.Prelude.{◌≡◌, ◌++◌, ◌∷◌, [], IfOk};
 ghost use Rattle.flt_details.specs.Page.{Writes};
 ghost use Rattle.flt_reports.specs.Line as spec;
 
-use crate::heading::{tell_heading, tell_place, tell_warning_heading};
+use crate::heading::{tell_heading, tell_place};
 use crate::marks::{Drawing, Stroke};
 use flt_details::Page;
 use flt_places::Site;
@@ -106,71 +106,5 @@ pub fn report_line(
 {
     let mut page = Page::new(alloc);
     tell(&mut page, coloured, marked)?;
-    Ok(page.out)
-}
-
-// ---- warnings
-
-/// A warning about a line of a file that isn't the text of a filter. Lines and columns count from 1.
-#[derive(Clone, Copy)]
-pub struct WarnedLine<'a> {
-    /// Its code, as `C01`.
-    pub code: &'a str,
-    /// The file's name.
-    pub name: &'a str,
-    pub place: Position,
-    /// The line; nothing if it isn't shown.
-    pub shown: &'a [u8],
-    /// How many bytes from the place on are marked.
-    pub marked: usize,
-    /// What is wrong.
-    pub message: &'a [u8],
-    /// How to fix it; or nothing.
-    pub help: &'a str,
-}
-
-/// Draws the line with its marks; nothing if it isn't shown.
-#[tactic(auto, unfolding(crate::specs::Line::warned_picture))]
-fn draw_warned(page: &mut Page, coloured: bool, warned: &WarnedLine<'_>) -> Result<(), AllocError>
-    ensures { Writes result page.old page.new
-        (spec.warned_picture coloured warned.now.place warned.now.shown.now warned.now.marked) }
-{
-    if warned.shown.is_empty() {
-        return Ok(());
-    }
-    let site = Site {
-        place: warned.place,
-        length: warned.marked,
-    };
-    Drawing::new(coloured, warned.place.line).draw(page, warned.shown, &site, Stroke::Warning)?;
-    page.bytes(b"\n")
-}
-
-#[tactic(auto, unfolding(crate::specs::Line::warned_report))]
-fn tell_warned(page: &mut Page, coloured: bool, warned: &WarnedLine<'_>) -> Result<(), AllocError>
-    ensures { Writes result page.old page.new (spec.warned_line_report coloured warned.now) }
-{
-    tell_warning_heading(page, coloured, warned.code, warned.message, warned.name)?;
-    tell_place(page, warned.place)?;
-    page.bytes(b"\n")?;
-    draw_warned(page, coloured, warned)?;
-    tell_help(page, warned.help)
-}
-
-/// The report of a warning about a line of a file that isn't the text of a filter: the code, what is wrong and where, the line, and how to
-/// fix it. Whole lines. With `coloured`, signs of a terminal colour them.
-///
-/// # Errors
-///
-/// `AllocError` if memory is refused.
-pub fn report_warned_line(
-    alloc: Global,
-    coloured: bool,
-    warned: &WarnedLine<'_>,
-) -> Result<Vec<u8>, AllocError>
-    ensures { IfOk result (λ lines. lines.items ≡ spec.warned_line_report coloured warned.now) }
-{
-    let mut page = Page::new(alloc);
-    tell_warned(&mut page, coloured, warned)?;
     Ok(page.out)
 }
