@@ -19,7 +19,7 @@ shown bytes = map shown_byte bytes
 -- so many times the same byte
 abbrev pub row_of : ℕ → ℕ → Text
 row_of byte zero = []
-row_of byte (suc n) = byte ∷ row_of byte n
+row_of byte (suc n) = row_of byte n ++ (byte ∷ [])
 
 -- so many bytes of a file from one on, which counts from 0
 abbrev pub word_at : Text → ℕ → ℕ → Text
@@ -45,11 +45,18 @@ place_line name place = codes "  --> " ++ (shown name ++ (codes ":" ++ (decimal 
 unfoldable pub shown_line : Text → ℕ → Position → Text
 shown_line file start place = if nat_lt 1000 place.column then [] else first_line (take 1000 (drop (start - (place.column - 1)) file))
 
+-- a line after its number
+unfoldable pub numbered_line : Text → Text → Text
+numbered_line number line = number ++ (codes " | " ++ (shown line ++ codes "\n"))
+
+-- marks under so many bytes from a column on, where a number has this width
+unfoldable pub marks_line : ℕ → ℕ → ℕ → Text
+marks_line width column marked = row_of 32 width ++ (codes " | " ++ (row_of 32 (column - 1) ++ (row_of 94 marked ++ codes "\n")))
+
 -- a line with its number, and marks under so many bytes from a column on
 unfoldable pub marked_line : Position → ℕ → Text → Text
 marked_line place marked line =
-    decimal place.line ++ (codes " | " ++ (shown line ++ (codes "\n" ++ (row_of 32 (length (decimal place.line)) ++ (codes " | "
-    ++ (row_of 32 (place.column - 1) ++ (row_of 94 marked ++ codes "\n")))))))
+    numbered_line (decimal place.line) line ++ marks_line (length (decimal place.line)) place.column marked
 
 -- the same; nothing where the line is empty
 abbrev pub picture : Position → ℕ → Text → Text

@@ -162,6 +162,34 @@ fn shown_line(file: &[u8], start: usize, place: Position) -> &[u8]
     first_line(first_of(rest_of(file, begin), MAX_SHOWN))
 }
 
+/// Adds a line after its number.
+#[tactic(auto, unfolding(crate::specs::Report::numbered_line))]
+fn put_numbered(out: &mut Vec<u8>, number: &[u8], line: &[u8]) -> Result<(), AllocError>
+    ensures { OnOk result (out.new.items ≡ out.old.items ++ spec.numbered_line number.now line.now) }
+{
+    put(out, number)?;
+    put(out, b" | ")?;
+    put_shown(out, line)?;
+    put(out, b"\n")
+}
+
+/// Adds marks under so many bytes from a column on, after a number of this width.
+#[tactic(auto, unfolding(crate::specs::Report::marks_line))]
+fn put_marks(
+    out: &mut Vec<u8>,
+    width: usize,
+    column: usize,
+    marked: usize,
+) -> Result<(), AllocError>
+    ensures { OnOk result (out.new.items ≡ out.old.items ++ spec.marks_line width column marked) }
+{
+    put_row(out, b' ', width)?;
+    put(out, b" | ")?;
+    put_row(out, b' ', column.saturating_sub(1))?;
+    put_row(out, b'^', marked)?;
+    put(out, b"\n")
+}
+
 /// Adds a line with its number, and marks under so many bytes from a column on.
 #[tactic(auto, unfolding(crate::specs::Report::marked_line))]
 fn put_marked(
@@ -174,15 +202,8 @@ fn put_marked(
     ensures { OnOk result (out.new.items ≡ out.old.items ++ spec.marked_line place marked line.now) }
 {
     let number = digits(alloc, place.line)?;
-    put(out, number.as_slice())?;
-    put(out, b" | ")?;
-    put_shown(out, line)?;
-    put(out, b"\n")?;
-    put_row(out, b' ', number.len())?;
-    put(out, b" | ")?;
-    put_row(out, b' ', place.column.saturating_sub(1))?;
-    put_row(out, b'^', marked)?;
-    put(out, b"\n")
+    put_numbered(out, number.as_slice(), line)?;
+    put_marks(out, number.len(), place.column, marked)
 }
 
 /// Adds a line with its marks; nothing if it is empty.
