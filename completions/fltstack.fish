@@ -147,7 +147,7 @@ complete -c fltstack -n '__fltstack_first' -a analyse -d 'Finds the least certif
 complete -c fltstack -n '__fltstack_first' -a thin \
     -d 'Leaves of a certificate that covers a filter\'s text only the states that don\'t follow from others'
 complete -c fltstack -n '__fltstack_first' -a explain \
-    -d 'Says all that is wrong with filters\' texts, where it comes from, how to get there and how to mend it'
+    -d 'Says all that is wrong with filters\' texts, where it comes from, how to get there and how to fix it'
 complete -c fltstack -n '__fltstack_first' -a run -d 'Drives filters by a script and prints the journal of what happened'
 complete -c fltstack -n '__fltstack_first' -a replay -d 'Says whether a journal is a run of the machine on some filters that breaks nothing'
 complete -c fltstack -n '__fltstack_first' -a extract -d 'Prints the text that the annotations of C files make'
@@ -173,10 +173,10 @@ complete -c fltstack -n '__fltstack_at thin 0' -a '(__fltstack_files .flt)'
 complete -c fltstack -n '__fltstack_at thin 1' -a '(__fltstack_files .cert)'
 
 # explain
-complete -c fltstack -n '__fltstack_after explain --form' -l form -x -a 'human lines sarif short' -d 'How it is told'
+complete -c fltstack -n '__fltstack_after explain --form' -l form -x -a 'human lines sarif short' -d 'How it is reported'
 complete -c fltstack -n '__fltstack_after explain --color' -l color -x -a 'auto always never' -d 'When reports have colours'
 complete -c fltstack -n '__fltstack_after explain --states' -l states -x \
-    -d 'How many states the search for runs of a FILE goes on from at most'
+    -d 'How many states the search for runs of a FILE continues from at most'
 complete -c fltstack -n '__fltstack_after explain --journal' -l journal -x -a '(__fltstack_files .journal)' \
     -d 'Write the journal of the first finding that has one into this file'
 complete -c fltstack -n '__fltstack_after explain --strict' -l strict -d 'Exit with 1 where warnings are shown, as where something is found'
@@ -189,7 +189,7 @@ complete -c fltstack -n '__fltstack_takes names' -a '(__fltstack_pages)'
 # run
 complete -c fltstack -n '__fltstack_after run --workers' -l workers -x -a '1 2 3 4 5 6 7 8 9 10 11 12 13 14 15 16' \
     -d 'How many workers drive them, each in a thread of its own'
-complete -c fltstack -n '__fltstack_after run --quiet' -l quiet -d 'Tell a terminal nothing of how far the run has come'
+complete -c fltstack -n '__fltstack_after run --quiet' -l quiet -d 'Don\'t report the run\'s progress on a terminal'
 complete -c fltstack -n '__fltstack_after run --help' -s h -l help -d 'Print help'
 complete -c fltstack -n '__fltstack_at run 0' -a '(__fltstack_files .script)'
 complete -c fltstack -n '__fltstack_at run 1+' -a '(__fltstack_files .flt)'
@@ -214,7 +214,7 @@ complete -c fltstack -n '__fltstack_after format --help' -s h -l help -d 'Print 
 complete -c fltstack -n '__fltstack_at format 0+' -a '(__fltstack_files .flt)'
 
 # emit
-complete -c fltstack -n '__fltstack_after emit --part' -l part -x -a 'source user inf' -d 'Which part is printed'
+complete -c fltstack -n '__fltstack_after emit --part' -l part -x -a 'source user inf' -d 'The part that is printed'
 complete -c fltstack -n '__fltstack_after emit --help' -s h -l help -d 'Print help'
 complete -c fltstack -n '__fltstack_at emit 0' -a '(__fltstack_files .flt)'
 complete -c fltstack -n '__fltstack_at emit 1' -a '(__fltstack_files .cert)'

@@ -12,7 +12,7 @@ use std::alloc::{AllocError, Global};
 use std::collections::{BTreeMap, BTreeSet, VecDeque};
 use std::marker::Model;
 
-/// What hands out memory. Contracts see how many requests it refused, modulo 2^64; so they compare the count before a call and after it.
+/// A source of memory. Contracts see how many requests it refused, modulo 2^64; so they compare the count before a call and after it.
 #[derive(Drop)]
 pub struct Heap {
     alloc: Global,
@@ -35,7 +35,7 @@ impl Heap {
         Heap { alloc, refused: 0 }
     }
 
-    /// What a list is made with that has no room yet.
+    /// The allocator, for making a list that has no room yet.
     pub fn alloc(&self) -> Global {
         self.alloc
     }
@@ -60,7 +60,7 @@ impl Heap {
         }
     }
 
-    /// Puts a value behind the others of a list.
+    /// Puts a value after the others of a list.
     pub fn push<T: Drop>(&mut self, list: &mut Vec<T>, value: T) -> Result<(), AllocError>
         ensures items { list.new.items ≡ (if is_ok result then list.old.items ++ value ∷ [] else list.old.items) }
         ensures len { vec_len list.new ≡ (if is_ok result then vec_len list.old + 1 else vec_len list.old) }
@@ -91,7 +91,7 @@ impl Heap {
         }
     }
 
-    /// Puts a value behind the others.
+    /// Puts a value after the others.
     pub fn push_item<T: Drop>(&mut self, items: &mut Items<T>, value: T) -> Result<(), AllocError>
         ensures ok { OnOk result (items.new ≡ items.old ++ value ∷ []) }
         ensures err { OnErr result (items.new ≡ items.old) }
@@ -104,7 +104,7 @@ impl Heap {
         }
     }
 
-    /// Puts a value behind the others of a queue.
+    /// Puts a value after the others of a queue.
     pub fn push_back<T: Drop>(
         &mut self,
         queue: &mut VecDeque<T>,

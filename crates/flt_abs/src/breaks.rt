@@ -220,7 +220,7 @@ fn is_returned_legally(setting: &Setting, state: &Abs, status: Status) -> bool
     fits_setting(row, setting) && fits_state(row, state) && !status.completes_pending()
 }
 
-/// Whether a status is returned, or none is, where that breaks the rule on statuses.
+/// Whether the return of a status, or of none, breaks the rule on statuses.
 fn returns_illegally(setting: &Setting, state: &Abs, status: Option<Status>) -> bool
     ensures { result ≡ spec.returns_illegally setting.now state.now status }
 {

@@ -59,7 +59,7 @@ impl Lead {
     }
 }
 
-/// Where a point leads, as `Successors`. It is kept from point to point: a state is written over the one before, where a value that is
+/// Where a point leads, as `Successors`. It is kept from point to point: a state is written over the one before, while a value that is
 /// handed back is copied each time.
 #[derive(Drop)]
 pub struct Leads {

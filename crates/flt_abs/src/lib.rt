@@ -1,5 +1,5 @@
-//! Abstract states: what may be so at a point of a callback, their order, their join, and what each instruction makes of
-//! them.
+//! Abstract states: sets of possible situations at a point of a callback, with their order, their join, and the effect of each instruction
+//! on them.
 #![tactic(auto)]
 
 mod breaks;

@@ -11,8 +11,8 @@ use smallvec::SmallVec;
 use std::alloc::Global;
 use std::marker::Model;
 
-/// The locks that are held, the oldest first, each with how it is held. None stands in it twice, so there are eight at
-/// most and it never takes memory.
+/// The locks that are held, the oldest first, each with how it is held. None is in it twice, so there are eight at most and it never takes
+/// memory.
 #[derive(Drop)]
 pub struct LockList {
     locks: SmallVec<HeldLock, 8>,
@@ -50,7 +50,7 @@ impl LockList {
         self.locks.as_slice()
     }
 
-    /// Whether the lock is held, in either way.
+    /// Whether the lock is held, exclusively or shared.
     pub fn contains(&self, lock: LockNumber) -> bool
         ensures { result ≡ held_spec.holds_lock lock self.now }
     {
@@ -76,7 +76,7 @@ impl LockList {
         self.locks.as_slice().is_empty()
     }
 
-    /// Whether both lists have the same locks in the same order, each held in the same way.
+    /// Whether both lists have the same locks in the same order, each with the same access.
     #[tactic(auto, using(crate::specs::LockLaws::same_locks_decides))]
     pub fn is_same(&self, other: &LockList) -> bool
         ensures value { result ≡ held_spec.same_locks self.now other.now }
@@ -96,7 +96,7 @@ impl LockList {
         }
     }
 
-    /// The same, where a list isn't empty.
+    /// The same, for a list that isn't empty.
     #[inline(never)]
     fn copy_from(&mut self, other: &LockList)
         ensures { self.new ≡ other.now }
@@ -157,7 +157,7 @@ fn same_locks(a: &[HeldLock], b: &[HeldLock]) -> bool
     }
 }
 
-/// Where the lock stands in a list, from 0.
+/// The place of the lock in a list, from 0.
 fn place_in(locks: &[HeldLock], lock: LockNumber) -> Option<usize>
     ensures value { result ≡ position (λ (h : HeldLock). held_spec.same_lock lock h.lock) locks.now }
     ensures there { IfSome result (λ place. place < length locks.now) }

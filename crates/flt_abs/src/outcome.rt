@@ -1,4 +1,4 @@
-//! The law of transfer: what an instruction makes of a situation lies where transfer leads.
+//! The law of transfer: the situations that an instruction leads to are in the states that transfer leads to.
 
 ghost use Rattle.std.specs.Prelude.{◌≡◌, ℕ, Bool, true, Ok};
 ghost use Rattle.flt_abs.specs.Outcome as spec;
@@ -9,8 +9,8 @@ ghost use Rattle.flt_graph.specs.Graph.{instruction_at};
 ghost use Rattle.flt_graph.specs.Points.{successor};
 ghost use Rattle.flt_graph.specs.declared.graph.Graph.{Graph};
 
-/// Where no rule is broken in a state, each outcome that an instruction may have in a situation of the state has its
-/// successor, whose state means what is left of the situation. It does nothing: its clause is the law.
+/// If no rule is broken in a state, each outcome that an instruction may have in a situation of the state has its successor, whose state
+/// means the situation after the instruction. It does nothing: its clause is the law.
 pub fn transfer_follows_situations()
     ensures { (g : Graph) (k p : ℕ) (x : State) (t : Situation) (next : Successors) (outcome gives : Bool) →
         transfer g k p x ≡ Ok next → Means x t → spec.may_come_out (instruction_at g k p) t outcome ≡ true →

@@ -1,4 +1,4 @@
-//! Past a broken rule: each rule by itself, and where a point leads whatever it breaks.
+//! Past a broken rule: each rule by itself, and where a point leads whichever rules it breaks.
 
 ghost use Rattle.std.specs.Prelude.{◌≡◌, ◌↔◌, Bool, true, [], IsSome, IfSome, IsTrue};
 ghost use Rattle.flt_abs.specs.Breaks.{breaks};
@@ -28,15 +28,15 @@ pub fn breaks_rule(graph: &Graph, callback: usize, point: usize, state: &Abs, ru
     breaks(&setting, state, &graph.instruction(callback, point), rule)
 }
 
-/// Where the point of a callback leads from a state, even where it breaks a rule: each call is taken as made.
+/// Where the point of a callback leads from a state, even if it breaks a rule: each call is taken as made.
 pub fn leads_past(graph: &Graph, callback: usize, point: usize, state: &Abs) -> Successors
     ensures { result ≡ leads_to state.now (instruction_at graph.now callback point) }
 {
     leads_to(state, &graph.instruction(callback, point))
 }
 
-/// Each outcome that an instruction may have in a situation of a state has its successor, whatever the state breaks there, and the
-/// successor's state means what is left of the situation. It does nothing: its clause is the law.
+/// Each outcome that an instruction may have in a situation of a state has its successor, whichever rules the state breaks there, and the
+/// successor's state means the situation after the instruction. It does nothing: its clause is the law.
 pub fn leads_past_follows_situations()
     ensures { (i : Instruction) (x : State) (t : Situation) (outcome gives : Bool) → Means x t →
         outcome_spec.may_come_out i t outcome ≡ true →
@@ -50,7 +50,7 @@ pub fn breaks_rule_is_monotone()
 {}
 
 impl Abs {
-    /// The state with these sets and the same locks; none where a set is empty.
+    /// The state with these sets and the same locks; none if a set is empty.
     pub fn with_sets(
         &self,
         contexts: [Statuses; CONTEXTS],

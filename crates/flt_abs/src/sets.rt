@@ -39,7 +39,7 @@ impl Flags for StatusBits {
     }
 }
 
-/// What may be so of a variable: it is NULL, it is held, or it was released or handed over.
+/// The possible statuses of a variable: it is NULL, it is held, or it was released or handed over.
 #[derive(Clone, Copy)]
 pub struct Statuses {
     bits: StatusBits,
@@ -141,7 +141,7 @@ impl Statuses {
         }
     }
 
-    /// The digit that a certificate writes for the set; 0 where it is empty.
+    /// The digit that a certificate writes for the set; 0 if it is empty.
     pub fn digit(self) -> u8
         ensures { result ≡ spec.status_bits self }
     {
@@ -181,7 +181,7 @@ impl Statuses {
         other.bits.contains(self.bits)
     }
 
-    /// What is in one of the sets.
+    /// The union of both sets.
     #[tactic(auto, using(crate::proofs::SetLemmas::either_status_bits, crate::proofs::SetLemmas::or_below_eight))]
     pub(crate) fn union(self, other: Statuses) -> Statuses
         ensures { result ≡ spec.either_status self other }
@@ -297,7 +297,7 @@ impl Modes {
         }
     }
 
-    /// The digit that a certificate writes for the set; 0 where it is empty.
+    /// The digit that a certificate writes for the set; 0 if it is empty.
     pub fn digit(self) -> u8
         ensures { result ≡ spec.mode_bits self }
     {
@@ -331,7 +331,7 @@ impl Modes {
         other.bits.contains(self.bits)
     }
 
-    /// What is in one of the sets.
+    /// The union of both sets.
     #[tactic(auto, using(crate::proofs::SetLemmas::either_mode_bits, crate::proofs::SetLemmas::or_below_four))]
     pub(crate) fn union(self, other: Modes) -> Modes
         ensures { result ≡ spec.either_mode self other }
@@ -377,7 +377,7 @@ impl Flags for DrainingBits {
     }
 }
 
-/// Whether FLTFL_POST_OPERATION_DRAINING may be set, and whether it may not be.
+/// Whether FLTFL_POST_OPERATION_DRAINING may be set, and whether it may be unset.
 #[derive(Clone, Copy)]
 pub struct Draining {
     bits: DrainingBits,
@@ -437,7 +437,7 @@ impl Draining {
         }
     }
 
-    /// The digit that a certificate writes for the set; 0 where it is empty.
+    /// The digit that a certificate writes for the set; 0 if it is empty.
     pub fn digit(self) -> u8
         ensures { result ≡ spec.draining_bits self }
     {
@@ -471,7 +471,7 @@ impl Draining {
         other.bits.contains(self.bits)
     }
 
-    /// What is in one of the sets.
+    /// The union of both sets.
     #[tactic(auto, using(crate::proofs::SetLemmas::either_draining_bits, crate::proofs::SetLemmas::or_below_four))]
     pub(crate) fn union(self, other: Draining) -> Draining
         ensures { result ≡ spec.either_draining self other }

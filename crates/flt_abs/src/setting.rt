@@ -1,4 +1,4 @@
-//! What the rules of a point read besides its variables: where it stands and at which level.
+//! The setting of a point, which its rules read besides its variables: the callback's place and the level.
 
 ghost use Rattle.std.specs.Prelude.{◌≡◌, List};
 ghost use Rattle.flt_abs.specs.Setting as spec;
@@ -13,7 +13,7 @@ use crate::state::Abs;
 use flt_graph::{CallbackGraph, Graph, LockKind, LockNumber, Operation, Place};
 use flt_rules::{HeldLock, Level, entry_level, raised_by};
 
-/// Where a point stands.
+/// The setting of a point: its callback's place, the level, and which post callbacks are registered.
 #[derive(Clone, Copy)]
 pub struct Setting {
     pub place: Place,
@@ -100,7 +100,7 @@ pub(crate) fn setting_of(graph: &Graph, callback: usize, state: &Abs) -> Setting
     }
 }
 
-/// The same setting for one who doesn't ask which callbacks are registered.
+/// The same setting for a reader that doesn't ask which callbacks are registered.
 pub(crate) fn standing_of(graph: &Graph, callback: usize, state: &Abs) -> Setting
     ensures { result ≡ spec.unregistered (spec.setting_of graph.now callback state.now) }
 {

@@ -15,8 +15,8 @@ pub const CONTEXTS: usize = 9;
 /// How many variables of operations a callback has: `o0` to `o3`, then `data`.
 pub const OPERATIONS: usize = 5;
 
-/// What may be so at a point of a callback: a status of each variable, the mode of its operation, whether
-/// draining is set, and the locks that it holds. No set is empty, so it means some situation.
+/// The possible situations at a point of a callback: the statuses of each variable, the modes of its operation, whether draining is set,
+/// and the locks that it holds. No set is empty, so it means some situation.
 #[derive(Drop)]
 pub struct Abs {
     pub(crate) contexts: [Statuses; CONTEXTS],
@@ -38,7 +38,7 @@ impl Model for Abs {
 }
 
 impl Abs {
-    /// The state with these sets and locks; none where a set is empty.
+    /// The state with these sets and locks; none if a set is empty.
     #[inline(always)]
     pub fn new(
         contexts: [Statuses; CONTEXTS],
@@ -64,7 +64,7 @@ impl Abs {
         })
     }
 
-    /// What may be so of `c0` to `c7` and `arg`.
+    /// The possible statuses of `c0` to `c7` and `arg`.
     pub fn contexts(&self) -> &[Statuses]
         ensures value { result.now ≡ self.now.contexts }
         ensures proper { IsTrue (spec.is_proper self.now) }
@@ -72,7 +72,7 @@ impl Abs {
         &self.contexts
     }
 
-    /// What may be so of `o0` to `o3` and `data`.
+    /// The possible statuses of `o0` to `o3` and `data`.
     pub fn operations(&self) -> &[Statuses]
         ensures value { result.now ≡ self.now.operations }
         ensures proper { IsTrue (spec.is_proper self.now) }
@@ -198,8 +198,8 @@ pub fn join(a: &Abs, b: &Abs) -> Result<Abs, LocksDiffer>
     })
 }
 
-/// The order of states is a partial order, also as it is computed; what is computed is the order. It does nothing: its clauses are
-/// the law.
+/// The order of states is a partial order, also as it is computed, and the computed one is that order. It does nothing: its clauses are the
+/// law.
 #[tactic(auto, using(crate::proofs::Order::below_same))]
 pub fn is_partial_order()
     ensures reflexive { (a : spec.State) → spec.IsBelow a a }

@@ -1,4 +1,4 @@
-//! What an instruction makes of a state.
+//! The effect of an instruction on a state.
 
 ghost use Rattle.std.specs.Prelude.{◌≡◌, ℕ, true, false, None, Some, Ok, Err, IfSome, IfNone, IsTrue, IsFalse};
 ghost use Rattle.flt_abs.specs.Proper.{AreProper};
@@ -341,8 +341,8 @@ fn transfer_return(
     rule
 }
 
-/// What `transfer` answers, written over what `leads` had: the least rule that is broken, or none, and then `leads` has where the point
-/// leads. Where a rule is broken, `leads` stays as it was. It takes no memory.
+/// The same as `transfer`, written into `leads`: it answers the least rule that is broken, or none, and then `leads` has where the point
+/// leads. If a rule is broken, `leads` stays as it was. It takes no memory.
 pub fn transfer_into(
     graph: &Graph,
     callback: usize,
@@ -395,13 +395,13 @@ pub fn transfer(
     }
 }
 
-/// What a state leads to is below what each state above it leads to. It does nothing: its clause is the law.
+/// The states that a state leads to are below those that each state above it leads to. It does nothing: its clause is the law.
 pub fn transfer_is_monotone()
     ensures { (g : Graph) (callback point : ℕ) (x y : State) → IsTrue (is_proper x) → IsTrue (is_below x y) →
         spec.IsOutcomeBelow (spec.transfer g callback point x) (spec.transfer g callback point y) }
 {}
 
-/// Where no rule is broken, a state without an empty set leads to states without one. It does nothing: its clause is the law.
+/// If no rule is broken, a state without an empty set leads to states without one. It does nothing: its clause is the law.
 pub fn transfer_keeps_states_proper()
     ensures { (g : Graph) (callback point : ℕ) (x : State) (next : Successors) → IsTrue (is_proper x) →
         spec.transfer g callback point x ≡ Ok next → AreProper next }

@@ -10,14 +10,14 @@ use crate::state::Abs;
 use flt_graph::{ContextVariable, OperationVariable};
 
 impl Abs {
-    /// What may be so of a variable of contexts.
+    /// The possible statuses of a variable of contexts.
     pub(crate) fn context(&self, variable: ContextVariable) -> Statuses
         ensures { result ≡ spec.context_in self.now variable }
     {
         self.contexts[variable.place()]
     }
 
-    /// What may be so of a variable of operations.
+    /// The possible statuses of a variable of operations.
     pub(crate) fn operation(&self, variable: OperationVariable) -> Statuses
         ensures { result ≡ spec.operation_in self.now variable }
     {

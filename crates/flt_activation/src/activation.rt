@@ -1,10 +1,10 @@
-//! An activation, and what it holds.
+//! An activation, its variables and its holdings.
 
 use crate::locks::Locks;
 use crate::turns::Turns;
 use flt_graph::{ContextVariable, NumberVariable, OperationVariable};
 
-/// What a variable names: NULL, what is there no longer, or what stands at a place.
+/// The value of a variable: NULL, an object that no longer exists, or the object at a place.
 #[derive(Clone, Copy)]
 pub enum Named {
     Null,
@@ -13,7 +13,7 @@ pub enum Named {
 }
 
 impl Named {
-    /// What stands at a place, if there is one.
+    /// The object at a place, or NULL if there is no place.
     fn by(place: Option<u8>) -> Named {
         match place {
             Some(place) => Named::At(place),
@@ -21,7 +21,7 @@ impl Named {
         }
     }
 
-    /// Whether it names what stands at a place.
+    /// Whether it names the object at a place.
     fn is(self, place: u8) -> bool {
         match self {
             Named::At(own) => own == place,
@@ -30,7 +30,7 @@ impl Named {
     }
 }
 
-/// What a callback starts with.
+/// The filter, the callback and the arguments with which an activation starts.
 #[derive(Clone, Copy)]
 pub struct Start {
     pub filter: u8,
@@ -40,7 +40,7 @@ pub struct Start {
     pub is_draining: bool,
 }
 
-/// An activation that goes on. It stands at the next step that others see, or of which the system has the choice.
+/// An activation that hasn't ended. Its point is that of the next step that others see, or that leaves the system a choice.
 #[derive(Clone, Copy)]
 pub struct Activation {
     pub is_on: bool,
@@ -68,7 +68,7 @@ pub struct Activation {
     pub turns: Turns,
 }
 
-/// What is there where no activation is.
+/// The value of a place without an activation.
 pub const NOBODY: Activation = Activation {
     is_on: false,
     serial: 0,
@@ -90,7 +90,7 @@ pub const NOBODY: Activation = Activation {
 };
 
 impl Activation {
-    /// One that has just started, of this number in the journal.
+    /// An activation that has just started, with this number in the journal.
     pub fn starting(start: Start, serial: u32, is_packet: bool) -> Activation {
         let mut activation = Activation {
             is_on: true,
@@ -113,7 +113,7 @@ impl Activation {
         activation
     }
 
-    /// What a variable names.
+    /// The context that a variable names.
     pub fn context(&self, variable: ContextVariable) -> Named {
         self.contexts[variable.place()]
     }
@@ -196,7 +196,7 @@ impl Activation {
         }
     }
 
-    /// A context is freed: what named it names nothing that is there.
+    /// Frees a context: each variable that named it is `Gone`.
     pub fn free(&mut self, context: u8) {
         for named in self.contexts.iter_mut() {
             if named.is(context) {
@@ -205,7 +205,7 @@ impl Activation {
         }
     }
 
-    /// A visit is over: what named it names nothing that is there.
+    /// Settles a visit: each variable that named it is `Gone`.
     pub fn settle(&mut self, visit: u8) {
         if self.given.is(visit) {
             self.given = Named::Gone;

@@ -4,12 +4,12 @@ use crate::activation::{Activation, Named};
 use flt_graph::OperationVariable;
 use flt_plan::{CONTEXTS, Live, NUMBERS, Plan, REMOVED};
 
-/// What the turns that are left come to.
+/// The effect of the remaining turns.
 #[derive(Clone, Copy)]
 pub(crate) struct Leap {
-    /// What each turn adds to the numbers.
+    /// The amount that each turn adds to each number.
     pub(crate) numbers: [u64; 8],
-    /// How many steps there are behind all turns.
+    /// The number of steps after all turns.
     pub(crate) steps: u32,
 }
 
@@ -21,7 +21,7 @@ struct Lap {
     contexts: [bool; 9],
     removed: [bool; 4],
     steps: u32,
-    /// What the turn before added to the numbers, if there was one.
+    /// The amount that the turn before added to each number, if there was one.
     added: Option<[u64; 8]>,
 }
 
@@ -67,7 +67,7 @@ fn lap_of(activation: &Activation, live: Live) -> Lap {
     lap
 }
 
-/// What was added between two turns.
+/// The differences of the numbers between the starts of two turns.
 fn added_between(before: &Lap, now: &Lap) -> [u64; 8] {
     let mut added = [0; 8];
     for variable in NUMBERS {
@@ -86,7 +86,7 @@ fn are_alike(before: &Lap, now: &Lap) -> bool {
     before.point == now.point && before.contexts == now.contexts && before.removed == now.removed
 }
 
-/// What each turn adds, where the last two turns added that, or the last one nothing.
+/// The amounts that each turn adds, if the last two turns added the same, or the last one nothing.
 fn steady(before: &Lap, now: &Lap, is_straight: bool) -> Option<[u64; 8]> {
     if !are_alike(before, now) {
         return None;
@@ -101,7 +101,7 @@ fn steady(before: &Lap, now: &Lap, is_straight: bool) -> Option<[u64; 8]> {
     }
 }
 
-/// The steps behind so many turns; none where they are too many.
+/// The number of steps after so many turns; none if they are too many.
 fn steps_behind(before: &Lap, now: &Lap, turns: u64) -> Option<u32> {
     let turns = u32::try_from(turns).ok()?;
     let each = now.steps.checked_sub(before.steps)?;
@@ -135,7 +135,7 @@ impl Laps {
         *self = laps;
     }
 
-    /// What so many turns come to that are left where an activation stands; none where they aren't known to do the same.
+    /// The effect of the turns that are left at an activation's point; none if they aren't known to do the same.
     pub(crate) fn leap(
         &mut self,
         plan: &Plan,

@@ -13,7 +13,7 @@ const MAX_JOURNALED: u32 = 4_000_000;
 const MAX_STEPS: u32 = 1_000_000;
 
 impl Activation {
-    /// What an atom comes to.
+    /// The value of an atom.
     pub fn atom(&self, atom: Atom) -> u64 {
         match atom {
             Atom::Number(number) => number,
@@ -29,7 +29,7 @@ impl Activation {
         }
     }
 
-    /// What a test says; none where it asks of the operation.
+    /// The result of a test; none if it is about the operation.
     fn test(&self, test: Test) -> Option<bool> {
         match test {
             Test::ContextIsSome(variable) => Some(is_some(self.context(variable))),
@@ -45,7 +45,7 @@ impl Activation {
         }
     }
 
-    /// The point behind an action; none where others see it.
+    /// The point after an action; none if others see it.
     fn act(&mut self, action: Action, next: usize) -> Option<usize> {
         match action {
             Action::SetNumber(variable, expression) => {
@@ -65,7 +65,7 @@ impl Activation {
         }
     }
 
-    /// The point behind a turn, or behind all of them.
+    /// The point after the start of a turn, or after all of them.
     fn turn(&mut self, text: u64, body: usize, behind: usize) -> usize {
         let point = self.point;
         match self.turns.left(point, text).checked_sub(1) {
@@ -80,7 +80,7 @@ impl Activation {
         }
     }
 
-    /// The point behind a local step; none where the next one isn't local.
+    /// The point after a local step; none if the next one isn't local.
     fn next(&mut self, instruction: &Instruction) -> Option<usize> {
         match instruction {
             Instruction::Act(action, next) => self.act(*action, *next),
@@ -93,7 +93,7 @@ impl Activation {
         }
     }
 
-    /// Makes the turns at once that are left of the `repeat` at which it stands, where each of them does the same.
+    /// Makes the remaining turns of the `repeat` at its point at once, if each of them does the same.
     fn leap(&mut self, plan: &Plan, laps: &mut Laps, text: u64) {
         let point = self.point;
         let turns = self.turns.left(point, text);
@@ -110,7 +110,7 @@ impl Activation {
         self.steps = leap.steps;
     }
 
-    /// Goes on to the next step that isn't local, and counts the steps before it. False where there are too many.
+    /// Advances to the next step that isn't local, and counts the steps before it. False if they are too many.
     pub fn go_on(&mut self, plan: &Plan, left: &mut u32) -> bool {
         self.steps = 0;
         let mut laps = NO_LAPS;
@@ -129,7 +129,7 @@ impl Activation {
     }
 }
 
-/// Takes some steps off those that are left. False where there are too few.
+/// Takes some steps off those that are left. False if too few are left.
 fn spend(left: &mut u32, steps: u32) -> bool {
     match left.checked_sub(steps) {
         Some(rest) => {

@@ -37,7 +37,7 @@ impl Turns {
         self.get(self.used.checked_sub(1)?)
     }
 
-    /// How many turns are left of the `repeat` at a point; as many as its text has, where it isn't in progress.
+    /// How many turns are left of the `repeat` at a point; as many as its text has if it isn't in progress.
     pub(crate) fn left(&self, point: usize, text: u64) -> u64 {
         match self.last() {
             Some(turn) if turn.point == point => turn.left,
@@ -53,7 +53,7 @@ impl Turns {
         }
     }
 
-    /// So many turns are left of the innermost `repeat`.
+    /// Sets how many turns are left of the innermost `repeat`.
     pub fn set_last_left(&mut self, left: u64) {
         if let Some(last) = self.used.checked_sub(1) {
             if let Some(turn) = self.turns.get_mut(last) {

@@ -1,4 +1,4 @@
-//! One such comment: what a line says, without where it is.
+//! One such comment: the content of a line, without its place.
 
 ghost use Rattle.std.specs.Prelude.{◌≡◌, ◌≤◌, ◌∷◌, [], length};
 ghost use Rattle.std.specs.Char.{is_ascii_digit};
@@ -8,12 +8,12 @@ ghost use Rattle.flt_allowances.specs.Comment as spec;
 
 use flt_warnings::{Kind, kind_named};
 
-/// What a comment says.
+/// The content of a comment.
 #[derive(Clone, Copy)]
 pub(crate) struct Comment<'a> {
-    /// None where its number is unknown.
+    /// `None` if its number is unknown.
     pub kind: Option<Kind>,
-    /// Empty where it has none.
+    /// Empty if it has none.
     pub reason: &'a [u8],
 }
 
@@ -23,7 +23,7 @@ fn is_blank(byte: u8) -> bool
     matches!(byte, b' ' | b'\t' | b'\r')
 }
 
-/// What follows the blanks at the front of a text.
+/// The text after the blanks at its front.
 pub(crate) fn after_blanks(mut rest: &[u8]) -> &[u8]
     ensures { result.now ≡ spec.after_blanks rest.entry.now }
 {
@@ -36,7 +36,7 @@ pub(crate) fn after_blanks(mut rest: &[u8]) -> &[u8]
     rest
 }
 
-/// The same where there is at least one.
+/// The same, if there is at least one blank.
 fn after_some_blanks(text: &[u8]) -> Option<&[u8]>
     ensures { option_copied result ≡ spec.after_some_blanks text.now }
 {
@@ -46,7 +46,7 @@ fn after_some_blanks(text: &[u8]) -> Option<&[u8]>
     }
 }
 
-/// How many bytes a line has without the blanks at its end.
+/// The number of bytes of a line without the blanks at its end.
 pub(crate) fn end_of(line: &[u8]) -> usize
     ensures value { result ≡ spec.end_of line.now }
     ensures within { result ≤ length line.now }
@@ -62,14 +62,14 @@ pub(crate) fn end_of(line: &[u8]) -> usize
     end
 }
 
-/// What follows a word with which a text begins.
+/// The text after a word with which it begins.
 fn after<'a>(word: &[u8], text: &'a [u8]) -> Option<&'a [u8]>
     ensures { option_copied result ≡ spec.after word.now text.now }
 {
     text.strip_prefix(word)
 }
 
-/// What follows `# allow` and the blanks after it.
+/// The text after `# allow` and the blanks that follow it.
 fn after_allow(text: &[u8]) -> Option<&[u8]>
     ensures { option_copied result ≡ spec.after_allow text.now }
 {
@@ -78,7 +78,7 @@ fn after_allow(text: &[u8]) -> Option<&[u8]>
     after_some_blanks(rest)
 }
 
-/// How many digits are at the front of a text.
+/// The number of digits at the front of a text.
 fn digits(text: &[u8]) -> usize
     ensures value { result ≡ prefix_len is_ascii_digit text.now }
     ensures within { result ≤ length text.now }
@@ -93,7 +93,7 @@ fn digits(text: &[u8]) -> usize
     count
 }
 
-/// How many bytes the name of a kind has at the front of a text: a `W` and digits. 0 where there is none.
+/// The number of bytes of the name of a kind at the front of a text: a `W` and digits. 0 if there is no name.
 fn name_length(text: &[u8]) -> usize
     ensures value { result ≡ spec.name_length text.now }
     ensures within { result ≤ length text.now }
@@ -127,7 +127,7 @@ fn reason_in(text: &[u8]) -> &[u8]
     }
 }
 
-/// What such a comment says from its number on.
+/// The content of such a comment, from its number on.
 fn said(text: &[u8]) -> Option<Comment<'_>>
     ensures { option_map (λ c. (c.kind, c.reason.now)) result ≡ spec.said text.now }
 {
@@ -142,7 +142,7 @@ fn said(text: &[u8]) -> Option<Comment<'_>>
     })
 }
 
-/// What a line says that is such a comment.
+/// The content of a line that is such a comment.
 #[tactic(auto, unfolding(crate::specs::Comment::comment_of))]
 pub(crate) fn read_comment(line: &[u8]) -> Option<Comment<'_>>
     ensures { option_map (λ c. (c.kind, c.reason.now)) result ≡ spec.comment_of line.now }

@@ -15,15 +15,15 @@ use std::alloc::{AllocError, Global};
 pub struct Allowance {
     /// The comment, from its `#` to the end of its line without the blanks there.
     pub region: Region,
-    /// None where its number is unknown.
+    /// `None` if its number is unknown.
     pub kind: Option<Kind>,
-    /// What follows the colon, without blanks at its ends. Where it is empty the comment allows nothing.
+    /// The text after the colon, without blanks at its ends. If it is empty, the comment allows nothing.
     pub reason: Items<u8>,
     /// The line, from 1, that it is for: the first one after it that is no such comment.
     pub statement: usize,
 }
 
-/// Where a comment is in a line of a text.
+/// The region of a comment in a line of a text.
 fn region_in(number: usize, line: &[u8]) -> Region
     ensures { result ≡ spec.region_in number line.now }
 {
@@ -40,7 +40,7 @@ fn region_in(number: usize, line: &[u8]) -> Region
     }
 }
 
-/// The first line that is no such comment, of some of which the first has this number.
+/// The number of the first line that is no such comment, among lines of which the first has this number.
 fn statement_from(number: usize, lines: &[&[u8]]) -> usize
     requires { number + length lines.now < 2 ^ 64 }
     ensures { result ≡ spec.statement_from number (map (λ l. l.now) lines.now) }
@@ -55,7 +55,7 @@ fn statement_from(number: usize, lines: &[&[u8]]) -> usize
     at
 }
 
-/// The line that a comment is for, where other lines follow it.
+/// The line that a comment is for: the one that is known, or else the one found in the lines that follow it.
 fn statement_of(known: Option<usize>, number: usize, rest: &[&[u8]]) -> usize
     requires { number + length rest.now < 2 ^ 64 }
     ensures { result ≡ spec.known_or known (spec.statement_from number (map (λ l. l.now) rest.now)) }
@@ -107,7 +107,7 @@ fn in_lines(alloc: Global, lines: &[&[u8]]) -> Result<Items<Allowance>, AllocErr
 ///
 /// # Errors
 ///
-/// Where a growth was refused.
+/// `AllocError` if a growth is refused.
 #[tactic(auto, unfolding(crate::specs::Allowances::allowances_of))]
 pub fn allowances(alloc: Global, text: &[u8]) -> Result<Items<Allowance>, AllocError>
     ensures { IfOk result (λ all. all ≡ spec.allowances_of text.now) }

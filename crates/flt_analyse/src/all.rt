@@ -16,7 +16,7 @@ use std::sync::ledger::{Blank, Ledger};
 use std::thread;
 use std::thread::Threads;
 
-/// What is called when the analysis of a graph begins.
+/// A callback for the moment when the analysis of a graph begins.
 pub trait Start {
     /// The graph's place in the list, from 0.
     fn before(&self, place: usize);
@@ -107,12 +107,12 @@ fn weave(
     Ok(answers)
 }
 
-/// What `analyse` answers for each graph, at the graph's place. Worker w of as many as asked for takes the graphs at the places w,
-/// w + `workers` and so on, each worker in a thread of its own where one can be made, and calls `start` before each graph.
+/// The answer of `analyse` for each graph, at the graph's place. Worker w takes the graphs at the places w, w + `workers` and so on, each
+/// worker in a thread of its own where one can be made, and calls `start` before each graph.
 ///
 /// # Errors
 ///
-/// Where a growth was refused.
+/// `AllocError` if a growth is refused.
 pub fn analyse_all<R: Threads + Sync, G: Start + Sync>(
     rt: &R,
     alloc: Global,

@@ -39,9 +39,9 @@ fn has_room(graph: &Graph) -> bool
 ///
 /// # Errors
 ///
-/// `Refused` where no certificate covers, with the first fault that is met: callbacks in order; in each the least pending
-/// point is looked at, and its successors are joined to what was found, the one where a call succeeds or a test holds first.
-/// `OutOfMemory` where a growth was refused.
+/// `Refused` if no certificate covers, with the first fault that is met: callbacks in order; in each the least pending point is looked at,
+/// and its successors are joined to the states found so far, the one where a call succeeds or a test holds first. `OutOfMemory` if a growth
+/// is refused.
 #[tactic(auto, using(crate::proofs::Turns::refused_none, crate::proofs::Turns::refused_named, crate::proofs::Certificates::is_made, crate::proofs::Certificates::none_without_room))]
 pub fn analyse<L: Ledger, const CALLBACK: usize, const POINT: usize>(
     alloc: Global,

@@ -1,4 +1,4 @@
-//! The laws of least certificates: there is one at most, and it follows from what is left of it in a thin one.
+//! The laws of least certificates: there is one at most, and it follows from the thin one that is left of it.
 
 ghost use Rattle.std.specs.Prelude.{◌≡◌, IsTrue};
 ghost use Rattle.flt_cert.specs.Format.{Certificate, is_certificate};
@@ -22,7 +22,7 @@ pub fn one_certificate_is_least()
     is_partial_order();
 }
 
-/// From what is left of a text's least certificate in a thin one the least one follows. It does nothing: its clauses are the law.
+/// The least certificate of a text follows from the thin one that is left of it. It does nothing: its clauses are the law.
 pub fn thin_least()
     ensures rising { (g : Graph) (k : Certificate) → IsRising g → IsTrue (is_certificate k) → Covers g k → IsLeast g k →
         full g (thin g k) ≡ k }

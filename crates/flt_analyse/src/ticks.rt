@@ -10,8 +10,8 @@ use flt_rules::Rule;
 use std::marker::Model;
 use std::sync::ledger::{Blank, Book, Ledger, Share};
 
-/// How often the point POINT of the callback CALLBACK was transferred. It takes no bytes. As both numbers are the type's, what
-/// is proved of it holds of each point.
+/// How often the point POINT of the callback CALLBACK was transferred. It takes no bytes. As both numbers are the type's, each proof about
+/// it holds of each point.
 #[derive(Drop)]
 pub struct Ticks<L: Ledger, const CALLBACK: usize, const POINT: usize> {
     book: Book<L>,
@@ -40,7 +40,7 @@ impl<L: Ledger, const CALLBACK: usize, const POINT: usize> Ticks<L, CALLBACK, PO
         Ticks { book, share }
     }
 
-    /// `flt_abs::transfer_into`, counted where the point is the one that is watched.
+    /// `flt_abs::transfer_into`, counted if the point is the one that is watched.
     pub fn transfer_into(
         &mut self,
         graph: &Graph,

@@ -22,14 +22,14 @@ use sqlite_items::Items;
 use std::alloc::{AllocError, Global};
 use std::sync::ledger::Ledger;
 
-/// What was found so far at the points of a callback, and which of them are pending.
+/// The states found so far at the points of a callback, and which points are pending.
 #[derive(Drop)]
 pub(crate) struct Walk {
     pub(crate) points: Items<Option<Abs>>,
     pub(crate) pending: Pending,
 }
 
-/// A state has no empty set: it does nothing, and its clause is what the type keeps.
+/// A state has no empty set. It does nothing: its clause is the invariant of the type.
 fn is_proper(lead: Option<(usize, &Abs)>)
     ensures { ProperNext (lent lead.entry) }
 {
@@ -74,7 +74,7 @@ impl Walk {
         self.pending.insert(point);
     }
 
-    /// A state leads to a point, and is joined to what was found there.
+    /// A state leads to a point, and is joined to the state found there.
     ///
     /// # Errors
     ///
@@ -114,7 +114,7 @@ impl Walk {
         Ok(())
     }
 
-    /// Where a point leads by what was found there.
+    /// Where a point leads from the state found there.
     ///
     /// # Errors
     ///

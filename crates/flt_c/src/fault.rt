@@ -1,4 +1,4 @@
-//! What is wrong in a C file.
+//! The faults of a C file.
 
 use crate::place::Place;
 
@@ -13,7 +13,7 @@ pub enum FaultKind {
     Character,
     /// A raw string of C++.
     RawString,
-    /// A comment that begins with `@flt` and goes on with no blank, as `@fltx`.
+    /// A comment that begins with `@flt` and no blank after it, as `@fltx`.
     Marker,
     /// An annotation in a line that is continued.
     Continued,

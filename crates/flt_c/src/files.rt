@@ -8,7 +8,7 @@ use crate::fault::Fault;
 use crate::text::Annotations;
 use std::alloc::{AllocError, Global};
 
-/// What is wrong with a file.
+/// A flaw of a file: why its annotations make no text.
 #[derive(Clone, Copy, Debug)]
 pub enum Flaw {
     /// Its first fault.
@@ -21,20 +21,20 @@ pub enum Flaw {
     Long,
 }
 
-/// What is wrong with the file of a number, from 0.
+/// A flaw, and the number of its file, from 0.
 #[derive(Clone, Copy, Debug)]
 pub struct FileFlaw {
     pub file: usize,
     pub flaw: Flaw,
 }
 
-/// How many bytes a C file has at most.
+/// The most bytes a C file may have.
 pub(crate) const MAX_FILE: usize = 16_777_216;
 
-/// How many bytes the text has at most: as many as a filter's text.
+/// The most bytes the text may have: as many as a filter's text.
 const MAX_TEXT: usize = 65_536;
 
-/// One file more.
+/// Adds the annotations of one more file.
 fn take_file(
     found: &mut Annotations,
     number: usize,
@@ -72,11 +72,11 @@ fn take_file(
     Ok(Ok(()))
 }
 
-/// The text of the annotations of some C files, in order, or what is wrong with the first file with which something is.
+/// The text of the annotations of some C files, in order, or the flaw of the first file that has one.
 ///
 /// # Errors
 ///
-/// A growth was refused.
+/// `AllocError` if a growth is refused.
 pub fn extract(
     alloc: Global,
     files: &[Vec<u8>],

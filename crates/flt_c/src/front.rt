@@ -1,11 +1,11 @@
-//! What the code of a line begins with: a directive, and the groups of lines that `#if 0` has compilers skip.
+//! The fronts of lines of code: directives, and the groups of lines that `#if 0` has compilers skip.
 
 ghost use Rattle.std.specs.Prelude.{◌≡◌, ◌<◌, ◌≤◌, ◌+◌, ◌^◌};
 ghost use Rattle.flt_c.specs.Fronts as spec;
 
 use crate::mode::{Mode, is_block};
 
-/// What the code of a line begins with, as far as it is read. Comments are blanks.
+/// The beginning of the code of a line, as far as it is read. Comments are blanks.
 #[derive(Clone, Copy)]
 pub enum Front {
     /// Nothing but blanks.
@@ -86,7 +86,7 @@ fn front_after(front: Front, b: u8) -> Front
     }
 }
 
-/// The same, where a `/` waits for the byte after it.
+/// The front after one byte in code, in which a `/` waits for the byte after it.
 fn front_in_code(front: Front, b: u8) -> Front
     ensures { result ≡ spec.front_in_code front b }
 {
@@ -97,7 +97,7 @@ fn front_in_code(front: Front, b: u8) -> Front
     }
 }
 
-/// The front where a `/` that began no comment is code.
+/// The front once a `/` that began no comment is known to be code.
 fn settled(mode: Mode, front: Front) -> Front
     ensures { result ≡ spec.settled mode front }
 {
@@ -118,7 +118,7 @@ fn front_after_slash(front: Front, b: u8) -> Front
     }
 }
 
-/// The front after one byte more, within a line.
+/// The front after one more byte, within a line.
 fn front_within(mode: Mode, front: Front, b: u8) -> Front
     ensures { result ≡ spec.front_within mode front b }
 {
@@ -129,7 +129,7 @@ fn front_within(mode: Mode, front: Front, b: u8) -> Front
     }
 }
 
-/// The front after one byte more. A line ends at its line feed, unless that is in a block comment.
+/// The front after one more byte. A line ends at its line feed, unless that is in a block comment.
 pub(crate) fn next_front(mode: Mode, front: Front, b: u8) -> Front
     ensures { result ≡ spec.next_front mode front b }
 {
@@ -143,7 +143,7 @@ pub(crate) fn next_front(mode: Mode, front: Front, b: u8) -> Front
     }
 }
 
-/// How many groups are open from the one on that is skipped, after one byte of code more.
+/// The number of open groups, counted from the skipped one on, after one more byte of code.
 fn depth_after(depth: usize, front: Front, b: u8) -> usize
     requires { depth < 2 ^ 40 }
     ensures value { result ≡ spec.depth_after depth front b }
@@ -158,14 +158,14 @@ fn depth_after(depth: usize, front: Front, b: u8) -> usize
     }
 }
 
-/// Whether bytes of code are read.
+/// Whether code is being read.
 pub(crate) fn is_code(mode: Mode) -> bool
     ensures { result ≡ spec.is_code mode }
 {
     matches!(mode, Mode::Code | Mode::LetterR | Mode::Slash)
 }
 
-/// How many groups are open from the one on that `#if 0` begins and compilers skip, after one byte more; 0 where none is skipped.
+/// The number of open groups, counted from the one that `#if 0` begins and compilers skip, after one more byte; 0 if none is skipped.
 pub(crate) fn next_depth(mode: Mode, front: Front, depth: usize, b: u8) -> usize
     requires { depth < 2 ^ 40 }
     ensures value { result ≡ spec.next_depth mode front depth b }
@@ -184,7 +184,7 @@ pub(crate) fn is_directive(front: Front) -> bool
     !matches!(front, Front::Nothing | Front::Code)
 }
 
-/// Whether a quote may end with its line: in a directive, and in a group that is skipped.
+/// Whether a quote may end with its line: in a directive, and in a skipped group.
 pub(crate) fn is_lenient(front: Front, depth: usize) -> bool
     ensures { result ≡ spec.is_lenient front depth }
 {

@@ -1,4 +1,4 @@
-//! The annotations of a C file where they stand in it.
+//! The annotations of a C file, laid in their places.
 
 ghost use Rattle.std.specs.Prelude.{◌≡◌, ◌++◌, [], ◌∷◌, true, replicate, IfOk, OnOk, MatchResult, Ok, Err};
 ghost use Rattle.flt_c.specs.InPlace as spec;
@@ -9,16 +9,16 @@ use crate::place::Place;
 use crate::text::{Annotations, Line};
 use std::alloc::{AllocError, Global};
 
-/// Why the annotations of a file can't be laid where they stand.
+/// Why the annotations of a file can't be laid in their places.
 #[derive(Clone, Copy, Debug)]
 pub enum PlaceFlaw {
     /// They make no text.
     Flawed(Flaw),
-    /// Here an annotation begins in a line in which another one ends.
+    /// At this place an annotation begins in a line in which another one ends.
     Crowded(Place),
 }
 
-/// Writes a byte so often.
+/// Writes a byte a number of times.
 fn put_times(out: &mut Vec<u8>, byte: u8, times: usize) -> Result<(), AllocError>
     ensures { OnOk result (out.new.items ≡ out.old.items ++ replicate times byte) }
 {
@@ -28,7 +28,7 @@ fn put_times(out: &mut Vec<u8>, byte: u8, times: usize) -> Result<(), AllocError
     Ok(())
 }
 
-/// Writes what stands before a line that begins at a place, after the end of an earlier line.
+/// Writes the line feeds and blanks between the end of an earlier line and the place where a line begins.
 fn put_gap(out: &mut Vec<u8>, last: usize, at: Place) -> Result<(), AllocError>
     ensures { OnOk result (out.new.items ≡ out.old.items ++ spec.gap last at) }
 {
@@ -37,7 +37,7 @@ fn put_gap(out: &mut Vec<u8>, last: usize, at: Place) -> Result<(), AllocError>
     Ok(())
 }
 
-/// Bytes whose lines begin at these places, laid where they stand.
+/// The bytes of lines that begin at these places, laid there.
 fn laid(alloc: Global, bytes: &[u8], lines: &[Line]) -> Result<Vec<u8>, AllocError>
     ensures { IfOk result (λ out. out.items ≡ spec.laid 0 true bytes.now lines.now) }
 {
@@ -59,7 +59,7 @@ fn laid(alloc: Global, bytes: &[u8], lines: &[Line]) -> Result<Vec<u8>, AllocErr
     Ok(out)
 }
 
-/// The first line that stands in the line of C in which the one before it ends.
+/// The place of the first line that begins in the line of C in which the one before it ends.
 fn crowded(lines: &[Line]) -> Option<Place>
     ensures { result ≡ spec.crowded 0 lines.now }
 {
@@ -73,7 +73,7 @@ fn crowded(lines: &[Line]) -> Option<Place>
     None
 }
 
-/// A text laid where it stands, unless two of its lines stand in one.
+/// The text laid in its places, unless two of its lines are in the same line of C.
 fn lay(alloc: Global, found: &Annotations) -> Result<Result<Vec<u8>, PlaceFlaw>, AllocError>
     ensures { IfOk result (λ done. MatchResult done
         (λ text. spec.laid_unless (spec.crowded 0 found.now.lines.items) (text_in found.now) ≡ Ok text.items)
@@ -86,12 +86,12 @@ fn lay(alloc: Global, found: &Annotations) -> Result<Result<Vec<u8>, PlaceFlaw>,
     Ok(Ok(text))
 }
 
-/// The annotations of a C file where they stand in it: each in its line and at its column, with blanks and empty lines between them and
-/// nothing else. So a place in what is answered is the same place in the file, by its line and its column.
+/// The annotations of a C file in their places: each in its line and at its column, with only blanks and empty lines between them. So a
+/// place in the result is the same place in the file, by its line and its column.
 ///
 /// # Errors
 ///
-/// A growth was refused.
+/// `AllocError` if a growth is refused.
 pub fn in_place(alloc: Global, file: Vec<u8>) -> Result<Result<Vec<u8>, PlaceFlaw>, AllocError>
     ensures { IfOk result (λ done. MatchResult done
         (λ text. spec.in_place file.items ≡ Ok text.items)

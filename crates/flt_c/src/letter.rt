@@ -1,4 +1,4 @@
-//! What each byte of a C file belongs to: code, annotations, comments `@flt-`, or something else.
+//! The parts of a C file: each byte belongs to code, to an annotation, to a comment `@flt-`, or to something else.
 
 ghost use Rattle.std.specs.Prelude.{◌≡◌, ◌<◌, ◌≤◌, ◌++◌, ◌^◌, length, map, take, IfOk, OnOk, MatchResult, Ok, Err};
 ghost use Rattle.flt_c.specs.Letters as spec;
@@ -10,7 +10,7 @@ use crate::mode::{Mode, is_note};
 use crate::scan::{Scanner, after, blamed, continuation, join, open_at_end, start, step};
 use std::alloc::{AllocError, Global};
 
-/// What a byte of a C file belongs to.
+/// The part of a C file that a byte belongs to.
 #[derive(Clone, Copy)]
 pub enum Part {
     /// Code that a compiler reads, blanks between its words included: no directive, no string, no comment, and nothing that `#if 0` has
@@ -24,14 +24,14 @@ pub enum Part {
     Other,
 }
 
-/// A byte of a C file, and what it belongs to.
+/// A byte of a C file, and the part that it belongs to.
 #[derive(Clone, Copy)]
 pub struct Letter {
     pub byte: u8,
     pub part: Part,
 }
 
-/// Whether a marker was read.
+/// Whether a marker has just been read.
 fn is_marked(mode: Mode) -> bool
     ensures { result ≡ spec.is_marked mode }
 {
@@ -59,7 +59,7 @@ fn is_compiled(s: Scanner, b: u8, next: Scanner) -> bool
     is_code(s.mode) && is_code(next.mode) && !(b == b'/' || is_directive(next.front) || 0 < s.depth)
 }
 
-/// What a byte belongs to.
+/// The part that a byte belongs to.
 fn part_of(s: Scanner, b: u8, aside: bool, next: Scanner) -> Part
     ensures { result ≡ spec.part_of s b aside next }
 {
@@ -76,7 +76,7 @@ fn part_of(s: Scanner, b: u8, aside: bool, next: Scanner) -> Part
     }
 }
 
-/// The first bytes of a text, so many.
+/// The first `n` bytes of a text.
 fn before(z: &[u8], n: usize) -> &[u8]
     requires { n ≤ length z.now }
     ensures { result.now ≡ take n z.now }
@@ -84,7 +84,7 @@ fn before(z: &[u8], n: usize) -> &[u8]
     &z[..n]
 }
 
-/// The bytes of a continuation.
+/// Adds the bytes of a continuation.
 fn put_others(out: &mut Vec<Letter>, bytes: &[u8]) -> Result<(), AllocError>
     ensures { OnOk result (out.new.items ≡ out.old.items ++ map spec.other bytes.now) }
 {
@@ -97,7 +97,7 @@ fn put_others(out: &mut Vec<Letter>, bytes: &[u8]) -> Result<(), AllocError>
     Ok(())
 }
 
-/// The bytes of a file, each with what it belongs to.
+/// The bytes of a file, each with its part, or the file's first fault.
 fn read(alloc: Global, file: &[u8]) -> Result<Result<Vec<Letter>, Fault>, AllocError>
     requires { length file.now < 2 ^ 32 }
     ensures { IfOk result (λ done. MatchResult done
@@ -140,11 +140,11 @@ fn read(alloc: Global, file: &[u8]) -> Result<Result<Vec<Letter>, Fault>, AllocE
     Ok(Ok(out))
 }
 
-/// The bytes of a C file, each with what it belongs to, in order; or the file's first fault. A file of more than 16 MB isn't read.
+/// The bytes of a C file, each with its part, in order, or the file's first fault. A file of more than 16 MB isn't read.
 ///
 /// # Errors
 ///
-/// A growth was refused.
+/// `AllocError` if a growth is refused.
 pub fn letters(alloc: Global, file: &[u8]) -> Result<Result<Vec<Letter>, Flaw>, AllocError>
     ensures { IfOk result (λ done. MatchResult done
         (λ found. spec.letters file.now ≡ Ok found.items)

@@ -1,9 +1,9 @@
 //! The annotations of a driver's C files: comments `//@flt TEXT` and `/*@flt TEXT*/`, which no compiler sees.
 //!
-//! A file is read byte by byte, as far as C says what is a comment (`mode`) and which lines compilers skip (`front`). The annotations of
-//! several files make one text, each line of which knows where it begins in C (`text`, `files`); those of one file are laid where they
-//! stand in it (`laying`). Each byte of a file belongs to code, to an annotation, to a comment `@flt-`, or to something else (`letter`).
-//! That this is C's own division of a file into pieces is a law (`laws`).
+//! A file is read byte by byte, as far as C's rules for comments (`mode`) and for the lines that compilers skip (`front`) require. The
+//! annotations of several files make one text, each line of which knows where it begins in C (`text`, `files`); those of one file are laid
+//! in their places (`laying`). Each byte of a file belongs to code, to an annotation, to a comment `@flt-`, or to something else
+//! (`letter`). It is a law that this is C's own division of a file into pieces (`laws`).
 #![tactic(auto)]
 
 mod fault;

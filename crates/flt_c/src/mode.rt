@@ -1,11 +1,11 @@
-//! What is read in C after each byte.
+//! The modes of reading C, and which mode follows each byte.
 
 ghost use Rattle.std.specs.Prelude.{◌≡◌};
 ghost use Rattle.flt_c.specs.Modes as spec;
 
 use crate::fault::FaultKind;
 
-/// What is being read.
+/// The piece of C that is being read.
 #[derive(Clone, Copy)]
 pub enum Mode {
     Code,
@@ -13,7 +13,7 @@ pub enum Mode {
     LetterR,
     /// Code, after a `/`.
     Slash,
-    /// A line comment, which is an annotation if it goes on with this byte and the rest of the marker.
+    /// A line comment, which is an annotation if this byte and the rest of the marker come next.
     LineMark(u8),
     Line,
     /// A line comment, after its marker.
@@ -168,7 +168,7 @@ fn block_marked(b: u8) -> Result<Mode, FaultKind>
     }
 }
 
-/// What is read after the line in which a quote isn't closed.
+/// The mode after a line in which a quote isn't closed.
 fn line_end(lenient: bool, unended: FaultKind) -> Result<Mode, FaultKind>
     ensures { result ≡ spec.line_end lenient unended }
 {
@@ -179,7 +179,7 @@ fn line_end(lenient: bool, unended: FaultKind) -> Result<Mode, FaultKind>
     }
 }
 
-/// What is read in a string or a character constant after one byte of it.
+/// The mode after one byte of a string or a character constant.
 fn in_quotes(
     lenient: bool,
     quote: u8,
@@ -200,7 +200,7 @@ fn in_quotes(
     }
 }
 
-/// The same after a backslash in it.
+/// The mode after a byte that follows a backslash in it.
 fn escaped(lenient: bool, inside: Mode, unended: FaultKind, b: u8) -> Result<Mode, FaultKind>
     ensures { result ≡ spec.escaped lenient inside unended b }
 {
@@ -211,7 +211,7 @@ fn escaped(lenient: bool, inside: Mode, unended: FaultKind, b: u8) -> Result<Mod
     }
 }
 
-/// What is read in a string after a byte.
+/// The mode after one byte of a string.
 fn in_string(lenient: bool, b: u8) -> Result<Mode, FaultKind>
     ensures { result ≡ spec.in_quotes lenient 34 Mode.String Mode.StringEscape FaultKind.String b }
 {
@@ -225,7 +225,7 @@ fn in_string(lenient: bool, b: u8) -> Result<Mode, FaultKind>
     )
 }
 
-/// What is read in a character constant after a byte.
+/// The mode after one byte of a character constant.
 fn in_character(lenient: bool, b: u8) -> Result<Mode, FaultKind>
     ensures { result ≡ spec.in_quotes lenient 39 Mode.Character Mode.CharacterEscape FaultKind.Character b }
 {
@@ -239,8 +239,7 @@ fn in_character(lenient: bool, b: u8) -> Result<Mode, FaultKind>
     )
 }
 
-/// What is read after a byte: a quote may end with its line where this is `lenient`, and there are no annotations where no compiler reads
-/// the code.
+/// The mode after a byte. A quote may end with its line if this is `lenient`, and there are no annotations in code that compilers skip.
 pub(crate) fn turn(lenient: bool, skipped: bool, mode: Mode, b: u8) -> Result<Mode, FaultKind>
     ensures { result ≡ spec.turn lenient skipped mode b }
 {
@@ -275,7 +274,7 @@ pub(crate) fn turn(lenient: bool, skipped: bool, mode: Mode, b: u8) -> Result<Mo
     }
 }
 
-/// Whether an annotation is being read: what stands after the marker.
+/// Whether an annotation is being read: the text after the marker.
 pub(crate) fn is_note(mode: Mode) -> bool
     ensures { result ≡ spec.is_note mode }
 {
@@ -289,7 +288,7 @@ pub(crate) fn is_note(mode: Mode) -> bool
     )
 }
 
-/// Whether a block comment is being read, which goes over lines.
+/// Whether a block comment is being read, which can span lines.
 pub(crate) fn is_block(mode: Mode) -> bool
     ensures { result ≡ spec.is_block mode }
 {
@@ -304,7 +303,7 @@ pub(crate) fn is_block(mode: Mode) -> bool
     )
 }
 
-/// What has to be closed before the file ends. A quote has not where it may end with its line.
+/// The fault if the file ends in a mode: something isn't closed. A quote that may end with its line is no fault.
 pub(crate) fn unended(lenient: bool, mode: Mode) -> Option<FaultKind>
     ensures { result ≡ spec.unended lenient mode }
 {

@@ -3,7 +3,7 @@
 ghost use Rattle.std.specs.Prelude.{◌≡◌};
 ghost use Rattle.flt_c.specs.Places as spec;
 
-/// A place in a file: its line and column, which count from 1, and how many bytes stand before it.
+/// A place in a file: its line and column, which count from 1, and the number of bytes before it.
 #[derive(Clone, Copy, Debug)]
 pub struct Place {
     pub line: usize,

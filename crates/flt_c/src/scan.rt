@@ -1,4 +1,4 @@
-//! How a C file is read, byte by byte, and which bytes of it are the text of its annotations.
+//! The reading of a C file, byte by byte, and the bytes of it that are the text of its annotations.
 
 ghost use Rattle.std.specs.Prelude.{◌≡◌, ◌<◌, ◌≤◌, ◌+◌, ◌^◌, length, drop, IfOk};
 ghost use Rattle.flt_c.specs.Places as places;
@@ -9,23 +9,23 @@ use crate::front::{Front, begins_directive, is_lenient, next_depth, next_front};
 use crate::mode::{Mode, is_note, turn, unended};
 use crate::place::{Place, past};
 
-/// Where reading is.
+/// The state of reading.
 #[derive(Clone, Copy)]
 pub struct Scanner {
     pub mode: Mode,
-    /// What the code of the line begins with.
+    /// The beginning of the code of the line.
     pub front: Front,
-    /// How many groups are open from the one on that is skipped.
+    /// The number of open groups, counted from the skipped one on.
     pub depth: usize,
     /// The place of the next byte.
     pub at: Place,
     /// The place of the byte before, continuations left out.
     pub last: Place,
-    /// Where the comment, string or character constant began that is being read.
+    /// Where the comment, string or character constant that is being read began.
     pub opened: Place,
-    /// Where the directive began that began the group which is skipped, or may begin one.
+    /// Where the directive began that began the skipped group, or that may begin one.
     pub group: Place,
-    /// Whether the line goes on from another by a continuation.
+    /// Whether the line continues another one by a continuation.
     pub joined: bool,
     /// Where the last annotation of the line began, if it has one.
     pub noted: Option<Place>,
@@ -67,7 +67,7 @@ fn opening(s: Scanner, new: Mode) -> Place
     }
 }
 
-/// Where the directive began that may begin a group which is skipped.
+/// Where the directive began that may begin a skipped group.
 fn grouping(s: Scanner, b: u8) -> Place
     ensures { result ≡ spec.grouping s b }
 {
@@ -78,7 +78,8 @@ fn grouping(s: Scanner, b: u8) -> Place
     }
 }
 
-/// Where a fault is reported: a raw string at its quote, a group at its directive, the others where what they are about began.
+/// The place at which a fault is reported: a raw string at its quote, a group at its directive, the others where their piece of the file
+/// began.
 pub(crate) fn blamed(s: Scanner, kind: FaultKind) -> Fault
     ensures { result ≡ spec.blamed s kind }
 {
@@ -97,7 +98,7 @@ fn begins(s: Scanner, mode: Mode) -> bool
     is_note(mode) && !is_note(s.mode)
 }
 
-/// Where the last annotation of the line began, after one byte more.
+/// Where the last annotation of the line began, after one more byte.
 fn noting(s: Scanner, b: u8, mode: Mode) -> Option<Place>
     ensures { result ≡ spec.noting s b mode }
 {
@@ -111,7 +112,7 @@ fn noting(s: Scanner, b: u8, mode: Mode) -> Option<Place>
     }
 }
 
-/// How reading goes on in a mode.
+/// The state after a byte with which a mode begins or continues.
 fn go_on(s: Scanner, b: u8, mode: Mode) -> Result<Scanner, Fault>
     requires small { places.IsSmall s.at }
     requires flat { s.depth < 2 ^ 40 }
@@ -135,7 +136,7 @@ fn go_on(s: Scanner, b: u8, mode: Mode) -> Result<Scanner, Fault>
     })
 }
 
-/// One byte more.
+/// The state after one more byte.
 pub(crate) fn step(s: Scanner, b: u8) -> Result<Scanner, Fault>
     requires small { places.IsSmall s.at }
     requires flat { s.depth < 2 ^ 40 }
@@ -149,7 +150,7 @@ pub(crate) fn step(s: Scanner, b: u8) -> Result<Scanner, Fault>
     }
 }
 
-/// A continuation of so many bytes more.
+/// The state after a continuation of `n` bytes.
 pub(crate) fn join(s: Scanner, n: usize) -> Result<Scanner, Fault>
     requires small { places.IsSmall s.at }
     requires short { n ≤ 3 }
@@ -183,7 +184,7 @@ pub(crate) fn join(s: Scanner, n: usize) -> Result<Scanner, Fault>
     }
 }
 
-/// How many bytes a line continuation has at the front of a text, or 0.
+/// The number of bytes of the line continuation at the start of a text, or 0.
 pub(crate) fn continuation(z: &[u8]) -> usize
     ensures value { result ≡ spec.continuation z.now }
     ensures within { result ≤ length z.now }
@@ -196,7 +197,7 @@ pub(crate) fn continuation(z: &[u8]) -> usize
     }
 }
 
-/// What stands after so many bytes.
+/// The bytes after the first `n`.
 #[inline(always)]
 pub(crate) fn after(z: &[u8], n: usize) -> &[u8]
     requires { n ≤ length z.now }
@@ -205,7 +206,7 @@ pub(crate) fn after(z: &[u8], n: usize) -> &[u8]
     &z[n..]
 }
 
-/// What isn't closed where the file ends, if something isn't.
+/// The fault of an end of the file here: something isn't closed.
 pub(crate) fn open_at_end(s: Scanner) -> Option<FaultKind>
     ensures { result ≡ spec.open_at_end s }
 {
@@ -221,7 +222,7 @@ pub(crate) fn open_at_end(s: Scanner) -> Option<FaultKind>
     }
 }
 
-/// Where reading begins.
+/// The state in which reading begins.
 pub(crate) fn start() -> Scanner
     ensures { result ≡ spec.start }
 {

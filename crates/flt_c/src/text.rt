@@ -38,7 +38,7 @@ impl Annotations {
         }
     }
 
-    /// One byte more, which stands there in a file.
+    /// Adds one byte, which is at this place in a file.
     fn put(&mut self, file: usize, byte: u8, place: Place) -> Result<(), AllocError>
         ensures { OnOk result (spec.text_in self.new ≡ spec.put file (spec.text_in self.old) (record { byte = byte; place = place })) }
     {
@@ -50,7 +50,7 @@ impl Annotations {
         Ok(())
     }
 
-    /// What a byte adds after a `*` in a block: a `*/` ends the line there.
+    /// Adds the bytes that are settled by a byte after a `*` in a block: a `*/` ends the line there.
     fn add_after_star(&mut self, file: usize, s: Scanner, b: u8) -> Result<(), AllocError>
         requires { s.mode ≡ Mode.BlockTextStar }
         ensures { OnOk result (spec.text_in self.new ≡ spec.put_all file (spec.text_in self.old) (scan.added s b)) }
@@ -65,7 +65,7 @@ impl Annotations {
         }
     }
 
-    /// What a byte adds.
+    /// Adds the bytes of the text that a byte settles.
     fn add(&mut self, file: usize, s: Scanner, b: u8) -> Result<(), AllocError>
         ensures { OnOk result (spec.text_in self.new ≡ spec.put_all file (spec.text_in self.old) (scan.added s b)) }
     {
@@ -90,7 +90,7 @@ impl Annotations {
         }
     }
 
-    /// The end of the file: an annotation's line ends there.
+    /// Ends the file: an annotation's line ends there.
     fn end(&mut self, file: usize, s: Scanner) -> Result<(), AllocError>
         ensures { OnOk result (spec.text_in self.new ≡ spec.put_all file (spec.text_in self.old) (scan.last_line s)) }
     {
@@ -101,7 +101,7 @@ impl Annotations {
         }
     }
 
-    /// The text of the annotations of one file more, or the file's first fault.
+    /// Adds the text of the annotations of one more file, or returns the file's first fault.
     pub(crate) fn read(
         &mut self,
         number: usize,

@@ -3,8 +3,8 @@
 use flt_frame::Standing;
 use flt_rules::Place;
 
-/// The activation that makes a step: its number and its filter's, from 0, what its callback is registered for, and how far it has
-/// come: up to the step.
+/// The activation that makes a step: its number and its filter's, from 0, the place for which its callback is registered, and how far it
+/// has come: up to the step.
 #[derive(Clone, Copy)]
 pub struct Caller {
     pub activation: usize,

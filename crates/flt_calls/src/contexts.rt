@@ -1,5 +1,5 @@
-//! Calls on contexts, and what each comes to where it is used wrongly: a variable that is NULL where an object is needed leaves all as
-//! it is, and a call that can fail then fails.
+//! Calls on contexts, and the effect of each if it is used wrongly: a variable that is NULL where an object is needed leaves all as it is,
+//! and a call that can fail then fails.
 
 ghost use Rattle.std.specs.Prelude.{◌≡◌, ◌≢◌, ◌∷◌, ◌++◌, ◌||◌, ℕ, true, false, if◌then◌else◌, is_some, length, Some, List, IfOk, OnOk, get_or, option_map, OnErr};
 ghost use Rattle.flt_model.specs.Calls as calls;
@@ -20,8 +20,8 @@ use flt_store::{Change, Store};
 use flt_tree::{ContextVariable, OperationVariable};
 use std::alloc::AllocError;
 
-/// Where a call works: its activation and the filter of that, and the key of the link; none where the call is on the stream of
-/// `data`, which is NULL.
+/// Where a call works: its activation and the filter of that, and the key of the link; none if the call is on the stream of `data`, which
+/// is NULL.
 #[derive(Clone, Copy)]
 struct At {
     activation: usize,
@@ -31,7 +31,7 @@ struct At {
 
 // ---- links
 
-/// The key of the link that a call works on; none where it is on the stream of `data`, which is NULL.
+/// The key of the link that a call works on; none if it is on the stream of `data`, which is NULL.
 fn key_of(store: &Store, on: Anchor, given: Option<usize>) -> Option<Key>
     ensures { (filter : ℕ) → option_map (λ k. record { filter = filter; key = k }) result ≡ calls.link_of store.now filter on given }
 {
@@ -63,7 +63,7 @@ fn need_anchor(
     }
 }
 
-/// The context is freed where its last reference is dropped.
+/// The context is freed when its last reference is dropped.
 fn tell_drop(
     heap: &mut Heap,
     store: &Store,
@@ -172,7 +172,7 @@ pub(crate) fn allocate(
 
 // ---- the context that is there
 
-/// The context is given, with one reference more; none where nothing is there.
+/// The context is given, with one reference more; none if nothing is there.
 fn got(
     heap: &mut Heap,
     store: &Store,
@@ -209,7 +209,7 @@ fn got(
     }
 }
 
-/// Nothing is given where `data` was needed and is NULL.
+/// Nothing is given if `data` was needed and is NULL.
 fn get_by(
     heap: &mut Heap,
     store: &Store,
@@ -267,7 +267,7 @@ pub(crate) fn get(
 
 // ---- a context is linked
 
-/// Which context is kept where one is there, and the variable that receives the one that was there.
+/// Which context is kept if one is there, and the variable that receives the one that was there.
 #[derive(Clone, Copy)]
 struct Setting {
     existing: Existing,
@@ -282,7 +282,7 @@ struct Linking {
     key: Key,
 }
 
-/// A context that is there stays, and is given where a variable receives it.
+/// A context that is there stays, and is given if a variable receives it.
 fn kept(
     heap: &mut Heap,
     store: &Store,
@@ -314,7 +314,7 @@ fn kept(
     }
 }
 
-/// The context is linked where the link is free, or by what is wanted where it isn't.
+/// The context is linked if the link is free; otherwise the call keeps or replaces the context that is there.
 fn set_there(
     heap: &mut Heap,
     store: &Store,
@@ -358,7 +358,7 @@ fn set_there(
     }
 }
 
-/// Nothing is set where the context or `data` is NULL.
+/// Nothing is set if the context or `data` is NULL.
 fn set_by(
     heap: &mut Heap,
     store: &Store,
@@ -394,7 +394,7 @@ fn set_by(
     }
 }
 
-/// The context, and the operation where the call is on its stream.
+/// The context, and the operation if the call is on its stream.
 fn need_to_set(
     heap: &mut Heap,
     a: usize,
@@ -487,7 +487,7 @@ fn unlinked(
     }
 }
 
-/// Nothing is deleted where `data` was needed and is NULL.
+/// Nothing is deleted if `data` was needed and is NULL.
 fn delete_by(
     heap: &mut Heap,
     store: &Store,
@@ -543,7 +543,7 @@ pub(crate) fn delete_at(
     delete_by(heap, store, at, old, events)
 }
 
-/// Unlinked where it is linked; the link's reference is dropped.
+/// Unlinked if it is linked; the link's reference is dropped.
 fn deleted(
     heap: &mut Heap,
     store: &Store,
@@ -594,7 +594,7 @@ pub(crate) fn delete(
 
 // ---- references
 
-/// One reference more, and the second variable names the context too.
+/// Adds a reference, and the second variable names the context too.
 fn referenced(
     heap: &mut Heap,
     store: &Store,

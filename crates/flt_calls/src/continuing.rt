@@ -36,7 +36,7 @@ fn times(visit: usize, object: Object) -> u64
     }
 }
 
-/// What one event of an activation counts.
+/// How often one event of an activation gains and loses a visit.
 #[tactic(auto, using(crate::proofs::Tallies::own_count))]
 fn counted(visit: usize, event: Event) -> Counts
     ensures gained { (a : ℕ) → IsOf a event → result.gained ≡ trace.gain a (Visit visit) event }
@@ -57,7 +57,7 @@ fn counted(visit: usize, event: Event) -> Counts
     }
 }
 
-/// What the events of an activation count.
+/// How often the events of an activation gain and lose a visit.
 fn counts_of(visit: usize, events: &[Event]) -> Counts
     requires { length events.now ≤ 16 }
     ensures gained { (a : ℕ) → AreOf a events.now → result.gained ≡ trace.gains events.now a (Visit visit) }
@@ -78,7 +78,7 @@ fn counts_of(visit: usize, events: &[Event]) -> Counts
     }
 }
 
-/// The standing with what a plan writes to its variables and locks.
+/// The `Standing` with the variables and locks that a plan writes.
 fn written(standing: &Standing, write: Write) -> Standing
     requires { HasRoom standing.now write }
     ensures variables { plans.is_end write ≡ false → activation_with result [] ≡ plans.written write (activation_with standing.now []) }
@@ -114,7 +114,7 @@ fn point_after(instruction: Instruction, outcome: bool, point: usize) -> usize
     }
 }
 
-/// The standing after a plan's step by the instruction at its point, where the step doesn't end the activation.
+/// The `Standing` after a plan's step by the instruction at its point, if the step doesn't end the activation.
 pub fn continued(standing: &Standing, instruction: Instruction, plan: &Plan) -> Standing
     requires room { HasRoom standing.now plan.now.write }
     requires gained { standing.now.gained + 16 < 2 ^ 64 }

@@ -82,7 +82,7 @@ pub(crate) fn asked_by(made: Invocation, callbacks: usize) -> Option<Asked>
     }
 }
 
-/// How many callbacks a graph has; none where it isn't there.
+/// How many callbacks a graph has; none if it isn't there.
 fn callbacks_in(loaded: &Loaded, filter: usize) -> usize
     ensures { result ≡ length (graph_at loaded.now.graphs filter).callbacks }
 {
@@ -92,7 +92,7 @@ fn callbacks_in(loaded: &Loaded, filter: usize) -> usize
     }
 }
 
-/// How many callbacks a filter has; none where it isn't there.
+/// How many callbacks a filter has; none if it isn't there.
 pub(crate) fn callbacks(loaded: &Loaded, filter: usize) -> usize
     ensures { (p : List Filter) → AreLoaded p loaded.now → result ≡ length (callbacks_at p filter) }
 {

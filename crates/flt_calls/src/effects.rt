@@ -7,7 +7,7 @@ use counted_heap::Heap;
 use flt_model::{Event, Object};
 use std::alloc::AllocError;
 
-/// What a context variable names, as an object.
+/// The context that a variable names, as an object.
 pub(crate) fn context(variable: Option<usize>) -> Option<Object>
     ensures { result ≡ spec.context variable }
 {
@@ -17,7 +17,7 @@ pub(crate) fn context(variable: Option<usize>) -> Option<Object>
     }
 }
 
-/// What an operation variable names, as an object.
+/// The visit that an operation variable names, as an object.
 pub(crate) fn operation(variable: Option<usize>) -> Option<Object>
     ensures { result ≡ spec.operation variable }
 {
@@ -82,14 +82,14 @@ pub(crate) fn need(
     push_empties(heap, a, needs, events)
 }
 
-/// What a call names: an operation, and a context that the call need not have.
+/// The operands of a call: an operation, and a context that the call need not have.
 #[derive(Clone, Copy)]
 pub(crate) struct Named {
     pub(crate) visit: Option<usize>,
     pub(crate) context: Option<Option<usize>>,
 }
 
-/// Both are used, or reported where they are NULL.
+/// Both are used, or reported if they are NULL.
 pub(crate) fn need_named(
     heap: &mut Heap,
     a: usize,

@@ -1,4 +1,4 @@
-//! The plan of the instruction at which an activation stands.
+//! The plan of an activation's next instruction.
 
 ghost use Rattle.std.specs.Prelude.{◌≡◌, ◌≢◌, [], List, Bool, true, false, Some, IfOk, get_or, OnOk, OnErr};
 ghost use Rattle.flt_calls.specs.Decoding as spec;
@@ -31,7 +31,7 @@ use flt_store::{Change, Store};
 use flt_tree::{Action, PlainCall, Test};
 use std::alloc::{AllocError, Global};
 
-/// The plan of what can't stand at a point, or of what no other activation sees: it comes to nothing.
+/// The plan of an instruction that can't be at a point, or that no other activation sees: it does nothing.
 fn nothing(alloc: Global) -> Plan
     ensures events { result.events ≡ [] }
     ensures change { result.change ≡ Nothing }
@@ -204,7 +204,7 @@ fn plan_call(
     }
 }
 
-/// The plan of the step at which the caller stands. `grant` is the system's choice, where the step leaves one. The store isn't changed.
+/// The plan of the caller's next step. `grant` is the system's choice, if the step leaves one. The store isn't changed.
 pub fn plan_step(
     heap: &mut Heap,
     loaded: &Loaded,

@@ -8,21 +8,21 @@ use flt_store::Change;
 use flt_tree::{ContextVariable, NumberVariable, RemovedVariable};
 use sqlite_items::Items;
 
-/// What is written to the variables and the locks of an activation, or that it ends.
+/// The writes of a step to the variables and the locks of an activation, or the activation's end.
 #[derive(Clone, Copy)]
 pub enum Write {
     Nothing,
     Number(NumberVariable, u64),
     /// A variable that a call need not have receives a context, or becomes NULL.
     Output(Option<ContextVariable>, Option<usize>),
-    /// What was in front of a queue: a visit and a context.
+    /// The visit and the context of a queue's first entry go to two variables.
     Removed(RemovedVariable, Option<usize>, ContextVariable, Option<usize>),
     Take(LockNumber, Access),
     GiveUp(LockNumber),
     End,
 }
 
-/// What a step comes to: its events, whether the activation goes on where a call succeeds or a test holds, and its changes.
+/// The effect of a step: its events, whether the activation continues on the side where a call succeeds or a test holds, and its changes.
 #[derive(Drop)]
 pub struct Plan {
     pub events: Items<Event>,

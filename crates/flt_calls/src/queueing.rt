@@ -1,4 +1,4 @@
-//! Calls on the cancel-safe queue and on work items: what is handed over is no longer held, whether it was held or not.
+//! Calls on the cancel-safe queue and on work items: a visit or context that is handed over is no longer held, whether it was held or not.
 
 ghost use Rattle.std.specs.Prelude.{◌≡◌, ◌≢◌, ◌++◌, [], List, IfOk, OnOk, if◌then◌else◌, false, OnErr};
 ghost use Rattle.flt_model.specs.Calls as calls;
@@ -23,7 +23,7 @@ use flt_store::{Change, Store};
 use flt_tree::{ContextVariable, OperationVariable, RemovedVariable};
 use std::alloc::AllocError;
 
-/// What a call need not have names.
+/// The context that an optional operand names; none if the call hasn't the operand.
 fn named(standing: &Standing, variable: Option<ContextVariable>) -> Option<Option<usize>>
     ensures { result ≡ variables.named_in (activation_with standing.now []) variable }
 {
@@ -33,7 +33,7 @@ fn named(standing: &Standing, variable: Option<ContextVariable>) -> Option<Optio
     }
 }
 
-/// What a call hands over that names this variable.
+/// The operation and the context that a call with this variable hands over.
 fn handed(standing: &Standing, variable: Option<ContextVariable>) -> Named
     ensures visit { result.visit ≡ variables.operation_in (activation_with standing.now []) Data }
     ensures context { result.context ≡ variables.named_in (activation_with standing.now []) variable }
@@ -44,7 +44,7 @@ fn handed(standing: &Standing, variable: Option<ContextVariable>) -> Named
     }
 }
 
-/// A context that a call need not have.
+/// Adds the events for a context that a call need not have.
 fn need_optional(
     heap: &mut Heap,
     a: usize,
@@ -97,7 +97,7 @@ fn enqueued(
     }
 }
 
-/// Nothing is queued where the operation or the named context is NULL.
+/// Nothing is queued if the operation or the named context is NULL.
 fn insert_by(
     heap: &mut Heap,
     store: &Store,
@@ -202,7 +202,7 @@ fn deferred(
     }
 }
 
-/// Nothing is queued where the operation or the named context is NULL, or the system refuses.
+/// Nothing is queued if the operation or the named context is NULL, or the system refuses.
 fn defer_by(
     heap: &mut Heap,
     caller: &Caller,
@@ -254,7 +254,7 @@ fn queued(
     }
 }
 
-/// Nothing is queued where the named context is NULL, or the system refuses.
+/// Nothing is queued if the named context is NULL, or the system refuses.
 fn queue_by(
     heap: &mut Heap,
     caller: &Caller,

@@ -107,7 +107,7 @@ pub(crate) fn read_file(
     Ok(file_read(store, a, number, visit, events))
 }
 
-/// What is written: an atom, and what it stands for.
+/// A written value: an atom, and its number.
 #[derive(Clone, Copy)]
 struct Written {
     atom: Atom,

@@ -38,7 +38,7 @@ use flt_store::{Change, Store, Way};
 use flt_tree::{ContextVariable, OperationVariable, Status, named_context};
 use std::alloc::AllocError;
 
-/// What a variable names that a call need not have; none where the call hasn't it.
+/// The context that an optional operand names; none if the call hasn't the operand.
 fn named_in(standing: &Standing, variable: Option<ContextVariable>) -> Option<Option<usize>>
     ensures { result ≡ named_in (activation_with standing.now []) variable }
 {
@@ -60,7 +60,7 @@ fn there(named: Option<Option<usize>>) -> Option<usize>
 
 // ---- completion
 
-/// What settles a visit: the visit, the context for a frame, and where its operation is led.
+/// How a visit is settled: the visit, the context for a frame, and where its operation is led.
 #[derive(Clone, Copy)]
 struct Settled {
     visit: usize,
@@ -68,7 +68,7 @@ struct Settled {
     way: Way,
 }
 
-/// A call that completes an operation: the call, the status that it gives, what it names, and what it settles.
+/// A call that completes an operation: the call, the status that it gives, its operands, and the visit that it settles.
 #[derive(Clone, Copy)]
 struct Completion {
     call: Call,
@@ -115,7 +115,7 @@ fn tell_completion(
     need_named(heap, a, completion.named, events)
 }
 
-/// The call, by what is read of the activation.
+/// The plan of a call that completes an operation, by the reads of the activation.
 fn plan_completion(
     heap: &mut Heap,
     store: &Store,
@@ -174,7 +174,7 @@ fn post_answer(visit: Option<usize>) -> Option<Answer>
     }
 }
 
-/// What an answer settles; nothing where the context is NULL.
+/// The visit that an answer settles; none if the context is NULL.
 fn settled_by(
     loaded: &Loaded,
     store: &Store,
@@ -262,8 +262,8 @@ pub(crate) fn complete_post(
 
 // ---- the end
 
-/// What the end of a callback reads of its activation: whether its callback answers for its operation, the visit that it was given
-/// and whether it holds it, and what the context of the status names.
+/// The reads of an activation by the end of its callback: whether its callback answers for its operation, the visit that it was given and
+/// whether it holds it, and the context that the status names.
 #[derive(Clone, Copy)]
 struct Returning {
     answers: bool,
@@ -272,7 +272,7 @@ struct Returning {
     named: Option<Option<usize>>,
 }
 
-/// The visit is lost where it is held, and is settled either way; a frame takes the context over.
+/// The visit is lost if it is held, and settled in both cases; a frame takes the context over.
 fn tell_back(
     heap: &mut Heap,
     store: &Store,
@@ -299,7 +299,7 @@ fn tell_back(
     Ok(())
 }
 
-/// A status is given, or is missing where one is wanted; the context that goes with it is used.
+/// A status is given, or is missing if one is needed; the context that goes with it is used.
 fn tell_status(
     heap: &mut Heap,
     a: usize,
@@ -321,7 +321,7 @@ fn tell_status(
     }
 }
 
-/// The end, by what is read of the activation.
+/// The plan of a callback's end, by the reads of the activation.
 fn plan_return(
     heap: &mut Heap,
     loaded: &Loaded,

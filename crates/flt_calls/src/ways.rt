@@ -30,7 +30,7 @@ fn is_returned(answer: Answer) -> bool
     matches!(answer, Answer::Returned(_))
 }
 
-/// Before the filters below. What isn't a status of its own there goes on as NO_CALLBACK.
+/// Before the filters below. A status without a meaning of its own there is taken as NO_CALLBACK.
 fn way_before(has_post: bool, returned: bool, status: Option<Status>) -> Way
     ensures { parts.way_of result ≡ spec.way_before has_post returned status }
 {

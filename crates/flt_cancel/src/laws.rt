@@ -1,8 +1,8 @@
-//! What the rule comes to: laws of the pads between any two steps.
+//! The consequences of the rule: laws of the pads between any two steps.
 ghost use Rattle.flt_cancel.specs.Laws.{NoneIsInvented, NoneIsLost, OneHistory};
 
-/// Between any two steps each serial was collected at most as often as it was asked, where its present bit counts as one collection more;
-/// and a serial that was asked was collected or is present.
+/// Between any two steps each serial was collected at most as often as it was asked, counting its present bit as one collection more; and a
+/// serial that was asked was collected or is present.
 pub fn none_invented()
     ensures { NoneIsInvented }
 {}

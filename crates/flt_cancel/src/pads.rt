@@ -16,9 +16,9 @@ const WORDS: usize = 1024;
 /// How many serials a group has: those of 16 words.
 const SERIALS_OF_GROUP: u32 = 1024;
 
-/// Requests to cancel, one bit each: serial `s` is bit `s % 64` of word `s / 64`. Sixteen words are a group, and each group has a mark, which
-/// says that one of its words is to be looked at. Marks are asked for and collected as requests are, in words of their own: that of group `g`
-/// is bit `g` of the first one.
+/// Requests to cancel, one bit each: serial `s` is bit `s % 64` of word `s / 64`. Sixteen words are a group, and each group has a mark,
+/// which says that one of its words must be looked at. Marks are set and collected as requests are, in words of their own: the mark of
+/// group `g` is bit `g` of the first one.
 #[derive(Drop)]
 pub struct Pads {
     words: Words,
@@ -54,8 +54,8 @@ impl Pads {
         ))
     }
 
-    /// Asks for a serial, in one step, and then sets its group's mark, in another. The serial stays asked until some seat collects it, however
-    /// often it is asked before that. Whoever collects the mark finds the request in its word, unless it was collected before.
+    /// Asks for a serial, in one step, and then sets its group's mark, in another. The serial stays asked until some seat collects it,
+    /// however often it is asked before that. Whoever collects the mark finds the request in its word, unless it was collected before.
     pub fn ask(&self, seat: &mut Seat, serial: u32)
         requires serial { serial < 65536 }
         requires seat { IsSeatOf self.now seat.old }
@@ -87,8 +87,8 @@ impl Pads {
         self.words.collect(&mut seat.token, word)
     }
 
-    /// Takes all marks, in one step. Bit `g` of the result is the mark of group `g`, whose words are `16 * g` to `16 * g + 15`. Whoever does
-    /// so collects these words, or sets the marks again.
+    /// Takes all marks, in one step. Bit `g` of the result is the mark of group `g`, whose words are `16 * g` to `16 * g + 15`. Whoever
+    /// does so collects these words, or sets the marks again.
     pub fn unmark(&self, seat: &mut Seat) -> u64
         requires { IsSeatOf self.now seat.old }
         ensures seat { IsSeatOf self.now seat.new }

@@ -1,4 +1,4 @@
-//! The rule that the words and the views keep between any two steps, and what each kind of step tells its seat.
+//! The rule that the words and the views keep between any two steps, and the change of a view by each kind of step.
 
 use crate::View;
 use atomic_table::{Play, Split, TableRule};

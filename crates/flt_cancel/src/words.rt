@@ -1,4 +1,4 @@
-//! A table of words under the rule, and what a token does there.
+//! A table of words under the rule, and the steps of a token there.
 ghost use Rattle.std.specs.Prelude.{◌≡◌, ℕ, ◌<◌, ◌++◌, ◌∷◌, [], All};
 ghost use Rattle.flt_cancel.specs.Serials.{serials, IsPresent};
 ghost use Rattle.flt_cancel.specs.Steps.{words_after, IsNext, WasAsked};
@@ -39,7 +39,7 @@ impl Words {
         words.fetch_or::<Asks>(token, word, bit);
     }
 
-    /// Takes all that was asked for in a word, in one step.
+    /// Takes all requests of a word, in one step.
     pub(crate) fn collect(&self, token: &mut Token, word: usize) -> u64
         requires word { word < 1024 }
         requires token { token.old.table_id ≡ self.now.table.shared.table_id }

@@ -8,8 +8,8 @@ use std::alloc::{AllocError, Global};
 use std::collections::VecDeque;
 use std::marker::Model;
 
-/// The nodes of one visit in their order, at least one. There is a second one only where a visit was queued twice, which no accepted
-/// filter does: so mostly a chain takes no memory of its own.
+/// The nodes of one visit in their order, at least one. There is a second one only if a visit was queued twice, which no accepted filter
+/// does: so mostly a chain takes no memory of its own.
 #[derive(Drop)]
 pub(crate) struct Chain {
     first: NodeId,

@@ -1,4 +1,4 @@
-//! What stands in a queue.
+//! The entries of queues.
 
 /// A pended operation's visit by its number, with the context that was given with it.
 #[derive(Clone, Copy, Debug, PartialEq, Eq)]

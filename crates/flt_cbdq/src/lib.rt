@@ -1,13 +1,13 @@
 //! Cancel-safe queues: for each filter a sequence of pended operations' visits, first in first out, that can be disabled.
 //!
-//! A queue is a list of nodes of `ilist_core`; entries stand beside it by the number of the node, and each queue finds the nodes of a
-//! visit in a B-tree. With n entries in the queue of the filter that is named, a call takes
+//! A queue is a list of nodes of `ilist_core`; a table has the entries by the number of the node, and each queue finds the nodes of a visit
+//! in a B-tree. With n entries in the queue of the filter that is named, a call takes
 //!
 //! | Call | Time |
 //! |---|---|
 //! | `insert` | logarithmic in n, over many calls: rows by node number grow as a `Vec` does |
 //! | `remove_next`, `remove` | logarithmic in n |
-//! | `first_of` | logarithmic in n for each visit that is named; where several of them stand in the queue, as many steps as stand before the entry that is found, for each of them |
+//! | `first_of` | logarithmic in n for each given visit; if several have entries, also the steps to the found entry, for each |
 //! | `entry` | as many steps as the place |
 //! | `walk`, and each entry of the walk | constant |
 //! | `disable` | constant |
@@ -30,5 +30,5 @@ pub use entry::Entry;
 pub use fault::InsertFault;
 pub use queues::Queues;
 pub use walk::Walk;
-/// What making the queues answers where there is no memory.
+/// The answer of making the queues if memory is refused.
 pub use std::alloc::AllocError as OutOfMemory;

@@ -26,7 +26,7 @@ pub(crate) fn entry_of(entries: &[Entry], node: NodeId) -> &Entry
     }
 }
 
-/// Makes room for the entry of a node. The rows up to it are filled with what is read where there is none.
+/// Makes room for the entry of a node. The rows up to it are filled with the entry that is read where no row is.
 fn make_room(heap: &mut Heap, entries: &mut Vec<Entry>, node: NodeId) -> Result<(), AllocError>
     ensures room { OnOk result (node < length entries.new.items) }
     ensures same { (other : ℕ) → entry_at entries.new.items other ≡ entry_at entries.old.items other }
@@ -112,7 +112,7 @@ pub(crate) fn find_node(
     None
 }
 
-/// The same, where the nodes of each visit are noted: a walk along the list is made only where several of the visits have a node.
+/// The same, if the nodes of each visit are noted: it walks along the list only if several of the visits have a node.
 pub(crate) fn first_node(
     lists: &Lists,
     entries: &[Entry],

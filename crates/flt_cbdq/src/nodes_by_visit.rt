@@ -45,7 +45,7 @@ impl NodesByVisit {
         }
     }
 
-    /// Puts a node behind the others of a visit.
+    /// Puts a node after the others of a visit.
     #[tactic(auto, unfolding(crate::specs::Kept::nodes_with))]
     pub(crate) fn push(
         &mut self,

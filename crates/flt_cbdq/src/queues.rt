@@ -11,7 +11,7 @@ use counted_heap::Heap;
 use ilist_core::Lists;
 use std::marker::Model;
 
-/// What is kept of one queue beside its list.
+/// The data of one queue beside its list.
 #[derive(Drop)]
 struct Queue {
     nodes: NodesByVisit,
@@ -167,7 +167,7 @@ impl Queues {
         Walk::new(&self.lists, self.entries.as_slice(), filter)
     }
 
-    /// From now on the filter's queue takes no entry. What is in it stays.
+    /// From now on the filter's queue takes no entry. Its entries stay.
     pub fn disable(&mut self, filter: usize)
         ensures { self.new ≡ record self.old { disabled = set self.old.disabled filter true } }
     {

@@ -34,7 +34,7 @@ impl<'a> Model for Walk<'a> {
 }
 
 impl<'a> Walk<'a> {
-    /// A walk along the list of a number. Where it isn't there, nothing is left.
+    /// A walk along the list of a number. If it isn't there, nothing is left.
     pub(crate) fn new(lists: &'a Lists, entries: &'a [Entry], number: usize) -> Walk<'a>
         ensures { result ≡ get_or (entries_of entries.now lists.now.lists) number [] }
     {

@@ -6,7 +6,7 @@ ghost use Rattle.flt_cert.specs.Spelling.{callbacks_in};
 use crate::full_cert::FullCert;
 use crate::thin_cert::ThinCert;
 
-/// What may be so at the points of each callback: at all of them, or at those that don't follow from others.
+/// The abstract states at the points of each callback: at all of them, or at those whose states don't follow from others.
 #[derive(Drop)]
 pub enum Cert {
     Full(FullCert),
@@ -14,7 +14,7 @@ pub enum Cert {
 }
 
 impl Cert {
-    /// How many callbacks it has.
+    /// The number of its callbacks.
     pub fn callback_count(&self) -> usize
         ensures { result ≡ callbacks_in self.now }
     {

@@ -1,4 +1,4 @@
-//! Why no certificate was read.
+//! The faults for which no certificate is read.
 
 ghost use Rattle.flt_cert.specs.declared.fault.CertFault.TheVariants.{OutOfMemory};
 ghost use Rattle.std.specs.Prelude.{◌≡◌};

@@ -1,4 +1,4 @@
-//! What stands in one line.
+//! The fields of one line.
 
 ghost use Rattle.std.specs.Prelude.{◌≡◌, ◌<◌, ◌≤◌, ◌+◌, ◌*◌, ◌&&◌, nat_lt, [], ◌∷◌, length, is_some, false, Some, None, IsTrue, IsFalse, IfSome};
 ghost use Rattle.std.specs.Option.{option_copied, option_map};
@@ -23,10 +23,10 @@ const FIRST_THIN_LINE: &[u8] = b"fltcert 2\n";
 
 const CALLBACK: &[u8] = b"callback ";
 
-/// How many locks a filter has at most.
+/// The most locks of a filter.
 const MAX_LOCKS: usize = 8;
 
-/// What follows `front` at the front of a text.
+/// The rest of a text that begins with `front`.
 fn after<'a>(front: &[u8], text: &'a [u8]) -> Option<&'a [u8]>
     ensures { option_copied result ≡ text_spec.after front.now text.now }
 {
@@ -39,7 +39,7 @@ fn after<'a>(front: &[u8], text: &'a [u8]) -> Option<&'a [u8]>
     }
 }
 
-/// What follows a byte at the front of a text.
+/// The rest of a text that begins with this byte.
 #[inline(always)]
 fn after_byte(front: u8, text: &[u8]) -> Option<&[u8]>
     ensures { option_copied result ≡ text_spec.after (front ∷ []) text.now }
@@ -50,7 +50,7 @@ fn after_byte(front: u8, text: &[u8]) -> Option<&[u8]>
     }
 }
 
-/// What follows a number in decimal.
+/// The rest of a text that begins with a number in decimal.
 #[inline(always)]
 pub(crate) fn after_number(number: usize, text: &[u8]) -> Option<&[u8]>
     requires { number < 1000 }
@@ -85,7 +85,7 @@ fn is_set(digit: u8) -> bool
     b'1' <= digit && digit <= b'7'
 }
 
-/// Sets each of `sets` by its digit. Whether each is a digit of a set.
+/// Sets each of `sets` by its digit. Returns whether each digit is that of a set.
 #[inline(always)]
 pub(crate) fn fill(sets: &mut [Statuses], digits: &[u8]) -> bool
     requires { length sets.old ≡ length digits.now }
@@ -101,7 +101,7 @@ pub(crate) fn fill(sets: &mut [Statuses], digits: &[u8]) -> bool
     known
 }
 
-/// As many bytes, and what follows them.
+/// The first `len` bytes, and the rest.
 #[inline(always)]
 pub(crate) fn front_of(text: &[u8], len: usize) -> Option<(&[u8], &[u8])>
     ensures value { option_map (λ x. (x.0.now, x.1.now)) result ≡ spec.front_of len text.now }
@@ -134,7 +134,7 @@ pub(crate) fn draining_of(digit: u8) -> Option<Draining>
     }
 }
 
-/// One byte, and what follows it.
+/// The first byte, and the rest.
 #[inline(always)]
 fn byte_at(text: &[u8]) -> Option<(u8, &[u8])>
     ensures { option_map (λ x. (x.0, x.1.now)) result ≡ spec.byte_at text.now }
@@ -159,7 +159,7 @@ fn lock_of(found: &LockList, digit: u8) -> Option<LockNumber>
     }
 }
 
-/// How a lock is held, by what stands behind its digit, and what follows.
+/// The access to a lock, by the letter that may follow its digit, and the rest.
 #[inline(always)]
 fn access_at(text: &[u8]) -> (Access, &[u8])
     ensures { (result.0, result.1.now) ≡ spec.access_at text.now }
@@ -170,7 +170,7 @@ fn access_at(text: &[u8]) -> (Access, &[u8])
     }
 }
 
-/// The locks with one more, and what follows it.
+/// The locks with one more, and the rest.
 fn with_lock(mut locks: LockList, text: &[u8]) -> Option<(LockList, &[u8])>
     ensures { option_map (λ x. (x.0, x.1.now)) result ≡ spec.with_lock locks text.now }
 {
@@ -181,7 +181,7 @@ fn with_lock(mut locks: LockList, text: &[u8]) -> Option<(LockList, &[u8])>
     Some((locks, text))
 }
 
-/// The locks up to the end of the line, behind those that were found, if so many may still come.
+/// The locks up to the end of the line, added to those that were found, if there are at most `left` of them.
 fn locks_from(left: usize, found: LockList, text: &[u8]) -> Option<LockList>
     ensures { result ≡ spec.locks_from left found text.now }
 {
@@ -252,7 +252,7 @@ fn state_at(alloc: Global, text: &[u8]) -> Option<Abs>
     made(contexts, operations, modes, draining, locks)
 }
 
-/// What may be so at a point, from its line; the inner `None` where it isn't reached.
+/// The abstract state at a point, from its line. The inner `None` means that the point isn't reached.
 #[tactic(auto, unfolding(crate::specs::Reading::point_of))]
 pub(crate) fn point_of(alloc: Global, number: usize, line: &[u8]) -> Option<Option<Abs>>
     requires { number < 1000 }
@@ -265,7 +265,7 @@ pub(crate) fn point_of(alloc: Global, number: usize, line: &[u8]) -> Option<Opti
     Some(Some(state_at(alloc, text)?))
 }
 
-/// A number with one more digit and what follows it, where a digit stands there.
+/// The number with one more digit, and the rest, if a digit comes next.
 #[inline(always)]
 fn with_digit(number: usize, text: &[u8]) -> (usize, &[u8])
     requires { number < 100 }
@@ -280,7 +280,7 @@ fn with_digit(number: usize, text: &[u8]) -> (usize, &[u8])
     }
 }
 
-/// The number of the first digits, three at most; 0 where there is none.
+/// The number of the first digits, three at most, or 0 if there are none.
 #[inline(always)]
 fn number_at(text: &[u8]) -> usize
     ensures value { result ≡ thin_spec.number_at text.now }
@@ -292,7 +292,7 @@ fn number_at(text: &[u8]) -> usize
     number
 }
 
-/// The point that a line gives, with its number: not below `least`, and below `count`.
+/// The point that a line gives, and its number, which is not below `least`, and is below `count`.
 #[tactic(auto, unfolding(crate::specs::ThinReading::given_at))]
 pub(crate) fn given_at(
     alloc: Global,
@@ -310,7 +310,7 @@ pub(crate) fn given_at(
     Some((number, point))
 }
 
-/// How many points a callback has, from its line.
+/// The number of points of a callback, from its line.
 #[tactic(auto, unfolding(crate::specs::Reading::head_of))]
 pub(crate) fn head_of(number: usize, line: &[u8]) -> Option<usize>
     requires { number < 1000 }
@@ -321,7 +321,7 @@ pub(crate) fn head_of(number: usize, line: &[u8]) -> Option<usize>
     count_of(blank(after_number(number, text)?)?)
 }
 
-/// A digit that may stand first.
+/// The value of a digit that may come first.
 fn leading(byte: u8) -> Option<usize>
     ensures { result ≡ text_spec.leading byte }
 {

@@ -1,4 +1,4 @@
-//! The lines of states that hold no lock. Behind their numbers, all of them have one length, so their ends aren't searched for.
+//! The lines of states that hold no lock. After their numbers, all of them have one length, so their ends need no search.
 
 ghost use Rattle.std.specs.Prelude.{◌≡◌, ◌<◌, ◌↔◌, [], ◌∷◌, ◌++◌, length, Some, IsTrue, IfSome};
 ghost use Rattle.flt_abs.specs.State.{is_proper};
@@ -9,22 +9,22 @@ use crate::fields::{after_number, draining_of, fill, front_of, modes_of};
 use flt_abs::{Abs, CONTEXTS, LockList, OPERATIONS, Statuses};
 use std::alloc::Global;
 
-/// How many bytes such a line has behind its number.
+/// The number of bytes of such a line after its number.
 const WIDTH: usize = 23;
 
-/// The least byte that may stand at each place.
+/// The least legal byte at each place.
 static LEAST: [u8; WIDTH] = *b" 111111111 11111 1 1 -\n";
 
-/// The greatest byte that may stand at each place.
+/// The greatest legal byte at each place.
 static GREATEST: [u8; WIDTH] = *b" 777777777 77777 3 3 -\n";
 
-/// How many bytes are compared at once. Two such groups cover a line.
+/// The number of bytes that are compared at once. Two such groups cover a line.
 const GROUP: usize = 16;
 
 /// Where the second group begins. It ends with the line.
 const SECOND: usize = WIDTH - GROUP;
 
-/// Whether a byte may stand at a place.
+/// Whether a byte is legal at a place.
 #[inline(always)]
 fn is_within(place: usize, byte: u8) -> bool
     requires { place < 23 }
@@ -33,7 +33,7 @@ fn is_within(place: usize, byte: u8) -> bool
     (LEAST[place] <= byte) & (byte <= GREATEST[place])
 }
 
-/// Whether each byte may stand at its place. It looks at all of them, since a branch for each byte takes longer.
+/// Whether each byte is legal at its place. It looks at all of them, since a branch for each byte takes longer.
 #[inline(never)]
 #[tactic(auto, using(crate::proofs::FixedWidthLaws::all_compared))]
 fn are_in_bounds(bytes: &[u8]) -> bool
@@ -48,7 +48,7 @@ fn are_in_bounds(bytes: &[u8]) -> bool
     within
 }
 
-/// The state that the bytes behind a number spell.
+/// The state that the bytes after a number spell.
 #[inline(always)]
 fn state_of(alloc: Global, bytes: &[u8]) -> Abs
     requires long { length bytes.now ≡ 23 }
@@ -66,7 +66,7 @@ fn state_of(alloc: Global, bytes: &[u8]) -> Abs
     Abs::new(contexts, operations, modes, draining, LockList::none(alloc)).unwrap()
 }
 
-/// The state of the point with this number, and what follows its line, where that has the fixed width.
+/// The state of the point with this number, and the rest after its line, if that has the fixed width.
 #[inline(always)]
 pub(crate) fn fixed_state(alloc: Global, number: usize, text: &[u8]) -> Option<(Abs, &[u8])>
     requires { number < 1000 }

@@ -1,4 +1,4 @@
-//! Certificates as values: format 1, with what may be so at each point.
+//! Certificates as values: format 1, with the abstract state at each point.
 
 ghost use Rattle.std.specs.Prelude.{◌≡◌, ◌<◌, ◌↔◌, length, [], get_or, IsTrue, IsSome, IfSome};
 ghost use Rattle.std.specs.List.{list_all};
@@ -9,14 +9,14 @@ use flt_abs::Abs;
 use sqlite_items::Items;
 use std::marker::Model;
 
-/// How many callbacks a certificate has at most.
+/// The most callbacks of a certificate.
 pub const MAX_CALLBACKS: usize = 16;
 
-/// How many points a callback has at most.
+/// The most points of a callback.
 pub const MAX_POINTS: usize = 512;
 
-/// What may be so at each point of each callback; nothing where the point isn't reached. It has 1 to 16
-/// callbacks, and each of them 1 to 512 points.
+/// The abstract state at each point of each callback, or none if the point isn't reached. It has 1 to 16 callbacks, and each of them 1 to
+/// 512 points.
 #[derive(Drop)]
 pub struct FullCert {
     callbacks: Items<Items<Option<Abs>>>,
@@ -34,7 +34,7 @@ impl Model for FullCert {
 }
 
 impl FullCert {
-    /// The certificate with these points, callback by callback; none where there are too few or too many.
+    /// The certificate with these points, callback by callback, or none if there are too few or too many.
     pub fn new(callbacks: Items<Items<Option<Abs>>>) -> Option<FullCert>
         ensures known { IsSome result ↔ IsTrue (spec.is_certificate callbacks) }
         ensures value { IfSome result (λ c. c ≡ callbacks) }
@@ -54,7 +54,7 @@ impl FullCert {
         self.callbacks.as_slice()
     }
 
-    /// The points of a callback, none where there is no such callback.
+    /// The points of a callback, or none if there is no such callback.
     #[tactic(auto, using(crate::proofs::Certificates::no_points))]
     pub fn points(&self, callback: usize) -> &[Option<Abs>]
         ensures { result.now ≡ get_or self.now callback [] }
@@ -65,7 +65,7 @@ impl FullCert {
         }
     }
 
-    /// What may be so at a point; nothing where it isn't reached, or isn't there.
+    /// The abstract state at a point, or none if it isn't reached or isn't there.
     pub fn state(&self, callback: usize, point: usize) -> Option<&Abs>
         ensures { option_copied result ≡ get_or (get_or self.now callback []) point None }
     {

@@ -78,7 +78,7 @@ fn finish(
     Ok(found)
 }
 
-/// Whether the line is the last one, behind these callbacks.
+/// Whether the line is the last one, after these callbacks.
 fn is_last(found: &Items<Items<Option<Abs>>>, line: &[u8]) -> bool
     ensures { result ≡ spec.is_last found.now line.now }
 {
@@ -114,7 +114,7 @@ fn certificate(alloc: Global, lines: &mut Lines) -> Result<Items<Items<Option<Ab
     callbacks(alloc, lines)
 }
 
-/// The certificate that the bytes spell in format 1, all of the bytes.
+/// The certificate that all of the bytes spell in format 1.
 pub(crate) fn read_full(alloc: Global, bytes: &[u8]) -> Result<FullCert, CertFault>
     // What is read is spelled so.
     ensures spelled { IfOk result (λ cert. bytes.now ≡ format.full_spelling cert) }

@@ -1,4 +1,4 @@
-//! Which points a thin certificate keeps.
+//! The points that a thin certificate keeps.
 
 ghost use Rattle.std.specs.Prelude.{◌≡◌, ◌+◌, ◌<◌, ℕ, false, get_or, length};
 ghost use Rattle.flt_cert.specs.Counts.{AreCounts};
@@ -47,7 +47,7 @@ fn count_edges(edges: &mut [u8], instruction: &Instruction)
     }
 }
 
-/// How many edges lead into each point of a callback, two at most.
+/// The number of edges that lead into each point of a callback, two at most.
 fn edges_in(graph: &Graph, callback: usize) -> [u8; MAX_POINTS]
     ensures counts { AreCounts result (spec.edges_into graph.now callback) }
     ensures long { length result ≡ 512 }
@@ -76,7 +76,7 @@ fn is_kept(graph: &Graph, edges: &[u8], callback: usize, point: usize) -> bool
     point == 0 || is_repeat(graph.instruction_ref(callback, point)) || 1 < edges[point]
 }
 
-/// Whether each point of a callback is kept, as far as 512 points: the first one, each `repeat`, and each one into which two edges or more
+/// Whether each point of a callback is kept, up to 512 points: the first one, each `repeat`, and each one into which two edges or more
 /// lead. The two sides of one statement count as two.
 pub fn kept_points(graph: &Graph, callback: usize) -> [bool; MAX_POINTS]
     ensures kept { (p : ℕ) → p < 512 → get_or result p false ≡ spec.is_kept graph.now callback p }

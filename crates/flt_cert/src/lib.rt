@@ -1,5 +1,5 @@
-//! Certificates: what may be so at each point of each callback, or only at those that don't follow from the points before them; and their
-//! text, which is read and written in both formats.
+//! Certificates: the abstract states at all points of callbacks, or only at those that don't follow from the points before, and their text,
+//! which is read and written in both formats.
 #![tactic(auto)]
 
 mod cert;

@@ -11,7 +11,7 @@ use flt_abs::Abs;
 use std::alloc::Global;
 use std::marker::Model;
 
-/// What is left of a text, and how many lines were taken from it.
+/// The rest of a text, and the number of lines taken from it.
 #[derive(Drop)]
 pub(crate) struct Lines<'a> {
     number: usize,
@@ -55,7 +55,7 @@ impl<'a> Lines<'a> {
         Ok(line)
     }
 
-    /// The state of the point with this number, where the next line has the fixed width. Otherwise no line is taken.
+    /// The state of the point with this number, if the next line has the fixed width. Otherwise no line is taken.
     #[inline(always)]
     #[tactic(auto, using(crate::proofs::Complete::state_read))]
     pub(crate) fn state(&mut self, alloc: Global, number: usize) -> Option<Abs>
@@ -69,7 +69,7 @@ impl<'a> Lines<'a> {
         Some(state)
     }
 
-    /// What the latest line says, or that it is malformed.
+    /// The value found in the latest line, or the fault that the line is malformed.
     pub(crate) fn asked<T: Drop>(&self, what: Option<T>) -> Result<T, CertFault>
         ensures value { spec.Reads (spec.asked what self.now) result self.now }
         ensures said { IfOk result (λ x. what ≡ Some x) }
@@ -77,14 +77,14 @@ impl<'a> Lines<'a> {
         what.ok_or(self.refused())
     }
 
-    /// That the latest line is malformed.
+    /// The fault that the latest line is malformed.
     pub(crate) fn refused(&self) -> CertFault
         ensures { result ≡ CertFault.Line self.now.number }
     {
         CertFault::Line(self.number)
     }
 
-    /// That no line is left.
+    /// Checks that no line is left.
     #[tactic(auto, using(crate::proofs::LineLaws::closed_more), unfolding(crate::specs::Reading::closed))]
     pub(crate) fn end(&self) -> Result<(), CertFault>
         ensures { spec.Reads (spec.closed self.now) result self.now }
@@ -97,7 +97,7 @@ impl<'a> Lines<'a> {
     }
 }
 
-/// How many of a few bytes stand before the first line feed.
+/// The number of bytes before the first line feed, or of all if there is none, in a text of few bytes.
 fn len_of_few(text: &[u8]) -> usize
     ensures value { result ≡ position_or_len (λ b. b == 10) text.now }
     ensures within { result ≤ length text.now }
@@ -109,7 +109,7 @@ fn len_of_few(text: &[u8]) -> usize
     len
 }
 
-/// How many bytes stand before the first line feed, or are there at all. It looks at four at once.
+/// The number of bytes before the first line feed, or of all if there is none. It looks at four at once.
 fn len_before_feed(text: &[u8]) -> usize
     ensures { result ≡ position_or_len (λ b. b == 10) text.now }
 {
@@ -133,7 +133,7 @@ fn len_before_feed(text: &[u8]) -> usize
     text.len() - rest.len() + len_of_few(rest)
 }
 
-/// How long the first line is, with its LF if it has one.
+/// The length of the first line, with its LF if it has one.
 #[tactic(auto, using(crate::proofs::LineLaws::whole_line, crate::proofs::LineLaws::unended_line))]
 fn line_len(text: &[u8]) -> usize
     requires { 0 < length text.now }

@@ -11,7 +11,7 @@ use crate::full_reader::read_full;
 use crate::thin_reader::read_thin;
 use std::alloc::Global;
 
-/// The certificate that the bytes spell, all of the bytes. The first line says in which format.
+/// The certificate that all of the bytes spell. The first line determines the format.
 pub fn read(alloc: Global, bytes: &[u8]) -> Result<Cert, CertFault>
     // What is read is spelled so.
     ensures spelled { IfOk result (λ cert. bytes.now ≡ spec.spelling cert) }

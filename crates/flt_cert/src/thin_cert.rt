@@ -1,4 +1,4 @@
-//! Thin certificates as values: format 2, with what may be so at the points that don't follow from those before them.
+//! Thin certificates as values: format 2, with the abstract states at the points whose states don't follow from those before.
 
 ghost use Rattle.std.specs.Prelude.{◌≡◌, ◌<◌, ◌↔◌, length, [], get_or, IsTrue, IsSome, IfSome};
 ghost use Rattle.std.specs.List.{list_all};
@@ -9,11 +9,11 @@ use flt_abs::Abs;
 use sqlite_items::Items;
 use std::marker::Model;
 
-/// What is given of a point: what may be so there, or nothing.
+/// The abstract state given at a point, if one is given.
 pub type Slot = Option<Option<Abs>>;
 
-/// What may be so at some points of each callback, a slot for each point: the others follow from those. It has 1 to 16 callbacks, and each
-/// of them 1 to 512 points, of which the first is given.
+/// The abstract states at some points of each callback, a slot for each point: the others follow from those. It has 1 to 16 callbacks, and
+/// each of them 1 to 512 points, of which the first is given.
 #[derive(Drop)]
 pub struct ThinCert {
     callbacks: Items<Items<Slot>>,
@@ -31,8 +31,8 @@ impl Model for ThinCert {
 }
 
 impl ThinCert {
-    /// The thin certificate with these slots, callback by callback; none where there are too few or too many, or where the first point
-    /// of a callback isn't given.
+    /// The thin certificate with these slots, callback by callback, or none if there are too few or too many, or if the first point of a
+    /// callback isn't given.
     pub fn new(callbacks: Items<Items<Slot>>) -> Option<ThinCert>
         ensures known { IsSome result ↔ IsTrue (spec.is_thin callbacks) }
         ensures value { IfSome result (λ t. t ≡ callbacks) }
@@ -52,7 +52,7 @@ impl ThinCert {
         self.callbacks.as_slice()
     }
 
-    /// The slots of a callback, none where there is no such callback.
+    /// The slots of a callback, or none if there is no such callback.
     #[tactic(auto, using(crate::proofs::Slots::no_slots))]
     pub fn slots(&self, callback: usize) -> &[Slot]
         ensures { result.now ≡ get_or self.now callback [] }

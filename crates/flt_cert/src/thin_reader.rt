@@ -23,7 +23,7 @@ fn first(lines: &mut Lines) -> Result<(), CertFault>
     lines.asked(is_first_thin(line))
 }
 
-/// Adds slots that give nothing, until there are so many.
+/// Adds slots that give nothing, until there are `count`.
 #[tactic(auto, using(crate::proofs::ThinReadLaws::padded_step, crate::proofs::ThinReadLaws::padded_done))]
 fn pad(found: &mut Items<Slot>, count: usize) -> Result<(), AllocError>
     ensures { OnOk result (found.new ≡ spec.padded count found.old) }
@@ -34,7 +34,7 @@ fn pad(found: &mut Items<Slot>, count: usize) -> Result<(), AllocError>
     Ok(())
 }
 
-/// Adds the points that follow, and those between that aren't given; the line behind them, which is taken too.
+/// Adds the points that follow, and those between that aren't given. Returns the line after them, which is taken too.
 #[tactic(auto, using(crate::proofs::ThinReadLaws::no_slot_line, crate::proofs::ThinReadLaws::last_slot, crate::proofs::ThinReadLaws::no_slot_left, crate::proofs::ThinReadLaws::next_slot))]
 fn slots_from<'a>(
     alloc: Global,
@@ -59,7 +59,7 @@ fn slots_from<'a>(
     Ok(line)
 }
 
-/// The points of one callback, of which the first is given, and the line behind them.
+/// The points of one callback, of which the first is given, and the line after them.
 #[tactic(auto, unfolding(crate::specs::ThinReading::slots))]
 fn slots<'a>(
     alloc: Global,
@@ -76,7 +76,7 @@ fn slots<'a>(
     Ok((found, line))
 }
 
-/// The callback with this number, from its first line on, and the line behind it.
+/// The callback with this number, from its first line on, and the line after it.
 #[tactic(auto, unfolding(crate::specs::ThinReading::thin_callback))]
 fn callback<'a>(
     alloc: Global,
@@ -99,7 +99,7 @@ fn finish(lines: &Lines, found: Items<Items<Slot>>) -> Result<Items<Items<Slot>>
     Ok(found)
 }
 
-/// Whether the line is the last one, behind these callbacks.
+/// Whether the line is the last one, after these callbacks.
 fn is_last(found: &Items<Items<Slot>>, line: &[u8]) -> bool
     ensures { result ≡ spec.is_thin_end found.now line.now }
 {
@@ -148,7 +148,7 @@ fn certificate(alloc: Global, lines: &mut Lines) -> Result<Items<Items<Slot>>, C
     callbacks(alloc, lines)
 }
 
-/// The thin certificate that the bytes spell in format 2, all of the bytes.
+/// The thin certificate that all of the bytes spell in format 2.
 pub(crate) fn read_thin(alloc: Global, bytes: &[u8]) -> Result<ThinCert, CertFault>
     // What is read is spelled so.
     ensures spelled { IfOk result (λ t. bytes.now ≡ thin_spelling t) }

@@ -1,4 +1,4 @@
-//! What is left of a certificate in a thin one.
+//! The thinning of certificates.
 
 ghost use Rattle.std.specs.Prelude.{◌≡◌, ◌<◌, length, IfOk};
 ghost use Rattle.flt_cert.specs.Spelling.{thinned};
@@ -45,7 +45,7 @@ fn thin_points(
     Ok(slots)
 }
 
-/// What is left of a full certificate at the points that are kept.
+/// The thin certificate of a full one, with the points that are kept.
 fn thin_full(alloc: Global, graph: &Graph, full: &FullCert) -> Result<ThinCert, AllocError>
     ensures { IfOk result (λ t. t ≡ spec.thin graph.now full.now) }
 {
@@ -76,7 +76,7 @@ fn same_slots(alloc: Global, slots: &[Slot]) -> Result<Items<Slot>, AllocError>
     Ok(same)
 }
 
-/// The same thin certificate once more.
+/// A copy of a thin certificate.
 fn same_thin(alloc: Global, thin: &ThinCert) -> Result<ThinCert, AllocError>
     ensures { IfOk result (λ t. t ≡ thin.now) }
 {
@@ -87,8 +87,8 @@ fn same_thin(alloc: Global, thin: &ThinCert) -> Result<ThinCert, AllocError>
     Ok(ThinCert::new(callbacks).unwrap())
 }
 
-/// The thin certificate that is left of one: a full one keeps what may be so at the points that are kept, a thin one stays as it is. Where
-/// the certificate covers the text of the graph, this one does too.
+/// The thin certificate of any: a full one keeps the abstract states at the points that are kept, a thin one stays as it is. If the
+/// certificate covers the text of the graph, this one does too.
 pub fn thin(alloc: Global, graph: &Graph, cert: &Cert) -> Result<Cert, AllocError>
     ensures { IfOk result (λ c. c ≡ thinned graph.now cert.now) }
 {

@@ -14,7 +14,7 @@ use flt_abs::{Abs, Statuses};
 use flt_rules::{Access, HeldLock};
 use std::alloc::{AllocError, Global};
 
-/// How long the line of a point is at most, where no lock is held. At most points none is.
+/// The greatest length of the line of a point at which no lock is held. At most points none is.
 const POINT_LINE: usize = 26;
 
 const LAST_LINE: &[u8] = b"end\n";
@@ -122,7 +122,7 @@ fn push_more_locks(out: &mut Vec<u8>, locks: &[HeldLock]) -> Result<(), AllocErr
     Ok(())
 }
 
-/// Adds the fields of a state. There is room for all of them where it holds no lock.
+/// Adds the fields of a state. There is room for all of them if it holds no lock.
 fn push_state(out: &mut Vec<u8>, state: &Abs) -> Result<(), AllocError>
     requires { vec_len out.old + 21 ≤ vec_capacity out.old }
     ensures { OnOk result (out.new.items ≡ out.old.items ++ format.state_text state.now) }

@@ -9,7 +9,7 @@ use flt_cert::Cert;
 use flt_graph::Graph;
 
 /// Whether a certificate covers a text's points; if not, the least fault: a number of callbacks or points that isn't the text's comes
-/// first, then, for a thin one, a point that is given and not kept or the other way, then the least callback, point and rule. It takes no
+/// first, then, for a thin one, a point that is given and not kept or the reverse, then the least callback, point and rule. It takes no
 /// memory.
 pub fn check(graph: &Graph, cert: &Cert) -> Result<(), Refusal>
     ensures accepted { IsOk result ↔ CertCovers graph.now cert.now }

@@ -21,7 +21,7 @@ pub struct Refusal {
     pub rule: Rule,
 }
 
-/// What is wrong with a state that leads to a point, if anything is.
+/// The rule that a state breaks by leading to a point, if it breaks one.
 pub(crate) fn lead_fault(state: &Abs, at: Option<&Abs>) -> Option<Rule>
     ensures { result ≡ spec.lead_fault state.now (option_copied at.entry) }
 {
@@ -86,7 +86,7 @@ fn state_fault(
     }
 }
 
-/// The same, with what was kept from the points before, if there is anything yet.
+/// The same, with the `Leads` that were kept from the points before, if there are any yet.
 fn reached_fault(
     graph: &Graph,
     cert: &FullCert,
@@ -110,7 +110,7 @@ fn reached_fault(
     }
 }
 
-/// What is wrong where a callback of the place is entered with a point in this state.
+/// The rule that is broken if a callback of the place is entered with a point in this state.
 pub(crate) fn entry_by(place: Place, state: Option<&Abs>) -> Option<Rule>
     ensures { result ≡ spec.entry_by place (option_copied state.entry) }
 {
@@ -126,7 +126,7 @@ pub(crate) fn entry_by(place: Place, state: Option<&Abs>) -> Option<Rule>
     }
 }
 
-/// What is wrong with the entry of a callback.
+/// The rule that the entry of a callback breaks, if it breaks one.
 fn entry_fault(graph: &Graph, cert: &FullCert, callback: usize) -> Option<Rule>
     requires { callback < length graph.now.callbacks }
     ensures { result ≡ spec.entry_fault graph.now cert.now callback }
@@ -180,7 +180,7 @@ fn differs(graph: &Graph, cert: &FullCert, callback: usize) -> bool
     cert.callbacks().len() <= callback || graph.points(callback) != cert.points(callback).len()
 }
 
-/// The first callback that differs; where there is none and the certificate has callbacks too many, the text's last one.
+/// The first callback that differs; if none does and the certificate has too many callbacks, the text's last one.
 fn count_fault(graph: &Graph, cert: &FullCert) -> Option<usize>
     ensures none { IfNone result (spec.AgreeOnCounts graph.now cert.now) }
     ensures some { IfSome result (spec.IsCountFault graph.now cert.now) }

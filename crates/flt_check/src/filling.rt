@@ -47,7 +47,7 @@ fn reached_by(to: usize, leads: &Leads) -> Option<Abs>
     reaching(to, leads.first(), second)
 }
 
-/// With which state a point reaches another; none where it isn't reached itself, breaks a rule or doesn't lead there.
+/// With which state a point reaches another; none if it isn't reached itself, breaks a rule or doesn't lead there.
 fn reached_from(
     graph: &Graph,
     callback: usize,
@@ -67,7 +67,7 @@ fn reached_from(
     }
 }
 
-/// What follows for the next point: it is reached from the first point before it that has an edge into it.
+/// The state that follows for the next point: it is reached from the first point before it that has an edge into it.
 fn followed(graph: &Graph, callback: usize, before: &[Option<Abs>]) -> Option<Abs>
     ensures { result ≡ spec.followed graph.now callback (length before.now) 0 before.now }
 {
@@ -80,7 +80,7 @@ fn followed(graph: &Graph, callback: usize, before: &[Option<Abs>]) -> Option<Ab
     None
 }
 
-/// What is given of the next point, or what follows from the points before it.
+/// The given state of the next point, or the one that follows from the points before it.
 fn filled_in(graph: &Graph, callback: usize, before: &[Option<Abs>], slot: &Slot) -> Option<Abs>
     ensures { result ≡ spec.filled_in graph.now callback before.now slot.now }
 {
@@ -108,8 +108,8 @@ fn fill_points(
     Ok(points)
 }
 
-/// The full certificate: what is given by a thin one, and for each other point what follows from the points before it. Where the thin one
-/// covers, the full one covers.
+/// The full certificate: the states that a thin one gives, and for each other point the state that follows from the points before it. If
+/// the thin one covers, the full one covers.
 pub fn fill(alloc: Global, graph: &Graph, thin: &ThinCert) -> Result<FullCert, AllocError>
     ensures { IfOk result (λ k. k ≡ spec.full graph.now thin.now) }
 {

@@ -22,7 +22,7 @@ fn differs(graph: &Graph, thin: &ThinCert, callback: usize) -> bool
     thin.callbacks().len() <= callback || graph.points(callback) != thin.slots(callback).len()
 }
 
-/// The first callback that differs; where there is none and the certificate has callbacks too many, the text's last one.
+/// The first callback that differs; if none does and the certificate has too many callbacks, the text's last one.
 fn count_fault(graph: &Graph, thin: &ThinCert) -> Option<usize>
     ensures none { IfNone result (check.AgreeOnCounts graph.now (full graph.now thin.now)) }
     ensures some { IfSome result (check.IsCountFault graph.now (full graph.now thin.now)) }
@@ -72,8 +72,8 @@ fn first_fault(graph: &Graph, thin: &ThinCert) -> Result<(), Refusal>
     Ok(())
 }
 
-/// Whether a thin certificate covers a text's points; if not, the least fault: a number of callbacks or points that isn't the text's
-/// comes first, then a point that is given and not kept or the other way, then the least callback, point and rule. It takes no memory.
+/// Whether a thin certificate covers a text's points; if not, the least fault: a number of callbacks or points that isn't the text's comes
+/// first, then a point that is given and not kept or the reverse, then the least callback, point and rule. It takes no memory.
 pub(crate) fn check_thin(graph: &Graph, thin: &ThinCert) -> Result<(), Refusal>
     ensures accepted { IsOk result ↔ CoversThin graph.now thin.now }
     ensures refused { IfErr result (spec.IsThinFault graph.now thin.now) }

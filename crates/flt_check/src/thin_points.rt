@@ -17,7 +17,8 @@ use flt_graph::Graph;
 use flt_rules::Rule;
 use std::array;
 
-/// A point leads to another with a state: what is wrong with that. A later point that isn't given waits with this state from now on.
+/// The rule that a point breaks by leading to another with a state, if it breaks one. A later point that isn't given waits with this state
+/// from now on.
 fn follow_to(
     slots: &[Slot],
     states: &mut [Option<Abs>],
@@ -42,7 +43,7 @@ fn follow_to(
     None
 }
 
-/// The same of where a point may lead.
+/// The same for a successor that a point may have.
 #[inline(always)]
 fn follow(
     slots: &[Slot],
@@ -82,7 +83,7 @@ fn state_fault(
     lesser(first, second)
 }
 
-/// The same, with what was kept from the points before, if there is anything yet.
+/// The same, with the `Leads` that were kept from the points before, if there are any yet.
 fn reached_fault(
     graph: &Graph,
     slots: &[Slot],
@@ -128,7 +129,7 @@ fn waiting_fault(
     reached_fault(graph, slots, states, callback, point, &state, kept)
 }
 
-/// The same of a point that may be given, and may not be reached.
+/// The same of a point that may be given, and might be unreached.
 fn own_fault(
     graph: &Graph,
     slots: &[Slot],
@@ -151,7 +152,7 @@ fn own_fault(
     }
 }
 
-/// The same by the points that follow from the slots; where nothing is wrong, all is ready for the next point.
+/// The same by the points that follow from the slots; if nothing is wrong, all is ready for the next point.
 fn ready_fault(
     graph: &Graph,
     slots: &[Slot],
@@ -172,7 +173,7 @@ fn ready_fault(
     own_fault(graph, slots, states, callback, point, kept)
 }
 
-/// What is wrong with the entry of a callback, whose first point is given.
+/// The rule that the entry of a callback breaks, if it breaks one. Its first point is given.
 fn entry_fault(graph: &Graph, slots: &[Slot], callback: usize) -> Option<Rule>
     requires given { spec.AreGiven graph.now callback slots.now }
     requires some { 0 < length slots.now }

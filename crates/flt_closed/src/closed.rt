@@ -53,7 +53,7 @@ fn is_kept(graph: &Graph, callback: usize, locks: bool, members: &[Member], memb
         && has_next(members, locks, member.refused, &second)
 }
 
-/// Whether the first member is at point 0, and has all that may be so at the entry.
+/// Whether the first member is at point 0, and has all situations of the entry.
 fn is_entered(place: Place, members: &[Member]) -> bool
     ensures { result ≡ spec.is_entered place members.now }
 {
@@ -85,7 +85,7 @@ fn passes(graph: &Graph, callback: usize, locks: bool, members: &[Member]) -> bo
     is_entered(graph.place(callback), members) && are_kept(graph, callback, locks, members, members)
 }
 
-/// A set is closed where it is found to be. It does nothing: its clause is the law.
+/// A set is closed if `is_closed` finds that it is. It does nothing at run time: its clause is a law.
 pub fn closed_sets_are_closed()
     ensures { (g : Graph) (k : ℕ) (locks : Bool) (ms : List Member) → IsTrue (spec.is_closed g k locks ms) → spec.IsClosed g k locks ms }
 {
@@ -93,8 +93,8 @@ pub fn closed_sets_are_closed()
     leads_past_follows_situations();
 }
 
-/// Whether a set of states has all that may be so at the entry of a callback, and no step leads out of it, whatever rules are broken on
-/// the way; where `locks` is false, whichever locks are held. Callbacks and points count from 0.
+/// Whether a set of states has all situations of a callback's entry, and no step leads out of it, whatever rules are broken on the path; if
+/// `locks` is false, whichever locks are held. Callbacks and points count from 0.
 pub fn is_closed(graph: &Graph, callback: usize, locks: bool, members: &[Member]) -> bool
     ensures value { result ≡ spec.is_closed graph.now callback locks members.now }
     ensures meaning { IsTrue result → spec.IsClosed graph.now callback locks members.now }

@@ -1,4 +1,4 @@
-//! What the words of `explain` ask of warnings, as it is asked for below.
+//! The options for warnings, from the words of `explain`.
 
 ghost use Rattle.std.specs.Prelude.{◌≡◌, map};
 ghost use Rattle.flt_commands.specs.Allowed as spec;

@@ -1,4 +1,4 @@
-//! What `analyse` says of the name that it is given.
+//! The answer of `analyse` to the name that it is given.
 
 ghost use Rattle.std.specs.Prelude.{◌≡◌, ◌<◌, map};
 ghost use Rattle.flt_commands.specs.Analyse as spec;
@@ -20,7 +20,7 @@ use std::alloc::Global;
 use std::marker::Brand;
 use std::sync::ledger::{Blank, Ledger};
 
-/// What is left of the least certificate of a text. The transfers are counted in a ledger that nobody reads.
+/// The least certificate of a text, thinned. The transfers are counted in a ledger that nobody reads.
 fn analyse_text<'a, L: Ledger>(
     alloc: Global,
     text: &[u8],
@@ -44,7 +44,7 @@ fn analyse_text<'a, L: Ledger>(
     }
 }
 
-/// What `analyse` says of the name that it is given, and what this gives.
+/// The answer of `analyse` to the name that it is given; `contents` becomes the text that this gives.
 pub fn analyse_file<'a, I: Inputs>(
     alloc: Global,
     inputs: &I,

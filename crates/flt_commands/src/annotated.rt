@@ -32,11 +32,11 @@ fn is_c_file(name: &str) -> bool
     is_plain_c_file(name) || is_cpp_file(name)
 }
 
-/// Inputs in which each C file gives its annotations where they stand in it, and one whose annotations make no text gives nothing.
+/// Inputs in which each C file gives its annotations at their places, and one whose annotations make no text gives nothing.
 #[derive(Drop)]
 pub(crate) struct Annotated<'a, I: Inputs> {
     inputs: &'a I,
-    /// What is wrong with the C file that was read last, if something is.
+    /// The flaw of the C file that was read last, if it has one.
     flaw: Cell<Option<PlaceFlaw>>,
 }
 
@@ -49,7 +49,7 @@ impl<'a, I: Inputs> Annotated<'a, I> {
         Annotated { inputs, flaw }
     }
 
-    /// The annotations of a file where they stand in it; none where they make no text.
+    /// The annotations of a file at their places; none if they make no text.
     fn laid(&self, alloc: Global, file: Vec<u8>) -> Result<Option<Vec<u8>>, AllocError>
         ensures { IfOk result (λ found. spec.AreLaid file.items (option_map (λ text. text.items) found)) }
     {
@@ -62,7 +62,7 @@ impl<'a, I: Inputs> Annotated<'a, I> {
         }
     }
 
-    /// The same of the C file of a name; none where it isn't read.
+    /// The same for the C file of a name; none if it isn't read.
     fn read_c(&self, alloc: Global, name: &str) -> Result<Option<Vec<u8>>, AllocError>
         ensures { IfOk result (λ found. spec.gives_laid (I.gives self.now.inputs.now) name.now (option_map (λ text. text.items) found)) }
     {

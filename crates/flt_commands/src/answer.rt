@@ -1,4 +1,4 @@
-//! What a command answers, and how that is written.
+//! The answers of commands, and how they are written.
 
 ghost use Rattle.std.specs.Prelude.{◌≡◌, ◌≢◌, [], ◌∷◌, ◌++◌, Some, IfOk};
 ghost use Rattle.flt_commands.specs.Answer as spec;
@@ -15,28 +15,28 @@ use flt_words::FormatMode;
 use std::alloc::{AllocError, Global};
 use std::fmt;
 
-/// What a command answers.
+/// The answer of a command.
 #[derive(Drop)]
 pub enum Answer {
     /// The certificate covers the text.
     Accepted,
     /// A point of the text is refused.
     Refused(Refusal),
-    /// What is left of a certificate that covers the text, as it is written.
+    /// A certificate that covers the text, thinned, as it is written.
     Certificate(Vec<u8>),
-    /// What a journal is.
+    /// The verdict about a journal.
     Judged(Verdict),
-    /// Reports of texts, with what came of the findings in runs; and the files that aren't read.
+    /// Reports of texts, with the outcomes of the findings in runs; and the files that aren't read.
     Explained(Told, Vec<UnreadFile>),
     /// The text of the annotations of C files, or where its lines begin.
     Extracted(Vec<u8>),
-    /// What the texts of files come to that are laid out, and where their layouts go.
+    /// The outcomes of files that are laid out, and where their layouts go.
     Formatted(FormatMode, Outcomes),
     /// The pages of rules, violations, faults of a text, calls or statuses.
     Pages(Vec<&'static str>),
-    /// What a script came to.
+    /// The outcome of a script.
     Ran(Ran),
-    /// What a journal is, behind the rows in which it is shown.
+    /// The rows in which a journal is shown, and the verdict about it.
     Shown(Vec<u8>, Verdict),
     /// A point of the text of one of several files, numbered from 0, is refused.
     FileRefused(usize, Refusal),
@@ -47,8 +47,8 @@ pub enum Answer {
 }
 
 impl Answer {
-    /// The exit status: 0 for yes, 1 for no, and 2 for a journal that is full before its script has ended, or that the receipts contradict,
-    /// and where a file isn't read, has no layout or isn't written.
+    /// The exit status: 0 for yes, 1 for no, and 2 for a journal that is full before its script has ended, in which a detach was refused,
+    /// or that the receipts contradict, and if a file isn't read, has no layout or isn't written.
     pub fn status(&self) -> u8
         ensures { result ≡ spec.status_of self.now }
     {
@@ -69,7 +69,7 @@ impl Answer {
         }
     }
 
-    /// How the run ended of which this is the journal. All other answers are whole.
+    /// How the run ended whose journal this is. All other answers are whole.
     pub fn ending(&self) -> Ending
         ensures value { result ≡ spec.ending_of self.now }
         ensures status { result ≢ Ending.Whole → spec.status_of self.now ≡ 2 }
@@ -84,7 +84,7 @@ impl Answer {
         }
     }
 
-    /// What stands on the standard output: the certificate, the journal, or a line.
+    /// The bytes for the standard output: the certificate, the journal, the texts, or a line.
     pub fn output(self, alloc: Global) -> Result<Vec<u8>, AllocError>
         ensures { IfOk result (λ bytes. bytes.items ≡ spec.output self) }
     {
@@ -121,7 +121,7 @@ impl Answer {
     }
 }
 
-/// The exit status of reports or outcomes, beside which these files aren't read.
+/// The exit status of reports or outcomes, with these files that aren't read.
 pub(crate) fn told_status(status: u8, unread: &[UnreadFile]) -> u8
     ensures { result ≡ spec.told_status status unread.now }
 {
@@ -131,7 +131,7 @@ pub(crate) fn told_status(status: u8, unread: &[UnreadFile]) -> u8
     }
 }
 
-/// The exit status of a journal that ends so.
+/// The exit status of a journal with this ending.
 fn ended_status(ending: Ending) -> u8
     ensures { result ≡ spec.ended_status ending }
 {
@@ -141,7 +141,7 @@ fn ended_status(ending: Ending) -> u8
     }
 }
 
-/// What a journal is, behind its rows.
+/// The rows of a journal, and the verdict about it after them.
 fn shown(alloc: Global, rows: Vec<u8>, verdict: Verdict) -> Result<Vec<u8>, AllocError>
     ensures { IfOk result (λ bytes. bytes.items ≡ rows.items ++ (spec.verdict_line verdict ++ 10 ∷ [])) }
 {
@@ -166,7 +166,7 @@ impl fmt::Display for RuleName {
     }
 }
 
-/// Where a text is refused.
+/// The place where a text is refused.
 #[derive(Drop)]
 struct Place(Refusal);
 
@@ -209,7 +209,7 @@ impl fmt::Display for RefusalLine {
     }
 }
 
-/// The same of one of several files.
+/// The same for one of several files.
 #[derive(Drop)]
 struct FileRefusalLine(usize, Refusal);
 

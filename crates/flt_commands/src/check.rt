@@ -1,4 +1,4 @@
-//! What `check` says of the names that it is given.
+//! The answer of `check` to the names that it is given.
 
 ghost use Rattle.std.specs.Prelude.{map, option_map};
 ghost use Rattle.flt_commands.specs.Check as spec;
@@ -30,7 +30,7 @@ fn check_text<'a>(alloc: Global, text: &[u8], certificate: &[u8]) -> Result<Answ
     }
 }
 
-/// The same of a text and its certificate in one input.
+/// The same for a text and its certificate in one input.
 fn check_together<'a>(alloc: Global, input: &[u8]) -> Result<Answer, Failure<'a>>
     ensures { spec.JudgesTogether spec.Decides input.now result }
 {
@@ -38,7 +38,7 @@ fn check_together<'a>(alloc: Global, input: &[u8]) -> Result<Answer, Failure<'a>
     check_text(alloc, text, certificate)
 }
 
-/// What `check` says of the names that it is given, and what these give.
+/// The answer of `check` to the names that it is given; `contents` becomes the bytes that these give.
 pub fn check_files<'a, I: Inputs>(
     alloc: Global,
     inputs: &I,

@@ -1,4 +1,4 @@
-//! What a yes of the program is worth.
+//! The laws of a yes of the program: it means that texts break nothing.
 
 ghost use Rattle.flt_cert.specs.declared.cert.Cert.{Cert};
 ghost use Rattle.flt_check.specs.Accepting.{CertCovers};
@@ -14,7 +14,7 @@ use flt_check::accepted_certificates_fill_up;
 use flt_sound::accepted_runs_break_nothing;
 use flt_syntax::{spelled_is_well_formed, spells_at_most_one};
 
-/// A text breaks nothing where some certificate covers its points. It does nothing: its clause is the law.
+/// A text breaks nothing if some certificate covers its points. It does nothing at run time: its clause is the law.
 pub fn covered_texts_break_nothing()
     ensures { (text : Text) (graph : Graph) (cert : Cert) → HasPoints text graph → CertCovers graph cert → BreaksNothing text }
 {
@@ -24,7 +24,7 @@ pub fn covered_texts_break_nothing()
     accepted_runs_break_nothing();
 }
 
-/// The filters of a run break nothing, in no other run either. It does nothing: its clause is the law.
+/// The filters of a run break nothing, in no other run either. It does nothing at run time: its clause is the law.
 pub fn driven_texts_break_nothing()
     ensures { (script : Text) (texts : List Text) (ran : Ran) → IsRun script texts ran → BreakNothing texts }
 {

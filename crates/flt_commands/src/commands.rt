@@ -44,7 +44,7 @@ fn last_of<'a>(file: &'a str, cert: Option<&'a str>) -> &'a str
     }
 }
 
-/// Whether reports have colours, where a terminal that shows them would have them or not.
+/// Whether reports have colours; `shown` says whether the output is a terminal that shows them.
 fn is_coloured(colour: Colour, shown: bool) -> bool
     ensures { result ≡ is_coloured_as colour shown }
 {
@@ -55,7 +55,7 @@ fn is_coloured(colour: Colour, shown: bool) -> bool
     }
 }
 
-/// The report on a program's words, its own name left out. Of `explain` some of it may have gone out.
+/// The report on a program's words, without its own name. A part of the output of `explain` may be written already.
 #[tactic(auto, using(crate::proofs::Sent::cut_short_for, crate::proofs::Sent::none_sent))]
 fn report_of<'a, R: Threads + Wait + Sync, I: Inputs, P: Pictures, O: Sink, W: Watch + WatchSearch>(
     rt: &R,
@@ -216,7 +216,7 @@ fn report_of<'a, R: Threads + Wait + Sync, I: Inputs, P: Pictures, O: Sink, W: W
     }
 }
 
-/// Writes what of a report hasn't gone out yet, what it has for the standard error last.
+/// Writes the rest of a report's output, and its lines for the standard error last.
 fn write_report<O: Sink, E: Sink>(
     report: &Report,
     out: &mut O,
@@ -237,17 +237,18 @@ fn write_report<O: Sink, E: Sink>(
     Ok(())
 }
 
-/// Runs the command of a program's words, its own name left out, and hands out the report on it once it is written: what answers goes to
-/// `out`, why there is no answer, `full` or `receipts differ` to `err`, and that no run is found for a journal that is asked for; a
-/// picture, a journal or a layout that is written into its file goes to `pictures`. What `explain` tells of a file goes out as soon as it
-/// is made, unless it is told in one document or a file is named for a journal. Reports of `explain` have the colours of a terminal where
-/// it is `coloured`, unless the words say when. Where it drives filters, `watch` hears of each line of the script, unless the words ask
-/// for quiet; and where it looks for runs, of how far the search has come, where the words ask for more states than there are without
-/// them. Threads are started by `run` alone, where it has more than one worker.
+/// Runs the command of a program's words, without its own name, and returns the report on it once it is written. The answer goes to `out`;
+/// the line that says why there is no answer, `full`, `detached already`, `receipts differ`, or that no run is found for a journal goes to
+/// `err`; a picture, a journal or a layout for a file goes to `pictures`. The output of `explain` for a file is written as soon as it is
+/// made, unless it is one document or a file is named for a journal. Reports of `explain` have the colours of a terminal if `coloured`,
+/// unless the words say when. A command that drives filters reports each line of the script to `watch`, unless the words ask for quiet, and
+/// one that searches for runs how far it has come, if the words allow more states than the default. Threads are started by `run` alone, if
+/// it has more than one worker.
 ///
 /// # Errors
 ///
-/// A growth was refused, and nothing is written, but what `explain` told of the first files before; or a write failed.
+/// `OutOfMemory` if a growth is refused: nothing is written then, except the output of `explain` for the first files. `Write` if a write
+/// fails.
 #[tactic(auto, using(crate::proofs::Sent::rest_sent))]
 pub fn command<
     'a,

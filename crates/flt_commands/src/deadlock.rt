@@ -1,4 +1,5 @@
-//! What is told of a run that ends in a deadlock: a line for each activation that waits for a lock. No clause says what the lines say.
+//! The report on a run that ends in a deadlock: a line for each activation that waits for a lock. No clause is about the words of the
+//! lines.
 
 use crate::answer::Answer;
 use crate::failure::Failure;
@@ -11,7 +12,7 @@ use flt_waits::{Blocked, waits_of};
 use std::alloc::{AllocError, Global};
 use std::fmt::Write;
 
-/// The journal of a run that ended whole and may have come to a deadlock; none of another one.
+/// The journal of a run that ended whole and may have come to a deadlock; none for another one.
 fn journal_of(alloc: Global, ran: &Ran) -> Result<Option<Journal>, AllocError> {
     if !ran.is_still || ran.ending != Ending::Whole {
         return Ok(None);
@@ -36,7 +37,7 @@ fn trees_of(alloc: Global, texts: &[Vec<u8>]) -> Result<Vec<Tree>, AllocError> {
     Ok(trees)
 }
 
-/// How many filters stand above an altitude.
+/// The number of filters above an altitude.
 fn above(trees: &[Tree], altitude: u64) -> usize {
     let mut count: usize = 0;
     for tree in trees {
@@ -47,7 +48,7 @@ fn above(trees: &[Tree], altitude: u64) -> usize {
     count
 }
 
-/// The bytes of a text where something stands.
+/// The bytes of a span of a text.
 fn bytes_at<'a>(text: &'a [u8], span: Span) -> &'a [u8] {
     if span.start <= span.end && span.end <= text.len() {
         &text[span.start..span.end]
@@ -56,7 +57,7 @@ fn bytes_at<'a>(text: &'a [u8], span: Span) -> &'a [u8] {
     }
 }
 
-/// The callback in which something stands.
+/// The callback that contains a span.
 fn callback_at<'a>(filter: &'a Filter, span: Span) -> Option<&'a Callback> {
     for callback in filter.callbacks.as_slice() {
         if span.start < callback.end.start {
@@ -66,7 +67,7 @@ fn callback_at<'a>(filter: &'a Filter, span: Span) -> Option<&'a Callback> {
     None
 }
 
-/// Bytes of a text, as they stand there.
+/// Adds bytes of a text, with a blank for each that isn't a visible ASCII character.
 fn put_bytes(out: &mut String, bytes: &[u8]) -> Result<(), AllocError> {
     for byte in bytes {
         let shown = if byte.is_ascii_graphic() { *byte } else { b' ' };
@@ -75,7 +76,7 @@ fn put_bytes(out: &mut String, bytes: &[u8]) -> Result<(), AllocError> {
     Ok(())
 }
 
-/// Where an activation waits: its callback's head as the text has it, its filter and the line.
+/// Adds the place where an activation waits: its callback's head as the text has it, its filter and the line.
 fn put_place(
     out: &mut String,
     text: &[u8],
@@ -93,7 +94,7 @@ fn put_place(
     write!(out, "\" at {altitude}, line {line}")
 }
 
-/// The line that says what an activation of a filter waits for, without its end.
+/// Adds the line that says which lock an activation of a filter waits for, without its end.
 fn put_line(
     out: &mut String,
     text: &[u8],
@@ -114,7 +115,7 @@ fn put_line(
     Ok(())
 }
 
-/// The line of one activation that waits, behind those that are there.
+/// Adds the line of one activation that waits, after those that are there.
 fn put_wait(
     out: &mut String,
     texts: &[Vec<u8>],
@@ -143,8 +144,8 @@ fn lines_of(alloc: Global, texts: &[Vec<u8>], journal: &Journal) -> Result<Strin
     Ok(out)
 }
 
-/// Tells of the activations that wait for a lock at the end of a run on some texts, where its script came to its end. Where memory is refused,
-/// nothing is told.
+/// Reports the activations that wait for a lock at the end of a run on some texts, if its script came to its end. If memory is refused, it
+/// reports nothing.
 pub(crate) fn tell_deadlock<W: Watch>(
     alloc: Global,
     said: &Result<Answer, Failure<'_>>,

@@ -1,4 +1,4 @@
-//! What `explain` says of the names that it is given: reports of files, or a page.
+//! The answer of `explain` to the names that it is given: reports of files, or pages.
 
 ghost use Rattle.std.specs.Io.KnownBytes.{Appends};
 ghost use Rattle.std.specs.Prelude.{◌≡◌, ◌≢◌, [], None, IfErr, IfOk, OnErr, OnOk, length, map, option_map, string_bytes, take};
@@ -26,7 +26,7 @@ use flt_words::{Form, visible};
 use sqlite_items::Items;
 use std::alloc::{AllocError, Global};
 
-/// A file's name, as a form tells it: a line of the short one is for a terminal.
+/// A file's name, as a form prints it: a line of the short one is for a terminal.
 fn told_name(alloc: Global, form: Form, name: &str) -> Result<String, AllocError>
     ensures { IfOk result (λ told. string_bytes told ≡ spec.told_name form name.now) }
 {
@@ -36,7 +36,7 @@ fn told_name(alloc: Global, form: Form, name: &str) -> Result<String, AllocError
     }
 }
 
-/// The names of files, as a form tells them.
+/// The names of files, as a form prints them.
 fn told_names(alloc: Global, form: Form, names: &[&str]) -> Result<Vec<String>, AllocError>
     ensures { IfOk result (λ told. map string_bytes told.items ≡ map (λ name. spec.told_name form name.now) names.now) }
 {
@@ -69,21 +69,21 @@ fn sources<'s>(
     Ok(found)
 }
 
-/// What `explain` of files comes to.
+/// The outcome of `explain` for files.
 #[derive(Drop)]
 pub enum Explanation<'a> {
-    /// This is told, and these files aren't read.
+    /// The output, and the files that aren't read.
     Told(Told, Vec<UnreadFile>),
     /// The journal isn't written into the file of this name.
     Unwritten(&'a str, Unwritten),
 }
 
-/// What is asked of texts.
+/// The options of `explain` for texts.
 #[derive(Clone, Copy)]
 pub struct Asked<'a> {
     pub form: Form,
     pub coloured: bool,
-    /// How many states the search for runs of a text goes on from at most.
+    /// The greatest number of states from which the search for runs of a text continues.
     pub states: u32,
     /// The file into which the journal of the first finding that has one is written.
     pub journal: Option<&'a str>,
@@ -91,7 +91,7 @@ pub struct Asked<'a> {
     pub options: WarningOptions,
 }
 
-/// The same, as reports for people are asked for it.
+/// The same options, for reports for people.
 fn asking(asked: Asked<'_>, is_held: bool) -> Asking
     ensures coloured { result.coloured ≡ asked.entry.coloured }
     ensures states { result.states ≡ asked.entry.states }
@@ -106,7 +106,7 @@ fn asking(asked: Asked<'_>, is_held: bool) -> Asking
     }
 }
 
-/// What is told with no notes, all of which has gone out.
+/// Output without notes, all of which is written already.
 fn sent(alloc: Global, explained: Explained) -> Told
     ensures explained { result.explained ≡ explained }
     ensures noted { result.noted ≡ [] }
@@ -119,7 +119,7 @@ fn sent(alloc: Global, explained: Explained) -> Told
     }
 }
 
-/// What is told, of which nothing has gone out.
+/// Output of which nothing is written yet.
 fn unsent(explained: Explained, noted: Items<Noted>) -> Told
     ensures explained { result.explained ≡ explained }
     ensures noted { result.noted ≡ noted }
@@ -132,8 +132,8 @@ fn unsent(explained: Explained, noted: Items<Noted>) -> Told
     }
 }
 
-/// What is found of some texts, in a form, beside files that aren't read. Each text's part goes out as soon as it is made, but where the
-/// form is one document.
+/// The output for some texts, in a form, with files that aren't read. Each text's part is written as soon as it is made, unless the form is
+/// one document.
 #[tactic(auto, using(crate::proofs::Sent::none_sent, crate::proofs::Faults::write_of, crate::proofs::Faults::memory_of))]
 fn told_in_turn<O: Sink, W: SearchWatch>(
     alloc: Global,
@@ -170,7 +170,7 @@ fn told_in_turn<O: Sink, W: SearchWatch>(
     }
 }
 
-/// The same with what comes of findings in runs, before anything goes out.
+/// The same with the outcomes of the findings in runs, before anything is written.
 #[tactic(auto, using(crate::proofs::Sent::none_sent, crate::proofs::Faults::memory_alone))]
 fn told_whole<O: Sink, W: SearchWatch>(
     alloc: Global,
@@ -199,8 +199,8 @@ fn told_whole<O: Sink, W: SearchWatch>(
     Ok(unsent(explained, told.noted))
 }
 
-/// What is found of some texts, in a form, beside files that aren't read. Nothing goes out before all is known where a file is named for a
-/// journal.
+/// The output for some texts, in a form, with files that aren't read. If a file is named for a journal, nothing is written before all is
+/// known.
 #[tactic(auto, using(crate::proofs::Sent::cut_nowhere))]
 fn told<O: Sink, W: SearchWatch>(
     alloc: Global,
@@ -228,7 +228,7 @@ fn told<O: Sink, W: SearchWatch>(
     }
 }
 
-/// What is found of the texts of some files, in a form, beside files that aren't read.
+/// The output for the texts of some files, in a form, with files that aren't read.
 #[tactic(auto, using(crate::proofs::Sent::cut_under))]
 fn explain_read<O: Sink, W: SearchWatch>(
     alloc: Global,
@@ -256,8 +256,8 @@ fn explain_read<O: Sink, W: SearchWatch>(
     told(alloc, asked, sources, unread, out, watch)
 }
 
-/// Writes the journal of the first finding that has one, if there is one, into a file that is none of the inputs. Why that couldn't be
-/// done.
+/// Writes the journal of the first finding that has one, if there is one, into a file that is none of the inputs. Returns why that failed,
+/// if it did.
 fn write_journal<P: Pictures>(
     alloc: Global,
     inputs: &[&str],
@@ -277,7 +277,7 @@ fn write_journal<P: Pictures>(
     }
 }
 
-/// What is said of the texts of some files, behind the journal of the first finding that has one, where a file is named for it.
+/// The outcome for some files, after the journal of the first finding that has one is written, if a file is named for it.
 fn keep<'a, P: Pictures>(
     alloc: Global,
     inputs: &[&'a str],
@@ -300,9 +300,9 @@ fn keep<'a, P: Pictures>(
     }
 }
 
-/// What `explain` says of those of the names that it is given which can be read, in a form, and what these give. `remark` becomes whole lines
-/// on the others. The journal of the first finding that has one is written into a file, where one is named; else what is told of each text
-/// goes out as soon as it is made, but where the form is one document.
+/// The outcome of `explain`, in a form, for those of its names that can be read; `contents` becomes the texts that these give, and `remark`
+/// whole lines on the others. The journal of the first finding that has one is written into a file, if one is named; else the output for
+/// each text is written as soon as it is made, unless the form is one document.
 #[tactic(auto, using(crate::proofs::Sent::cut_short))]
 pub fn explain_files<'a, I: Inputs, P: Pictures, O: Sink, W: SearchWatch>(
     alloc: Global,

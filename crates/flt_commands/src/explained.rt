@@ -1,4 +1,4 @@
-//! The report on what `explain` of files comes to.
+//! The report on the outcome of `explain` for files.
 
 ghost use Rattle.std.specs.Io.KnownBytes.{Appends};
 ghost use Rattle.std.specs.Prelude.{◌≡◌, ◌≢◌, [], Bool, IfErr, IfOk, OnOk, Some, map, option_map, take};
@@ -21,7 +21,8 @@ use flt_notes::SearchWatch;
 use flt_syntax::fails_exactly_where_nothing_is_spelled;
 use std::alloc::Global;
 
-/// The report on `explain` of some files, of C files by their annotations. What is told of a file goes out as soon as it is made, unless all of it is held back.
+/// The report on `explain` for some files, for C files by their annotations. The output for a file is written as soon as it is made, unless
+/// all of it is held back.
 pub(crate) fn report_on_files<'a, I: Inputs, P: Pictures, O: Sink, W: SearchWatch>(
     alloc: Global,
     asked: Asked<'a>,

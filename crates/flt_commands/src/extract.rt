@@ -1,4 +1,4 @@
-//! What `extract` says of the names that it is given.
+//! The answer of `extract` to the names that it is given.
 
 ghost use Rattle.std.specs.Prelude.{◌≡◌, IfOk, Some, string_bytes, slice_index_or, []};
 ghost use Rattle.std.specs.Prelude;
@@ -21,7 +21,7 @@ use std::fmt;
 
 // ---- what is wrong with a file
 
-/// What is wrong there, in words.
+/// The fault, in words.
 fn reason(kind: FaultKind) -> &'static str
     ensures { result.now ≡ flaws.reason kind }
 {
@@ -36,7 +36,7 @@ fn reason(kind: FaultKind) -> &'static str
     }
 }
 
-/// A place of a file, as compilers write it behind its name.
+/// A place of a file, as compilers write it after its name.
 #[derive(Drop)]
 struct Spot(Place);
 
@@ -50,7 +50,7 @@ impl fmt::Display for Spot {
     }
 }
 
-/// A fault of a file of this name.
+/// The line that reports a fault of a file of this name, without its end.
 fn fault_line(alloc: Global, name: &str, fault: Fault) -> Result<String, AllocError>
     ensures { IfOk result (λ line. string_bytes line ≡ flaws.fault_line name.now fault) }
 {
@@ -59,7 +59,7 @@ fn fault_line(alloc: Global, name: &str, fault: Fault) -> Result<String, AllocEr
     format!(in alloc; "{name}:{spot}: {why}")
 }
 
-/// The line that says what is wrong with the file of a name, without its end.
+/// The line that reports the flaw of the file of a name, without its end.
 pub(crate) fn flaw_line(alloc: Global, name: &str, flaw: Flaw) -> Result<String, AllocError>
     ensures { IfOk result (λ line. string_bytes line ≡ flaws.flaw_line (Shown.visible name.now) flaw) }
 {
@@ -72,14 +72,14 @@ pub(crate) fn flaw_line(alloc: Global, name: &str, flaw: Flaw) -> Result<String,
     }
 }
 
-/// A fault of a file that is named elsewhere.
+/// The fault of a file that is named elsewhere, in words.
 fn fault_words(alloc: Global, fault: Fault) -> Result<String, AllocError> {
     let spot = Spot(fault.place);
     let why = reason(fault.kind);
     format!(in alloc; "{why} at {spot}")
 }
 
-/// What is wrong with a file that is named elsewhere.
+/// The flaw of a file that is named elsewhere, in words.
 fn flaw_words(alloc: Global, flaw: Flaw) -> Result<String, AllocError> {
     match flaw {
         Flaw::Faulty(fault) => fault_words(alloc, fault),
@@ -89,7 +89,7 @@ fn flaw_words(alloc: Global, flaw: Flaw) -> Result<String, AllocError> {
     }
 }
 
-/// Why the annotations of a file that is named elsewhere can't be laid where they stand.
+/// Why the annotations of a file that is named elsewhere can't be laid at their places, in words.
 pub(crate) fn place_flaw_words(alloc: Global, flaw: PlaceFlaw) -> Result<String, AllocError> {
     match flaw {
         PlaceFlaw::Flawed(flaw) => flaw_words(alloc, flaw),
@@ -112,7 +112,7 @@ fn name_of<'a>(names: &[&'a str], file: usize) -> &'a str
     }
 }
 
-/// Where a line of the text begins.
+/// The place where a line of the text begins, as a line.
 fn map_line(alloc: Global, name: &str, line: Line, number: usize) -> Result<String, AllocError>
     ensures { IfOk result (λ text. string_bytes text ≡ spec.map_line (Shown.visible name.now) line number) }
 {
@@ -121,7 +121,7 @@ fn map_line(alloc: Global, name: &str, line: Line, number: usize) -> Result<Stri
     format!(in alloc; "{name}:{spot}: line {number}\n")
 }
 
-/// Where each line of the text begins.
+/// The places where the lines of the text begin, as lines.
 fn map_of(alloc: Global, names: &[&str], lines: &[Line]) -> Result<Vec<u8>, AllocError>
     ensures { IfOk result (λ bytes. bytes.items ≡ spec.map_from (Prelude.map (λ name. name.now) names.now) 1 lines.now) }
 {
@@ -135,7 +135,7 @@ fn map_of(alloc: Global, names: &[&str], lines: &[Line]) -> Result<Vec<u8>, Allo
 
 // ---- what is said
 
-/// What is printed of a text.
+/// The output for a text.
 fn printed(
     alloc: Global,
     map: bool,
@@ -151,7 +151,7 @@ fn printed(
     }
 }
 
-/// What `extract` says of the files of some names.
+/// The answer of `extract` to the files of some names.
 fn extract_texts<'a>(
     alloc: Global,
     map: bool,
@@ -166,7 +166,7 @@ fn extract_texts<'a>(
     }
 }
 
-/// What `extract` says of the names that it is given, and what these give.
+/// The answer of `extract` to the names that it is given; `contents` becomes the bytes that these give.
 pub fn extract_files<'a, I: Inputs>(
     alloc: Global,
     inputs: &I,

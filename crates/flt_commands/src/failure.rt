@@ -23,22 +23,22 @@ pub enum Failure<'a> {
     /// More than `MAX_FILTERS` files.
     TooManyFiles,
     Syntax(SyntaxFault),
-    /// That of one of several files, numbered from 0.
+    /// The first fault of the text of one of several files, numbered from 0.
     FileSyntax(usize, SyntaxFault),
-    /// The first line of a certificate, from 1, that isn't as the format asks.
+    /// The first line of a certificate, from 1, that is malformed.
     Certificate(usize),
-    /// The same of a journal.
+    /// The same for a journal.
     JournalLine(usize),
-    /// The same of a script.
+    /// The same for a script.
     ScriptLine(usize),
-    /// What is wrong with the C file of a name.
+    /// The flaw of the C file of a name.
     Flawed(&'a str, Flaw),
     /// The first file, from 0, whose altitude an earlier one has.
     Altitude(usize),
     OutOfMemory,
 }
 
-/// The first fault of the text of a file of several.
+/// The first fault of the text of one of several files.
 #[derive(Drop)]
 struct FileSyntaxLine(usize, SyntaxFault);
 

@@ -1,4 +1,4 @@
-//! What `format` says of the names that it is given, and what it writes.
+//! The answer of `format` to the names that it is given, and the files that it writes.
 
 ghost use Rattle.std.specs.List.{All, list_any};
 ghost use Rattle.std.specs.Prelude.{◌≡◌, ◌≢◌, ◌++◌, ℕ, [], Bool, List, IfErr, IfOk, Ok, length, map, string_bytes, true, false};
@@ -19,7 +19,7 @@ use flt_syntax::fails_exactly_where_nothing_is_spelled;
 use flt_words::FormatMode;
 use std::alloc::{AllocError, Global};
 
-/// What a layout of an input comes to: whether it is the input.
+/// The outcome of a layout of an input: whether it is the input.
 fn compared(input: &[u8], layout: Vec<u8>) -> Outcome
     ensures comes { spec.IsLayout input.now layout.items → spec.ComesTo input.now result }
     ensures read { spec.is_unwritten result ≡ false }
@@ -31,7 +31,7 @@ fn compared(input: &[u8], layout: Vec<u8>) -> Outcome
     }
 }
 
-/// What an input comes to, where its text has a layout and this certificate follows it.
+/// The outcome of an input whose text has a layout, with this certificate after it.
 fn joined(input: &[u8], layout: Vec<u8>, certificate: &[u8]) -> Result<Outcome, AllocError>
     ensures comes { IfOk result (λ outcome. spec.IsLayout input.now (layout.items ++ certificate.now) → spec.ComesTo input.now outcome) }
     ensures read { IfOk result (λ outcome. spec.is_unwritten outcome ≡ false) }
@@ -41,7 +41,7 @@ fn joined(input: &[u8], layout: Vec<u8>, certificate: &[u8]) -> Result<Outcome, 
     Ok(compared(input, whole))
 }
 
-/// What an input comes to that holds a text and maybe its certificate.
+/// The outcome of an input that holds a text and maybe its certificate.
 fn outcome_of(alloc: Global, input: &[u8]) -> Result<Outcome, AllocError>
     ensures comes { IfOk result (spec.ComesTo input.now) }
     ensures read { IfOk result (λ outcome. spec.is_unwritten outcome ≡ false) }
@@ -55,7 +55,7 @@ fn outcome_of(alloc: Global, input: &[u8]) -> Result<Outcome, AllocError>
     }
 }
 
-/// Writes a layout into the file of a name. What the file comes to then.
+/// Writes a layout into the file of a name. Returns the file's outcome.
 fn put_layout<P: Pictures>(
     alloc: Global,
     name: &str,
@@ -76,7 +76,7 @@ fn put_layout<P: Pictures>(
     }
 }
 
-/// What the file of a name comes to, once its layout is written where it differs from it.
+/// The outcome of the file of a name, once its layout is written if the file differs from it.
 fn put_other<P: Pictures>(
     alloc: Global,
     name: &str,
@@ -97,7 +97,7 @@ fn put_other<P: Pictures>(
     }
 }
 
-/// The same where files are written, and else what it comes to anyway.
+/// The same if files are written, and else the outcome as it is.
 fn written<P: Pictures>(
     alloc: Global,
     mode: FormatMode,
@@ -119,7 +119,7 @@ fn written<P: Pictures>(
     }
 }
 
-/// What the file of a name comes to, which gives this input.
+/// The outcome of the file of a name, which gives this input.
 fn file_outcome<P: Pictures>(
     alloc: Global,
     mode: FormatMode,
@@ -139,7 +139,7 @@ fn file_outcome<P: Pictures>(
     Ok(FileOutcome { name, outcome })
 }
 
-/// What each of some files comes to, one after the other. A layout is written before the next file is looked at.
+/// The outcomes of some files, one after the other. A layout is written before the next file is looked at.
 fn file_outcomes<P: Pictures>(
     alloc: Global,
     mode: FormatMode,
@@ -162,7 +162,7 @@ fn file_outcomes<P: Pictures>(
     Ok(files)
 }
 
-/// What `format` says of those of the names that it is given which can be read, and what these give.
+/// The outcomes of `format` for those of its names that can be read; `contents` becomes the bytes that these give.
 fn format_files<I: Inputs, P: Pictures>(
     alloc: Global,
     mode: FormatMode,
@@ -191,7 +191,7 @@ fn format_files<I: Inputs, P: Pictures>(
     Ok(Outcomes { files, unread })
 }
 
-/// The report on `format` of some files. Each file that is written is written by then.
+/// The report on `format` of some files. All files that it writes are written by then.
 pub(crate) fn report_on_layouts<I: Inputs, P: Pictures>(
     alloc: Global,
     mode: FormatMode,

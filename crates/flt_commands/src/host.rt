@@ -35,7 +35,7 @@ struct Counted<R: Read + Drop> {
 }
 
 impl<R: Read + Drop> Counted<R> {
-    /// Nothing of it failed yet.
+    /// A reader without failures.
     fn new(inner: R) -> Counted<R>
         ensures inner { result.inner ≡ inner }
         ensures fine { result.failures ≡ 0 }
@@ -76,7 +76,7 @@ impl<R: Read + Drop> Reader for Counted<R> {
 #[derive(Drop)]
 struct Host<'a> {
     rt: &'a HostRuntime,
-    /// Why what was asked for last couldn't be opened, where that is so.
+    /// Why the last file couldn't be opened, if it couldn't.
     fault: Cell<Option<io::Error>>,
 }
 
@@ -175,7 +175,7 @@ impl Host<'_> {
         }
     }
 
-    /// What a symbolic link leads to, where that isn't a file or a folder. A process names its own streams by such links.
+    /// The place to which a symbolic link leads, if that isn't a file or a folder. A process names its own streams by such links.
     fn place_led_to(&self, name: &str) -> Result<Place, Unwritten> {
         match fs::metadata(self.rt, name) {
             Ok(found) if !found.is_file() && !found.is_dir() => Ok(Place::Stream),
@@ -183,13 +183,13 @@ impl Host<'_> {
         }
     }
 
-    /// The place of a regular file, where it may be written.
+    /// The place of a regular file, if it may be written.
     fn place_of_file(&self, name: &str) -> Result<Place, Unwritten> {
         self.open_to_write(name)?;
         Ok(Place::File)
     }
 
-    /// What stands under a name, to be written as it is.
+    /// The file of a name, opened for writing as it is.
     fn open_to_write(&self, name: &str) -> Result<File, Unwritten> {
         match OpenOptions::new().write(true).open(self.rt, name) {
             Ok(file) => Ok(file),
@@ -207,7 +207,7 @@ impl Host<'_> {
         false
     }
 
-    /// Whether a file is that of a name, or what the standard input is.
+    /// Whether a file is that of a name, or that of the standard input.
     fn is_of(&self, found: &Metadata, name: &str) -> bool {
         match fs::metadata(self.rt, path_of(name)) {
             Ok(other) => found.dev() == other.dev() && found.ino() == other.ino(),
@@ -215,7 +215,7 @@ impl Host<'_> {
         }
     }
 
-    /// Puts a file that was made under one name in the place of another, with the rights of what stood there.
+    /// Puts a file that was made under one name in the place of another, with the rights of the file that was there.
     fn try_put(&self, file: &File, made: &str, name: &str) -> io::Result<()> {
         if let Ok(found) = fs::symlink_metadata(self.rt, name) {
             if found.is_file() {
@@ -236,13 +236,13 @@ fn path_of(name: &str) -> &str {
     }
 }
 
-/// After how many lines of a script a terminal is told how far the run has come.
+/// The number of lines of a script after which a terminal shows how far the run has come.
 const LINES_A_LOOK: u64 = 1_000;
 
-/// After how many states of a search for runs a terminal is told how far it has come.
+/// The number of states of a search for runs after which a terminal shows how far it has come.
 const STATES_A_LOOK: u32 = 100_000;
 
-/// Tells on the standard error what a run waits for at its end, and a terminal how far it has come, or a search for runs.
+/// Reports on the standard error what a run waits for at its end, and to a terminal how far it or a search for runs has come.
 #[derive(Drop)]
 struct Progress<'a> {
     rt: &'a HostRuntime,
@@ -308,7 +308,7 @@ impl<W: Write + Drop> Write for Told<W> {
     }
 }
 
-/// The words of the command line, the program's own name left out, with the texts of each folder that `explain` is given in its place; none
+/// The words of the command line, without the program's own name, with the texts of each folder that `explain` is given in its place; none
 /// if one of them isn't UTF-8.
 fn arguments(rt: &HostRuntime) -> Result<Option<Vec<String>>, AllocError> {
     let given = match env::args(rt) {
@@ -329,7 +329,7 @@ fn say_out_of_memory(rt: &HostRuntime) {
     let _ = eprintln!(rt; "out of memory");
 }
 
-/// Says on the standard error why the standard output didn't take the answer, where it didn't.
+/// Says on the standard error why the standard output didn't take the answer, if it didn't.
 fn say_unwritten(rt: &HostRuntime, out: &Told<Stdout>) {
     if let Some(fault) = out.fault {
         let _ = eprintln!(rt; "error: cannot write: {fault}");
@@ -351,17 +351,17 @@ fn words_of(rt: &HostRuntime) -> Option<Vec<String>> {
     }
 }
 
-/// The program's own words, and what they came to.
+/// The program's own words, and the report on them.
 #[derive(Drop)]
 pub struct Execution {
-    /// The words, the program's own name left out, with the texts of each folder that `explain` is given in its place.
+    /// The words, without the program's own name, with the texts of each folder that `explain` is given in its place.
     pub words: Vec<String>,
-    /// What they came to; none where a word isn't UTF-8, memory ran out or a write failed.
+    /// The report on them; none if a word isn't UTF-8, memory ran out or a write failed.
     pub report: Option<Report>,
 }
 
 impl Execution {
-    /// The exit status: that of the report, and 2 where there is none.
+    /// The exit status: that of the report, or 2 without a report.
     pub fn status(&self) -> u8
         ensures some { IfSome self.now.report (λ report. result ≡ report.status) }
         ensures none { IfNone self.now.report (result ≡ 2) }
@@ -400,7 +400,7 @@ fn shows_colours(rt: &HostRuntime) -> Result<bool, AllocError> {
     Ok(!is_dumb(rt)?)
 }
 
-/// Runs the command of some words on the system. Why the answer isn't written stands on the standard error.
+/// Runs the command of some words on the system. The standard error says why the answer isn't written, if it isn't.
 fn execute<R: Threads + Wait + Sync>(
     rt: &HostRuntime,
     threads: &R,
@@ -434,8 +434,8 @@ fn execute<R: Threads + Wait + Sync>(
     result
 }
 
-/// Runs the command of the program's own words on the system, and hands out the words with what they came to. `threads` is the same runtime
-/// once more: `main` alone can hand out that it starts threads.
+/// Runs the command of the program's own words on the system, and returns the words with the report on them. `threads` is the same runtime
+/// once more: `main` alone can pass on that it starts threads.
 pub fn run<R: Threads + Wait + Sync>(rt: &HostRuntime, threads: &R) -> Execution
     ensures { IfSome result.report (AnswersSomehow given_by_host written_by_host (map string_bytes result.words.items)) }
 {

@@ -1,4 +1,4 @@
-//! What is told line by line: the lines of each text go out as soon as they are made.
+//! Output line by line: the lines of each text are written as soon as they are made.
 
 ghost use Rattle.std.specs.Io.KnownBytes.{Appends};
 ghost use Rattle.std.specs.Prelude.{◌≡◌, ◌≢◌, [], IfErr, IfOk, OnOk};
@@ -13,7 +13,7 @@ use flt_warning_details::WarningOptions;
 use std::alloc::Global;
 use std::cmp::max;
 
-/// Tells of one text more, behind what was told of others.
+/// Writes the lines of one more text, and adds them to those of others.
 #[tactic(auto, using(crate::proofs::InTurn::text_more))]
 fn put_text<O: Sink>(
     alloc: Global,
@@ -35,7 +35,7 @@ fn put_text<O: Sink>(
     Ok(())
 }
 
-/// What is wrong with some texts, line by line. All of it has gone out.
+/// The findings and warnings of some texts, line by line. All lines are written already.
 #[tactic(auto, using(crate::proofs::InTurn::first_lines))]
 pub(crate) fn lines_in_turn<O: Sink>(
     alloc: Global,

@@ -1,4 +1,4 @@
-//! What a command reads.
+//! The inputs of a command.
 
 ghost use Rattle.std.specs.Io.KnownBytes.{Consumes, IsAtEnd};
 ghost use Rattle.std.specs.Prelude.{◌≡◌, ◌≢◌, ◌⊎◌, ◌≤◌, ◌<◌, [], ◌∷◌, ◌++◌, ℕ, List, Option, IfOk, IfErr, IfNone, IfSome, OnErr, OnOk, ◌&&◌, None, Some, false, length, map, option_map, true};
@@ -16,7 +16,7 @@ use flt_forms::UnreadFile;
 use std::alloc::{AllocError, Global};
 use std::cmp::min;
 
-/// The bytes behind names. A name is a file's, or `-` for the standard input.
+/// The bytes of names. A name is a file's, or `-` for the standard input.
 pub trait Inputs {
     // What it may give for a name: its bytes, or none.
     ghost gives: { Self → List ℕ → Option (List ℕ) → Type 0 };
@@ -25,7 +25,7 @@ pub trait Inputs {
     fn read(&self, alloc: Global, name: &str) -> Result<Option<Vec<u8>>, AllocError>
         ensures { IfOk result (λ found. gives self.now name.now (option_map (λ v. v.items) found)) };
 
-    /// What is kept of the bytes of a name, where these are a text: no more than it may have, and a byte more; none as before.
+    /// The bytes of a name that are kept if they are a text: as many as it may have, and one more; none as before.
     fn read_text(&self, alloc: Global, name: &str) -> Result<Option<Vec<u8>>, AllocError>
         ensures { IfOk result (λ found. spec.gives_text (gives self.now) name.now (option_map (λ v. v.items) found)) }
     {
@@ -39,23 +39,23 @@ pub trait Inputs {
         }
     }
 
-    /// The same as `read` in pieces, which can be given back one by one.
+    /// The same as `read`, in pieces that can be freed one by one.
     fn read_pieces(&self, alloc: Global, name: &str) -> Result<Option<Pieces>, AllocError>
         ensures { IfOk result (λ found. gives self.now name.now found) };
 
-    /// Why nothing was given for a name, as far as can be said.
+    /// Why a name gave nothing, as far as that is known.
     fn why(&self, _name: &str) -> Unread {
         Unread::Failed
     }
 }
 
-/// Where pictures, journals and layouts are written.
+/// The files into which pictures, journals and layouts are written.
 pub trait Pictures {
     // What holds once these bytes are written under a name.
     ghost written: { Self → List ℕ → List ℕ → Type 0 };
 
-    /// Writes these bytes as the file of this name, unless it is one of the inputs. Why that couldn't be done; a regular file is as it was
-    /// then.
+    /// Writes these bytes as the file of this name, unless it is one of the inputs. Returns why that failed, if it did; a regular file is
+    /// then as it was.
     fn write(
         &mut self,
         alloc: Global,
@@ -68,16 +68,17 @@ pub trait Pictures {
         ensures kept { (other held : List ℕ) → written self.old other held → written self.new other held };
 }
 
-/// How many bytes an input has at most.
+/// The greatest number of bytes of an input.
 pub const MAX_INPUT: usize = 67_108_864;
 
-/// How many bytes of a text are kept: as many as it may have, and one by which it is too long.
+/// The number of bytes of a text that are kept: as many as it may have, and one by which it is too long.
 const KEPT: usize = 65_537;
 
-/// How many bytes there is room for from the start. Most texts and certificates are shorter, so that they aren't copied to grow.
+/// The number of bytes for which there is room from the start. Most texts and certificates are shorter, so that they aren't copied to grow.
 const FIRST_ROOM: usize = 65_536;
 
-/// How many bytes of a text or a certificate are read at once. To set more than these to zero takes the C library an instruction a byte.
+/// The number of bytes of a text or a certificate that are read at once. To set more than these to zero takes the C library an instruction
+/// per byte.
 const AT_ONCE: usize = 2_048;
 
 /// All bytes that a reader has; none if a read fails, or if they are more than `MAX_INPUT`.
@@ -109,7 +110,7 @@ fn smaller(a: usize, b: usize) -> usize
     if a < b { a } else { b }
 }
 
-/// What is kept of all bytes that a reader has; none if a read fails, or if they are more than `MAX_INPUT`.
+/// The bytes that are kept of all bytes of a reader; none if a read fails, or if they are more than `MAX_INPUT`.
 #[tactic(auto, using(crate::proofs::Ended::all_read, crate::proofs::Ended::read_too_long))]
 pub fn read_text_within<R: Reader>(
     alloc: Global,
@@ -138,8 +139,8 @@ pub fn read_text_within<R: Reader>(
     Ok(None)
 }
 
-/// How many bytes a piece has at most. The C library maps a block of this size by itself, so its memory goes back to the system with the piece.
-/// After a much greater block was given back, lists as long as that one would be copied where they grow.
+/// The greatest number of bytes of a piece. The C library maps a block of this size by itself, so its memory goes back to the system with
+/// the piece. After a much greater block was freed, lists as long as that one would be copied when they grow.
 const PIECE: usize = 131_072;
 
 /// The next bytes that a reader has, `PIECE` of them or all that are left; none if a read fails.
@@ -200,7 +201,7 @@ pub(crate) fn is_standard(name: &str) -> bool
     name == "-"
 }
 
-/// The bytes of each name behind others, in order. The standard input is there once, and `is_used` says whether it is among the others.
+/// The bytes of each name after others, in order. The standard input is there once, and `is_used` says whether it is among the others.
 fn read_behind<'a, I: Inputs>(
     alloc: Global,
     inputs: &I,
@@ -241,7 +242,7 @@ pub fn read_all<'a, I: Inputs>(
     read_behind(alloc, inputs, false, names)
 }
 
-/// What one name gives behind others, or why it gives nothing. The standard input gives something once, and `is_used` says whether it is
+/// The bytes of one name after others, or why it gives none. The standard input gives its bytes once, and `is_used` says whether it is
 /// among the others.
 fn read_one<I: Inputs>(
     alloc: Global,
@@ -263,7 +264,7 @@ fn read_one<I: Inputs>(
     }
 }
 
-/// The names of some files that are read, what these give, and the others.
+/// The names of some files that are read, their texts, and the files that aren't read.
 #[derive(Drop)]
 pub(crate) struct ReadFiles<'a> {
     pub(crate) names: Vec<&'a str>,
@@ -272,7 +273,7 @@ pub(crate) struct ReadFiles<'a> {
 }
 
 impl<'a> ReadFiles<'a> {
-    /// One name more, and what it gives or why it gives nothing. `is_used` says whether the standard input is among those before it.
+    /// Adds one name, with its bytes or why it gives none. `is_used` says whether the standard input is among those before it.
     fn add<I: Inputs>(
         &mut self,
         alloc: Global,
@@ -297,7 +298,7 @@ impl<'a> ReadFiles<'a> {
     }
 }
 
-/// What each name gives, in order, or why it gives nothing. The standard input gives something once.
+/// The bytes of each name, in order, or why it gives none. The standard input gives its bytes once.
 pub(crate) fn read_each<'a, I: Inputs>(
     alloc: Global,
     inputs: &I,
@@ -318,7 +319,7 @@ pub(crate) fn read_each<'a, I: Inputs>(
     Ok(read)
 }
 
-/// The same of a journal and the files behind it. The journal's bytes come in pieces.
+/// The bytes of a journal, in pieces, and of each file after it, in order. The standard input is there once.
 pub fn read_with_journal<'a, I: Inputs>(
     alloc: Global,
     inputs: &I,

@@ -1,5 +1,4 @@
-//! The commands of `fltstack`: what its words ask for, over inputs and writers of any kind, and over the files and streams of
-//! the system.
+//! The commands of `fltstack`, over inputs and writers of any kind, and over the files and streams of the system.
 #![tactic(auto)]
 
 mod allowed;

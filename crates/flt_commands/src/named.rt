@@ -13,7 +13,7 @@ use std::alloc::{AllocError, Global};
 use std::cell::Cell;
 use std::io::{self, Write};
 
-/// All bytes of a reader that has just been opened; none if a read fails, or if they are too many. Why one failed is kept.
+/// All bytes of a reader that has just been opened; none if a read fails, or if they are too many. The reason of a failure is kept.
 fn read_opened<R: Reader + Drop>(
     alloc: Global,
     reader: R,
@@ -29,7 +29,7 @@ fn read_opened<R: Reader + Drop>(
     Ok(found)
 }
 
-/// What is kept of them, where they are a text.
+/// The bytes of them that are kept if they are a text.
 fn read_opened_text<R: Reader + Drop>(
     alloc: Global,
     reader: R,
@@ -82,7 +82,7 @@ fn pour<S: System>(system: &S, name: &str, bytes: &[u8]) -> Result<(), Unwritten
     fill(&mut file, bytes)
 }
 
-/// How many names are tried for a new file.
+/// The number of names that are tried for a new file.
 const PARTS: u32 = 100;
 
 /// The name of a new file beside another one, of a number.
@@ -92,8 +92,8 @@ fn part_of(alloc: Global, name: &str, number: u32) -> Result<String, AllocError>
     format!(in alloc; "{name}.part{number}")
 }
 
-/// Writes these bytes into a new file of a name, and puts it in the place of another; or leaves no such file. False where something stands
-/// under its own name.
+/// Writes these bytes into a new file of a name, and puts it in the place of another; or leaves no such file. False if its own name is
+/// taken.
 fn put_part<S: System>(system: &S, part: &str, name: &str, bytes: &[u8]) -> Result<bool, Unwritten>
     ensures { IfOk result (λ done. IsTrue done →
         spec.IsFilled (S.makes system.now) part.now bytes.now × S.puts system.now part.now name.now) }
@@ -115,8 +115,8 @@ fn put_part<S: System>(system: &S, part: &str, name: &str, bytes: &[u8]) -> Resu
     }
 }
 
-/// Writes these bytes into a new file beside that of a name, and puts it in its place. Where that can't be done, no such file is left, and
-/// what stands under the name is as it was.
+/// Writes these bytes into a new file beside that of a name, and puts it in its place. If that fails, no such file is left, and the file of
+/// the name is as it was.
 fn replace<S: System>(
     alloc: Global,
     system: &S,
@@ -141,7 +141,7 @@ fn replace<S: System>(
 #[derive(Drop)]
 pub struct Named<'a, S: System> {
     pub system: &'a S,
-    /// Why a read failed of what was opened last, where one did.
+    /// Why a read of the last opened file failed, if one did.
     fault: Cell<Option<Unread>>,
 }
 
@@ -154,7 +154,7 @@ impl<'a, S: System> Named<'a, S> {
         Named { system, fault }
     }
 
-    /// Nothing could be opened.
+    /// The result for a name under which nothing could be opened.
     fn unopened<V>(&self) -> Result<Option<V>, AllocError>
         ensures { IfOk result IsNone }
     {

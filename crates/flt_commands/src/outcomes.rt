@@ -1,4 +1,4 @@
-//! What the texts of files come to that are laid out, and how that is printed.
+//! The outcomes of files that are laid out, and how they are printed.
 
 ghost use Rattle.std.specs.List.{list_any};
 ghost use Rattle.std.specs.Prelude.{◌≡◌, ◌++◌, IfOk, flat_map, string_bytes};
@@ -10,7 +10,7 @@ use flt_syntax::SyntaxFault;
 use flt_words::{FormatMode, visible};
 use std::alloc::{AllocError, Global};
 
-/// What the text of a file comes to, where it is laid out with the certificate after it.
+/// The outcome of a file whose text is laid out, with the certificate after it.
 #[derive(Drop)]
 pub enum Outcome {
     /// The file is as its layout, which has these bytes.
@@ -25,14 +25,14 @@ pub enum Outcome {
     Long,
 }
 
-/// A file, and what its text comes to.
+/// A file, and the outcome of its text.
 #[derive(Drop)]
 pub struct FileOutcome {
     pub name: String,
     pub outcome: Outcome,
 }
 
-/// What some files come to, and the others, which aren't read.
+/// The outcomes of some files, and the others, which aren't read.
 #[derive(Drop)]
 pub struct Outcomes {
     pub files: Vec<FileOutcome>,
@@ -82,7 +82,7 @@ fn has_other(files: &[FileOutcome]) -> bool
     files.iter().any(|file| is_other(&file.outcome))
 }
 
-/// The exit status of what some files come to.
+/// The exit status of the outcomes of some files.
 pub(crate) fn files_status(mode: FormatMode, files: &[FileOutcome]) -> u8
     ensures { result ≡ spec.files_status mode files.now }
 {
@@ -107,7 +107,7 @@ fn layout_in(outcome: &Outcome) -> &[u8]
     }
 }
 
-/// The line that says that the file of a name differs from its layout, where it does.
+/// The line that says that the file of a name differs from its layout, if it does.
 fn unformatted_line(alloc: Global, name: &str, outcome: &Outcome) -> Result<Vec<u8>, AllocError>
     ensures { IfOk result (λ line. line.items ≡ spec.unformatted_line name.now outcome.now) }
 {
@@ -119,7 +119,7 @@ fn unformatted_line(alloc: Global, name: &str, outcome: &Outcome) -> Result<Vec<
     Ok(line.into_bytes())
 }
 
-/// What is printed of a file.
+/// The output for a file.
 fn printed(alloc: Global, mode: FormatMode, file: &FileOutcome) -> Result<Vec<u8>, AllocError>
     ensures { IfOk result (λ bytes. bytes.items ≡ spec.printed mode file.now) }
 {
@@ -130,7 +130,7 @@ fn printed(alloc: Global, mode: FormatMode, file: &FileOutcome) -> Result<Vec<u8
     }
 }
 
-/// What is printed of some files.
+/// The output for some files.
 pub(crate) fn printed_files(
     alloc: Global,
     mode: FormatMode,
@@ -147,7 +147,7 @@ pub(crate) fn printed_files(
 
 // ---- the standard error
 
-/// That a file isn't read, in a line.
+/// The line that says that a file isn't read.
 fn unread_line(alloc: Global, file: &UnreadFile) -> Result<String, AllocError>
     ensures { IfOk result (λ line. string_bytes line ≡ spec.unread_line file.now) }
 {
@@ -155,7 +155,7 @@ fn unread_line(alloc: Global, file: &UnreadFile) -> Result<String, AllocError>
     format!(in alloc; "cannot read {name}\n")
 }
 
-/// The same of some files.
+/// The same for some files.
 fn unread_lines(alloc: Global, files: &[UnreadFile]) -> Result<Vec<u8>, AllocError>
     ensures { IfOk result (λ lines. lines.items ≡ flat_map spec.unread_line files.now) }
 {
@@ -166,7 +166,7 @@ fn unread_lines(alloc: Global, files: &[UnreadFile]) -> Result<Vec<u8>, AllocErr
     Ok(lines)
 }
 
-/// Why a file has no layout, in a line: of one that is printed as `check` says it, of others after their names.
+/// Why a file has no layout, in a line: for one that is printed as `check` says it, for others after their names.
 fn reason_line(
     alloc: Global,
     mode: FormatMode,
@@ -185,7 +185,7 @@ fn reason_line(
     Ok(line.into_bytes())
 }
 
-/// The same of a fault of its text.
+/// The same for a fault of its text.
 fn fault_line(
     alloc: Global,
     mode: FormatMode,
@@ -199,7 +199,7 @@ fn fault_line(
     reason_line(alloc, mode, name, why.as_str())
 }
 
-/// That a file isn't written, in a line after those that say why.
+/// The line that says that a file isn't written, after those that say why.
 fn unwritten_line(alloc: Global, name: &str, why: &[u8]) -> Result<Vec<u8>, AllocError>
     ensures { IfOk result (λ lines. lines.items ≡ why.now ++ spec.unwritten_line name.now) }
 {
@@ -210,7 +210,7 @@ fn unwritten_line(alloc: Global, name: &str, why: &[u8]) -> Result<Vec<u8>, Allo
     Ok(lines)
 }
 
-/// What is on the standard error of the file of a name.
+/// The lines on the standard error for the file of a name.
 fn remark(
     alloc: Global,
     mode: FormatMode,
@@ -227,7 +227,7 @@ fn remark(
     }
 }
 
-/// What is on the standard error of some files.
+/// The lines on the standard error for some files.
 fn remarks(alloc: Global, mode: FormatMode, files: &[FileOutcome]) -> Result<Vec<u8>, AllocError>
     ensures { IfOk result (λ lines. lines.items ≡ flat_map (spec.remarked mode) files.now) }
 {

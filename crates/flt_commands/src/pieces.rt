@@ -1,4 +1,4 @@
-//! Bytes in pieces, each of which is given back once it is read through.
+//! Bytes in pieces, each of which is freed once it is read through.
 
 ghost use Rattle.std.specs.Prelude.{◌≡◌, ◌<◌, false, IsTrue, [], ◌++◌, length, IfSome, IfNone, OnOk, OnErr};
 
@@ -32,7 +32,7 @@ impl Pieces {
         }
     }
 
-    /// Puts a piece behind all others.
+    /// Adds a piece after all others.
     pub fn push(&mut self, piece: Vec<u8>) -> Result<(), AllocError>
         ensures ok { OnOk result (self.new ≡ self.old ++ piece.items) }
         ensures err { OnErr result (self.new ≡ self.old) }
@@ -41,7 +41,7 @@ impl Pieces {
         Ok(())
     }
 
-    /// Takes out the first piece that has bytes; none where there are no bytes.
+    /// Takes out the first piece that has bytes; none if no piece has any.
     pub fn pop(&mut self) -> Option<Vec<u8>>
         ensures first { IfSome result (λ piece. self.old ≡ piece.items ++ self.new) }
         ensures bytes { IfSome result (λ piece. 0 < length piece.items) }
@@ -56,14 +56,14 @@ impl Pieces {
     }
 }
 
-/// Reads pieces in order, and gives each back once it is read through. No read fails.
+/// Reads pieces in order, and frees each once it is read through. No read fails.
 #[derive(Drop)]
 pub(crate) struct PieceReader {
     /// The piece that is read.
     piece: Vec<u8>,
-    /// How many of its bytes were read.
+    /// The number of its bytes that were read.
     at: usize,
-    /// Those behind it.
+    /// The pieces after it.
     others: Pieces,
 }
 
@@ -90,7 +90,7 @@ impl PieceReader {
         }
     }
 
-    /// Goes on to the next piece, and gives the one before back. Whether there is one.
+    /// Continues with the next piece, and frees the one before. Returns whether there is one.
     #[cold]
     #[inline(never)]
     fn go_on(&mut self) -> bool
@@ -109,7 +109,7 @@ impl PieceReader {
         }
     }
 
-    /// Whether a byte is left, which is at hand then.
+    /// Whether a byte is left, which is then at hand.
     #[inline(always)]
     fn has_byte(&mut self) -> bool
         ensures coming { self.new.0 ++ self.new.1 ≡ self.old.0 ++ self.old.1 }

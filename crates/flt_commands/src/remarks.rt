@@ -1,4 +1,4 @@
-//! What stands on the standard error above the line that says why there is no answer, or beside an answer.
+//! The lines on the standard error above the one that says why there is no answer, or beside an answer.
 
 ghost use Rattle.std.specs.Prelude.{◌≡◌, ◌≢◌, [], IfOk, None, OnErr, OnOk, Some, flat_map, option_map, string_bytes};
 ghost use Rattle.flt_commands.specs.Explain.{said_of};
@@ -15,7 +15,7 @@ use flt_words::visible;
 use std::alloc::{AllocError, Global};
 use std::fmt;
 
-/// What is said of a file that isn't read, under its name as it is shown.
+/// The lines on a file that isn't read, with its name as it is shown.
 #[derive(Drop)]
 struct LinesOn<'a> {
     name: &'a str,
@@ -69,7 +69,7 @@ pub(crate) fn unread_lines(alloc: Global, files: &[UnreadFile]) -> Result<Vec<u8
     Ok(lines)
 }
 
-/// The line that says that no journal is written into the file of a name, where no finding has one; else nothing.
+/// The line that says that no journal is written into the file of a name, if no finding has one; else nothing.
 fn unfound_line(alloc: Global, name: &str, noted: &[Noted]) -> Result<Vec<u8>, AllocError>
     ensures { IfOk result (λ line. line.items ≡ spec.unfound_for name.now (first_journal noted.now)) }
 {
@@ -83,8 +83,8 @@ fn unfound_line(alloc: Global, name: &str, noted: &[Noted]) -> Result<Vec<u8>, A
     }
 }
 
-/// Whole lines on what `explain` of some files says, behind those on files that aren't read: why a file isn't written, or that no run is
-/// found for the journal that is asked for.
+/// Whole lines on the outcome of `explain` for some files, after those on files that aren't read: why a file isn't written, or that no run
+/// is found for the requested journal.
 pub(crate) fn explain_remark(
     alloc: Global,
     before: Vec<u8>,
@@ -107,7 +107,7 @@ pub(crate) fn explain_remark(
     Ok(all)
 }
 
-/// Whole lines that say why a picture isn't written, where that is what is said; else nothing.
+/// Whole lines that say why a picture isn't written, if it isn't; else nothing.
 pub(crate) fn show_remark(
     alloc: Global,
     said: &Result<Answer, Failure<'_>>,

@@ -1,4 +1,4 @@
-//! What `replay` says of the names that it is given.
+//! The answer of `replay` to the names that it is given.
 
 ghost use Rattle.std.specs.Prelude.{◌≡◌, ◌∷◌, List, ℕ, None, IfOk, IfErr, map};
 ghost use Rattle.flt_model.specs.JournalText.{IsJournal, spelling};
@@ -20,7 +20,7 @@ use flt_replay::replay;
 use flt_syntax::{ParseError, Tree, parse};
 use std::alloc::Global;
 
-/// How many filters a stack has at most.
+/// The greatest number of filters of a stack.
 const MAX_FILTERS: usize = 16;
 
 // ---- the filters
@@ -43,7 +43,7 @@ fn parse_all<'a>(alloc: Global, texts: &[Vec<u8>]) -> Result<Vec<Tree>, Failure<
 
 // ---- the journal
 
-/// The journal that some bytes spell. Each piece of them is given back once it is read through.
+/// The journal that some bytes spell. Each piece of them is freed once it is read through.
 fn read_journal<'a>(alloc: Global, written: Pieces) -> Result<Journal, Failure<'a>>
     ensures ok { IfOk result (λ entries. IsJournal entries × (written ≡ spelling entries)) }
     ensures err { IfErr result (spec.JournalFails written) }
@@ -65,7 +65,7 @@ pub(crate) struct Replayed {
     pub(crate) verdict: Verdict,
 }
 
-/// The verdict about a journal on some texts, with what they spell.
+/// The verdict about a journal on some texts, with the trees and the journal that they spell.
 pub(crate) fn replay_all<'a>(
     alloc: Global,
     written: Pieces,
@@ -113,7 +113,7 @@ fn replay_texts<'a>(
     Ok(Answer::Judged(verdict))
 }
 
-/// What `replay` says of the names that it is given, and what these give.
+/// The answer of `replay` to the names that it is given; `contents` becomes the texts and the journal that these give.
 pub fn replay_files<'a, I: Inputs>(
     alloc: Global,
     inputs: &I,

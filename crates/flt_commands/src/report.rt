@@ -1,4 +1,4 @@
-//! What a command comes to, before it is written.
+//! The report on a command, before it is written.
 
 ghost use Rattle.std.specs.Prelude.{◌≡◌, ◌≢◌, ◌++◌, ◌∷◌, [], None, IfErr, IfOk, IsErr, drop};
 ghost use Rattle.flt_commands.specs.Answer.{ending_of, output, remark, sent_in, status_of, told_status};
@@ -16,26 +16,27 @@ use flt_model::Journal;
 use flt_notes::Told;
 use std::alloc::{AllocError, Global};
 
-/// What a command comes to: what was read for it, and what goes where.
+/// The report on a command: the inputs that were read for it, and the bytes for each output.
 #[derive(Drop)]
 pub struct Report {
-    /// What the names among the words give, in their order; none for a file of `explain` that isn't read, and of a journal see `journal`.
+    /// The bytes of the names among the words, in their order; none for a file of `explain` that isn't read, and for a journal see
+    /// `journal`.
     pub texts: Vec<Vec<u8>>,
-    /// The entries of the journal that was read. Its bytes, which they spell, are given back while it is read.
+    /// The entries of the journal that was read. Its bytes, which spell them, are freed while it is read.
     pub journal: Option<Journal>,
-    /// What goes to the standard output.
+    /// The bytes for the standard output.
     pub output: Vec<u8>,
-    /// How many bytes of it went out before it was whole.
+    /// The number of its bytes that were written before it was whole.
     pub(crate) sent: usize,
-    /// What goes to the standard error.
+    /// The bytes for the standard error.
     pub remark: Vec<u8>,
-    /// The exit status: 0 for yes, 1 for no, and 2 where there is no answer, a journal was full before its script had ended, a detach of
-    /// it was refused, or the receipts contradict it.
+    /// The exit status: 0 for yes, 1 for no, and 2 if there is no answer, a journal was full before its script had ended, a detach of it
+    /// was refused, or the receipts contradict it.
     pub status: u8,
 }
 
 impl Report {
-    /// The report on what some names give.
+    /// The report on the contents of some names.
     fn on(contents: Contents, output: Vec<u8>, remark: Vec<u8>, status: u8) -> Report
         ensures texts { result.texts ≡ contents.texts }
         ensures journal { result.journal ≡ contents.journal }
@@ -54,7 +55,7 @@ impl Report {
         }
     }
 
-    /// The report on reports of texts, beside which these files aren't read.
+    /// The report on reports of texts, with these files that aren't read.
     fn on_reports(contents: Contents, told: Told, unread: &[UnreadFile], remark: Vec<u8>) -> Report
         ensures texts { result.texts ≡ contents.texts }
         ensures journal { result.journal ≡ contents.journal }
@@ -86,7 +87,7 @@ impl Report {
         }
     }
 
-    /// What goes to the standard output and hasn't gone out yet.
+    /// The bytes for the standard output that aren't written yet.
     pub(crate) fn rest(&self) -> &[u8]
         ensures { result.now ≡ drop self.now.sent self.now.output.items }
     {
@@ -99,7 +100,7 @@ impl Report {
     }
 }
 
-/// What the names of a command line give, as far as it is kept.
+/// The contents of the names of a command line, as far as they are kept.
 #[derive(Drop)]
 pub(crate) struct Contents {
     pub(crate) texts: Vec<Vec<u8>>,
@@ -107,7 +108,7 @@ pub(crate) struct Contents {
 }
 
 impl Contents {
-    /// Nothing yet.
+    /// No contents yet.
     pub(crate) fn new(alloc: Global) -> Contents
         ensures texts { result.texts.items ≡ [] }
         ensures journal { result.journal ≡ None }
@@ -119,7 +120,7 @@ impl Contents {
     }
 }
 
-/// What stands on the standard error beside a journal that ends so.
+/// The line on the standard error for a journal with this ending, if it has one.
 fn remark_on(alloc: Global, ending: Ending) -> Result<Vec<u8>, AllocError>
     ensures { IfOk result (λ bytes. bytes.items ≡ remark ending) }
 {
@@ -133,7 +134,7 @@ fn remark_on(alloc: Global, ending: Ending) -> Result<Vec<u8>, AllocError>
     Ok(bytes)
 }
 
-/// The report on an answer, with these lines on the standard error before what it remarks.
+/// The report on an answer, with these lines on the standard error before its own.
 fn report_on_answer(
     alloc: Global,
     before: Vec<u8>,
@@ -157,7 +158,7 @@ fn report_on_answer(
     Ok(Report::on(contents, output, remark, status))
 }
 
-/// The report on why there is no answer, in a line behind some others.
+/// The report on why there is no answer, in a line after some others.
 fn report_on_failure(
     alloc: Global,
     before: Vec<u8>,
@@ -179,8 +180,8 @@ fn report_on_failure(
     Ok(Report::on(contents, Vec::new(alloc), remark, 2))
 }
 
-/// The report on what is said of what was read, with these lines on the standard error before what it remarks, or before the line that says
-/// why there is no answer.
+/// The report on an answer or a failure, with these lines on the standard error before those of the answer, or before the line that says
+/// why there is none.
 pub(crate) fn report_on(
     alloc: Global,
     before: Vec<u8>,
@@ -202,7 +203,7 @@ pub(crate) fn report_on(
     }
 }
 
-/// The same on what `explain` of files comes to.
+/// The same on the outcome of `explain` for files.
 pub(crate) fn report_on_explanation(
     alloc: Global,
     before: Vec<u8>,

@@ -1,4 +1,4 @@
-//! What `run` says of the names that it is given.
+//! The answer of `run` to the names that it is given.
 
 ghost use Rattle.std.specs.Prelude.{◌≡◌, ◌∷◌, map};
 ghost use Rattle.flt_commands.specs.Inputs.{Says};
@@ -14,7 +14,7 @@ use std::alloc::Global;
 use std::sync::Wait;
 use std::thread::Threads;
 
-/// What a script comes to on some texts.
+/// The outcome of a script on some texts.
 fn run_texts<'a, R: Threads + Wait + Sync, W: Watch>(
     rt: &R,
     alloc: Global,
@@ -39,8 +39,8 @@ fn run_texts<'a, R: Threads + Wait + Sync, W: Watch>(
     }
 }
 
-/// What `run` says of the names that it is given, by so many workers, and what these give. `watch` hears of each line of the script that was
-/// given.
+/// The answer of `run` to the names that it is given, with these workers; `contents` becomes the bytes that the names give. `watch` hears
+/// of each line of the script that was given.
 pub fn run_files<'a, R: Threads + Wait + Sync, I: Inputs, W: Watch>(
     rt: &R,
     alloc: Global,

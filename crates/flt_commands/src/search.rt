@@ -1,12 +1,12 @@
-//! Who hears how far a search for runs has come.
+//! The progress of searches for runs.
 
 use flt_crew::Unwatched;
 use flt_notes::SearchWatch;
 use flt_words::DEFAULT_STATES;
 
-/// Hears how far the searches for runs of `explain` have come. Nothing that it does changes what is found.
+/// Hears how far the searches for runs of `explain` have come. Nothing that it does changes the findings.
 pub trait WatchSearch {
-    /// The search for runs of a text has gone on from so many states, of so many at most.
+    /// Hears that the search for runs of a text has continued from `states` states, of at most `most`.
     fn searched(&mut self, states: u32, most: u32);
 }
 
@@ -14,8 +14,7 @@ impl WatchSearch for Unwatched {
     fn searched(&mut self, _states: u32, _most: u32) {}
 }
 
-/// A search that goes on from so many states at most. Who watches it hears of it only where these are more than where nothing is said of
-/// them.
+/// A search that continues from at most `most` states. Its watcher hears of it only if these are more than the default.
 #[derive(Drop)]
 pub(crate) struct Search<'w, W: WatchSearch> {
     pub(crate) watch: &'w mut W,

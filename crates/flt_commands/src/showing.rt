@@ -1,4 +1,4 @@
-//! What `replay` says of the names that it is given, where the journal is shown.
+//! The answer of `replay` to the names that it is given, if the journal is shown.
 
 ghost use Rattle.std.specs.Prelude.{◌≡◌, [], ◌∷◌, ℕ, List, None, false, IfOk, OnOk, map, option_map};
 ghost use Rattle.flt_commands.specs.Commands.{IsKeptAs};
@@ -21,7 +21,7 @@ use flt_picture::picture;
 use flt_timeline::Timeline;
 use std::alloc::{AllocError, Global};
 
-/// The rows of a timeline, if they are asked for.
+/// The rows of a timeline, if they are requested; else nothing.
 fn rows_of(alloc: Global, is_asked: bool, timeline: &Timeline<'_>) -> Result<Vec<u8>, AllocError>
     ensures { IfOk result (λ rows. is_asked ≡ false → rows.items ≡ []) }
 {
@@ -31,7 +31,7 @@ fn rows_of(alloc: Global, is_asked: bool, timeline: &Timeline<'_>) -> Result<Vec
     Ok(timeline.text(alloc, 0)?.into_bytes())
 }
 
-/// Draws a journal on the filters of some texts into a file that is none of the inputs. Why that couldn't be written.
+/// Draws a journal on the filters of some texts into a file that is none of the inputs. Returns why that isn't written, if it isn't.
 fn draw<P: Pictures>(
     alloc: Global,
     inputs: &[&str],
@@ -50,7 +50,7 @@ fn draw<P: Pictures>(
     pictures.write(alloc, inputs, name, drawn.as_bytes())
 }
 
-/// Shows a journal on the filters of some texts, of which the monitor says this.
+/// Shows a journal on the filters of some texts, with the monitor's verdict.
 fn show<'a, P: Pictures>(
     alloc: Global,
     is_asked: bool,
@@ -76,7 +76,7 @@ fn show<'a, P: Pictures>(
     Ok(Answer::Shown(rows, replayed.verdict))
 }
 
-/// What is said of a journal on some texts, where it is shown. The journal's entries are kept where it can be.
+/// The answer on a journal on some texts, which is shown. The journal's entries are kept if it can be shown.
 fn show_texts<'a, P: Pictures>(
     alloc: Global,
     is_asked: bool,
@@ -100,8 +100,8 @@ fn show_texts<'a, P: Pictures>(
     Ok(answer)
 }
 
-/// What `replay` says of the names that it is given, where the journal is shown, and what these give. It is shown as rows, where they are
-/// asked for, and in a file, where one is named.
+/// The answer of `replay` to the names that it is given, if the journal is shown; `contents` becomes the texts and the journal that these
+/// give. The journal is shown as rows, if these are requested, and in a file, if one is named.
 pub fn show_files<'a, I: Inputs, P: Pictures>(
     alloc: Global,
     inputs: &I,

@@ -1,4 +1,4 @@
-//! That a command line has one answer at most.
+//! The law that a command line has at most one answer.
 
 ghost use Rattle.std.specs.Prelude.{◌≡◌, ℕ, Bool, List, Result};
 ghost use Rattle.flt_commands.specs.Analyse.{IsAnalysed};
@@ -25,7 +25,7 @@ use flt_syntax::{
     fails_exactly_where_nothing_is_spelled, spelled_is_well_formed, spells_at_most_one,
 };
 
-/// A text has one graph at most. It does nothing: its clause is the law.
+/// A text has at most one graph. It does nothing at run time: its clause is the law.
 fn texts_have_one_graph()
     ensures { (text : Text) (g h : Graph) → HasPoints text g → HasPoints text h → g ≡ h }
 {
@@ -34,7 +34,7 @@ fn texts_have_one_graph()
     one_graph_at_most();
 }
 
-/// `check` says one thing at most of some bytes. It does nothing: its clause is the law.
+/// `check` has at most one answer to some bytes. It does nothing at run time: its clause is the law.
 fn one_check_at_most()
     ensures { spec.SaysOne IsChecked }
 {
@@ -45,7 +45,7 @@ fn one_check_at_most()
     one_refusal_at_most();
 }
 
-/// `thin` says one thing at most of some bytes. It does nothing: its clause is the law.
+/// `thin` has at most one answer to some bytes. It does nothing at run time: its clause is the law.
 fn one_thin_at_most()
     ensures { spec.SaysOne IsThinned }
 {
@@ -56,7 +56,7 @@ fn one_thin_at_most()
     one_refusal_at_most();
 }
 
-/// `analyse` says one thing at most of some bytes. It does nothing: its clause is the law.
+/// `analyse` has at most one answer to some bytes. It does nothing at run time: its clause is the law.
 fn one_analysis_at_most()
     ensures { spec.SaysOne IsAnalysed }
 {
@@ -66,7 +66,7 @@ fn one_analysis_at_most()
     one_fault_is_named();
 }
 
-/// `replay` says one thing at most of some bytes. It does nothing: its clause is the law.
+/// `replay` has at most one answer to some bytes. It does nothing at run time: its clause is the law.
 fn one_verdict_at_most()
     ensures { spec.SaysOne IsReplayed }
 {
@@ -76,9 +76,9 @@ fn one_verdict_at_most()
     one_first_fault_at_most();
 }
 
-/// A command line has one answer at most, where the inputs give one thing for each name, and it asks for no run, no reports, no page, no
-/// layout that is written and no part of a driver. What is printed is one, and so is the exit status; why there is none is one too, unless memory ran out. It does
-/// nothing: its clauses are the law.
+/// A command line has at most one answer if the inputs give one thing for each name and it asks for no run, no journal that is shown, no
+/// reports, no page, no layout that is written and no part of a driver. It has one output and one exit status at most, and one reason why
+/// there is no answer, unless memory ran out. It does nothing at run time: its clauses are the law.
 pub fn one_answer_at_most<I: Inputs, P: Pictures>()
     ensures one { (inputs : I) (before pictures past others : P) (shown showing : Bool) (words : List (List ℕ)) (a b : Report) → spec.AskForOne (asked words) →
         spec.GivesOne (I.gives inputs) → Answers shown (I.gives inputs) (P.written pictures) (pictures ≡ before) words a →

@@ -6,10 +6,10 @@ ghost use Rattle.flt_commands.specs.Split as spec;
 /// The line with which a certificate begins that gives each point.
 const HEADER: &[u8] = b"fltcert 1";
 
-/// The same of one from which points may be left out.
+/// The same for one from which points may be left out.
 const THIN_HEADER: &[u8] = b"fltcert 2";
 
-/// There is nothing behind a line, or its line feed.
+/// Whether nothing follows a line, or its line feed does.
 fn ends_line(bytes: &[u8]) -> bool
     ensures { result ≡ spec.ends_line bytes.now }
 {
@@ -19,7 +19,7 @@ fn ends_line(bytes: &[u8]) -> bool
     }
 }
 
-/// The first line is one with which a certificate begins.
+/// Whether the first line is one with which a certificate begins.
 fn is_header(bytes: &[u8]) -> bool
     ensures { result ≡ spec.is_header bytes.now }
 {
@@ -30,7 +30,7 @@ fn is_header(bytes: &[u8]) -> bool
     (word == HEADER || word == THIN_HEADER) && ends_line(&bytes[HEADER.len()..])
 }
 
-/// A line begins at a place: at the start, and behind each line feed.
+/// Whether a line begins at a place: at the start, and after each line feed.
 fn begins_line(input: &[u8], at: usize) -> bool
     requires { at ≤ length input.now }
     ensures { result ≡ spec.begins_line input.now at }
@@ -41,7 +41,7 @@ fn begins_line(input: &[u8], at: usize) -> bool
     input[at - 1] == b'\n'
 }
 
-/// A certificate's first line begins at a place.
+/// Whether a certificate's first line begins at a place.
 fn is_header_at(input: &[u8], at: usize) -> bool
     requires { at ≤ length input.now }
     ensures { result ≡ spec.is_header_at input.now at }
@@ -49,8 +49,8 @@ fn is_header_at(input: &[u8], at: usize) -> bool
     begins_line(input, at) && is_header(&input[at..])
 }
 
-/// Where the certificate begins in an input, counted from 0: at the first line that is exactly `fltcert 1` or `fltcert 2`, or,
-/// where there is none, at the end.
+/// The place, from 0, where the certificate begins in an input: the first line that is exactly `fltcert 1` or `fltcert 2`, or, without such
+/// a line, the end.
 pub fn certificate_start(input: &[u8]) -> usize
     ensures { spec.IsCertificateStart input.now result }
 {

@@ -1,4 +1,4 @@
-//! What the program asks of its system: to open a file or the standard input, and to put a file in its place.
+//! The services that the program needs from its system: to open a file or the standard input, and to put a file in its place.
 
 ghost use Rattle.std.specs.Io.{ReadsAtMost};
 ghost use Rattle.std.specs.Io.KnownBytes.{ReadConsumes};
@@ -18,20 +18,20 @@ pub trait Reader {
     // The count of its failures.
     ghost failures: { Self → ℕ };
 
-    /// Puts the next bytes into the front of a buffer, and answers how many; 0 only at the end, or where the buffer has no room.
+    /// Puts the next bytes into the front of a buffer, and returns how many; 0 only at the end, or if the buffer has no room.
     fn take(&mut self, buffer: &mut [u8]) -> Result<usize, ReadFault>
         ensures bound { ReadsAtMost result buffer.new }
         ensures bytes { ReadConsumes (left self.old) (left self.new) result buffer.new }
         ensures fine { OnOk result (failures self.new ≡ failures self.old) }
         ensures failed { OnErr result (failures self.new ≢ failures self.old) };
 
-    /// Why `take` failed last, as far as can be said; none where it didn't.
+    /// Why `take` failed last, as far as that is known; none if it didn't.
     fn why(&self) -> Option<Unread> {
         None
     }
 }
 
-/// What stands under a name that is to be written.
+/// The kind of a place to which bytes will be written.
 #[derive(Clone, Copy, Debug, PartialEq, Eq)]
 pub enum Place {
     /// Nothing, or a regular file, whose place a new one takes.
@@ -66,7 +66,7 @@ pub trait System {
     // What was made under the first of these names stands under the second, in place of what stood there.
     ghost puts: { Self → List ℕ → List ℕ → Type 0 };
 
-    /// The file of a name; none where it can't be opened.
+    /// The file of a name; none if it can't be opened.
     fn open(&self, name: &str) -> Option<Self::File>
         ensures opened { IfSome result (λ file. holds self.now name.now (Self.File.left file)) }
         ensures fine { IfSome result (λ file. Self.File.failures file ≡ 0) }
@@ -79,14 +79,14 @@ pub trait System {
         ensures fine { Self.Input.failures result ≡ 0 }
         ensures failing { CanFail Self.Input.failures → fails self.now };
 
-    /// What stands under a name, where it may be written: no symbolic link, no folder, and none of the inputs of these names.
+    /// The place of a name, if it may be written: no symbolic link, no folder, and none of the inputs of these names.
     fn place(&self, name: &str, inputs: &[&str]) -> Result<Place, Unwritten>;
 
     /// The pipe or the device of a name.
     fn stream(&self, name: &str) -> Result<Self::Made, Unwritten>
         ensures { IfOk result (λ file. makes self.now name.now (Self.Made.contents file)) };
 
-    /// A new and empty file of a name; none where something stands there.
+    /// A new and empty file of a name; none if the name is taken.
     fn create(&self, name: &str) -> Result<Option<Self::Made>, Unwritten>
         ensures { IfOk result (λ made. IfSome made (λ file. makes self.now name.now (Self.Made.contents file))) };
 
@@ -97,7 +97,7 @@ pub trait System {
     /// Removes a file that was made under a name.
     fn discard(&self, made: &str);
 
-    /// Why the file of a name wasn't read, which was opened last and of which no read failed, as far as can be said.
+    /// Why the file of a name wasn't read, which was opened last and of which no read failed, as far as that is known.
     fn why(&self, _name: &str) -> Unread {
         Unread::Failed
     }

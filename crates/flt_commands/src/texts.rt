@@ -9,7 +9,7 @@ use crate::pieces::Pieces;
 use crate::unread::Unread;
 use std::alloc::{AllocError, Global};
 
-/// Inputs of which all but one are texts: no more of these is kept than a text may have, and a byte more.
+/// Inputs of which all but one are texts: as many bytes of these are kept as a text may have, and one more.
 #[derive(Drop)]
 pub(crate) struct Texts<'a, I: Inputs> {
     pub(crate) inputs: &'a I,

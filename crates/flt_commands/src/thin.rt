@@ -1,4 +1,4 @@
-//! What `thin` says of the names that it is given.
+//! The answer of `thin` to the names that it is given.
 
 ghost use Rattle.std.specs.Prelude.{◌≡◌, IfOk, map, option_map};
 ghost use Rattle.flt_cert.specs.Spelling.{spelling, thinned};
@@ -20,7 +20,7 @@ use flt_graph::{Graph, lower};
 use flt_syntax::parse;
 use std::alloc::{AllocError, Global};
 
-/// What is left of a certificate, as it is written.
+/// A certificate, thinned, as it is written.
 pub(crate) fn write_thinned(
     alloc: Global,
     graph: &Graph,
@@ -32,7 +32,7 @@ pub(crate) fn write_thinned(
     flt_cert::write(alloc, &left)
 }
 
-/// What is left of a certificate that covers a text.
+/// The answer of `thin` to a text and its certificate.
 fn thin_text<'a>(alloc: Global, text: &[u8], certificate: &[u8]) -> Result<Answer, Failure<'a>>
     ensures { Judges spec.Decides text.now certificate.now result }
 {
@@ -45,7 +45,7 @@ fn thin_text<'a>(alloc: Global, text: &[u8], certificate: &[u8]) -> Result<Answe
     }
 }
 
-/// The same of a text and its certificate in one input.
+/// The same for a text and its certificate in one input.
 fn thin_together<'a>(alloc: Global, input: &[u8]) -> Result<Answer, Failure<'a>>
     ensures { JudgesTogether spec.Decides input.now result }
 {
@@ -53,7 +53,7 @@ fn thin_together<'a>(alloc: Global, input: &[u8]) -> Result<Answer, Failure<'a>>
     thin_text(alloc, text, certificate)
 }
 
-/// What `thin` says of the names that it is given, and what these give.
+/// The answer of `thin` to the names that it is given; `contents` becomes the bytes that these give.
 pub fn thin_files<'a, I: Inputs>(
     alloc: Global,
     inputs: &I,

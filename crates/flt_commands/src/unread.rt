@@ -22,7 +22,7 @@ pub enum Unread {
     Circle,
     /// It has more bytes than an input may have.
     TooLong,
-    /// The same of what is no regular file, and may have no end.
+    /// The same for a file that isn't regular, and may have no end.
     Endless,
     /// It is the standard input, which another name before it is, too.
     Again,
@@ -34,7 +34,7 @@ pub enum Unread {
     Failed,
 }
 
-/// What is said of names that look like those of pages.
+/// The words for names that look like those of pages.
 const RULES: &str = "there is no such file, and rules are R01 to R15";
 
 const WARNINGS: &str = "there is no such file, and warnings are W00 to W07";
@@ -43,7 +43,7 @@ const VIOLATIONS: &str = "there is no such file, and violations are V1 to V8";
 
 const FAULTS: &str = "there is no such file, and faults of a text are E01 to E08";
 
-/// What is said of the name of a page.
+/// The words for the name of a page.
 const ALONE: &str = "there is no such file; pages are for people, and have no file beside them";
 
 /// Whether there are digits and nothing else.
@@ -51,7 +51,7 @@ fn are_digits(bytes: &[u8]) -> bool {
     !bytes.is_empty() && bytes.iter().all(|byte| byte.is_ascii_digit())
 }
 
-/// What is said of a letter with digits behind it.
+/// The words for a letter with digits after it.
 fn numbered_words(letter: u8) -> &'static str {
     match letter {
         b'R' | b'r' => RULES,
@@ -62,7 +62,7 @@ fn numbered_words(letter: u8) -> &'static str {
     }
 }
 
-/// Why there is no file of a name, in words; with the names of pages, where it looks like one.
+/// Why there is no file of a name, in words; with the names of pages, if it looks like one.
 fn missing_words(name: &str) -> &'static str {
     if page(name).is_some() {
         return ALONE;
@@ -74,7 +74,7 @@ fn missing_words(name: &str) -> &'static str {
 }
 
 impl Unread {
-    /// What the system says of a call that failed.
+    /// The reason that the system gives for a call that failed.
     pub fn of(fault: &io::Error) -> Unread {
         match fault.kind() {
             io::ErrorKind::NotFound | io::ErrorKind::NotADirectory => Unread::Missing,
@@ -104,7 +104,7 @@ impl Unread {
         String::from_str(alloc, words)
     }
 
-    /// What to do about it.
+    /// How to fix that.
     fn help(self) -> &'static str {
         match self {
             Unread::Missing =>

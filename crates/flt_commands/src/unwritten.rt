@@ -7,7 +7,7 @@ use std::io;
 /// Why a file isn't written.
 #[derive(Clone, Copy, Debug)]
 pub enum Unwritten {
-    /// Its name is that of a symbolic link, and what that leads to may be another's.
+    /// Its name is that of a symbolic link, which may lead to another's file.
     Link,
     /// It is one of the inputs, whatever its name.
     Input,
@@ -17,7 +17,7 @@ pub enum Unwritten {
 }
 
 impl Unwritten {
-    /// What to do about it.
+    /// How to fix that.
     fn help(self) -> &'static str {
         match self {
             Unwritten::Link => "name the file that it leads to",

@@ -1,4 +1,4 @@
-//! What stands behind the lock.
+//! The core of a running stack, which its lock guards.
 ghost use Rattle.std.specs.Prelude.{◌≡◌, ◌↔◌, ◌⊎◌, ◌<◌, ◌+◌, ◌++◌, ◌∷◌, [], true, false, length, is_some, ◌≢◌, Err, Some, None, IfErr, IfOk, IfSome, IsTrue, OnOk, OnErr};
 ghost use Rattle.flt_core.specs.Counting.{callers_in, is_callers_move, others_in};
 ghost use Rattle.flt_receipts.specs.Bounds.{IsFull};
@@ -33,8 +33,7 @@ use std::alloc::Global;
 use std::marker::Model;
 use std::sync::ledger::{Book, Share};
 
-/// A board of the filters that N names, the books of its entries, and that of what was refused for want of room. Contracts see what the
-/// board is.
+/// A board of the filters that N names, the books of its entries, and that of refusals for lack of room. Contracts see it as the board.
 #[derive(Drop)]
 pub struct Core<N: StackName> {
     pub(crate) board: Board,
@@ -82,8 +81,8 @@ impl<N: StackName> Core<N> {
         })
     }
 
-    /// What is there. Whenever the core can be looked at, its journal is a run of the machine on the filters that N names, and the board
-    /// stands at that run's end.
+    /// The board. Whenever the core can be looked at, its journal is a run of the machine on the filters that N names, and the board is at
+    /// that run's end.
     pub fn board(&self) -> &Board
         ensures same { result.now ≡ self.now }
         ensures own { IsBoard N.trees self.now }
@@ -99,8 +98,8 @@ impl<N: StackName> Core<N> {
         loaded.boards_break_nothing(&self.board)
     }
 
-    /// Says how shares that have all parts of a ledger stand to the journal, and that it is full where something was refused since it was.
-    /// It changes nothing.
+    /// By its clauses, shares that have all parts of a ledger count the journal's entries, and the journal is full if something was refused
+    /// for lack of room. It changes nothing.
     pub fn audit(
         &mut self,
         callers: &mut Share<CallerEntries<N>>,
@@ -203,7 +202,7 @@ impl<N: StackName> Core<N> {
         }
     }
 
-    /// Why the teardown of the filter at an altitude can't begin; none where only memory can refuse it.
+    /// Why the teardown of the filter at an altitude can't begin; none if only memory can refuse it.
     pub fn detach_fault(&self, loaded: &Loaded, altitude: u32) -> Option<DetachFault>
         requires loaded { AreLoaded N.trees loaded.now }
         ensures fault { result ≡ spec.detach_fault N.trees self.now altitude }
@@ -315,7 +314,7 @@ impl<N: StackName> Core<N> {
     }
 
     /// Makes the local steps of an advance, and the step after them, and counts that in a worker's share. `grant` is the system's choice,
-    /// where that step leaves one. What was advanced must have been advanced on what is loaded.
+    /// if that step leaves one. The activation must have been advanced on the same loaded filters.
     pub fn commit(
         &mut self,
         alloc: Global,
@@ -382,7 +381,7 @@ impl<N: StackName> Core<N> {
         self.board.enabled(loaded, step)
     }
 
-    /// What would get a ticket by a move that is enabled. Nothing where the move isn't enabled.
+    /// The subjects that would get a ticket by a move. It is empty if the move isn't enabled.
     pub fn tickets(
         &self,
         alloc: Global,
@@ -396,7 +395,7 @@ impl<N: StackName> Core<N> {
         self.board.tickets(&mut Heap::new(alloc), loaded, step)
     }
 
-    /// Whether there are as many entries as may be, or as many operations where one more arrives.
+    /// Whether there are as many entries as may be, or as many operations if one more arrives.
     pub fn is_full_for(&self, step: Move) -> bool
         ensures { IsTrue result ↔ IsFullFor self.now step }
     {

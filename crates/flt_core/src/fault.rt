@@ -23,7 +23,7 @@ impl From<AllocError> for ArriveFault {
     }
 }
 
-/// Why no teardown began. Nothing has changed. Of several faults the first in this order is told.
+/// Why no teardown began. Nothing has changed. Of several faults the first in this order is reported.
 #[derive(Debug, Clone, Copy, PartialEq, Eq)]
 pub enum DetachFault {
     /// No filter has the altitude.

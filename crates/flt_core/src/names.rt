@@ -1,4 +1,4 @@
-//! What a stack is named by.
+//! Names of stacks, as types.
 ghost use Rattle.std.specs.Prelude.{ℕ};
 
 use std::marker::{Brand, PhantomData};
@@ -69,7 +69,7 @@ impl<N: Counts> Ledger for OtherEntries<N> {
     ghost parts = { N.others_parts };
 }
 
-/// The ledger of what was refused for want of room: the journal, or the number of operations, was full.
+/// The ledger of refusals for lack of room: the journal, or the number of operations, was full.
 pub struct Fulls<N: Counts> {
     of: PhantomData<N>,
 }

@@ -1,4 +1,4 @@
-//! What a caller keeps of its calls that succeeded, with its share.
+//! The receipts of a caller's calls that succeeded, with its share.
 ghost use Rattle.std.specs.Prelude.{◌≡◌, ◌<◌, []};
 
 use crate::names::{CallerEntries, Counts};

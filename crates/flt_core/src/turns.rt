@@ -1,4 +1,4 @@
-//! What a worker does in one hold of the lock: a ticket's move, or the step after an advance.
+//! The work that a worker does in one hold of the lock: a ticket's move, or the step after an advance.
 ghost use Rattle.std.specs.Prelude.{◌≡◌, ◌≢◌, ◌+◌, ◌<◌, [], true, false, length, Err, IfOk, OnErr, OnOk};
 ghost use Rattle.std.specs.BTreeSet.{insert_key};
 ghost use Rattle.std.specs.Ordering.{nat_cmp};
@@ -17,17 +17,17 @@ use flt_run::{Choices, TurnFault};
 use std::alloc::Global;
 use std::sync::ledger::Share;
 
-/// What stands behind the lock of a stack: its core, and the system's choices.
+/// The state that a stack's lock guards: its core, and the system's choices.
 #[derive(Drop)]
 pub struct Locked<N: StackName> {
     pub core: Core<N>,
     pub choices: Choices,
 }
 
-/// What a ticket's turn came to.
+/// The result of a ticket's turn.
 #[derive(Drop)]
 pub struct Turned {
-    /// What gets a ticket by it.
+    /// The subjects that get a ticket by it.
     pub next: Vec<Subject>,
     /// Whether the ticket goes to the back.
     pub stays: bool,
@@ -70,7 +70,7 @@ impl<N: StackName> Locked<N> {
         Ok(())
     }
 
-    /// Makes the move that a ticket asks for, where it is enabled. An activation's ticket asks for none: it goes by steps.
+    /// Makes the move that a ticket asks for, if it is enabled. An activation's ticket asks for none: it makes steps.
     pub fn move_on(
         &mut self,
         alloc: Global,
@@ -109,7 +109,7 @@ impl<N: StackName> Locked<N> {
         }
     }
 
-    /// Makes the local steps of an advance, and the step after them, by the system's next choice. The ticket goes where the activation
+    /// Makes the local steps of an advance, and the step after them, by the system's next choice. The ticket leaves if the activation
     /// isn't in the state that it was advanced from.
     pub fn go_on(
         &mut self,
@@ -152,7 +152,7 @@ impl<N: StackName> Locked<N> {
         }
     }
 
-    /// Cancels an operation, where it can be.
+    /// Cancels an operation, if it can be cancelled.
     pub fn cancel(
         &mut self,
         alloc: Global,

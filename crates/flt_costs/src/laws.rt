@@ -12,9 +12,9 @@ ghost use Rattle.flt_model.specs.declared.moves.JournalEntry.{JournalEntry};
 ghost use Rattle.flt_tree.specs.Measures.{are_small, max_cost};
 ghost use Rattle.flt_tree.specs.declared.filter.Filter.{Filter};
 
-/// A journal that is a run gives each activation at most as many steps as the callback costs with which it started: its body, and
-/// 1 for its end. Each activation that is there was started by one of the entries, and one that isn't there makes no steps. Where
-/// the filters keep the limit on costs, no activation makes more than 1,000,000 steps. It does nothing: its clauses are the law.
+/// A journal that is a run gives each activation at most as many steps as the callback costs with which it started: its body, and 1 for its
+/// end. Each activation that is there was started by one of the entries, and one that isn't there makes no steps. If the filters keep the
+/// limit on costs, no activation makes more than 1,000,000 steps. It does nothing: its clauses are the law.
 pub fn journals_stay_within_costs()
     ensures few { (p : List Filter) (entries : List JournalEntry) (m : Moment) (a filter callback : ℕ) → IsRunTo p entries m →
         IsStarted p entries a filter callback → steps_of a entries ≤ callback_cost p filter callback }
@@ -26,7 +26,7 @@ pub fn journals_stay_within_costs()
         IsTrue (list_all are_small p) → steps_of a entries ≤ max_cost }
 {}
 
-/// Each step of an activation, one of its own or one that others see, lowers what it may still spend, by one at least, and leaves the other
+/// Each step of an activation, one of its own or one that others see, lowers its remaining cost by one at least, and leaves the other
 /// activations as they are. It does nothing: its clauses are the law.
 pub fn steps_spend()
     ensures hidden { (p : List Filter) (t : List Event) (w : World) (a : ℕ) (s : Step) → local p t w a ≡ Some s →

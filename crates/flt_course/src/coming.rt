@@ -1,4 +1,4 @@
-//! What comes next in an activation.
+//! The upcoming statement of an activation, and whether others see its step.
 
 ghost use Rattle.std.specs.Prelude.{◌≡◌, Bool, List, is_some, OnOk, IfOk, MatchOption, [], ◌∷◌};
 ghost use Rattle.flt_model.specs.LocalSteps.{after_action, after_statement, holds_test, local_step};
@@ -12,11 +12,11 @@ use flt_tree::{Action, Condition, Statement, Test};
 use flt_world::World;
 use std::alloc::AllocError;
 
-/// What comes next in an activation, which stays; nothing at the end of its body.
+/// The upcoming statement of an activation; none at the end of its body. The world stays the same.
 ///
 /// # Errors
 ///
-/// Where a growth was refused.
+/// If memory is refused.
 pub fn upcoming<'a>(world: &mut World<'a>, a: usize) -> Result<Option<Upcoming<'a>>, AllocError>
     ensures same { OnOk result (world.new ≡ world.old) }
     ensures first { IfOk result (λ f. MatchOption f ((activation_at world.old a).rest ≡ [])
@@ -38,7 +38,7 @@ fn is_local_action(action: Action) -> bool
     )
 }
 
-/// Whether nobody else sees what a test says.
+/// Whether nobody else sees the outcome of a test.
 fn is_local_test(test: Test) -> bool
     ensures { (draining : Bool) (act : Activation) → is_some (holds_test draining act test) ≡ result }
 {
@@ -58,7 +58,7 @@ fn is_local_statement(statement: &Statement) -> bool
     }
 }
 
-/// Whether nobody else sees the step of what comes next in an activation; the end of its body is seen.
+/// Whether nobody else sees the step of an upcoming statement; the end of a body is seen.
 pub fn is_local(next: Option<Upcoming<'_>>) -> bool
     ensures { (draining : Bool) (act : Activation) (statements rest : List Written) →
         MatchOption next.entry (statements ≡ []) (λ u. statements ≡ statement_of u ∷ rest) →

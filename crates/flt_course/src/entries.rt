@@ -1,4 +1,4 @@
-//! Moves, steps and entries are made, whatever they break: their events aren't read.
+//! Makes moves, steps and entries, whatever they break: their events aren't read.
 
 ghost use Rattle.std.specs.Prelude.{List, IfOk};
 ghost use Rattle.flt_model.specs.declared.event.Event.{Event};
@@ -11,11 +11,11 @@ use flt_steps::Setup;
 use flt_world::{Stack, World};
 use std::alloc::{AllocError, Global};
 
-/// Makes a move. False where it isn't enabled.
+/// Makes a move. Returns false if it isn't enabled.
 ///
 /// # Errors
 ///
-/// Where a growth was refused, or a number or a count would reach 2^32.
+/// If memory is refused, or a number or a count would reach 2^32.
 #[tactic(auto, using(crate::proofs::Leading::led))]
 pub fn make_move<'a>(
     world: &mut World<'a>,
@@ -29,11 +29,11 @@ pub fn make_move<'a>(
     flt_moves::make(world, alloc, stack, step, &mut events)
 }
 
-/// Makes so many steps of an activation that nobody else sees, up to one that isn't such a step, and answers how many it made.
+/// Makes so many steps of an activation that nobody else sees, up to one that isn't such a step, and returns how many it made.
 ///
 /// # Errors
 ///
-/// Where a growth was refused.
+/// If memory is refused.
 pub fn go_locally(world: &mut World<'_>, a: usize, steps: u32) -> Result<u32, AllocError>
     ensures { IfOk result (λ made. spec.GoesLocally steps world.old a made world.new) }
 {
@@ -45,11 +45,11 @@ pub fn go_locally(world: &mut World<'_>, a: usize, steps: u32) -> Result<u32, Al
     Ok(steps)
 }
 
-/// Makes a step of an activation that others see, with the choice that it leaves to the system. False where it isn't enabled.
+/// Makes a step of an activation that others see, with the choice that it leaves to the system. Returns false if it isn't enabled.
 ///
 /// # Errors
 ///
-/// Where a growth was refused, or a number or a count would reach 2^32.
+/// If memory is refused, or a number or a count would reach 2^32.
 pub fn step_seen<'a>(
     world: &mut World<'a>,
     alloc: Global,
@@ -69,7 +69,7 @@ pub fn step_seen<'a>(
     flt_steps::step_seen(world, stack, setup, &mut events)
 }
 
-/// Goes on by so many steps, of which exactly the last is seen. False where one of them isn't enabled.
+/// Makes so many steps, of which exactly the last is seen. Returns false if one of them isn't enabled.
 fn go<'a>(
     world: &mut World<'a>,
     alloc: Global,
@@ -90,11 +90,11 @@ fn go<'a>(
     step_seen(world, alloc, stack, a, grant)
 }
 
-/// Makes an entry. False where one of its transitions isn't enabled.
+/// Makes an entry. Returns false if one of its transitions isn't enabled.
 ///
 /// # Errors
 ///
-/// Where a growth was refused, or a number or a count would reach 2^32.
+/// If memory is refused, or a number or a count would reach 2^32.
 pub fn make_entry<'a>(
     world: &mut World<'a>,
     alloc: Global,

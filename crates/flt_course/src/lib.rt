@@ -1,6 +1,6 @@
-//! A journal run along in the monitor's world, whatever it breaks: for those who show or explain a run that is judged already.
+//! Runs a journal in the monitor's world, whatever it breaks, for those who show or explain a run that is judged already.
 //!
-//! `coming` says what comes next in an activation, and whether others see it; `entries` makes moves, steps and entries.
+//! `coming` has the upcoming statement of an activation, and says whether others see its step; `entries` makes moves, steps and entries.
 #![tactic(auto)]
 
 mod coming;

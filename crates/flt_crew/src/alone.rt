@@ -14,7 +14,7 @@ use flt_script::Script;
 use std::alloc::Global;
 use std::sync::Wait;
 
-/// Each command is given once the one before it has been worked off: no ticket is left, or 1,000,000 were taken. `made` counts the entries
+/// Gives each command once the work of the one before it is done: no ticket is left, or 1,000,000 were taken. `made` counts the entries
 /// that the worker was answered that it made.
 pub(crate) fn follow<N: StackName, R: Wait, W: Watch>(
     rt: &R,

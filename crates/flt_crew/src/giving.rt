@@ -1,4 +1,4 @@
-//! What a stack's caller does with a command.
+//! The calls by which a stack's caller gives a command.
 
 ghost use Rattle.std.specs.Prelude.{◌≡◌, ◌≢◌, ◌<◌, ◌++◌, true, IsTrue, Err, OnErr, OnOk, length};
 ghost use Rattle.flt_core.specs.Refusals.{has_altitude};

@@ -63,7 +63,7 @@ fn give_each<N: StackName, R: Wait, W: Watch>(
     Ok(())
 }
 
-/// The commands are given, and the workers are told when none is left.
+/// Gives the commands, and lets the workers know when none is left.
 fn give_all<N: StackName, R: Wait, W: Watch>(
     rt: &R,
     alloc: Global,
@@ -123,7 +123,7 @@ fn work_all<N: StackName + Send + Sync, R: Threads + Wait + Sync>(
     )
 }
 
-/// What all workers came to: their seats in order, how many entries they were answered that they made, and whether one of them found the
+/// The results of all workers: their seats in order, how many entries they were answered that they made, and whether one of them found the
 /// journal full.
 #[derive(Drop)]
 struct Ended<N: StackName> {
@@ -132,7 +132,7 @@ struct Ended<N: StackName> {
     is_full: bool,
 }
 
-/// What these workers came to together.
+/// The results of these workers together.
 fn parts_of<N: StackName>(alloc: Global, all: Vec<Worked<N>>) -> Result<Ended<N>, AllocError>
     ensures seats { IfOk result (λ ended. map (λ worked. worked.seat) all.items ≡ ended.seats.items) }
     ensures counted { IfOk result (λ ended. ended.made ≤ sum_by (λ seat. seat.share.amount) ended.seats.items) }

@@ -1,7 +1,7 @@
-//! `run`: what a script comes to on the texts of some filters, by 1 to 16 workers.
+//! `run`: the journal of a script on the texts of some filters, by 1 to 16 workers.
 //!
-//! The filters are loaded into a running stack, and the caller of that stack gives it the commands of the script. One worker works each
-//! command off before the next one is given, in the same thread. Several work in threads of their own while the commands are given.
+//! The filters are loaded into a running stack, and the caller of that stack gives it the commands of the script. One worker finishes each
+//! command before the next one is given, in the same thread. Several work in threads of their own while the commands are given.
 #![tactic(auto)]
 
 mod alone;

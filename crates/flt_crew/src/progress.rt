@@ -1,4 +1,4 @@
-//! What the caller and the workers tell one another beside the stack.
+//! The progress of a run, which the caller and the workers share beside the stack.
 
 use std::sync::atomic::{AtomicBool, AtomicU64, Ordering};
 
@@ -30,7 +30,7 @@ impl Progress {
         self.is_given.load(Ordering::SeqCst)
     }
 
-    /// So many more entries were made.
+    /// Counts this many more entries.
     pub(crate) fn add(&self, made: u64) {
         self.entries.fetch_add(made, Ordering::SeqCst);
     }

@@ -25,17 +25,17 @@ use std::sync::Wait;
 use std::sync::ledger::Blank;
 use std::thread::Threads;
 
-/// What a script came to.
+/// The result of a script.
 #[derive(Drop)]
 pub struct Ran {
     /// The journal, as it is written.
     pub journal: Vec<u8>,
-    /// How many entries the workers were answered that they made. Where the run ends whole, they made no others.
+    /// How many entries the workers were answered that they made. If the run ends whole, they made no others.
     pub made: u64,
     /// How it ends.
     pub ending: Ending,
-    /// Whether the last ticket that had a turn stays, and nothing was moved: so it is where activations wait for one another. No clause says
-    /// so.
+    /// Whether the last ticket that had a turn stays, and nothing was moved: it is true if activations wait for one another. No clause says
+    /// this.
     pub is_still: bool,
 }
 
@@ -152,7 +152,7 @@ fn follow_together<N: StackName + Send + Sync, R: Threads + Wait + Sync, W: Watc
     Ok(followed)
 }
 
-/// So many workers follow the script, alone or together.
+/// This many workers follow the script, alone or together.
 fn follow<N: StackName + Send + Sync, R: Threads + Wait + Sync, W: Watch>(
     rt: &R,
     alloc: Global,
@@ -294,7 +294,7 @@ fn drive_on<N: StackName + Send + Sync, R: Threads + Wait + Sync, W: Watch>(
     finish(alloc, stack, followed)
 }
 
-/// Drives a new stack of what is loaded by a script, with one caller and so many workers.
+/// Drives a new stack of the loaded filters by a script, with one caller and so many workers.
 fn drive<N: StackName + Send + Sync, R: Threads + Wait + Sync, W: Watch>(
     rt: &R,
     alloc: Global,
@@ -344,7 +344,7 @@ fn drive_named<R: Threads + Wait + Sync, W: Watch>(
     drive::<Brand, R, W>(rt, alloc, loaded, script, workers, blanks, watch)
 }
 
-/// What was driven, with its journal as it is written.
+/// The result of a driven script, with its journal as it is written.
 fn written(alloc: Global, driven: Driven) -> Result<Ran, AllocError>
     ensures journal { IfOk result (λ ran. ran.journal.items ≡ journal.spelling driven.journal) }
     ensures ending { IfOk result (λ ran. (ran.made ≡ driven.made) × (ran.ending ≡ driven.ending)) }
@@ -361,13 +361,12 @@ fn written(alloc: Global, driven: Driven) -> Result<Ran, AllocError>
 // ---- all of it
 
 /// Drives a script on the filters that some texts spell, by so many workers, and answers the journal. The texts need no certificates: each
-/// gets the least one that there is. One worker works each command off before the next one is given. `watch` is told of each command that
-/// was given.
+/// gets its least one. One worker finishes each command before the next one is given. `watch` is called after each command that was given.
 ///
 /// # Errors
 ///
-/// The first of these that there is, and of one kind the first file's: the number of files; a text's fault; a line of the script; a text
-/// that no certificate covers; an altitude that an earlier file has. Or a growth was refused.
+/// The first of these that occurs, and of one kind the first file's: the number of files; a text's fault; a line of the script; a text that
+/// no certificate covers; an altitude that an earlier file has. Or a growth was refused.
 pub fn run<R: Threads + Wait + Sync, W: Watch>(
     rt: &R,
     alloc: Global,

@@ -1,11 +1,11 @@
-//! Who watches a script being driven.
+//! Watchers of a script being driven.
 
 /// Watches a script being driven. Nothing that it does changes the run.
 pub trait Watch {
     /// A command of the script was given, and this many entries are known to have been made so far.
     fn after(&mut self, entries: u64);
 
-    /// At the end of the script activations wait for locks, and nothing goes on. These lines say so, without the last one's end.
+    /// At the end of the script activations wait for locks, and nothing can continue. These lines say so, without the last one's end.
     fn waits(&mut self, lines: &str);
 }
 

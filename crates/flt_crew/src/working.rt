@@ -1,4 +1,4 @@
-//! What a worker does in a thread of its own.
+//! The work of a worker in a thread of its own.
 
 ghost use Rattle.std.specs.Prelude.{◌≡◌, ◌≤◌, ◌<◌, Err, Ok, OnOk};
 ghost use Rattle.flt_crew.specs.Following.{IsSum};

@@ -1,4 +1,4 @@
-//! What calls answer.
+//! The answers of calls.
 
 /// Whether a call dropped a context's last reference.
 #[derive(Clone, Copy, PartialEq)]
@@ -9,7 +9,7 @@ pub enum Release {
     Alive,
 }
 
-/// A context that lost its link, and what became of it where the link's reference was dropped.
+/// A context that lost its link, and whether it was freed if the link's reference was dropped.
 #[derive(Clone, Copy, PartialEq)]
 pub struct Unlinked {
     pub context: usize,
@@ -25,6 +25,6 @@ pub enum SetAnswer {
     Deleting,
     /// The context is linked already, or freed.
     Linked,
-    /// This other context is linked there and stays. It has one reference more where the caller wanted it.
+    /// This other context is linked there and stays. It has one reference more if the caller wanted it.
     Defined(usize),
 }

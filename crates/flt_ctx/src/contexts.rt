@@ -1,8 +1,8 @@
 //! The contexts themselves.
 //!
-//! A link isn't moved in its lists when another context takes it over: its two nodes stay, and name the other context. So a
-//! replacement takes no memory, and only a link that is new does, before anything is changed. The streams with a link also stand in
-//! an index, where the first one of a filter is found without a search.
+//! A link isn't moved in its lists when another context takes it over: its two nodes stay, and name the other context. So a replacement
+//! takes no memory, and only a link that is new does, before anything is changed. The streams with a link are also in an index, where the
+//! first one of a filter is found without a search.
 ghost use Rattle.std.specs.Prelude.{◌≡◌, ◌≢◌, ℕ, ◌-◌, ◌^◌, ◌<◌, ◌≤◌, ◌↔◌, true, false, List, [], ◌∷◌, ◌++◌, replicate, length, is_some, option_map, IsSome, Some, None, set, if◌then◌else◌, Ok, IfOk, OnOk, OnErr, IfSome, IfNone, MatchOption};
 ghost use Rattle.flt_ctx.specs.Contexts.{context_at, is_freed, linked_at, order_of, add_reference, drop_reference, put_value, with_link, put_link, after_unlink, is_closed, cannot_link, CanLink, IsReplaced};
 ghost use Rattle.flt_ctx.specs.declared.answers.SetAnswer.TheVariants as answer;
@@ -143,7 +143,7 @@ impl Contexts {
         }
     }
 
-    /// The context's value, which a freed one keeps. Where there is no such context, 0.
+    /// The context's value, which a freed one keeps; 0 if it doesn't exist.
     pub fn value(&self, context: usize) -> u64
         ensures { result ≡ (context_at self.now context).value }
     {
@@ -329,7 +329,7 @@ impl Contexts {
         }
     }
 
-    /// Links the context there, where none is linked. Its references stay as they are.
+    /// Links the context there, if none is linked. Its references stay as they are.
     fn put_link(&mut self, heap: &mut Heap, context: usize, key: Key) -> Result<(), OutOfMemory>
         requires there { context < length self.old.contexts }
         requires free { (context_at self.old context).link ≡ None }
@@ -392,9 +392,9 @@ impl Contexts {
 
     /// Links the context there, with a reference of the link's own.
     ///
-    /// Refusals are tested in this order: the filter is closed; the context is linked or freed; another one is linked there and is
-    /// to be kept, which then gets one reference more where the caller wants it. One that isn't kept loses its link, whose
-    /// reference passes to the caller who wants it, otherwise it is dropped.
+    /// Refusals are tested in this order: the filter is closed; the context is linked or freed; another one is linked there and must be
+    /// kept, which then gets one reference more if the caller wants it. One that isn't kept loses its link, whose reference passes to the
+    /// caller who wants it, otherwise it is dropped.
     pub fn set(
         &mut self,
         heap: &mut Heap,
@@ -448,8 +448,8 @@ impl Contexts {
         }
     }
 
-    /// Makes the link of one context that of another, to which it adds a reference. That of the first is dropped unless the caller
-    /// wants it.
+    /// Makes the link of one context that of another, to which it adds a reference. The link's reference to the first is dropped unless the
+    /// caller wants it.
     fn replace(&mut self, from: usize, to: usize, wanted: bool) -> Release
         requires linked { IsSome (context_at self.old from).link }
         requires free { (context_at self.old to).link ≡ None }

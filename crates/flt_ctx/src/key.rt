@@ -1,4 +1,4 @@
-//! What a context can be linked to.
+//! The streams and instances that a context can be linked to.
 
 /// A stream, by the number of its file, or the instance itself.
 #[derive(Clone, Copy, PartialEq)]

@@ -27,7 +27,7 @@ pub(crate) struct Link {
     pub by_filter: NodeId,
 }
 
-/// What is kept of a context.
+/// The row of a context.
 #[derive(Clone, Copy, Drop)]
 pub(crate) struct Row {
     pub owner: usize,
@@ -36,7 +36,7 @@ pub(crate) struct Row {
     pub link: Option<Link>,
 }
 
-/// Where a target's list stands behind those of the filters. Streams with one remainder share a list.
+/// The place of a target's list, counted from 0 after the lists of the filters. Streams with one remainder share a list.
 pub(crate) fn place_of(target: Target) -> usize
     ensures place { result ≡ place_of target }
     ensures within { result < 1025 }
@@ -112,7 +112,7 @@ pub(crate) fn add_named(
     Ok(node)
 }
 
-/// Makes room for what a node links.
+/// Makes room for the context that a node links.
 fn grow(heap: &mut Heap, contexts: &mut Vec<usize>, node: NodeId) -> Result<(), AllocError>
     ensures within { OnOk result (node < length contexts.new.items) }
     ensures same { (other : ℕ) → context_of contexts.new.items other ≡ context_of contexts.old.items other }

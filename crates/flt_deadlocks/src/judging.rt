@@ -1,4 +1,4 @@
-//! What a journal is worth: it is run again, and those that wait at its end are compared with the circle.
+//! The judgement of a journal: it is run again, and those that wait at its end are compared with the circle.
 
 ghost use Rattle.std.specs.Prelude.{◌≡◌, [], IfOk, IfSome, IsTrue, All, Contains};
 ghost use Rattle.std.specs.List.{AllZip};
@@ -20,7 +20,7 @@ pub struct Deadlock {
     pub waits: Vec<Blocked>,
 }
 
-/// The number of a tree's filter, from the highest altitude; none where there is no such tree.
+/// The number of a tree's filter, from the highest altitude; none if there is no such tree.
 pub(crate) fn number_of(
     alloc: Global,
     trees: &[Tree],
@@ -57,7 +57,7 @@ fn waiting_at(waits: &[Blocked], filter: usize, acquisition: Acquisition) -> Opt
     None
 }
 
-/// For each acquisition of a circle one that waits at it; none where one of them has none.
+/// For each acquisition of a circle an activation that waits at it; none if one of them has none.
 fn waiting_round(
     alloc: Global,
     waits: &[Blocked],

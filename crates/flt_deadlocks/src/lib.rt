@@ -1,8 +1,8 @@
 //! The search for a run to a deadlock: to a moment at which each acquisition of a circle has an activation that waits at it.
 //!
 //! `find_deadlock` goes through the rounds of `flt_explore` (`searching`). Whatever they propose is run again: only a legal journal after
-//! which all of these activations wait for locks of one another is found (`judging`). That is proved; that a run is found where there is
-//! one isn't.
+//! which all of these activations wait for locks of one another is found (`judging`). That is proved; it isn't proved that a run is found
+//! if one exists.
 #![tactic(auto)]
 
 mod judging;

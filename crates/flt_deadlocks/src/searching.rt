@@ -15,7 +15,7 @@ use std::alloc::{AllocError, Global};
 /// How many filters a stack has at most.
 const MAX_FILTERS: usize = 16;
 
-/// What a search for a deadlock came to.
+/// The answer of a search for a deadlock.
 #[derive(Drop)]
 pub enum Answer {
     /// This run leads to it.
@@ -26,7 +26,7 @@ pub enum Answer {
     Cut,
 }
 
-/// Where the acquisitions of a circle are; none where there is no such filter, or no acquisition.
+/// The places of the acquisitions of a circle; none if there is no such filter, or no acquisition.
 fn stands_of(
     alloc: Global,
     plan: &Plan,
@@ -114,15 +114,15 @@ fn find_at<W: SearchWatch>(
     })
 }
 
-/// Seeks a run to a moment at which activations of a filter wait at all acquisitions of a circle, for locks of one another. `filter` is
-/// the number of its tree; the trees may be in any order. The search goes breadth first through small worlds, in rounds of growing bounds,
-/// with up to four operations and activations at once, and goes on from so many states in all, with five times as many moves and a
-/// hundred times as many local steps. No clause says that a run is found where there is one. `watched` counts the states, and reports
-/// them to its watcher.
+/// Seeks a run to a moment at which activations of a filter wait at all acquisitions of a circle, for locks of one another. `filter` is the
+/// number of its tree; the trees may be in any order. The search goes breadth first through small worlds, in rounds of growing bounds, with
+/// up to four operations and activations at once, and continues from so many states in all, with five times as many moves and a hundred
+/// times as many local steps. No clause says that a run is found if one exists. `watched` counts the states, and reports them to its
+/// watcher.
 ///
 /// # Errors
 ///
-/// Where a growth was refused, or a number or a count would reach 2^32.
+/// If memory is refused, or a number or a count would reach 2^32.
 pub fn find_deadlock<W: SearchWatch>(
     alloc: Global,
     trees: &[Tree],

@@ -14,11 +14,11 @@ use std::test::Fail;
 const TURNED: &str =
     "filter a altitude 100\nlock push x\nlock push y\npre read {\nFltAcquirePushLockExclusive x\nFltAcquirePushLockExclusive y\nFltReleasePushLock y\nFltReleasePushLock x\nreturn NO_CALLBACK\n}\npre write {\nFltAcquirePushLockExclusive y\nFltAcquirePushLockExclusive x\nFltReleasePushLock x\nFltReleasePushLock y\nreturn NO_CALLBACK\n}\n";
 
-/// The same, where both share both locks.
+/// The same, but both share both locks.
 const SHARED: &str =
     "filter a altitude 100\nlock push x\nlock push y\npre read {\nFltAcquirePushLockShared x\nFltAcquirePushLockShared y\nFltReleasePushLock y\nFltReleasePushLock x\nreturn NO_CALLBACK\n}\npre write {\nFltAcquirePushLockShared y\nFltAcquirePushLockShared x\nFltReleasePushLock x\nFltReleasePushLock y\nreturn NO_CALLBACK\n}\n";
 
-/// The same as the first, where both hold z all the while.
+/// The same as the first, but both hold z all the while.
 const GUARDED: &str =
     "filter a altitude 100\nlock push x\nlock push y\nlock push z\npre read {\nFltAcquirePushLockExclusive z\nFltAcquirePushLockExclusive x\nFltAcquirePushLockExclusive y\nFltReleasePushLock y\nFltReleasePushLock x\nFltReleasePushLock z\nreturn NO_CALLBACK\n}\npre write {\nFltAcquirePushLockExclusive z\nFltAcquirePushLockExclusive y\nFltAcquirePushLockExclusive x\nFltReleasePushLock x\nFltReleasePushLock y\nFltReleasePushLock z\nreturn NO_CALLBACK\n}\n";
 
@@ -40,8 +40,8 @@ const SEES: &str = "filter b altitude 200\npre read {\nreturn NO_CALLBACK\n}\n";
 /// A line that takes a lock, which lock, and one that is held there.
 type Step = (usize, LockNumber, LockNumber);
 
-/// Texts, of which one has the circle, its number, the circle, and how many entries a shortest run has that comes to a deadlock there, if any
-/// does.
+/// Texts, of which one has the circle, its number, the circle, and how many entries a shortest run has that comes to a deadlock there, if
+/// any does.
 type Case<'a> = (&'a [&'a str], usize, &'a [Step], Option<usize>);
 
 const X: LockNumber = LockNumber::L0;
@@ -114,7 +114,7 @@ fn circle_of(alloc: Global, graph: &Graph, steps: &[Step]) -> Result<Vec<Acquisi
     Ok(circle)
 }
 
-/// The circle of a case, in the filter that has it; in the last one where that isn't there.
+/// The circle of a case, in the filter that has it; in the last one if there is no such filter.
 fn circle_in(
     alloc: Global,
     trees: &[Tree],
@@ -130,7 +130,7 @@ fn circle_in(
     }
 }
 
-/// Whether one waits at each step of a circle.
+/// Whether an activation waits at each step of a circle.
 fn is_at(deadlock: &Deadlock, steps: &[Step]) -> bool {
     if deadlock.waits.len() != steps.len() {
         return false;
@@ -159,7 +159,7 @@ fn is_right(
     )
 }
 
-/// Whether of a case what is found is as it should be.
+/// Whether the answer for a case is as it should be.
 fn is_found(alloc: Global, case: &Case<'_>) -> Result<bool, Fail> {
     let (texts, filter, steps, entries) = *case;
     let trees = trees_of(alloc, texts)?;
@@ -184,7 +184,7 @@ fn is_found(alloc: Global, case: &Case<'_>) -> Result<bool, Fail> {
     }
 }
 
-/// The first of these cases of which something else is found.
+/// The first of these cases with another answer.
 fn wrong_case(alloc: Global, cases: &[Case<'_>]) -> Result<Option<usize>, Fail> {
     for (row, case) in cases.iter().enumerate() {
         if !is_found(alloc, case)? {

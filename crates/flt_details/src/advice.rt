@@ -1,4 +1,4 @@
-//! What is wrong by a rule, how to fix it, and where the rule is stricter than the driver kit: a sentence for each case.
+//! The words for each rule: the mistake, how to fix it, and where the rule is stricter than the driver kit, with a sentence for each case.
 
 ghost use Rattle.flt_details.specs.Advice.ByRule as spec;
 ghost use Rattle.flt_details.specs.Case.{of_case};
@@ -20,7 +20,7 @@ pub(crate) use notes::tell_note;
 use sentences::{around, of_callback};
 use std::alloc::AllocError;
 
-/// Writes what is wrong.
+/// Writes the title of a finding, which names the mistake.
 #[tactic(auto, unfolding(crate::specs::Advice::ByRule::title))]
 pub(crate) fn tell_title(page: &mut Page, case: &Case<'_>) -> Result<(), AllocError>
     ensures { Writes result page.old page.new (spec.title (of_case case.now)) }
@@ -43,7 +43,7 @@ pub(crate) fn tell_title(page: &mut Page, case: &Case<'_>) -> Result<(), AllocEr
     }
 }
 
-/// Writes how to fix what is found.
+/// Writes how to fix a finding.
 #[tactic(auto, unfolding(crate::specs::Advice::ByRule::help))]
 pub(crate) fn tell_help(page: &mut Page, case: &Case<'_>) -> Result<(), AllocError>
     ensures { Writes result page.old page.new (spec.help (of_case case.now)) }

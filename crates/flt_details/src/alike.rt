@@ -1,4 +1,4 @@
-//! Findings that one way serves.
+//! Findings that one path serves.
 
 ghost use Rattle.std.specs.Prelude.{◌≡◌, IfSome};
 ghost use Rattle.flt_details.specs.Alike as spec;
@@ -8,7 +8,7 @@ use flt_origins::Group;
 use flt_rules::number;
 use std::alloc::{AllocError, Global};
 
-/// Whether two findings are about the same.
+/// Whether two subjects are the same.
 fn is_same_subject(one: Subject, other: Subject) -> bool
     ensures { result ≡ spec.same_subject one other }
 {
@@ -24,7 +24,7 @@ fn is_same_subject(one: Subject, other: Subject) -> bool
     }
 }
 
-/// Whether two findings are of one callback and rule, and about the same.
+/// Whether two findings have the same callback, rule and subject.
 fn is_alike(one: &Finding, other: &Finding) -> bool
     ensures { result ≡ spec.is_alike one.now other.now }
 {
@@ -33,11 +33,11 @@ fn is_alike(one: &Finding, other: &Finding) -> bool
         && is_same_subject(one.subject, other.subject)
 }
 
-/// For each of so many findings the first one of its group, where it isn't that itself.
+/// For each of `count` findings, the first one of its group, unless it is the first itself.
 ///
 /// # Errors
 ///
-/// Where a growth was refused.
+/// `AllocError` if a growth is refused.
 pub(crate) fn firsts_of(
     alloc: Global,
     groups: &[Group],
@@ -57,7 +57,7 @@ pub(crate) fn firsts_of(
     Ok(firsts)
 }
 
-/// The finding whose way serves that of a number, if there is one.
+/// An earlier finding whose path serves this one too, if there is one.
 pub(crate) fn like(found: &[Finding], firsts: &[Option<usize>], own: usize) -> Option<usize>
     ensures { IfSome result (spec.IsLike found.now own) }
 {

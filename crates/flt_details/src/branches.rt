@@ -1,4 +1,4 @@
-//! How points come out on a way, in words.
+//! The outcomes of points on a path, in words.
 
 ghost use Rattle.std.specs.Prelude.{◌≡◌, option_copied};
 ghost use Rattle.flt_details.specs.Branches as spec;
@@ -11,7 +11,7 @@ use flt_rules::row;
 use flt_ways::Step;
 use std::alloc::AllocError;
 
-/// How an instruction comes out; none where nothing is asked.
+/// The outcome of an instruction; none if nothing is asked.
 fn outcome(instruction: &Instruction, granted: bool) -> Option<&'static str>
     ensures { option_copied result ≡ spec.outcome instruction.now granted }
 {
@@ -25,7 +25,7 @@ fn outcome(instruction: &Instruction, granted: bool) -> Option<&'static str>
     }
 }
 
-/// How a call comes out; none where it can't fail.
+/// The outcome of a call; none if it can't fail.
 fn call_outcome(call: &Invocation, granted: bool) -> Option<&'static str>
     ensures { option_copied result ≡ spec.call_outcome call.now granted }
 {
@@ -37,14 +37,14 @@ fn call_outcome(call: &Invocation, granted: bool) -> Option<&'static str>
     }
 }
 
-/// How a step comes out; none where nothing is asked there.
+/// The outcome of a step; none if nothing is asked there.
 pub fn step_outcome(scene: &Scene<'_>, callback: usize, step: Step) -> Option<&'static str>
     ensures { option_copied result ≡ spec.step_outcome scene.now.graph.now callback step }
 {
     outcome(&scene.instruction(callback, step.point), step.granted)
 }
 
-/// How the call of a step comes out; none where it is no call, or one that can't fail.
+/// The outcome of the call of a step; none if it is no call, or one that can't fail.
 pub fn step_call_outcome(scene: &Scene<'_>, callback: usize, step: Step) -> Option<&'static str>
     ensures { option_copied result ≡ spec.step_call_outcome scene.now.graph.now callback step }
 {
@@ -54,7 +54,7 @@ pub fn step_call_outcome(scene: &Scene<'_>, callback: usize, step: Step) -> Opti
     }
 }
 
-/// Writes what is asked at a point, and how it comes out.
+/// Writes the text of a point, and its outcome.
 pub fn tell_branch(
     page: &mut Page,
     scene: &Scene<'_>,

@@ -1,4 +1,4 @@
-//! What is known of a finding, by which its words are chosen: all of it is in the graph, or in what is so where a path ends.
+//! A finding with the facts that choose its words: all of them are in the graph, or in the state where a path ends.
 
 ghost use Rattle.std.specs.Prelude.{◌≡◌, ◌++◌, option_copied};
 ghost use Rattle.flt_details.specs.Case as spec;
@@ -15,7 +15,7 @@ use flt_origins::{Cause, VariableStatus};
 use flt_rules::{LockKind, LockNumber, Operation, Place};
 use flt_ways::{Step, Way};
 
-/// A finding of a text, and what shows it.
+/// A finding of a text, and its trace.
 #[derive(Clone, Copy)]
 pub(crate) struct Case<'a> {
     pub(crate) scene: Scene<'a>,
@@ -63,7 +63,7 @@ impl<'a> Case<'a> {
         self.scene.head(self.finding.callback)
     }
 
-    /// What is done where the finding is.
+    /// The instruction where the finding is.
     #[tactic(auto, unfolding(crate::specs::Case::instruction))]
     pub(crate) fn instruction(&self) -> Instruction
         ensures { result ≡ spec.instruction (spec.of_case self.now) }
@@ -93,7 +93,7 @@ impl<'a> Case<'a> {
         }
     }
 
-    /// What the finding is about, as `subject_words` has it.
+    /// The finding's subject, as `subject_words` returns it.
     pub(crate) fn subject(&self) -> (&'a [u8], &'a [u8])
         ensures { shown result.0.now ++ (shown result.1.now ++ shown result.0.now)
             ≡ spec.subject (spec.of_case self.now) }
@@ -101,7 +101,7 @@ impl<'a> Case<'a> {
         subject_words(self.scene.tree, self.finding.subject)
     }
 
-    /// The path that shows it.
+    /// The path to the finding, if there is one.
     #[tactic(auto, unfolding(crate::specs::Case::path))]
     pub(crate) fn path(&self) -> Option<&'a Way>
         ensures { option_copied result ≡ spec.path (spec.of_case self.now) }
@@ -110,7 +110,7 @@ impl<'a> Case<'a> {
         way
     }
 
-    /// What is so where a path to the finding ends.
+    /// The state where the path to the finding ends.
     #[tactic(auto, unfolding(crate::specs::Case::state))]
     pub(crate) fn state(&self) -> Option<&'a Abs>
         ensures { option_copied result ≡ spec.state (spec.of_case self.now) }
@@ -118,7 +118,7 @@ impl<'a> Case<'a> {
         Some(self.path()?.end.situation.state())
     }
 
-    /// What the variable that the finding is about is there.
+    /// The status of the variable that the finding is about, at the end of the path.
     #[tactic(auto, unfolding(crate::specs::Case::variable_status))]
     pub(crate) fn variable_status(&self) -> Option<VariableStatus>
         ensures { result ≡ spec.variable_status (spec.of_case self.now) }
@@ -132,7 +132,7 @@ impl<'a> Case<'a> {
         only_status(set.digit())
     }
 
-    /// The step that made it so.
+    /// The step that caused the finding, if one is known.
     #[tactic(auto, unfolding(crate::specs::Case::cause))]
     pub(crate) fn cause(&self) -> Option<Step>
         ensures { result ≡ spec.cause (spec.of_case self.now) }
@@ -144,7 +144,7 @@ impl<'a> Case<'a> {
         }
     }
 
-    /// What is done at a step of the callback.
+    /// The instruction at a step of the callback.
     #[tactic(auto, unfolding(crate::specs::Case::done_at))]
     pub(crate) fn step_instruction(&self, step: Step) -> Instruction
         ensures { result ≡ spec.done_at (spec.of_case self.now) step }

@@ -23,7 +23,7 @@ impl fmt::Display for RuleName {
     }
 }
 
-/// Where a text is refused, and why, as `analyse` says it.
+/// The line that says where a text is refused, and why, as `analyse` prints it.
 #[derive(Drop)]
 struct RefusalLine(Finding);
 
@@ -59,7 +59,7 @@ pub fn fault_name(kind: FaultKind) -> &'static str
     }
 }
 
-/// The first fault of a text, as `check` and `analyse` say it.
+/// The first fault of a text, as `check` and `analyse` print it.
 #[derive(Drop)]
 pub struct SyntaxLine(pub SyntaxFault);
 
@@ -74,11 +74,11 @@ impl fmt::Display for SyntaxLine {
     }
 }
 
-/// The last line of a report where these are found: where the first of them is, and its rule, or that nothing is found.
+/// The last line of a report with these findings: the place of the first one and its rule, or that nothing is found.
 ///
 /// # Errors
 ///
-/// Where a growth was refused.
+/// `AllocError` if a growth is refused.
 pub fn findings_line(alloc: Global, found: &[Finding]) -> Result<String, AllocError>
     ensures { IfOk result (λ line. string_bytes line ≡ spec.findings_closing found.now) }
 {
@@ -95,7 +95,7 @@ pub fn findings_line(alloc: Global, found: &[Finding]) -> Result<String, AllocEr
 ///
 /// # Errors
 ///
-/// Where a growth was refused.
+/// `AllocError` if a growth is refused.
 pub fn fault_line(alloc: Global, fault: SyntaxFault) -> Result<String, AllocError>
     ensures { IfOk result (λ line. string_bytes line ≡ spec.syntax_line fault ++ 10 ∷ []) }
 {

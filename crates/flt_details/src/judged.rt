@@ -1,4 +1,4 @@
-//! What a text is found to be.
+//! The verdict on a text.
 
 ghost use Rattle.std.specs.Prelude.{◌≡◌, IfOk};
 ghost use Rattle.flt_details.specs.Reports as spec;
@@ -9,18 +9,18 @@ use flt_syntax::{ParseError, SyntaxFault, Tree, parse};
 use sqlite_items::Items;
 use std::alloc::{AllocError, Global};
 
-/// What a text is found to be: it doesn't parse, or it has these points and findings.
+/// The verdict on a text: it doesn't parse, or it has this tree, this graph and these findings.
 #[derive(Drop)]
 pub enum Judged {
     Unread(SyntaxFault),
     Known(Tree, Graph, Items<Finding>),
 }
 
-/// What a text is found to be.
+/// The verdict on a text.
 ///
 /// # Errors
 ///
-/// Where a growth was refused.
+/// `AllocError` if a growth is refused.
 pub fn judge(alloc: Global, text: &[u8]) -> Result<Judged, AllocError>
     ensures { IfOk result (spec.IsJudged text.now) }
 {
@@ -36,7 +36,7 @@ pub fn judge(alloc: Global, text: &[u8]) -> Result<Judged, AllocError>
 }
 
 impl Judged {
-    /// 0 where nothing is found, 1 where something is, 2 where the text doesn't parse.
+    /// The exit status: 0 without findings, 1 with findings, 2 if the text doesn't parse.
     pub fn status(&self) -> u8
         ensures { result ≡ spec.status_of self.now }
     {

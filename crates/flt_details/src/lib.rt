@@ -1,5 +1,6 @@
-//! What is found of texts, and all that is said of it: `judge` finds it, `details` says it for other forms, and a `Scene` with its `Traces`
-//! has what `flt_reports` draws for people. Here too are the lines that end reports, and the `Page` on which words are written.
+//! The findings of texts, and all words about them. `judge` finds them, `details` describes them for other forms, and a `Scene` with its
+//! `Traces` has the data that `flt_reports` draws for people. Here too are the lines that end reports, and the `Page` on which words are
+//! written.
 #![tactic(auto)]
 
 mod advice;

@@ -110,7 +110,7 @@ pub(crate) fn operation_name(operation: Operation) -> &'static str
     }
 }
 
-/// What a lock of a kind is called.
+/// The words for a kind of lock.
 #[tactic(auto, unfolding(crate::specs::Names::kind_name))]
 pub(crate) fn kind_name(kind: LockKind) -> &'static str
     ensures { result.now ≡ spec.kind_name kind }

@@ -1,4 +1,4 @@
-//! Where the statement of a finding stands, and in it the operand that the finding names.
+//! The places of a finding's statement, and of the operand in it that the finding names.
 
 ghost use Rattle.std.specs.Prelude.{◌≡◌, IfOk};
 ghost use Rattle.std.specs.List.{find};
@@ -18,15 +18,15 @@ use flt_tree::{
 use sqlite_items::Items;
 use std::alloc::{AllocError, Global};
 
-/// How many bytes a text has at most.
+/// The greatest number of bytes of a text.
 const MAX_TEXT: usize = 65_536;
 
-/// Where the statement of a finding stands, and in it what the finding is about.
+/// The place of a finding's statement, and of its subject in it.
 #[derive(Clone, Copy)]
 pub struct Marks {
-    /// Of an `if` what it asks; of the end of a body its closing brace.
+    /// Of an `if` its condition; of the end of a body its closing brace.
     pub statement: Region,
-    /// The variable or the lock, where the statement names it.
+    /// The variable or the lock, if the statement names it.
     pub operand: Option<Region>,
 }
 
@@ -60,7 +60,7 @@ fn operation_word(variable: OperationVariable) -> &'static [u8]
     }
 }
 
-/// The name of a lock; nothing where it isn't declared.
+/// The name of a lock; empty if it isn't declared.
 pub(crate) fn lock_word(tree: &Tree, lock: LockNumber) -> &[u8]
     ensures { result.now ≡ declarations.lock_name tree.now.filter.locks lock }
 {
@@ -70,7 +70,7 @@ pub(crate) fn lock_word(tree: &Tree, lock: LockNumber) -> &[u8]
     }
 }
 
-/// How a text spells what a finding is about; nothing where it doesn't.
+/// The spelling of a subject in a text; empty if it has none.
 pub fn word_of(tree: &Tree, subject: Subject) -> &[u8]
     ensures { result.now ≡ spec.word_of tree.now.filter subject }
 {
@@ -173,11 +173,11 @@ fn has_operand(instruction: &Instruction, subject: Subject) -> bool
 
 // ---- tokens
 
-/// The tokens of a text or of a statement, none where it has more bytes than a text.
+/// The tokens of a text or of a statement; none if it has more bytes than a text may have.
 ///
 /// # Errors
 ///
-/// Where a growth was refused.
+/// `AllocError` if a growth is refused.
 pub fn tokens_of(alloc: Global, statement: &[u8]) -> Result<Items<Token>, AllocError>
     ensures { IfOk result (λ ts. ts ≡ spec.tokens_of statement.now) }
 {
@@ -226,7 +226,7 @@ fn operand_among(statement: &[u8], word: &[u8], subject: Subject, tokens: &[Toke
     }
 }
 
-/// The token of a statement that spells what a finding is about.
+/// The token of a statement that spells the subject.
 fn operand_in(
     alloc: Global,
     statement: &[u8],
@@ -241,7 +241,7 @@ fn operand_in(
 
 // ---- places
 
-/// Where a token of a statement stands.
+/// The place of a token of a statement.
 fn placed(lines: &Lines<'_>, span: Span, token: Option<Token>) -> Option<Region>
     ensures { result ≡ spec.placed lines.now span token }
 {
@@ -252,7 +252,7 @@ fn placed(lines: &Lines<'_>, span: Span, token: Option<Token>) -> Option<Region>
 }
 
 impl Scene<'_> {
-    /// Where the statement of a point has what a finding is about as an operand, if it has.
+    /// The place of the subject as an operand of a point's statement, if it is one.
     fn operand(
         &self,
         alloc: Global,
@@ -272,11 +272,11 @@ impl Scene<'_> {
         Ok(placed(self.lines, span, token))
     }
 
-    /// Where the statement of a point stands, and in it what a finding is about.
+    /// The place of a point's statement, and of the subject in it.
     ///
     /// # Errors
     ///
-    /// Where a growth was refused.
+    /// `AllocError` if a growth is refused.
     pub fn marks(
         &self,
         alloc: Global,

@@ -16,13 +16,13 @@ pub enum Part<'a> {
     Quoted(&'a [u8]),
     /// A word of the language, between marks.
     Word(&'a str),
-    /// What a finding is about, with its marks.
+    /// A finding's subject, with its marks.
     Marked((&'a [u8], &'a [u8])),
     Number(usize),
     Value(u64),
 }
 
-/// What is written so far.
+/// The output so far.
 #[derive(Drop)]
 pub struct Page {
     pub out: Vec<u8>,
@@ -37,14 +37,14 @@ impl Page {
         }
     }
 
-    /// Bytes, as they stand.
+    /// Writes bytes as they are.
     pub fn bytes(&mut self, bytes: &[u8]) -> Result<(), AllocError>
         ensures { spec.Writes result self.old self.new bytes.now }
     {
         self.out.extend_from_slice(bytes)
     }
 
-    /// Words of the program, one behind the other.
+    /// Writes words of the program, one after the other.
     pub fn texts(&mut self, texts: &[&str]) -> Result<(), AllocError>
         ensures { spec.Writes result self.old self.new (spec.joined texts.now) }
     {
@@ -54,7 +54,7 @@ impl Page {
         Ok(())
     }
 
-    /// The same with a number behind each; behind the last none, where there is one number less.
+    /// Writes words of the program with a number after each; after the last none, if there is one number less.
     pub fn numbers(&mut self, texts: &[&str], numbers: &[usize]) -> Result<(), AllocError>
         ensures { spec.Writes result self.old self.new (spec.numbered texts.now numbers.now) }
     {
@@ -76,8 +76,8 @@ impl Page {
         }
     }
 
-    /// Words of a text among those of the program. A tab is a blank. In place of what a terminal may act on, and of what is no UTF-8,
-    /// there is a `?` for each byte, so that each has one column.
+    /// Writes words of a text among those of the program. A tab becomes a blank. Each byte of a character on which a terminal may act, and
+    /// each that isn't UTF-8, becomes a `?`, so that each has one column.
     pub fn words(&mut self, words: &[&[u8]]) -> Result<(), AllocError>
         ensures { spec.Writes result self.old self.new (spec.all_shown words.now) }
     {
@@ -97,7 +97,7 @@ impl Page {
         Ok(())
     }
 
-    /// The first bytes that are shown alike, of some; and how many these are.
+    /// Writes the first bytes of some that are shown alike, and returns how many these are.
     #[tactic(auto, using(crate::proofs::Pages::front_steps))]
     fn front(&mut self, word: &[u8]) -> Result<usize, AllocError>
         requires { 0 < length word.now }
@@ -114,7 +114,7 @@ impl Page {
         Ok(count)
     }
 
-    /// The parts of a sentence, one behind the other.
+    /// Writes the parts of a sentence, one after the other.
     pub fn say(&mut self, parts: &[Part<'_>]) -> Result<(), AllocError>
         ensures { spec.Writes result self.old self.new (flat_map spec.said parts.now) }
     {
@@ -137,7 +137,7 @@ impl Page {
         }
     }
 
-    /// A line of such words.
+    /// Writes a line of words, as `words` does.
     pub fn line(&mut self, words: &[&[u8]]) -> Result<(), AllocError>
         ensures { spec.Writes result self.old self.new (spec.all_shown words.now ++ 10 ∷ []) }
     {
@@ -146,7 +146,7 @@ impl Page {
         Ok(())
     }
 
-    /// The same sign several times, and words behind it.
+    /// Writes the same sign several times, and words after it.
     pub fn run(&mut self, sign: u8, times: usize, text: &str) -> Result<(), AllocError>
         ensures { spec.Writes result self.old self.new (replicate times sign ++ text.now) }
     {
@@ -158,7 +158,7 @@ impl Page {
     }
 }
 
-/// What is printed for each byte of a character that isn't shown, by its first one.
+/// The sign that is printed for each byte of a character that isn't shown, by its first one.
 fn hidden(byte: u8) -> u8
     ensures { result ≡ spec.sign_of byte }
 {
@@ -174,7 +174,7 @@ fn is_printable(byte: u8) -> bool
     matches!(byte, 32..=126)
 }
 
-/// How many bytes from the first on are shown as they stand, each a character by itself.
+/// How many of the first bytes are shown as they are, each a character by itself.
 fn plain(bytes: &[u8]) -> usize
     ensures within { result ≤ length bytes.now }
     ensures shown { spec.IsStretch bytes.now result true }
@@ -189,7 +189,7 @@ fn plain(bytes: &[u8]) -> usize
     count
 }
 
-/// How many bytes come first that are shown alike, and whether they are shown: all that are printable, or else one character.
+/// How many of the first bytes are shown alike, and whether they are shown: all that are printable, or else one character.
 fn stretch(bytes: &[u8]) -> (usize, bool)
     requires { 0 < length bytes.now }
     ensures some { 0 < result.0 }
@@ -202,7 +202,7 @@ fn stretch(bytes: &[u8]) -> (usize, bool)
     }
 }
 
-/// The same of the first character.
+/// The same for the first character.
 #[tactic(auto, using(crate::proofs::Pages::of_first))]
 fn first_character(bytes: &[u8]) -> (usize, bool)
     requires { 0 < length bytes.now }
@@ -221,7 +221,7 @@ fn is_in(byte: u8, range: (u8, u8)) -> bool
     range.0 <= byte && byte <= range.1
 }
 
-/// Whether bytes begin with some in these ranges.
+/// Whether bytes begin with one in each of these ranges.
 fn begins(bytes: &[u8], ranges: &[(u8, u8)]) -> bool
     ensures value { result ≡ spec.begins ranges.now bytes.now }
     ensures fits { IsTrue result → length ranges.now ≤ length bytes.now }
@@ -235,7 +235,7 @@ fn begins(bytes: &[u8], ranges: &[(u8, u8)]) -> bool
     }
 }
 
-/// A control of two bytes, or a mark that turns the direction of text.
+/// Whether bytes begin with a control of two bytes, or with a mark that turns the direction of text.
 fn is_acting_pair(bytes: &[u8]) -> bool
     ensures value { result ≡ spec.begins_any spec.acting_pairs bytes.now }
     ensures fits { IsTrue result → 2 ≤ length bytes.now }
@@ -243,7 +243,7 @@ fn is_acting_pair(bytes: &[u8]) -> bool
     begins(bytes, &[(0xc2, 0xc2), (0x80, 0x9f)]) || begins(bytes, &[(0xd8, 0xd8), (0x9c, 0x9c)])
 }
 
-/// Such a mark of three bytes, or what ends a line.
+/// Whether bytes begin with such a mark of three bytes, or with a character that ends a line.
 fn is_acting_triple(bytes: &[u8]) -> bool
     ensures value { result ≡ spec.begins_any spec.acting_triples bytes.now }
     ensures fits { IsTrue result → 3 ≤ length bytes.now }
@@ -253,7 +253,7 @@ fn is_acting_triple(bytes: &[u8]) -> bool
         || begins(bytes, &[(0xe2, 0xe2), (0x81, 0x81), (0xa6, 0xa9)])
 }
 
-/// A character of three bytes.
+/// Whether bytes begin with a character of three bytes.
 fn is_triple(bytes: &[u8]) -> bool
     ensures value { result ≡ spec.begins_any spec.triples bytes.now }
     ensures fits { IsTrue result → 3 ≤ length bytes.now }
@@ -264,7 +264,7 @@ fn is_triple(bytes: &[u8]) -> bool
         || begins(bytes, &[(0xee, 0xef), (0x80, 0xbf), (0x80, 0xbf)])
 }
 
-/// A character of four bytes.
+/// Whether bytes begin with a character of four bytes.
 fn is_quad(bytes: &[u8]) -> bool
     ensures value { result ≡ spec.begins_any spec.quads bytes.now }
     ensures fits { IsTrue result → 4 ≤ length bytes.now }
@@ -281,8 +281,8 @@ fn is_quad(bytes: &[u8]) -> bool
     )
 }
 
-/// How many bytes the first character has behind its first one, and whether it is shown, where it has several bytes. A byte that begins
-/// none is one by itself.
+/// How many bytes the first character has after its first one, and whether it is shown, if it has several bytes. A byte that begins no
+/// character is one by itself.
 fn long_character(bytes: &[u8]) -> (usize, bool)
     requires { 0 < length bytes.now }
     ensures value { result ≡ spec.long_character bytes.now }
@@ -303,8 +303,8 @@ fn long_character(bytes: &[u8]) -> (usize, bool)
     }
 }
 
-/// The same of any. A terminal may act on a control, on a character that turns the direction of those behind it, and on one that ends a
-/// line: these aren't shown.
+/// The same for any character. A terminal may act on a control, on a character that turns the direction of those after it, and on one that
+/// ends a line: these aren't shown.
 fn character(bytes: &[u8]) -> (usize, bool)
     requires { 0 < length bytes.now }
     ensures value { result ≡ spec.character bytes.now }
@@ -327,7 +327,7 @@ fn digit(out: &mut Vec<u8>, digit: u8) -> Result<(), AllocError>
     Ok(())
 }
 
-/// The digits of a number.
+/// Writes the digits of a number.
 #[tactic(auto, using(crate::proofs::Pages::digit_steps))]
 fn digits(out: &mut Vec<u8>, n: u64) -> Result<(), AllocError>
     ensures { OnOk result (out.new.items ≡ out.old.items ++ decimal n) }

@@ -20,21 +20,21 @@ pub struct Scene<'a> {
 }
 
 impl<'a> Scene<'a> {
-    /// Where a point stands: what an `if` asks stands for it. One that isn't there stands at the text's begin.
+    /// The place of a point: of an `if` that of its condition. A point that isn't there is at the beginning of the text.
     pub fn site(&self, callback: usize, point: usize) -> Site
         ensures { result ≡ site_of self.now.lines.now (span_at self.now.graph.now callback point) }
     {
         self.lines.site(self.graph.span(callback, point))
     }
 
-    /// Where a point begins.
+    /// The position where a point begins.
     pub(crate) fn place(&self, callback: usize, point: usize) -> Position
         ensures { result ≡ place_of self.now.lines.now self.now.graph.now callback point }
     {
         self.lines.place(self.graph.span(callback, point).start)
     }
 
-    /// What stands in the text at a point; nothing where the point isn't in it.
+    /// The text at a point; empty if the point isn't in it.
     pub(crate) fn at_point(&self, callback: usize, point: usize) -> &'a [u8]
         ensures { result.now ≡ bytes_of self.now.lines.now (span_at self.now.graph.now callback point) }
     {
@@ -51,7 +51,7 @@ impl<'a> Scene<'a> {
         }
     }
 
-    /// The line of a point's statement, from 1, as `check` says it.
+    /// The line of a point's statement, from 1, as `check` prints it.
     pub fn line(&self, callback: usize, point: usize) -> usize
         ensures { result ≡ line_at self.now.graph.now callback point }
     {

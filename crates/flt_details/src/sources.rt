@@ -1,4 +1,4 @@
-//! What is reported, and what comes of it.
+//! The texts that are reported, and the result of a report.
 
 /// A text, and the name under which it is reported.
 #[derive(Clone, Copy)]
@@ -7,8 +7,7 @@ pub struct Source<'a> {
     pub text: &'a [u8],
 }
 
-/// What is printed, and the exit status: 0 where nothing is found, 1 where something is or where a warning counts, 2 where a text doesn't
-/// parse.
+/// The output, and the exit status: 0 without findings, 1 with findings or with a warning that counts, 2 if a text doesn't parse.
 #[derive(Drop)]
 pub struct Explained {
     pub output: Vec<u8>,

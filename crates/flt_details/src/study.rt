@@ -1,4 +1,4 @@
-//! What other forms of reports say of a finding: its words and its places.
+//! The details of a finding for other forms of reports: its words and its places.
 
 ghost use Rattle.std.specs.Prelude.{◌≡◌, Some, option_copied, IfOk};
 ghost use Rattle.flt_details.specs.Branches.{step_outcome};
@@ -26,51 +26,51 @@ use flt_ways::{Answer, Step, Way};
 use sqlite_items::Items;
 use std::alloc::{AllocError, Global};
 
-/// How a point comes out on a way. Points count from 0.
+/// A point on a path, and its outcome. Points count from 0.
 #[derive(Drop)]
 pub struct Stage {
     pub point: usize,
-    /// Where its statement begins; of an `if` what it asks.
+    /// Where its statement begins; of an `if` its condition.
     pub place: Position,
-    /// The call succeeds, the test holds, a turn is left. It is true where nothing is asked.
+    /// The call succeeds, the test holds, or a turn is left. It is true if nothing is asked.
     pub granted: bool,
-    /// What is asked there, and how it comes out; nothing where nothing is asked.
+    /// The text of the point, and its outcome; empty if nothing is asked.
     pub words: Vec<u8>,
 }
 
-/// What a way to a finding is.
+/// The kind of a path to a finding.
 #[derive(Clone, Copy)]
 pub enum WayKind {
-    /// Nothing is broken before.
+    /// No rule is broken before.
     Clean,
     /// Other rules are broken before.
     Behind,
-    /// There is no way.
+    /// There is no path.
     Unreached,
-    /// No way was found among the situations that were looked at.
+    /// No path was found among the situations that were looked at.
     Unknown,
 }
 
-/// What is said of a finding in words.
+/// The words about a finding.
 #[derive(Drop)]
 pub struct Words {
-    /// What is wrong.
+    /// The mistake.
     pub title: Vec<u8>,
-    /// How to mend it; it may have several lines.
+    /// How to fix it; it may have several lines.
     pub help: Vec<u8>,
-    /// That the rule is stricter there than the driver kit, or that numbers rule out the path; or nothing.
+    /// A note that the rule is stricter there than the driver kit, or that numbers rule out the path; or empty.
     pub note: Vec<u8>,
     /// The head of its callback.
     pub head: Vec<u8>,
-    /// What it is about.
+    /// Its subject.
     pub subject: Vec<u8>,
 }
 
-/// The step that made a finding so.
+/// The step that caused a finding.
 #[derive(Drop)]
 pub struct Maker {
     pub stage: Stage,
-    /// Where its statement stands, and in it what the finding is about.
+    /// The place of its statement, and of the finding's subject in it.
     pub marks: Marks,
 }
 
@@ -78,23 +78,23 @@ pub struct Maker {
 #[derive(Drop)]
 pub struct Route {
     pub kind: WayKind,
-    /// The number, from 0, of a finding before it of the same origin, of which the way is told: it serves here too, and none is told here.
+    /// The number, from 0, of an earlier finding of the same origin whose path is reported: it serves here too, and none is reported here.
     pub like: Option<usize>,
-    /// A way there, from the callback's entry.
+    /// A path there, from the callback's entry.
     pub stages: Items<Stage>,
-    /// Where ways meet with other locks, the other of them.
+    /// If two paths meet with different locks, the other of them.
     pub other: Option<Items<Stage>>,
-    /// What made it so, where that is known; none too where it is so when the callback is entered.
+    /// The step that caused it, if one is known; none if its cause is the callback's entry.
     pub origin: Option<Maker>,
-    /// What the finding is about at the end of the way, in a word, where that is told.
+    /// The state of the subject at the end of the path, in a word, if there is a word for it.
     pub state: Option<&'static str>,
 }
 
-/// What is said of a finding in every form.
+/// The details of a finding that every form reports.
 #[derive(Drop)]
 pub struct Detail {
     pub finding: Finding,
-    /// Where its point's statement stands, and in it what it is about.
+    /// The place of its point's statement, and of its subject in it.
     pub marks: Marks,
     pub words: Words,
     pub route: Route,
@@ -102,7 +102,7 @@ pub struct Detail {
 
 // ---- ways
 
-/// What is asked at a point, and how it comes out.
+/// The text of a point, and its outcome; empty if nothing is asked.
 fn branch_of(
     alloc: Global,
     scene: &Scene<'_>,
@@ -161,7 +161,7 @@ fn kind_of(answer: &Answer) -> WayKind
     }
 }
 
-/// The stages of a way, none where there is no way.
+/// The stages of a path; none without a path.
 fn stages_on(
     alloc: Global,
     scene: &Scene<'_>,
@@ -176,7 +176,7 @@ fn stages_on(
     }
 }
 
-/// The stages of another way, if there is one.
+/// The stages of another path, if there is one.
 fn other_stages(
     alloc: Global,
     scene: &Scene<'_>,
@@ -191,7 +191,7 @@ fn other_stages(
     }
 }
 
-/// A step that made a finding so, which is about this.
+/// A step that caused a finding about this subject.
 fn maker_of(
     alloc: Global,
     scene: &Scene<'_>,
@@ -206,7 +206,7 @@ fn maker_of(
     Ok(Maker { stage, marks })
 }
 
-/// What made what is found so.
+/// The step that caused a finding, if one is known.
 fn origin_of(
     alloc: Global,
     scene: &Scene<'_>,
@@ -287,7 +287,7 @@ fn words_in(alloc: Global, case: &Case<'_>) -> Result<Words, AllocError>
     })
 }
 
-/// What is said of a finding in words, by what shows it.
+/// The words about a finding, by its trace.
 pub fn words_of(
     alloc: Global,
     scene: &Scene<'_>,
@@ -300,7 +300,7 @@ pub fn words_of(
     words_in(alloc, &Case::of(scene, finding, shown))
 }
 
-/// What a finding is about at the end of a way, in a word.
+/// The state of the finding's subject at the end of a path, in a word.
 pub fn state_at_end(finding: &Finding, way: Option<&Way>) -> Option<&'static str>
     ensures { option_copied result ≡ about.state_at_end finding.now.subject (option_copied way.entry) }
 {
@@ -312,7 +312,7 @@ pub fn state_at_end(finding: &Finding, way: Option<&Way>) -> Option<&'static str
 
 // ---- findings
 
-/// The stages of what shows a finding, and of the other way where two do; none where another finding's serve.
+/// The stages of the path to a finding, and of the other path if it has two; none if another finding's serve.
 fn shown_stages(
     alloc: Global,
     scene: &Scene<'_>,
@@ -332,7 +332,7 @@ fn shown_stages(
     Ok((stages, other))
 }
 
-/// How a finding is reached, by what shows it, where the way of another one serves, if that is given.
+/// How a finding is reached, by its trace; `like` is the finding whose path serves, if there is one.
 fn route_by(
     alloc: Global,
     scene: &Scene<'_>,
@@ -357,7 +357,7 @@ fn route_by(
     })
 }
 
-/// What is said of a finding, by what shows it, where the way of another one serves, if that is given.
+/// The details of a finding, by its trace; `like` is the finding whose path serves, if there is one.
 fn detail_by(
     alloc: Global,
     scene: &Scene<'_>,
@@ -379,11 +379,11 @@ fn detail_by(
     })
 }
 
-/// What is said of each finding of a text that parses, in their order. The ways of the first one of each origin serve the others.
+/// The details of each finding of a text that parses, in their order. The paths of the first one of each origin serve the others.
 ///
 /// # Errors
 ///
-/// Where a growth was refused.
+/// `AllocError` if a growth is refused.
 pub fn details(
     alloc: Global,
     text: &[u8],

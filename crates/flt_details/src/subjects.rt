@@ -1,4 +1,4 @@
-//! What findings are about, in words.
+//! The subjects of findings, in words.
 
 ghost use Rattle.std.specs.Prelude.{◌≡◌, ◌++◌, option_copied};
 ghost use Rattle.flt_details.specs.Page.{shown};
@@ -11,7 +11,7 @@ use flt_origins::{Fact, VariableStatus};
 use flt_rules::Mode;
 use flt_syntax::Tree;
 
-/// What a finding is about that no word of a text names.
+/// The words for a subject that no word of a text names.
 fn phrase(subject: Subject) -> Option<&'static [u8]>
     ensures { option_copied result ≡ spec.phrase subject }
 {
@@ -24,7 +24,7 @@ fn phrase(subject: Subject) -> Option<&'static [u8]>
     }
 }
 
-/// What a finding is about, in words, behind the mark that stands round them where they are those of the text.
+/// The words for a subject, after the mark that surrounds them if they are words of the text.
 pub(crate) fn subject_words(tree: &Tree, subject: Subject) -> (&[u8], &[u8])
     ensures { shown result.0.now ++ (shown result.1.now ++ shown result.0.now) ≡ spec.subject_told tree.now.filter subject }
 {
@@ -34,7 +34,7 @@ pub(crate) fn subject_words(tree: &Tree, subject: Subject) -> (&[u8], &[u8])
     }
 }
 
-/// A single status in a word.
+/// The word for a single status.
 fn status_word(set: Option<&Statuses>) -> Option<&'static str>
     ensures { option_copied result ≡ spec.status_word (option_copied set.entry) }
 {
@@ -46,7 +46,7 @@ fn status_word(set: Option<&Statuses>) -> Option<&'static str>
     }
 }
 
-/// What a subject is in a state in which just one status of each variable is possible; none where that isn't told.
+/// The word for a subject's state, if just one status of each variable is possible; none if there is no word for it.
 pub(crate) fn state_word(state: &Abs, subject: Subject) -> Option<&'static str>
     ensures { option_copied result ≡ spec.state_word state.now subject }
 {
@@ -74,7 +74,7 @@ pub(crate) fn state_word(state: &Abs, subject: Subject) -> Option<&'static str>
     }
 }
 
-/// What a fact says, in a word.
+/// The word for a fact.
 pub fn fact_word(fact: Fact) -> &'static str
     ensures { result.now ≡ spec.fact_word fact }
 {

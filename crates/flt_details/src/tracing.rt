@@ -1,4 +1,4 @@
-//! What shows each finding, where it comes from, and which are put together.
+//! The traces of findings: the paths to them, their origins, and the groups of those that are reported together.
 
 ghost use Rattle.std.specs.List.{AllZip};
 ghost use Rattle.std.specs.Prelude.{◌≡◌, ◌<◌, Some, length, option_copied, slice_get, IfOk};
@@ -16,7 +16,7 @@ use flt_ways::{Answer, Situation, Way, Ways, ways};
 use sqlite_items::Items;
 use std::alloc::{AllocError, Global};
 
-/// What shows a finding, and where what is found comes from, where that is known.
+/// The trace of a finding: the answer of the search for a path to it, and the origin of its fact, if that is known.
 #[derive(Drop)]
 pub struct Shown {
     pub answer: Answer,
@@ -26,12 +26,12 @@ pub struct Shown {
 /// The findings of a text as they are reported.
 #[derive(Drop)]
 pub struct Traces {
-    /// What shows each finding, by its number.
+    /// The trace of each finding, by its number.
     pub shown: Items<Shown>,
     pub groups: Items<Group>,
 }
 
-/// What of a situation breaks the rule of a finding. A call that isn't legal at its place is wrong whatever is so.
+/// The fact of a situation that breaks the rule of a finding. A call that isn't legal at its place is wrong in every situation.
 fn offence(finding: &Finding, situation: &Situation) -> Option<Fact>
     ensures { result ≡ spec.offence finding.now situation.now }
 {
@@ -42,7 +42,7 @@ fn offence(finding: &Finding, situation: &Situation) -> Option<Fact>
     }
 }
 
-/// Where that comes from at the end of a way.
+/// The origin of that fact at the end of a path.
 fn origin_at_end(
     alloc: Global,
     graph: &Graph,
@@ -71,8 +71,7 @@ fn is_held_lock(fact: Option<Fact>) -> bool
     matches!(fact, Some(Fact::Lock(_, true)))
 }
 
-/// Of the ways that show a finding the one that says where it comes from: where they meet with other locks, the one on which the lock is
-/// held.
+/// Of the paths to a finding, the one that shows its origin: if two meet with different locks, the one on which the lock is held.
 fn telling_way<'a>(finding: &Finding, found: &'a Ways) -> &'a Way
     ensures { result.now ≡ spec.telling_way finding.now found.now.way found.now.other }
 {
@@ -88,7 +87,7 @@ fn telling_way<'a>(finding: &Finding, found: &'a Ways) -> &'a Way
     }
 }
 
-/// Where what ways show comes from.
+/// The origin that the paths to a finding show.
 fn origin_of(
     alloc: Global,
     graph: &Graph,
@@ -100,7 +99,7 @@ fn origin_of(
     origin_at_end(alloc, graph, finding, telling_way(finding, found))
 }
 
-/// That a variable has a status, if a finding is about one.
+/// The fact that a variable has a status, if the subject is a variable.
 fn has(subject: Subject, status: VariableStatus) -> Option<Fact>
     ensures { result ≡ spec.status_fact subject status }
 {
@@ -111,7 +110,7 @@ fn has(subject: Subject, status: VariableStatus) -> Option<Fact>
     }
 }
 
-/// That a lock is held, if a finding is about one.
+/// The fact that a lock is held, if the subject is a lock.
 fn is_held(subject: Subject) -> Option<Fact>
     ensures { result ≡ spec.lock_fact subject }
 {
@@ -121,7 +120,7 @@ fn is_held(subject: Subject) -> Option<Fact>
     }
 }
 
-/// What may break a rule, whatever the situation.
+/// The fact that may break a rule, whatever the situation.
 fn offence_of(rule: Rule, subject: Subject) -> Option<Fact>
     ensures { result ≡ spec.offence_of rule subject }
 {
@@ -133,7 +132,7 @@ fn offence_of(rule: Rule, subject: Subject) -> Option<Fact>
     }
 }
 
-/// What else may break it.
+/// Another fact that may break it.
 fn other_offence_of(rule: Rule, subject: Subject) -> Option<Fact>
     ensures { result ≡ spec.other_offence_of rule subject }
 {
@@ -143,7 +142,7 @@ fn other_offence_of(rule: Rule, subject: Subject) -> Option<Fact>
     }
 }
 
-/// Where a fact may come from, by the graph alone.
+/// A possible origin of a fact, by the graph alone.
 fn origin_by_graph(
     alloc: Global,
     graph: &Graph,
@@ -158,7 +157,7 @@ fn origin_by_graph(
     }
 }
 
-/// Where what breaks the rule may come from, by the graph alone.
+/// A possible origin of the fact that breaks the rule, by the graph alone.
 fn origin_without_way(
     alloc: Global,
     graph: &Graph,
@@ -176,7 +175,7 @@ fn origin_without_way(
     }
 }
 
-/// Where what is found comes from.
+/// The origin of a finding's fact, by the answer of the search.
 fn origin_by(
     alloc: Global,
     graph: &Graph,
@@ -191,7 +190,7 @@ fn origin_by(
     }
 }
 
-/// What shows a finding, with its origin.
+/// The trace of a finding, by the answer of the search.
 fn shown_by(
     alloc: Global,
     graph: &Graph,
@@ -214,7 +213,7 @@ fn finding_at(found: &[Finding], number: usize) -> &Finding
     &found[number]
 }
 
-/// What shows each finding of a text, with its origin.
+/// The trace of each finding of a text.
 fn trace_all(alloc: Global, graph: &Graph, found: &[Finding]) -> Result<Items<Shown>, AllocError>
     ensures { IfOk result (AllZip (spec.IsShown graph.now) found.now) }
 {
@@ -229,7 +228,7 @@ fn trace_all(alloc: Global, graph: &Graph, found: &[Finding]) -> Result<Items<Sh
     Ok(Items::from_vec(all))
 }
 
-/// What made an origin's fact.
+/// The cause of the fact of a trace's origin.
 fn cause(shown: Option<&Shown>) -> Option<Cause>
     ensures { result ≡ spec.cause_of (option_copied shown.entry) }
 {
@@ -239,7 +238,7 @@ fn cause(shown: Option<&Shown>) -> Option<Cause>
     }
 }
 
-/// The findings of a text with what made them so, put together by that.
+/// The findings of a text with their causes, in groups of one origin.
 fn grouped(
     alloc: Global,
     found: &[Finding],
@@ -261,7 +260,7 @@ fn grouped(
 }
 
 impl Shown {
-    /// The way that shows a finding, and the other one where two do.
+    /// The path to a finding, and the other one if there are two.
     pub fn ways(&self) -> (Option<&Way>, Option<&Way>)
         ensures way { option_copied result.0 ≡ spec.way_of self.now.answer }
         ensures other { option_copied result.1 ≡ spec.other_way self.now.answer }
@@ -277,7 +276,7 @@ impl Shown {
 }
 
 impl Traces {
-    /// What shows the findings of a text, put together by their origins.
+    /// The traces of the findings of a text, with groups of one origin.
     pub fn of(alloc: Global, graph: &Graph, found: &[Finding]) -> Result<Traces, AllocError>
         ensures { IfOk result (spec.AreTraces graph.now found.now) }
     {
@@ -286,7 +285,7 @@ impl Traces {
         Ok(Traces { shown, groups })
     }
 
-    /// What shows the finding of a number that is there.
+    /// The trace of the finding of a number that is there.
     #[tactic(auto, using(std::proofs::lemmas::Option::slice_get_read))]
     pub(crate) fn at(&self, number: usize) -> &Shown
         requires { number < length self.now.shown }
@@ -295,21 +294,21 @@ impl Traces {
         &self.shown.as_slice()[number]
     }
 
-    /// What shows the finding of a number.
+    /// The trace of the finding of a number.
     pub(crate) fn shown_at(&self, number: usize) -> Option<&Shown>
         ensures { option_copied result ≡ slice_get self.now.shown number }
     {
         self.shown.get(number)
     }
 
-    /// What shows a finding.
+    /// The trace of a finding.
     pub fn shown(&self, traced: &Traced) -> Option<&Shown>
         ensures { option_copied result ≡ slice_get self.now.shown traced.now.number }
     {
         self.shown_at(traced.number)
     }
 
-    /// Whether each way to a finding that was found breaks another rule before.
+    /// Whether each path to a finding that was found breaks another rule before.
     pub fn is_behind(&self, traced: &Traced) -> bool
         ensures { result ≡ spec.is_behind (slice_get self.now.shown traced.now.number) }
     {

@@ -5,20 +5,20 @@ ghost use Rattle.std.specs.Prelude.{◌≡◌, None};
 use flt_rules::Place;
 use flt_store::Change;
 
-/// An activation that starts: its filter, what its callback is registered for, the draining flag, the number of the callback, and the
-/// visit and the context that it is given.
+/// An activation that starts: its filter, the place for which its callback is registered, the draining flag, the number of the callback,
+/// and the visit and the context that it is given.
 #[derive(Clone, Copy)]
 pub struct Start {
     pub filter: usize,
     pub place: Place,
     pub draining: bool,
-    /// From 0; past all callbacks where there is none, and then its body is empty.
+    /// From 0; past all callbacks if the filter has no such callback, and then its body is empty.
     pub callback: usize,
     pub given: Option<usize>,
     pub arg: Option<usize>,
 }
 
-/// What a move comes to.
+/// The effect of a move.
 #[derive(Clone, Copy)]
 pub struct Decision {
     pub start: Option<Start>,

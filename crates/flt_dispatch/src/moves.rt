@@ -95,7 +95,7 @@ fn lower(store: &Store, serial: u32) -> Option<Decision>
     }
 }
 
-/// The operation is on its way up; the post callback of its last frame starts.
+/// The operation goes up; the post callback of its last frame starts.
 fn post(loaded: &Loaded, store: &Store, serial: u32) -> Option<Decision>
     ensures decided { DecidesIn loaded.now store.now result (λ p w. moves.post_at p w serial
         (world.route_at store.now serial) (world.route_at store.now serial).position) }
@@ -132,7 +132,8 @@ fn cancel(store: &Store, serial: u32) -> Option<Decision>
     }
 }
 
-/// What a move comes to, where it is enabled. `active` says whether an activation of the filter goes on, where the move ends a teardown.
+/// The effect of a move, if it is enabled. If the move ends a teardown, `active` says whether the filter has an activation that hasn't
+/// ended.
 pub fn decide(loaded: &Loaded, store: &Store, step: Move, active: bool) -> Option<Decision>
     ensures decided { (p : List Filter) (actors : List Actor) (activations : List Activation) → AreLoaded p loaded.now →
         length store.now.presences ≡ length p → IsActive p step active actors activations →

@@ -42,8 +42,8 @@ pub fn next_of(loaded: &Loaded, store: &Store, serial: u32) -> Option<Move>
     }
 }
 
-/// The move of the teardown of the filter at an altitude; none where it isn't being detached, or where only its work items and
-/// activations are left. `active` says whether an activation of it goes on.
+/// The move of the teardown of the filter at an altitude; none if it isn't being detached, or if only its work items and activations are
+/// left. `active` says whether it has an activation that hasn't ended.
 pub fn next_of_teardown(loaded: &Loaded, store: &Store, altitude: u32, active: bool) -> Option<Move>
     ensures next { (p : List Filter) (actors : List Actor) (activations : List Activation) → AreLoaded p loaded.now →
         active ≡ has_active (filter_of p altitude) actors activations →

@@ -1,4 +1,4 @@
-//! The callbacks of what waits: cancelled entries of a queue, and work items.
+//! The callbacks of cancelled queue entries and of work items.
 
 ghost use Rattle.std.specs.Prelude.{◌≡◌, false, ◌||◌, IfSome};
 ghost use Rattle.flt_dispatch.specs.Decisions.{DecidesIn};

@@ -1,4 +1,4 @@
-//! Where a C file and its annotations say different things.
+//! The drifts of a C file: the points in which it and its annotations differ.
 
 ghost use Rattle.std.specs.Prelude.{◌≡◌, ◌++◌, [], IfOk, OnOk};
 ghost use Rattle.flt_drift.specs.Drifts as spec;
@@ -12,7 +12,7 @@ use crate::reader::marks;
 use flt_c::letters;
 use std::alloc::{AllocError, Global};
 
-/// How a C file and its annotations differ.
+/// The kinds of drift, with their codes.
 #[derive(Clone, Copy, Debug)]
 pub enum DriftKind {
     /// C01: an annotation names a call, and the code that it is about doesn't have its name. The place is that of the name in the
@@ -27,17 +27,16 @@ pub enum DriftKind {
     NotAnnotated,
     /// C04: an annotation begins a callback, and no table registers one. The place is that of the operation in the annotation.
     NotRegistered,
-    /// A comment `@flt-call` isn't as it should be: it ends too early, or its second word is no call. The place is that of `-call` or of
-    /// this word.
+    /// A comment `@flt-call` is malformed: it ends too early, or its second word is no call. The place is that of `-call` or of this word.
     Malformed,
 }
 
 /// Some bytes of a file.
 #[derive(Clone, Copy, Debug)]
 pub struct Span {
-    /// How many bytes of the file stand before them.
+    /// The number of bytes of the file before them.
     pub start: usize,
-    /// How many they are.
+    /// Their number.
     pub length: usize,
 }
 
@@ -45,9 +44,9 @@ pub struct Span {
 #[derive(Clone, Copy, Debug)]
 pub struct Drift {
     pub kind: DriftKind,
-    /// How many bytes of the file stand before the word that it is about.
+    /// The number of bytes of the file before the word that it is about.
     pub start: usize,
-    /// How many bytes this word has.
+    /// The number of bytes of this word.
     pub length: usize,
     /// Another word of the file that it is about.
     pub other: Option<Span>,
@@ -133,7 +132,7 @@ fn answer_of(mark: Mark) -> Option<Span>
     }
 }
 
-/// Those of the first return in the annotations of a stretch.
+/// The bytes of the first return in the annotations of a stretch.
 fn first_answer(stretch: &[Mark]) -> Option<Span>
     ensures { result ≡ spec.first_answer stretch.now }
 {
@@ -145,7 +144,7 @@ fn first_answer(stretch: &[Mark]) -> Option<Span>
     None
 }
 
-/// A drift where a mark is.
+/// Adds a drift at the place of a mark.
 fn put(
     out: &mut Vec<Drift>,
     kind: DriftKind,
@@ -163,7 +162,7 @@ fn put(
     Ok(())
 }
 
-/// A return that the annotations don't have, where they have another one.
+/// Adds the drift of a status that the annotations don't return, if they return another one.
 fn put_other_status(
     out: &mut Vec<Drift>,
     mark: Mark,
@@ -177,7 +176,7 @@ fn put_other_status(
     Ok(())
 }
 
-/// A drift where a mark is, unless this holds.
+/// Adds a drift at the place of a mark, unless this holds.
 fn put_unless(
     out: &mut Vec<Drift>,
     holds: bool,
@@ -192,7 +191,7 @@ fn put_unless(
     Ok(())
 }
 
-/// The drift of a callback that an entry registers or an annotation begins.
+/// Adds the drift of a callback that an entry registers or an annotation begins, if it has one.
 fn put_callback(out: &mut Vec<Drift>, all: &[Mark], mark: Mark) -> Result<(), AllocError>
     ensures { OnOk result (out.new.items ≡ out.old.items ++ spec.callback_drift all.now mark mark.kind) }
 {
@@ -217,7 +216,7 @@ fn put_callback(out: &mut Vec<Drift>, all: &[Mark], mark: Mark) -> Result<(), Al
     }
 }
 
-/// The drift of a status that code returns.
+/// Adds the drift of a status that code returns, if it has one.
 fn put_return(
     out: &mut Vec<Drift>,
     stretch: &[Mark],
@@ -232,7 +231,7 @@ fn put_return(
     Ok(())
 }
 
-/// The drift of what a mark of a stretch says, of a file that has all these marks.
+/// Adds the drift of a mark of a stretch, if it has one, in a file that has all these marks.
 fn put_drift(
     out: &mut Vec<Drift>,
     all: &[Mark],
@@ -255,7 +254,7 @@ fn put_drift(
     }
 }
 
-/// The drifts of a stretch.
+/// Adds the drifts of a stretch.
 fn put_stretch(out: &mut Vec<Drift>, all: &[Mark], stretch: &[Mark]) -> Result<(), AllocError>
     ensures { OnOk result (out.new.items ≡ out.old.items ++ spec.drifts_of all.now stretch.now) }
 {
@@ -288,7 +287,7 @@ fn drifts_of(alloc: Global, all: &[Mark]) -> Result<Vec<Drift>, AllocError>
 ///
 /// # Errors
 ///
-/// A growth was refused.
+/// `AllocError` if a growth is refused.
 pub fn drifts(alloc: Global, file: &[u8]) -> Result<Vec<Drift>, AllocError>
     ensures { IfOk result (λ found. found.items ≡ spec.drifts file.now) }
 {

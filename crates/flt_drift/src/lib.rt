@@ -1,9 +1,9 @@
-//! Where a driver in C and its annotations say different things, as far as their words show it.
+//! The drifts of a driver in C: the places where it and its annotations disagree, as far as their words show it.
 //!
-//! Of each letter of a file `flt_c` says whether it is code or of an annotation (`part`). Words of both leave marks (`reader`, `word`,
-//! `mark`), by the names that both have (`names`) and by those of functions that are declared to make a call (`wrapper`). Marks are
-//! cut into stretches, each some code and then the annotations about it, and where the two don't agree it is reported (`drift`); so
-//! are callbacks that are registered or annotated alone (`callbacks`).
+//! For each letter of a file, `flt_c` says whether it belongs to code or to an annotation (`part`). Words of both leave marks (`reader`,
+//! `word`, `mark`), by the names that both have (`names`) and by those of functions that are declared to make a call (`wrapper`). Marks are
+//! cut into stretches, each of which is some code and then the annotations about it. A stretch whose code and annotations disagree is
+//! reported (`drift`), and likewise a callback that is only registered or only annotated (`callbacks`).
 #![tactic(auto)]
 
 mod callbacks;

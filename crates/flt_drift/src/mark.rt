@@ -1,6 +1,6 @@
-//! What a C file says where: its calls, returns and callbacks, in code and in annotations.
+//! The marks of a C file: its calls, returns and callbacks, in code and in annotations.
 
-/// What a mark says.
+/// The statement that a mark makes.
 #[derive(Clone, Copy)]
 pub enum MarkKind {
     /// Code has the name of a call or of a function that makes it: this one of the calls, from 0.
@@ -13,13 +13,13 @@ pub enum MarkKind {
     Answers(usize),
     /// An entry of a table registers a pre callback of this one of the operations, from 0.
     RegistersPre(usize),
-    /// The same of a post callback.
+    /// The same for a post callback.
     RegistersPost(usize),
     /// An annotation begins a pre callback of this one of the operations.
     HeadsPre(usize),
-    /// The same of a post callback.
+    /// The same for a post callback.
     HeadsPost(usize),
-    /// A comment `@flt-call` isn't as it should be.
+    /// A comment `@flt-call` is malformed.
     Malformed,
     /// A line has an annotation.
     Noted,
@@ -27,12 +27,12 @@ pub enum MarkKind {
     Cut,
 }
 
-/// A mark, and the bytes of the file that say it.
+/// A mark: a statement, and the bytes of the file that make it.
 #[derive(Clone, Copy)]
 pub struct Mark {
     pub kind: MarkKind,
-    /// How many bytes of the file stand before it.
+    /// The number of bytes of the file before it.
     pub start: usize,
-    /// How many bytes say it.
+    /// The number of its bytes.
     pub length: usize,
 }

@@ -1,4 +1,4 @@
-//! The names that annotations and C have in common: calls of the driver kit, and what callbacks return.
+//! The names that annotations and C have in common: calls of the driver kit, statuses that callbacks return, and operations.
 
 ghost use Rattle.std.specs.Prelude.{◌≡◌, map};
 ghost use Rattle.flt_drift.specs.Names as spec;

@@ -1,4 +1,4 @@
-//! What letters belong to, and which of them make words.
+//! The parts of a file that letters belong to, and the letters that make words.
 
 ghost use Rattle.std.specs.Prelude.{◌≡◌};
 ghost use Rattle.flt_drift.specs.Reading as spec;

@@ -1,4 +1,4 @@
-//! How the marks of a file are found, letter by letter.
+//! The search for the marks of a file, letter by letter.
 
 ghost use Rattle.std.specs.Prelude.{◌≡◌, ◌++◌, [], ◌∷◌, map, IfOk, OnOk};
 ghost use Rattle.flt_drift.specs.Reading as spec;
@@ -12,26 +12,26 @@ use crate::wrapper::Wrapper;
 use flt_c::{Letter, Part};
 use std::alloc::{AllocError, Global};
 
-/// What is known of a word that is being read.
+/// The state of a word that is being read.
 #[derive(Clone, Copy)]
 pub(crate) struct Spoken {
-    /// What it belongs to.
+    /// The part that it belongs to.
     part: Part,
-    /// How many bytes of the file stand before it.
+    /// The number of bytes of the file before it.
     begin: usize,
-    /// Whether a `{` is the code before it.
+    /// Whether the code before it ends with `{`.
     opens: bool,
-    /// What the word before is to it, if that belongs to the same part.
+    /// The role of the word before it, which counts if that belongs to the same part.
     before: Before,
     before_part: Part,
 }
 
-/// What is known of a line of the file.
+/// The state of a line of the file.
 #[derive(Clone, Copy)]
 pub(crate) struct Line {
-    /// Whether a remark of an annotation is being read, which goes to the line's end.
+    /// Whether a remark of an annotation is being read, which extends to the line's end.
     remark: bool,
-    /// Whether the line's annotations are of the text alone.
+    /// Whether the line's annotations belong to the text alone and not to the code.
     alone: bool,
     /// Whether the stretch ends with the next code: an earlier line of it has an annotation, or a function ended.
     noted: bool,
@@ -43,16 +43,16 @@ pub(crate) struct Line {
     closing: bool,
 }
 
-/// What is known of the code.
+/// The state of the code.
 #[derive(Clone, Copy)]
 pub(crate) struct Code {
-    /// Whether its last byte is `{`, but for blanks.
+    /// Whether its last byte that is no blank is `{`.
     brace: bool,
-    /// Where reading is in an entry of a table.
+    /// The position in an entry of a table.
     entry: Entry,
 }
 
-/// How far a comment `@flt-call FUNCTION CALL` is read.
+/// The stage of a comment `@flt-call FUNCTION CALL` that is being read.
 #[derive(Clone, Copy)]
 pub(crate) enum Stage {
     /// None is being read, or all of it is.
@@ -73,7 +73,7 @@ pub(crate) struct Reader {
     line: Line,
     code: Code,
     stage: Stage,
-    /// Where the comment `@flt-call` begins that is being read, or was last.
+    /// The place of the comment `@flt-call` that is being read, or was last.
     opened: usize,
     /// Its function.
     function: Vec<u8>,
@@ -81,7 +81,7 @@ pub(crate) struct Reader {
     marks: Vec<Mark>,
 }
 
-/// What a letter is read as.
+/// The part as which a letter is read: a remark of an annotation is part of nothing.
 fn seen(line: Line, letter: Letter) -> Part
     ensures { result ≡ spec.seen line letter }
 {
@@ -92,7 +92,7 @@ fn seen(line: Line, letter: Letter) -> Part
     }
 }
 
-/// What the word is after which a word stands.
+/// The role of the word before, if it belongs to the same part.
 fn before_word(spoken: Spoken) -> Before
     ensures { result ≡ spec.before_word spoken }
 {
@@ -103,7 +103,7 @@ fn before_word(spoken: Spoken) -> Before
     }
 }
 
-/// What is known after a word.
+/// The state of reading a word, after a word.
 fn spoken_after(spoken: Spoken, word: &[u8]) -> Spoken
     ensures { result ≡ spec.spoken_after spoken word.now }
 {
@@ -114,7 +114,7 @@ fn spoken_after(spoken: Spoken, word: &[u8]) -> Spoken
     }
 }
 
-/// What is known of the line after a word.
+/// The state of the line after a word.
 fn line_after(part: Part, word: &[u8], line: Line) -> Line
     ensures { result ≡ spec.line_after part word.now line }
 {
@@ -124,7 +124,7 @@ fn line_after(part: Part, word: &[u8], line: Line) -> Line
     }
 }
 
-/// An entry of a table begins with the name of an operation.
+/// The entry after a word that may be the name of an operation: that begins an entry of a table.
 fn named_entry(operation: Option<usize>, entry: Entry) -> Entry
     ensures { result ≡ spec.named_entry operation entry }
 {
@@ -134,7 +134,7 @@ fn named_entry(operation: Option<usize>, entry: Entry) -> Entry
     }
 }
 
-/// What is known of the code after a word.
+/// The state of the code after a word.
 fn code_after(spoken: Spoken, word: &[u8], code: Code) -> Code
     ensures { result ≡ spec.code_after spoken word.now code }
 {
@@ -158,7 +158,7 @@ fn next_field(entry: Entry) -> Entry
     }
 }
 
-/// Where an entry is after a byte of code.
+/// The position in an entry after a byte of code.
 fn entry_after(b: u8, entry: Entry) -> Entry
     ensures { result ≡ spec.entry_after b entry }
 {
@@ -169,7 +169,7 @@ fn entry_after(b: u8, entry: Entry) -> Entry
     }
 }
 
-/// What is known of the code after a letter.
+/// The state of the code after a letter.
 fn coded(part: Part, b: u8, code: Code) -> Code
     ensures { result ≡ spec.coded part b code }
 {
@@ -183,7 +183,7 @@ fn coded(part: Part, b: u8, code: Code) -> Code
     }
 }
 
-/// What is known of the line after a letter.
+/// The state of the line after a letter.
 fn lined(part: Part, b: u8, line: Line) -> Line
     ensures { result ≡ spec.lined part b line }
 {
@@ -250,7 +250,7 @@ impl Reader {
         }
     }
 
-    /// What the word says.
+    /// The statement that the word makes, if it makes one.
     fn said(&self) -> Option<MarkKind>
         ensures { result ≡ spec.said_by (spec.state_in self.now) self.now.spoken.part }
     {
@@ -267,7 +267,7 @@ impl Reader {
         }
     }
 
-    /// What the word says is said.
+    /// Adds the mark of the word, if it makes a statement.
     fn say(&mut self) -> Result<(), AllocError>
         ensures { OnOk result (spec.state_in self.new ≡ spec.say (spec.state_in self.old)) }
     {
@@ -281,7 +281,7 @@ impl Reader {
         Ok(())
     }
 
-    /// The word ends.
+    /// Forgets the word, which has ended.
     fn forget(&mut self)
         ensures { spec.state_in self.new ≡ spec.forget (spec.state_in self.old) }
     {
@@ -291,7 +291,7 @@ impl Reader {
         self.word.clear();
     }
 
-    /// A mark of a comment that isn't as it should be.
+    /// Adds the mark of a malformed comment.
     fn refuse(&mut self, start: usize, length: usize) -> Result<(), AllocError>
         ensures { OnOk result (spec.state_in self.new ≡ spec.refused start length (spec.state_in self.old)) }
     {
@@ -304,7 +304,7 @@ impl Reader {
         Ok(())
     }
 
-    /// The function of the comment makes a call.
+    /// Notes that the function of the comment makes a call.
     fn wrap(&mut self, call: usize) -> Result<(), AllocError>
         ensures { OnOk result (spec.state_in self.new ≡ spec.wrapped call (spec.state_in self.old)) }
     {
@@ -315,7 +315,7 @@ impl Reader {
         Ok(())
     }
 
-    /// The word is the function of the comment.
+    /// Keeps the word as the function of the comment.
     fn keep_function(&mut self) -> Result<(), AllocError>
         ensures { OnOk result (spec.state_in self.new ≡ spec.with_function (spec.state_in self.old)) }
     {
@@ -325,7 +325,7 @@ impl Reader {
         Ok(())
     }
 
-    /// The word is the call of the comment.
+    /// Takes the word as the call of the comment.
     fn declare(&mut self) -> Result<(), AllocError>
         ensures { OnOk result (spec.state_in self.new ≡ spec.declare (spec.call_word (spec.state_in self.old)) (spec.state_in self.old)) }
     {
@@ -338,7 +338,7 @@ impl Reader {
         }
     }
 
-    /// A comment `@flt-call` may begin with the word.
+    /// Begins a comment `@flt-call`, if the word does.
     fn open(&mut self)
         ensures { spec.state_in self.new ≡ spec.opened_by_word (spec.state_in self.old) }
     {
@@ -348,7 +348,7 @@ impl Reader {
         }
     }
 
-    /// A word of a comment `@flt-` more.
+    /// Takes one more word of a comment `@flt-`.
     fn read_aside(&mut self) -> Result<(), AllocError>
         ensures { OnOk result (spec.state_in self.new ≡ spec.aside_by self.old.stage (spec.state_in self.old)) }
     {
@@ -362,7 +362,7 @@ impl Reader {
         }
     }
 
-    /// What a word says is said where it ends.
+    /// Ends the word, and adds its mark.
     fn end_word(&mut self) -> Result<(), AllocError>
         ensures { OnOk result (spec.state_in self.new ≡ spec.end_word (spec.state_in self.old)) }
     {
@@ -374,7 +374,7 @@ impl Reader {
         Ok(())
     }
 
-    /// The word ends before a letter that doesn't belong to it.
+    /// Ends the word if a letter doesn't belong to it.
     fn ended(&mut self, part: Part, b: u8) -> Result<(), AllocError>
         ensures { OnOk result (spec.state_in self.new ≡ spec.ended part b (spec.state_in self.old)) }
     {
@@ -384,7 +384,7 @@ impl Reader {
         Ok(())
     }
 
-    /// A comment `@flt-call` may end too early.
+    /// Adds a mark if a comment `@flt-call` ends too early.
     fn leave(&mut self, part: Part) -> Result<(), AllocError>
         ensures { OnOk result (spec.state_in self.new ≡ spec.left part (spec.state_in self.old)) }
     {
@@ -395,7 +395,7 @@ impl Reader {
         Ok(())
     }
 
-    /// A stretch may begin at a letter.
+    /// Begins a stretch at a letter, if one begins there.
     fn cut(&mut self, at: usize, part: Part, b: u8) -> Result<(), AllocError>
         ensures { OnOk result (spec.state_in self.new ≡ spec.cut at part b (spec.state_in self.old)) }
     {
@@ -410,7 +410,7 @@ impl Reader {
         Ok(())
     }
 
-    /// The first letter of an annotation in a line.
+    /// Adds a mark at the first letter of an annotation in a line.
     fn note(&mut self, at: usize, part: Part, b: u8) -> Result<(), AllocError>
         ensures { OnOk result (spec.state_in self.new ≡ spec.noted at part b (spec.state_in self.old)) }
     {
@@ -425,7 +425,7 @@ impl Reader {
         Ok(())
     }
 
-    /// A letter belongs to a word, or to none.
+    /// Adds a letter to the word, if it belongs to one.
     fn grow(&mut self, at: usize, part: Part, b: u8) -> Result<(), AllocError>
         ensures { OnOk result (spec.state_in self.new ≡ spec.grown at part b (spec.state_in self.old)) }
     {
@@ -440,7 +440,7 @@ impl Reader {
         Ok(())
     }
 
-    /// One letter more, as this part.
+    /// Takes one more letter, as this part.
     #[tactic(auto, unfolding(crate::specs::Reading::taken_as))]
     fn take_as(&mut self, at: usize, part: Part, b: u8) -> Result<(), AllocError>
         ensures { OnOk result (spec.state_in self.new ≡ spec.taken_as at part b (spec.state_in self.old)) }
@@ -455,7 +455,7 @@ impl Reader {
         Ok(())
     }
 
-    /// One letter more.
+    /// Takes one more letter.
     fn take(&mut self, at: usize, letter: Letter) -> Result<(), AllocError>
         ensures { OnOk result (spec.state_in self.new ≡ spec.taken at letter (spec.state_in self.old)) }
     {
@@ -463,7 +463,7 @@ impl Reader {
         self.take_as(at, part, letter.byte)
     }
 
-    /// The file ends.
+    /// Ends the file.
     fn end(&mut self) -> Result<(), AllocError>
         ensures { OnOk result (spec.state_in self.new ≡ spec.at_end (spec.state_in self.old)) }
     {

@@ -1,4 +1,4 @@
-//! What a word says: of code, or of an annotation.
+//! The statements of words: of code, or of annotations.
 
 ghost use Rattle.std.specs.Prelude.{◌≡◌, map};
 ghost use Rattle.flt_drift.specs.Marks as spec;
@@ -8,7 +8,7 @@ use crate::mark::MarkKind;
 use crate::names::{c_operation_of, c_status_of, call_of, operation_of, status_of};
 use crate::wrapper::{Wrapper, call_in};
 
-/// What a word is to the word after it.
+/// The role of a word for the word after it.
 #[derive(Clone, Copy)]
 pub(crate) enum Before {
     Nothing,
@@ -17,22 +17,22 @@ pub(crate) enum Before {
     Post,
 }
 
-/// Where reading is in an entry of a table of callbacks, `{ IRP_MJ_READ, 0, PreRead, PostRead }`.
+/// The position in an entry of a table of callbacks, `{ IRP_MJ_READ, 0, PreRead, PostRead }`.
 #[derive(Clone, Copy)]
 pub(crate) enum Entry {
-    /// In none of one of the operations.
+    /// In no entry of one of the operations.
     Nothing,
-    /// After its name; the operation's place among the operations, from 0.
+    /// After its name. The number is the operation's place among the operations, from 0.
     Name(usize),
-    /// Where flags stand.
+    /// At its flags.
     Flags(usize),
-    /// Where the pre callback stands.
+    /// At its pre callback.
     Pre(usize),
-    /// Where the post callback stands.
+    /// At its post callback.
     Post(usize),
 }
 
-/// What a word is to the word after it.
+/// The role of a word for the word after it.
 pub(crate) fn before_of(word: &[u8]) -> Before
     ensures { result ≡ spec.before_of word.now }
 {
@@ -53,7 +53,7 @@ fn is_null(word: &[u8]) -> bool
     word == b"NULL".as_slice() || word == b"0".as_slice()
 }
 
-/// What a word of an entry registers.
+/// The registration that a word of an entry makes.
 fn registered(entry: Entry) -> Option<MarkKind>
     ensures { result ≡ spec.registered entry }
 {
@@ -64,7 +64,7 @@ fn registered(entry: Entry) -> Option<MarkKind>
     }
 }
 
-/// The status that a word of code is, where it stands after `return`.
+/// The status that a word of code names, if it follows `return`.
 fn returned(before: Before, word: &[u8]) -> Option<usize>
     ensures { result ≡ spec.returned before word.now }
 {
@@ -74,7 +74,7 @@ fn returned(before: Before, word: &[u8]) -> Option<usize>
     }
 }
 
-/// What a word of code says as a status, or else as a call.
+/// The statement of a word of code: the status, or else the call.
 fn or_called(status: Option<usize>, call: Option<usize>) -> Option<MarkKind>
     ensures { result ≡ spec.or_called status call }
 {
@@ -87,7 +87,7 @@ fn or_called(status: Option<usize>, call: Option<usize>) -> Option<MarkKind>
     }
 }
 
-/// What a word says first, or else this.
+/// The first statement of a word, or else the second.
 fn or_said(first: Option<MarkKind>, said: Option<MarkKind>) -> Option<MarkKind>
     ensures { result ≡ spec.or_said first said }
 {
@@ -97,7 +97,7 @@ fn or_said(first: Option<MarkKind>, said: Option<MarkKind>) -> Option<MarkKind>
     }
 }
 
-/// What a word of code says.
+/// The statement of a word of code.
 pub(crate) fn said_by_code(
     wrappers: &[Wrapper],
     entry: Entry,
@@ -115,7 +115,7 @@ pub(crate) fn said_by_code(
     or_said(first, second)
 }
 
-/// What a word of an annotation says by the word before it.
+/// The statement of a word of an annotation, by the word before it.
 fn said_after(before: Before, word: &[u8]) -> Option<MarkKind>
     ensures { result ≡ spec.said_after before word.now }
 {
@@ -136,7 +136,7 @@ fn said_after(before: Before, word: &[u8]) -> Option<MarkKind>
     }
 }
 
-/// What a word of an annotation says as a call.
+/// The statement of a word of an annotation that names a call.
 fn named(call: Option<usize>) -> Option<MarkKind>
     ensures { result ≡ spec.named call }
 {
@@ -146,7 +146,7 @@ fn named(call: Option<usize>) -> Option<MarkKind>
     }
 }
 
-/// What a word of an annotation says.
+/// The statement of a word of an annotation.
 pub(crate) fn said_by_note(alone: bool, before: Before, word: &[u8]) -> Option<MarkKind>
     ensures { result ≡ spec.said_by_note alone before word.now }
 {

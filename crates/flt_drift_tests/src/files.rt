@@ -4,7 +4,7 @@ use flt_drift::{Drift, DriftKind, drifts};
 use std::alloc::{AllocError, Global};
 use std::test::Fail;
 
-/// A file, and for each drift its kind, its word, and the other word, which is empty where there is none.
+/// A file, and for each drift its kind, its word, and the other word, which is empty if there is none.
 type Case = (
     &'static str,
     &'static [(DriftKind, &'static str, &'static str)],
@@ -14,7 +14,7 @@ type Case = (
 const CLEANUP: &str =
     "static STATUS\nPreCleanup(DATA Data)\n{                                  //@flt pre cleanup {\n    CONTEXT context = NULL;\n\n    status = FltGetStreamContext(Instance, File, &context);\n    if (NT_SUCCESS(status)) {      //@flt   if FltGetStreamContext c0 {\n        FltReleaseContext(context); //@flt     FltReleaseContext c0\n    }                              //@flt   }\n    return FLT_PREOP_SUCCESS_NO_CALLBACK; //@flt   return NO_CALLBACK\n}                                  //@flt }\n";
 
-/// The same, where its release is deleted in C alone.
+/// The same, with its release deleted in C alone.
 const LEAKING: &str =
     "static STATUS\nPreCleanup(DATA Data)\n{                                  //@flt pre cleanup {\n    CONTEXT context = NULL;\n\n    status = FltGetStreamContext(Instance, File, &context);\n    if (NT_SUCCESS(status)) {      //@flt   if FltGetStreamContext c0 {\n                                   //@flt     FltReleaseContext c0\n    }                              //@flt   }\n    return FLT_PREOP_SUCCESS_NO_CALLBACK; //@flt   return NO_CALLBACK\n}                                  //@flt }\n";
 
@@ -38,7 +38,7 @@ static AGREEING: [&str; 16] = [
     "return status; //@flt return NO_CALLBACK\n",
 ];
 
-/// Files that don't.
+/// Files that drift from their annotations.
 static DRIFTING: [Case; 16] = [
     (
         "f(c); //@flt FltReleaseContext c0\n",
@@ -149,7 +149,7 @@ fn is_drift(file: &[u8], drift: Drift, wanted: (DriftKind, &str, &str)) -> bool 
         && is_other
 }
 
-/// Whether drifts are those that are wanted, and no other.
+/// Whether drifts are the expected ones, and no others.
 fn are_drifts(file: &[u8], found: &[Drift], wanted: &[(DriftKind, &str, &str)]) -> bool {
     if found.len() != wanted.len() {
         return false;
@@ -173,7 +173,7 @@ fn first_drifting(alloc: Global, files: &[&str]) -> Result<Option<usize>, AllocE
     Ok(None)
 }
 
-/// The first file that hasn't the drifts that are wanted.
+/// The first file that doesn't have the expected drifts.
 fn first_wrong(alloc: Global, cases: &[Case]) -> Result<Option<usize>, AllocError> {
     for (at, case) in cases.iter().enumerate() {
         let file = case.0.as_bytes();

@@ -14,7 +14,7 @@ pub enum RunFault {
     /// The first fault of a file's text.
     #[error("file {file} syntax {fault}")]
     Syntax { file: usize, fault: SyntaxFault },
-    /// The first line of the script, from 1, that isn't as asked.
+    /// The first malformed line of the script, from 1.
     #[error("script line {line}")]
     Script { line: usize },
     /// No certificate covers a file's text: the fault that is met first.

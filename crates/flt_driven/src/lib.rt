@@ -1,4 +1,4 @@
-//! What comes before a run: the texts of some filters are read, and a script for them; each text gets its least certificate, and all are
+//! The preparation of a run: the texts of some filters are read, and a script for them; each text gets its least certificate, and all are
 //! loaded.
 #![tactic(auto)]
 

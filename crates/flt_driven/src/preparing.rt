@@ -21,7 +21,7 @@ use std::thread::Threads;
 /// How many filters a stack has at most.
 const MAX_FILTERS: usize = 16;
 
-/// What can be run: a script, and the filters for which it is one.
+/// The input of a run: a script, and the filters for which it is one.
 #[derive(Drop)]
 pub struct Prepared {
     /// The filters, loaded.
@@ -42,7 +42,7 @@ fn read_script(alloc: Global, trees: &[Tree], script: &[u8]) -> Result<Script, R
     }
 }
 
-/// That memory was refused, which is all that can be wrong with accepted files.
+/// The fault that memory was refused, which is all that can be wrong with accepted files.
 fn refused_memory(fault: LoadFault) -> AllocError
     requires { fault ≡ LoadFault.OutOfMemory }
 {
@@ -69,13 +69,13 @@ fn load_all(
     }
 }
 
-/// What a script and some texts come to before anything is run: the texts are read, each gets its least certificate, as many at a time as
-/// there are workers, and all are loaded.
+/// Prepares a script and some texts before anything is run: the texts are read, each gets its least certificate, as many at a time as there
+/// are workers, and all are loaded.
 ///
 /// # Errors
 ///
-/// The first of these that there is, and of one kind the first file's: the number of files; a text's fault; a line of the script; a text
-/// that no certificate covers; an altitude that an earlier file has. Or a growth was refused.
+/// The first of these that occurs, and of one kind the first file's: the number of files; a text's fault; a line of the script; a text that
+/// no certificate covers; an altitude that an earlier file has. Or a growth was refused.
 pub fn prepare<R: Threads + Sync>(
     rt: &R,
     alloc: Global,

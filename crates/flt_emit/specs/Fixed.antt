@@ -22,7 +22,7 @@ unfoldable pub written : Text
 written =
     codes " *\n"
     ++ codes " *  Written by fltstack from the filter's text. Each statement of the text is one statement here, in the text's order; its\n"
-    ++ codes " *  point and its line in the text stand behind it. Your own code goes to the header that is named below. Don't change this\n"
+    ++ codes " *  point and its line in the text follow it. Your own code goes to the header that is named below. Don't change this\n"
     ++ codes " *  file: change the text and write it anew.\n */\n\n#include <fltKernel.h>\n"
 
 -- the contexts, which post callbacks look at where nothing may be paged
@@ -134,7 +134,7 @@ queue_locking =
     ++ codes "    UNREFERENCED_PARAMETER( Cbdq );\n\n    KeAcquireSpinLock( &Globals.QueueLock, Irql );\n}\n\nVOID FLTAPI\n"
     ++ codes "CsqRelease(\n    _In_ PFLT_CALLBACK_DATA_QUEUE Cbdq,\n    _In_opt_ KIRQL Irql\n    )\n{\n"
     ++ codes "    UNREFERENCED_PARAMETER( Cbdq );\n\n    KeReleaseSpinLock( &Globals.QueueLock, Irql );\n}\n\n//\n"
-    ++ codes "//  From here on an insert fails, and what is in the queue goes the way of a cancelled operation.\n//\n\nVOID FLTAPI\n"
+    ++ codes "//  From here on an insert fails, and the operations in the queue are treated as cancelled ones.\n//\n\nVOID FLTAPI\n"
     ++ codes "InstanceTeardownStart(\n    _In_ PCFLT_RELATED_OBJECTS FltObjects,\n    _In_ FLT_INSTANCE_TEARDOWN_FLAGS Reason\n"
     ++ codes "    )\n{\n    PFLT_CALLBACK_DATA data;\n\n    UNREFERENCED_PARAMETER( FltObjects );\n"
     ++ codes "    UNREFERENCED_PARAMETER( Reason );\n\n    FltCbdqDisable( &Globals.Queue );\n\n"

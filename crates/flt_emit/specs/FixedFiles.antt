@@ -12,10 +12,10 @@ user_title =
 unfoldable pub user_written : Text
 user_written =
     codes " *\n"
-    ++ codes " *  Written once by fltstack; it is yours from then on. What stands here must not hand over, complete or keep Data or a\n"
-    ++ codes " *  context, take a lock of the text, or raise the IRQL: what was proved of the text holds for the driver only then. A hook\n"
-    ++ codes " *  stands at the beginning of its callback, which runs at most at APC_LEVEL where it is named PRE or CANCELED, at\n"
-    ++ codes " *  DISPATCH_LEVEL where it is named POST, and else at PASSIVE_LEVEL. What it is given as Context may be NULL.\n */\n"
+    ++ codes " *  Written once by fltstack; it is yours from then on. Your code here must not hand over, complete or keep Data or a\n"
+    ++ codes " *  context, take a lock of the text, or raise the IRQL: the proofs about the text hold for the driver only then. A hook\n"
+    ++ codes " *  is at the beginning of its callback, which runs at most at APC_LEVEL where it is named PRE or CANCELED, at\n"
+    ++ codes " *  DISPATCH_LEVEL where it is named POST, and else at PASSIVE_LEVEL. The Context that it is given may be NULL.\n */\n"
     ++ codes "\n#pragma once\n\n//  Which volume the filter attaches to: the first one offered for which this is TRUE.\n\n"
     ++ codes "#define USER_WANTS_VOLUME( FltObjects, VolumeDeviceType, VolumeFilesystemType ) \\\n"
     ++ codes "    ((VOID) (FltObjects), (VOID) (VolumeDeviceType), (VOID) (VolumeFilesystemType), TRUE)\n\n"

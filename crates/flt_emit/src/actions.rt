@@ -67,7 +67,7 @@ fn lock_name(locks: &[Lock], number: LockNumber) -> &[u8]
     }
 }
 
-/// The call that acquires a lock: of a spin lock it leaves the level before.
+/// The call that acquires a lock. For a spin lock it saves the level before.
 fn acquire(out: &mut Vec<u8>, kind: LockKind, name: &[u8]) -> Result<(), AllocError>
     ensures { OnOk result (out.new.items ≡ out.old.items ++ spec.acquire_text kind name.now) }
 {
@@ -100,7 +100,7 @@ fn acquire_shared(out: &mut Vec<u8>, name: &[u8]) -> Result<(), AllocError>
     )
 }
 
-/// The call that releases a lock: of a spin lock it is given the level before.
+/// The call that releases a lock. For a spin lock it takes the level before.
 fn release(out: &mut Vec<u8>, kind: LockKind, name: &[u8]) -> Result<(), AllocError>
     ensures { OnOk result (out.new.items ≡ out.old.items ++ spec.release_text kind name.now) }
 {
@@ -194,7 +194,7 @@ fn final_lines(
     )
 }
 
-/// The lines that a status asks for where it completes an operation.
+/// The lines that a status needs if it completes an operation.
 fn completed(
     out: &mut Vec<u8>,
     level: usize,
@@ -233,7 +233,7 @@ fn handed(
     }
 }
 
-/// What stands before a call.
+/// The lines before a call.
 pub(crate) fn before_call(
     out: &mut Vec<u8>,
     level: usize,
@@ -249,7 +249,7 @@ pub(crate) fn before_call(
     }
 }
 
-/// What stands before a returned status.
+/// The lines before a returned status.
 fn before_return(out: &mut Vec<u8>, level: usize, status: Status) -> Result<(), AllocError>
     ensures { OnOk result (out.new.items ≡ out.old.items ++ spec.before_return level status) }
 {
@@ -257,7 +257,7 @@ fn before_return(out: &mut Vec<u8>, level: usize, status: Status) -> Result<(), 
     handed(out, level, status.context())
 }
 
-/// How a callback that answers nothing is left.
+/// How a callback that returns no status is left.
 fn leaving(place: Place) -> &'static [u8]
     ensures { result.now ≡ spec.leaving place }
 {
@@ -267,7 +267,7 @@ fn leaving(place: Place) -> &'static [u8]
     }
 }
 
-/// What a pre or a post callback returns that passes the operation on.
+/// The return of a pre or a post callback that passes the operation on.
 pub(crate) fn passing(is_pre: bool) -> &'static [u8]
     ensures { result.now ≡ spec.passing is_pre }
 {

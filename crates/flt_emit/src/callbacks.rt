@@ -139,7 +139,7 @@ fn declare_operation(
     Ok(())
 }
 
-/// What keeps compilers from warning of a variable that is set and never read.
+/// The line that keeps compilers from warning of a variable that is set and never read.
 #[tactic(auto, unfolding(crate::specs::Callbacks::unread))]
 fn unread(out: &mut Vec<u8>, is_read: bool, n: NumberVariable) -> Result<(), AllocError>
     ensures { OnOk result (out.new.items ≡ out.old.items ++ spec.unread is_read n) }
@@ -230,7 +230,7 @@ fn declare_argument(out: &mut Vec<u8>, body: &[Statement], head: &Head) -> Resul
     }
 }
 
-/// The instance, where the filter manager doesn't name it.
+/// The instance, if the filter manager doesn't name it.
 #[tactic(auto, unfolding(crate::specs::Callbacks::instance_declaration))]
 fn instance_declaration(head: &Head) -> &'static [u8]
     ensures { result.now ≡ spec.instance_declaration head.now }
@@ -258,7 +258,7 @@ fn needs_level(body: &[Statement], place: usize, kind: LockKind) -> bool
     is_spin(kind) && is_used(Use::Lock(place), body)
 }
 
-/// Where a spin lock leaves the level before.
+/// The variable for the level before a spin lock.
 #[tactic(auto, unfolding(crate::specs::Callbacks::declared_level))]
 fn declared_level(out: &mut Vec<u8>, name: &[u8]) -> Result<(), AllocError>
     ensures { OnOk result (out.new.items ≡ out.old.items ++ spec.declared_level name.now) }
@@ -266,7 +266,7 @@ fn declared_level(out: &mut Vec<u8>, name: &[u8]) -> Result<(), AllocError>
     texts(out, &[b"    KIRQL irql_", name, b";\n"])
 }
 
-/// The same where it is needed.
+/// The same if it is needed.
 #[tactic(auto, unfolding(crate::specs::Callbacks::level_declaration))]
 fn declare_level(
     out: &mut Vec<u8>,
@@ -282,7 +282,7 @@ fn declare_level(
     Ok(())
 }
 
-/// The same of all locks.
+/// The same for all locks.
 fn declare_levels(out: &mut Vec<u8>, body: &[Statement], locks: &[Lock]) -> Result<(), AllocError>
     ensures { OnOk result (out.new.items ≡ out.old.items ++ spec.level_declarations body.now 0 locks.now) }
 {
@@ -367,14 +367,14 @@ fn unreturned(out: &mut Vec<u8>, returns: bool, is_pre: bool) -> Result<(), Allo
     texts(out, &[passing(is_pre), b"\n"])
 }
 
-/// What stands before the end of a routine.
+/// The lines before the end of a routine.
 fn done(is_left: bool) -> &'static [u8]
     ensures { result.now ≡ spec.done is_left }
 {
     if is_left { b"\nDone:\n\n" } else { b"\n" }
 }
 
-/// What a callback ends with.
+/// The end of a callback.
 #[tactic(auto, unfolding(crate::specs::Callbacks::ending))]
 fn ending(out: &mut Vec<u8>, body: &[Statement], head: &Head) -> Result<(), AllocError>
     ensures { OnOk result (out.new.items ≡ out.old.items ++ spec.ending body.now head.now) }

@@ -17,7 +17,7 @@ use flt_tree::{
 };
 use std::alloc::AllocError;
 
-/// What a variable of numbers is set to, up to the end of its line but for the label.
+/// The value to which a variable of numbers is set, up to the label at the end of its line.
 pub(crate) fn expression(out: &mut Vec<u8>, expression: Expression) -> Result<(), AllocError>
     ensures { OnOk result (out.new.items ≡ out.old.items ++ spec.expression_text expression) }
 {
@@ -68,7 +68,7 @@ fn constant(value: bool) -> &'static [u8]
     if value { b"TRUE" } else { b"FALSE" }
 }
 
-/// A comparison, behind its value if that is known.
+/// A comparison, after its value if that is known.
 fn compared(
     out: &mut Vec<u8>,
     is_known: bool,
@@ -153,7 +153,7 @@ fn test(out: &mut Vec<u8>, turned: bool, test: Test) -> Result<(), AllocError>
     }
 }
 
-/// What a call about the context of a stream or of an instance is given first.
+/// The first arguments of a call about the context of a stream or of an instance.
 fn anchored(place: Place, anchor: Anchor) -> &'static [u8]
     ensures { result.now ≡ spec.anchored place anchor }
 {
@@ -166,7 +166,7 @@ fn anchored(place: Place, anchor: Anchor) -> &'static [u8]
     }
 }
 
-/// What stands before a variable in which a call leaves a context.
+/// The sign before a variable in which a call leaves a context.
 fn address(context: Option<ContextVariable>) -> &'static [u8]
     ensures { result.now ≡ spec.address context }
 {
@@ -290,7 +290,7 @@ fn fallible_call(
     }
 }
 
-/// What an `if` asks, or its opposite.
+/// The condition of an `if`, or its opposite.
 pub(crate) fn condition(
     out: &mut Vec<u8>,
     scope: &Scope<'_>,

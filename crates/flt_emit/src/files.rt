@@ -77,11 +77,11 @@ fn hook_defaults(out: &mut Vec<u8>, mut found: &[Callback]) -> Result<(), AllocE
     Ok(())
 }
 
-/// The header in which the writer's own part of a filter stands, with hooks that do nothing.
+/// The header that holds the writer's own part of a filter, with hooks that do nothing.
 ///
 /// # Errors
 ///
-/// Where a growth was refused.
+/// `AllocError` if a growth is refused.
 #[tactic(auto, unfolding(crate::specs::Files::user_header))]
 pub fn emit_header(alloc: Global, tree: &Tree) -> Result<Vec<u8>, AllocError>
     ensures { IfOk result (λ text. text.items ≡ spec.user_header tree.now.filter) }
@@ -158,7 +158,7 @@ fn strings_part(out: &mut Vec<u8>, filter: &Filter) -> Result<(), AllocError>
 ///
 /// # Errors
 ///
-/// Where a growth was refused.
+/// `AllocError` if a growth is refused.
 #[tactic(auto, unfolding(crate::specs::Files::installation))]
 pub fn emit_installation(alloc: Global, tree: &Tree) -> Result<Vec<u8>, AllocError>
     ensures { IfOk result (λ text. text.items ≡ spec.installation tree.now.filter) }

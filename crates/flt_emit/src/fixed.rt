@@ -18,7 +18,7 @@ pub(crate) fn comment_begin(out: &mut Vec<u8>) -> Result<(), AllocError>
     )
 }
 
-/// What the source is, up to the filter's name.
+/// The title of the source, up to the filter's name.
 #[tactic(auto, unfolding(crate::specs::Fixed::source_title))]
 pub(crate) fn source_title(out: &mut Vec<u8>) -> Result<(), AllocError>
     ensures { OnOk result (out.new.items ≡ out.old.items ++ spec.source_title) }
@@ -34,7 +34,7 @@ pub(crate) fn altitude_title(out: &mut Vec<u8>) -> Result<(), AllocError>
     text(out, b"`, altitude ")
 }
 
-/// What stands at the head of the source, behind the filter's name.
+/// The head of the source after the filter's name.
 #[tactic(auto, unfolding(crate::specs::Fixed::written))]
 pub(crate) fn written(out: &mut Vec<u8>) -> Result<(), AllocError>
     ensures { OnOk result (out.new.items ≡ out.old.items ++ spec.written) }
@@ -43,7 +43,7 @@ pub(crate) fn written(out: &mut Vec<u8>) -> Result<(), AllocError>
         out,
         b" *
  *  Written by fltstack from the filter's text. Each statement of the text is one statement here, in the text's order; its
- *  point and its line in the text stand behind it. Your own code goes to the header that is named below. Don't change this
+ *  point and its line in the text follow it. Your own code goes to the header that is named below. Don't change this
  *  file: change the text and write it anew.
  */
 
@@ -52,7 +52,7 @@ pub(crate) fn written(out: &mut Vec<u8>) -> Result<(), AllocError>
     )
 }
 
-/// The contexts, which post callbacks look at where nothing may be paged.
+/// The contexts, which are never paged, since post callbacks access them at DISPATCH_LEVEL.
 #[tactic(auto, unfolding(crate::specs::Fixed::contexts))]
 pub(crate) fn contexts(out: &mut Vec<u8>) -> Result<(), AllocError>
     ensures { OnOk result (out.new.items ≡ out.old.items ++ spec.contexts) }
@@ -447,7 +447,7 @@ CsqRelease(
 }
 
 //
-//  From here on an insert fails, and what is in the queue goes the way of a cancelled operation.
+//  From here on an insert fails, and the operations in the queue are treated as cancelled ones.
 //
 
 VOID FLTAPI
@@ -574,7 +574,7 @@ FilterUnload(
     )
 }
 
-/// What stands before the registered operations.
+/// The lines before the registered operations.
 #[tactic(auto, unfolding(crate::specs::Fixed::operations))]
 pub(crate) fn operations(out: &mut Vec<u8>) -> Result<(), AllocError>
     ensures { OnOk result (out.new.items ≡ out.old.items ++ spec.operations) }

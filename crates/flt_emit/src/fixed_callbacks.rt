@@ -144,7 +144,7 @@ pub(crate) fn canceled_hook(out: &mut Vec<u8>) -> Result<(), AllocError>
     )
 }
 
-/// What stands at the end of a pre or a post callback that isn't left by a return on each of its ways.
+/// The end of a pre or a post callback that doesn't return on each of its paths.
 #[tactic(auto, unfolding(crate::specs::Fixed::unreached))]
 pub(crate) fn unreached(out: &mut Vec<u8>) -> Result<(), AllocError>
     ensures { OnOk result (out.new.items ≡ out.old.items ++ spec.unreached) }

@@ -6,7 +6,7 @@ ghost use Rattle.std.specs.Prelude.{◌≡◌, ◌++◌, OnOk};
 use crate::line::text;
 use std::alloc::AllocError;
 
-/// What the writer's header is, up to the filter's name.
+/// The title of the writer's header, up to the filter's name.
 #[tactic(auto, unfolding(crate::specs::FixedFiles::user_title))]
 pub(crate) fn user_title(out: &mut Vec<u8>) -> Result<(), AllocError>
     ensures { OnOk result (out.new.items ≡ out.old.items ++ spec.user_title) }
@@ -14,7 +14,7 @@ pub(crate) fn user_title(out: &mut Vec<u8>) -> Result<(), AllocError>
     text(out, b"_user.h - the writer's own part of the minifilter `")
 }
 
-/// What stands at the head of the writer's header, behind the filter's name.
+/// The head of the writer's header after the filter's name.
 #[tactic(auto, unfolding(crate::specs::FixedFiles::user_written))]
 pub(crate) fn user_written(out: &mut Vec<u8>) -> Result<(), AllocError>
     ensures { OnOk result (out.new.items ≡ out.old.items ++ spec.user_written) }
@@ -22,10 +22,10 @@ pub(crate) fn user_written(out: &mut Vec<u8>) -> Result<(), AllocError>
     text(
         out,
         b" *
- *  Written once by fltstack; it is yours from then on. What stands here must not hand over, complete or keep Data or a
- *  context, take a lock of the text, or raise the IRQL: what was proved of the text holds for the driver only then. A hook
- *  stands at the beginning of its callback, which runs at most at APC_LEVEL where it is named PRE or CANCELED, at
- *  DISPATCH_LEVEL where it is named POST, and else at PASSIVE_LEVEL. What it is given as Context may be NULL.
+ *  Written once by fltstack; it is yours from then on. Your code here must not hand over, complete or keep Data or a
+ *  context, take a lock of the text, or raise the IRQL: the proofs about the text hold for the driver only then. A hook
+ *  is at the beginning of its callback, which runs at most at APC_LEVEL where it is named PRE or CANCELED, at
+ *  DISPATCH_LEVEL where it is named POST, and else at PASSIVE_LEVEL. The Context that it is given may be NULL.
  */
 
 #pragma once
@@ -181,7 +181,7 @@ HKR,Parameters\\Instances\\",
     )
 }
 
-/// Up to the altitude, behind that name.
+/// Up to the altitude, after that name.
 #[tactic(auto, unfolding(crate::specs::FixedFiles::inf_altitude))]
 pub(crate) fn inf_altitude(out: &mut Vec<u8>) -> Result<(), AllocError>
     ensures { OnOk result (out.new.items ≡ out.old.items ++ spec.inf_altitude) }
@@ -201,7 +201,7 @@ HKR,Parameters\\Instances\\",
     )
 }
 
-/// Up to the name of the disk, behind that name.
+/// Up to the name of the disk, after that name.
 #[tactic(auto, unfolding(crate::specs::FixedFiles::inf_strings))]
 pub(crate) fn inf_strings(out: &mut Vec<u8>) -> Result<(), AllocError>
     ensures { OnOk result (out.new.items ≡ out.old.items ++ spec.inf_strings) }

@@ -7,7 +7,7 @@ use crate::names::number_name;
 use flt_tree::Atom;
 use std::alloc::AllocError;
 
-/// Text as it stands.
+/// Text, unchanged.
 pub(crate) fn text(out: &mut Vec<u8>, text: &[u8]) -> Result<(), AllocError>
     ensures { OnOk result (out.new.items ≡ out.old.items ++ text.now) }
 {
@@ -44,7 +44,7 @@ fn number(out: &mut Vec<u8>, n: u64) -> Result<(), AllocError>
     digit(out, (n % 10) as u8)
 }
 
-/// Texts, one behind the other.
+/// Texts, one after the other.
 pub(crate) fn texts(out: &mut Vec<u8>, texts: &[&[u8]]) -> Result<(), AllocError>
     ensures { OnOk result (out.new.items ≡ out.old.items ++ spec.all_of texts.now) }
 {
@@ -62,7 +62,7 @@ pub(crate) enum Piece<'a> {
     Text(&'a [u8]),
     Number(u64),
     Atom(Atom),
-    /// What follows a statement, up to the end of its line: its point, and its line in the text.
+    /// The end of a statement's line: its point, and its line in the text.
     Label(usize, usize),
 }
 
@@ -100,7 +100,7 @@ fn write_piece(out: &mut Vec<u8>, piece: Piece<'_>) -> Result<(), AllocError>
     }
 }
 
-/// Pieces, one behind the other.
+/// Pieces, one after the other.
 pub(crate) fn write(out: &mut Vec<u8>, pieces: &[Piece<'_>]) -> Result<(), AllocError>
     ensures { OnOk result (out.new.items ≡ out.old.items ++ flat_map spec.piece_text pieces.now) }
 {

@@ -1,4 +1,4 @@
-//! How variables, operations and statuses are called in C.
+//! The names of variables, operations and statuses in C.
 
 ghost use Rattle.flt_emit.specs.Names as spec;
 ghost use Rattle.std.specs.Prelude.{◌≡◌};
@@ -37,7 +37,7 @@ pub(crate) fn context_name(c: ContextVariable) -> &'static [u8]
     }
 }
 
-/// A context, or NULL where there is none.
+/// A context, or NULL if there is none.
 pub(crate) fn context_or_null(context: Option<ContextVariable>) -> &'static [u8]
     ensures { result.now ≡ spec.context_or_null context }
 {
@@ -87,7 +87,7 @@ pub(crate) fn own_file(place: Place) -> &'static [u8]
     }
 }
 
-/// How the functions end that get, set and delete the context of a stream or of an instance.
+/// The ends of the names of the functions that get, set and delete the context of a stream or of an instance.
 pub(crate) fn anchor_name(anchor: Anchor) -> &'static [u8]
     ensures { result.now ≡ spec.anchor_name anchor }
 {
@@ -119,7 +119,7 @@ pub(crate) fn final_status_name(status: FinalStatus) -> &'static [u8]
     }
 }
 
-/// What a callback returns for a status.
+/// The value that a callback returns for a status.
 pub(crate) fn status_name(status: Status) -> &'static [u8]
     ensures { result.now ≡ spec.status_name status }
 {
@@ -147,7 +147,7 @@ pub(crate) fn major_name(operation: Operation) -> &'static [u8]
     }
 }
 
-/// How the callbacks of an operation end.
+/// The ends of the names of an operation's callbacks.
 pub(crate) fn operation_word(operation: Operation) -> &'static [u8]
     ensures { result.now ≡ spec.operation_word operation }
 {

@@ -1,4 +1,4 @@
-//! Where a statement stands, and what it may name.
+//! The place of a statement, and the names that are visible there.
 
 ghost use Rattle.flt_emit.specs.Scope as spec;
 ghost use Rattle.std.specs.Prelude.{◌≡◌};
@@ -6,14 +6,14 @@ ghost use Rattle.std.specs.Prelude.{◌≡◌};
 use flt_rules::Place;
 use flt_tree::Lock;
 
-/// A point at which FltAllocateContext stands: its callback and its number there, each from 0.
+/// A point with FltAllocateContext: its callback and its number there, each from 0.
 #[derive(Clone, Copy)]
 pub struct Allocation {
     pub callback: usize,
     pub point: usize,
 }
 
-/// The callback in which a statement stands, and what all callbacks have in common.
+/// The callback of a statement, and the parts that all callbacks share.
 #[derive(Clone, Copy)]
 pub(crate) struct Scope<'a> {
     pub(crate) callback: usize,

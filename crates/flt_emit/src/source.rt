@@ -247,7 +247,7 @@ fn attachment(out: &mut Vec<u8>, locks: &[Lock], queue: bool) -> Result<(), Allo
     locks_deleted(out, locks)
 }
 
-/// What the filter registers.
+/// The registration of the filter.
 #[tactic(auto, unfolding(crate::specs::Source::registered))]
 fn registered(out: &mut Vec<u8>, callbacks: &[Callback], queue: bool) -> Result<(), AllocError>
     ensures { OnOk result (out.new.items ≡ out.old.items ++ spec.registered callbacks.now queue) }
@@ -284,7 +284,7 @@ fn registering(out: &mut Vec<u8>, locks: &[Lock]) -> Result<(), AllocError>
     fixed::ending(out)
 }
 
-/// What stands before the callbacks.
+/// The source before the callbacks.
 #[tactic(auto, unfolding(crate::specs::Source::declared))]
 fn declared(out: &mut Vec<u8>, filter: &Filter) -> Result<(), AllocError>
     ensures { OnOk result (out.new.items ≡ out.old.items ++ spec.declared filter.now) }
@@ -296,7 +296,7 @@ fn declared(out: &mut Vec<u8>, filter: &Filter) -> Result<(), AllocError>
     helpers(out, queue)
 }
 
-/// What stands behind the callbacks.
+/// The source after the callbacks.
 #[tactic(auto, unfolding(crate::specs::Source::framed))]
 fn framed(out: &mut Vec<u8>, filter: &Filter) -> Result<(), AllocError>
     ensures { OnOk result (out.new.items ≡ out.old.items ++ spec.framed filter.now) }
@@ -315,7 +315,7 @@ fn framed(out: &mut Vec<u8>, filter: &Filter) -> Result<(), AllocError>
 ///
 /// # Errors
 ///
-/// Where a growth was refused.
+/// `AllocError` if a growth is refused.
 #[tactic(auto, unfolding(crate::specs::Source::source))]
 pub fn emit(alloc: Global, tree: &Tree, instances: &[Allocation]) -> Result<Vec<u8>, AllocError>
     ensures { IfOk result (λ text. text.items ≡ spec.source instances.now tree.now.filter) }

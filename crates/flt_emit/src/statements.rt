@@ -1,4 +1,4 @@
-//! Writes the statements of a callback, each with its point and its line behind it.
+//! Writes the statements of a callback, each with its point and its line after it.
 
 ghost use Rattle.flt_emit.specs.Statements as spec;
 ghost use Rattle.flt_tree.specs.Measures.{points, points_of};
@@ -87,7 +87,7 @@ fn repeat_line(
     )
 }
 
-/// Statements, the first of which has the point `point`. The result is the point behind the last one.
+/// Statements, the first of which has the point `point`. The result is the point after the last one.
 #[cycle(statements)]
 pub(crate) fn body(
     out: &mut Vec<u8>,
@@ -140,7 +140,7 @@ fn turned(
     }
 }
 
-/// The end of an `if` behind its first block.
+/// The end of an `if` after its first block.
 #[cycle(statements)]
 fn otherwise(
     out: &mut Vec<u8>,

@@ -1,4 +1,4 @@
-//! Finds what stands in the body of a callback, so that C declares it, and whether a body comes to its end.
+//! Finds the variables and locks in the body of a callback, so that C declares them, and whether a body comes to its end.
 
 ghost use Rattle.flt_emit.specs.Uses as spec;
 ghost use Rattle.std.specs.Prelude.{◌≡◌};
@@ -10,11 +10,11 @@ use flt_tree::{
     OperationVariable, PlainCall, Statement, Status, Test,
 };
 
-/// What may stand in a body.
+/// A variable or a lock that a body may use.
 #[derive(Clone, Copy)]
 pub(crate) enum Use {
     Number(NumberVariable),
-    /// A variable of numbers whose value is asked for.
+    /// A variable of numbers whose value is read.
     Read(NumberVariable),
     Context(ContextVariable),
     Operation(OperationVariable),
@@ -236,7 +236,7 @@ fn statement_returns(statement: &Statement) -> bool
     }
 }
 
-/// Whether something stands in a body.
+/// Whether a variable or a lock is used in a body.
 #[tactic(auto, unfolding(crate::specs::Uses::is_used))]
 pub(crate) fn is_used(sought: Use, body: &[Statement]) -> bool
     ensures { result ≡ spec.is_used sought body.now }

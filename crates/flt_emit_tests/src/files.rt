@@ -1,4 +1,4 @@
-//! What the files of a small filter have, by hand from the samples of the driver kit.
+//! The expected files of a small filter, by hand from the samples of the driver kit.
 
 use flt_emit::{Allocation, emit, emit_header, emit_installation};
 use flt_syntax::{Tree, parse};
@@ -9,7 +9,7 @@ use std::test::Fail;
 const SMALL: &str =
     "filter small altitude 70\nlock fast used\npre read {\nif FltGetStreamContext c0 {\nExAcquireFastMutex used\nFltReleaseContext c0\nExReleaseFastMutex used\n}\nreturn NO_CALLBACK\n}\n";
 
-/// Its callback, from the hook of its writer on. A point stands behind each statement, and the line of the text.
+/// Its callback, from the hook of its writer on. After each statement are a point and the line of the text.
 const BODY: &str =
     "    USER_PRE_READ( Data, FltObjects );\n\n    if (NT_SUCCESS( GetStreamContext( FltObjects->Instance, FltObjects->FileObject, &c0 ) )) {    // 0, line 4\n        ExAcquireFastMutex( &Globals.lock_used );    // 1, line 5\n        FltReleaseContext( c0 );    // 2, line 6\n        ExReleaseFastMutex( &Globals.lock_used );    // 3, line 7\n    }\n    return FLT_PREOP_SUCCESS_NO_CALLBACK;    // 4, line 9\n}\n";
 
@@ -30,14 +30,14 @@ fn has(bytes: &[u8], part: &[u8]) -> bool {
     false
 }
 
-/// Whether the source has a callback, where no context is the instance's.
+/// Whether the source has a callback, if no context is the instance's.
 fn is_emitted(alloc: Global, tree: &Tree, body: &str) -> Result<bool, Fail> {
     let instances: [Allocation; 0] = [];
     let source = emit(alloc, tree, &instances)?;
     Ok(has(source.as_slice(), body.as_bytes()))
 }
 
-/// Whether the header has a hook, and the file for the installation an altitude.
+/// Whether the header has a hook, and the file for the installation has an altitude.
 fn is_written(alloc: Global, tree: &Tree, hook: &str, altitude: &str) -> Result<bool, Fail> {
     let header = emit_header(alloc, tree)?;
     let installation = emit_installation(alloc, tree)?;

@@ -1,4 +1,4 @@
-//! Which contexts of small filters are the instance's, which has two kinds, and which open a filter completes, by hand.
+//! Kinds of contexts of small filters, by hand: which are the instance's, which has two kinds, and which open a filter completes.
 
 use flt_graph::lower;
 use flt_kinds::{ContextKinds, Spot, completed_create, context_kinds};
@@ -18,14 +18,14 @@ const BOTH: &str =
 const OPENS: &str =
     "filter opens altitude 70\npre read {\nreturn NO_CALLBACK\n}\npre create {\nreturn COMPLETE STATUS_SUCCESS\n}\n";
 
-/// What the contexts of a text are.
+/// The kinds of the contexts of a text.
 fn kinds_of(alloc: Global, text: &str) -> Result<ContextKinds, Fail> {
     let tree = parse(alloc, text.as_bytes())?;
     let graph = lower(alloc, &tree)?;
     Ok(context_kinds(alloc, &tree, &graph)?)
 }
 
-/// Where a text completes an open.
+/// The place where a text completes an open.
 fn opened_by(alloc: Global, text: &str) -> Result<Option<Spot>, Fail> {
     let tree = parse(alloc, text.as_bytes())?;
     let graph = lower(alloc, &tree)?;

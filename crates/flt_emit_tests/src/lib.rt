@@ -1,5 +1,5 @@
 //! Tests of the emitter with ample memory: the source of a small filter, the header for its writer and the file for its installation; and
-//! the kinds of a filter's contexts. They stand apart from `flt_emit` and `flt_kinds`, so that these are not proved twice.
+//! the kinds of a filter's contexts. They are apart from `flt_emit` and `flt_kinds`, so that these are not proved twice.
 #![tactic(auto)]
 
 #[cfg(test)]

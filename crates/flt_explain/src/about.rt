@@ -1,4 +1,4 @@
-//! Which operand of a point is to blame where it breaks a rule.
+//! Which operand of a point is at fault when it breaks a rule.
 
 ghost use Rattle.std.specs.Prelude.{◌≡◌, slice_index_or};
 ghost use Rattle.flt_abs.specs.Sets.{null_alone, status_bits};
@@ -80,7 +80,7 @@ fn is_test_about(test: Test, subject: Subject) -> bool
     }
 }
 
-/// The set at a place; NULL alone where there is none.
+/// The set at a place; NULL alone if it has none.
 #[tactic(auto, using(crate::proofs::Reading::found, crate::proofs::Reading::missing))]
 pub(crate) fn set_at(sets: &[Statuses], place: usize) -> Statuses
     ensures { result ≡ slice_index_or sets.now place null_alone }
@@ -192,7 +192,7 @@ fn is_kept_operation(place: Place, state: &Abs, variable: OperationVariable) -> 
     }
 }
 
-/// Whether the operation is surely what a status asks of it.
+/// Whether the operation is surely held or given away, as a status needs it.
 #[tactic(auto, using(crate::proofs::Digits::held_digit, crate::proofs::Digits::stale_digit))]
 fn is_possessed(operation: Statuses, possession: Possession) -> bool
     ensures { result ≡ breaks.is_possessed operation possession }
@@ -203,7 +203,7 @@ fn is_possessed(operation: Statuses, possession: Possession) -> bool
     }
 }
 
-/// Whether the operation is surely of a mode, where one is asked for.
+/// Whether the operation is surely of a mode, if one is needed.
 #[tactic(auto, using(crate::proofs::Digits::irp_digit, crate::proofs::Digits::fast_digit))]
 fn is_of_mode(modes: Modes, mode: Option<Mode>) -> bool
     ensures { result ≡ breaks.is_of_mode modes mode }
@@ -215,7 +215,7 @@ fn is_of_mode(modes: Modes, mode: Option<Mode>) -> bool
     }
 }
 
-/// Whether the row of a status asks for another state of a subject.
+/// Whether the row of a status needs another state of a subject.
 fn is_status_about(row: &StatusRow, state: &Abs, subject: Subject) -> bool
     ensures { result ≡ spec.is_status_about row.now state.now subject }
 {
@@ -258,8 +258,8 @@ fn is_return_about(
     }
 }
 
-/// Whether a rule that an instruction of a callback of the place breaks in a state is broken by this operand. The call and the status
-/// themselves are to blame where no operand is, and aren't asked for here.
+/// Whether this operand is at fault for a rule that an instruction of a callback of the place breaks in a state. The call and the status
+/// themselves, which aren't operands, are at fault if no operand is.
 pub fn is_about(
     place: Place,
     state: &Abs,

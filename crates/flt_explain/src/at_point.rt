@@ -1,4 +1,4 @@
-//! All that is wrong at a point in a state.
+//! All faults at a point in a state.
 
 ghost use Rattle.std.specs.Prelude.{◌≡◌, ◌++◌, IfOk, OnOk, map};
 ghost use Rattle.flt_abs.specs.Breaks.{first_broken};
@@ -32,7 +32,7 @@ const RULES: [Rule; 13] = [
     Rule::R15,
 ];
 
-/// What a rule is about where no operand is to blame.
+/// The subject of a broken rule if no operand is at fault.
 fn itself(rule: Rule) -> Subject
     ensures { result ≡ spec.itself rule }
 {
@@ -42,7 +42,7 @@ fn itself(rule: Rule) -> Subject
     }
 }
 
-/// Adds the operands among these that a broken rule is about.
+/// Adds those of these operands that are at fault for a broken rule.
 fn blame(
     blamed: &mut Items<Subject>,
     place: Place,
@@ -76,7 +76,7 @@ fn add(faults: &mut Items<Fault>, rule: Rule, subjects: &[Subject]) -> Result<()
     Ok(())
 }
 
-/// What a broken rule is about, of these operands: at least the call or the status itself.
+/// The subjects of a broken rule: those of these operands that are at fault, or else the call or the status itself.
 fn subjects(
     alloc: Global,
     place: Place,
@@ -141,8 +141,8 @@ fn add_all(
     Ok(())
 }
 
-/// All that is wrong at the point of a callback in a state: the rules that it breaks, in their order, each with every operand that is to
-/// blame. The first one's rule is what `flt_abs::transfer` answers, and there is none where that answers successors.
+/// All faults at the point of a callback in a state: the rules that it breaks, in their order, each with every operand that is at fault.
+/// The first one's rule is the one that `flt_abs::transfer` returns, and there is none if that returns successors.
 pub fn faults(
     alloc: Global,
     graph: &Graph,

@@ -1,4 +1,4 @@
-//! What is found.
+//! Findings: the rules that points break, and their subjects.
 
 ghost use Rattle.std.specs.Prelude.{◌≡◌, ◌<◌};
 ghost use Rattle.flt_rules.specs.Call.{place_of};
@@ -7,7 +7,7 @@ ghost use Rattle.flt_explain.specs.Subjects as spec;
 use flt_graph::{ContextVariable, OperationVariable};
 use flt_rules::{LockNumber, Rule};
 
-/// What a broken rule is about.
+/// The subject of a broken rule.
 #[derive(Clone, Copy)]
 pub enum Subject {
     Context(ContextVariable),
@@ -23,7 +23,7 @@ pub enum Subject {
     Status,
 }
 
-/// A rule that a point breaks, and what it is about.
+/// A rule that a point breaks, and its subject.
 #[derive(Clone, Copy)]
 pub struct Fault {
     pub rule: Rule,
@@ -41,7 +41,7 @@ pub struct Finding {
 }
 
 impl Subject {
-    /// Where the subject stands among all: the variables, mode and draining, the locks, the call and the status.
+    /// The place of the subject among all: the variables, mode and draining, the locks, the call and the status.
     pub(crate) fn place(self) -> usize
         ensures value { result ≡ spec.place self }
         ensures within { result < 26 }
@@ -76,7 +76,7 @@ pub(crate) fn lock_place(lock: LockNumber) -> usize
 }
 
 impl Finding {
-    /// Whether both are of one rule, at one point and about one subject.
+    /// Whether both have the same callback, point, rule and subject.
     pub(crate) fn is_same(&self, other: &Finding) -> bool
         ensures { result ≡ spec.is_same_finding self.now other.now }
     {

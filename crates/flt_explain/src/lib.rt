@@ -1,5 +1,5 @@
-//! All that is wrong with a text: where the analyser stops at the first broken rule, the walk here takes what the rule asks for as
-//! given and goes on. It exports `findings` for a text, `faults` for a point and a state, and `is_about` for one operand of these.
+//! Finds all faults of a text: where the analyser stops at the first broken rule, the walk here takes the rule as kept and continues. It
+//! exports `findings` for a text, `faults` for a point and a state, and `is_about` for one operand there.
 #![tactic(auto)]
 
 mod about;

@@ -1,4 +1,4 @@
-//! Locks of which the ways to a point disagree.
+//! Locks on which the paths to a point disagree.
 
 ghost use Rattle.std.specs.Prelude.{◌≡◌, ◌&&◌, ◌||◌, not};
 ghost use Rattle.flt_explain.specs.Locks as spec;
@@ -119,7 +119,7 @@ impl Locks {
         }
     }
 
-    /// The locks that are in one list alone.
+    /// The locks that are in only one of two lists.
     fn in_one(a: &LockList, b: &LockList) -> Locks
         ensures { result ≡ spec.in_one a.now b.now }
     {
@@ -128,8 +128,8 @@ impl Locks {
         first.without(&second).union(&second.without(&first))
     }
 
-    /// The locks by which two lists differ: those that are in one alone. All of them where both lists have the same locks, in another
-    /// order or held in another way; none where the lists are the same.
+    /// The locks by which two lists differ: those that are in only one. All of them if both lists have the same locks, in another order or
+    /// held in another manner; none if the lists are the same.
     #[tactic(auto, unfolding(crate::specs::Locks::differing))]
     pub(crate) fn differing(a: &LockList, b: &LockList) -> Locks
         ensures { result ≡ spec.differing a.now b.now }

@@ -1,4 +1,4 @@
-//! What is left of a set where a rule isn't broken by it.
+//! The part of a set by which a rule isn't broken.
 
 ghost use Rattle.std.specs.Prelude.{◌≡◌, ◌&&◌, true, false, IsTrue};
 ghost use Rattle.flt_abs.specs.Sets.{StatusSet, is_held, is_possible};
@@ -14,7 +14,7 @@ const HELD: u8 = 2;
 
 const NOT_HELD: u8 = 5;
 
-/// What of a set of statuses a rule asks for; it may be the empty set.
+/// The part of a set of statuses that a rule needs; it may be empty.
 #[tactic(auto, using(crate::proofs::MendedSets::kept_held, crate::proofs::MendedSets::kept_not_held, crate::proofs::MendedSets::within_held, crate::proofs::MendedSets::within_not_held, crate::proofs::MendedSets::kept))]
 pub(crate) fn mended(set: Statuses, rule: Rule) -> Statuses
     ensures { result ≡ spec.mended rule set }
@@ -50,8 +50,8 @@ pub(crate) fn mended_draining(draining: Draining) -> Draining
     Draining::from_digit(draining.digit() & 1).unwrap()
 }
 
-/// What is left of a set is what of it is as the rule asks, and nothing else. So a variable that is wanted held is surely held then, and
-/// one that must not be held isn't, unless nothing is left. It does nothing: its clauses are the law.
+/// A fixed set has exactly the statuses of the set that keep the rule. So a variable that must be held is surely held then, and one that
+/// mustn't be held isn't, unless nothing is left. It does nothing at run time: its clauses are a law.
 #[tactic(auto, using(crate::proofs::MendedSets::exact, crate::proofs::MendedSets::held, crate::proofs::MendedSets::not_held))]
 pub fn mending_is_exact()
     ensures exact { (r : Rule) (s : StatusSet) (t : Status) → has_status (spec.mended r s) t ≡ (has_status s t && spec.is_fine r t) }

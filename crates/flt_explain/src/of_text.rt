@@ -15,7 +15,7 @@ use std::alloc::{AllocError, Global};
 use std::marker::Brand;
 use std::sync::ledger::{Blank, Ledger};
 
-/// Why the analyser refuses a text; none where it has a certificate.
+/// The analyser's refusal of a text; none if the text has a certificate.
 fn refusal_with<L: Ledger>(
     alloc: Global,
     graph: &Graph,
@@ -85,7 +85,7 @@ fn take_first(refusal: &Refusal, findings: &mut Items<Finding>) -> Finding
     refused(refusal, subject)
 }
 
-/// The findings with the one in front that the refusal is about.
+/// The findings, with the one that the refusal is about before the others.
 fn with_first(
     alloc: Global,
     refusal: &Refusal,
@@ -100,7 +100,7 @@ fn with_first(
     Ok(all)
 }
 
-/// What the walks of all callbacks from one on find, in order.
+/// The findings of the walks of all callbacks from one on, in order.
 #[tactic(auto, using(crate::proofs::Looks::one_walk, crate::proofs::Looks::no_more_walks))]
 fn walk_from(alloc: Global, graph: &Graph, first: usize) -> Result<Items<Finding>, AllocError>
     ensures { IfOk result (λ fs. fs ≡ walked_from graph.now first (length graph.now.callbacks - first) []) }
@@ -112,13 +112,12 @@ fn walk_from(alloc: Global, graph: &Graph, first: usize) -> Result<Items<Finding
     Ok(findings)
 }
 
-/// What is wrong with a text. There are no findings exactly where the analyser gives a certificate; else the first one is its refusal.
-/// The others come as the walk meets them: callbacks in order, in each the least pending point, and at a point by rule and then by
-/// subject.
+/// The findings of a text. There are none exactly if the analyser gives a certificate; otherwise the first one is its refusal. The others
+/// come as the walk meets them: callbacks in order, in each the least pending point, and at a point by rule and then by subject.
 ///
 /// # Errors
 ///
-/// Where a growth was refused.
+/// `AllocError` if a growth is refused.
 pub fn findings(alloc: Global, graph: &Graph) -> Result<Items<Finding>, AllocError>
     ensures { IfOk result (spec.AreFindings graph.now) }
 {

@@ -1,4 +1,4 @@
-//! All operands, in the order in which they are told.
+//! All operands, in the order in which they are reported.
 
 use crate::finding::Subject;
 use flt_graph::{ContextVariable, OperationVariable, RemovedVariable};

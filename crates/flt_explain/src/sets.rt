@@ -1,4 +1,4 @@
-//! The sets of a state in which rules were mended. Unlike those of `Abs` they may be empty.
+//! The sets of a state in which broken rules were fixed. Unlike those of `Abs` they may be empty.
 
 ghost use Rattle.std.specs.Prelude.{◌≡◌, length, map};
 ghost use Rattle.flt_abs.specs.Sets as sets_spec;
@@ -14,8 +14,8 @@ use flt_abs::{Abs, CONTEXTS, Draining, Modes, OPERATIONS, Statuses};
 use flt_graph::Instruction;
 use flt_rules::Rule;
 
-/// What may be so of each variable, of the mode and of draining. Of an empty set all that was possible broke a rule; nothing more is told
-/// of its subject, until it is written or a way joins in that has one.
+/// The possible values of each variable, of the mode and of draining. If a set is empty, all that was possible broke a rule; nothing more
+/// is reported of its subject, until it is written or a path joins in that has one.
 #[derive(Clone, Copy)]
 pub(crate) struct Sets {
     contexts: [Statuses; CONTEXTS],
@@ -128,7 +128,7 @@ fn are_same(a: &[Statuses], b: &[Statuses]) -> bool
     }
 }
 
-/// Adds to each set what is in the other's.
+/// Adds to each set the values of the other's.
 fn unite(into: &mut [Statuses], other: &[Statuses])
     requires { length into.old ≡ length other.now }
     ensures { into.new ≡ either_all into.old other.now }
@@ -138,7 +138,7 @@ fn unite(into: &mut [Statuses], other: &[Statuses])
     }
 }
 
-/// All in place of each empty set.
+/// Replaces each empty set by one of all values.
 fn fill(sets: &mut [Statuses])
     ensures { sets.new ≡ map spec.or_all sets.old }
 {
@@ -164,7 +164,7 @@ impl Sets {
         }
     }
 
-    /// Whether something is told of a subject: its set isn't empty, or it has none.
+    /// Whether faults of a subject are reported: its set isn't empty, or it has none.
     pub(crate) fn tells(&self, subject: Subject) -> bool
         ensures { result ≡ spec.tells self.now subject }
     {
@@ -190,7 +190,7 @@ impl Sets {
         }
     }
 
-    /// Takes out what breaks a rule by a subject.
+    /// Removes the values by which a subject breaks a rule.
     fn mend(&mut self, rule: Rule, subject: Subject)
         ensures { self.new ≡ spec.mended_by self.old rule subject }
     {
@@ -209,7 +209,7 @@ impl Sets {
         }
     }
 
-    /// The sets without what breaks the rules of these faults.
+    /// The sets without the values that break the rules of these faults.
     pub(crate) fn mended(&self, faults: &[Fault]) -> Sets
         ensures { result ≡ spec.mended_of self.now faults.now }
     {
@@ -220,7 +220,7 @@ impl Sets {
         sets
     }
 
-    /// Empties the sets that stay empty, of some subjects.
+    /// Empties those sets of some subjects that stay empty.
     fn keep_empty(
         &mut self,
         before: &Sets,
@@ -237,14 +237,14 @@ impl Sets {
         }
     }
 
-    /// Whether nothing is told of a subject here, nor behind an instruction, which doesn't write it.
+    /// Whether a subject's faults are reported neither here nor after an instruction, which doesn't write it.
     fn stays_empty(&self, instruction: &Instruction, granted: bool, subject: Subject) -> bool
         ensures { result ≡ spec.stays_empty self.now instruction.now granted subject }
     {
         !self.tells(subject) && !writes(instruction, granted, subject)
     }
 
-    /// These sets, which an instruction made of others: what was empty there is empty here, unless it was written.
+    /// These sets, which an instruction made of others: a set that was empty there is empty here, unless it was written.
     #[tactic(auto, unfolding(crate::specs::Sets::after))]
     pub(crate) fn after(&self, before: &Sets, instruction: &Instruction, granted: bool) -> Sets
         ensures { result ≡ spec.after before.now instruction.now granted self.now }
@@ -254,7 +254,7 @@ impl Sets {
         sets
     }
 
-    /// What is in one of both.
+    /// The values that are in either of both.
     pub(crate) fn union(&self, other: &Sets) -> Sets
         ensures { result ≡ spec.union self.now other.now }
     {

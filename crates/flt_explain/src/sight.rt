@@ -1,4 +1,4 @@
-//! What the walk knows at a point.
+//! The sight of the walk at a point: all that it knows there.
 
 ghost use Rattle.std.specs.Prelude.{◌≡◌};
 ghost use Rattle.flt_explain.specs.Sight as spec;
@@ -10,24 +10,24 @@ use flt_abs::{Abs, Successor, entry_state, leads_past};
 use flt_graph::{Graph, Instruction, Place};
 use std::alloc::Global;
 
-/// A state in which rules were mended on the way.
+/// A state in which broken rules were fixed on the path.
 #[derive(Drop)]
 pub(crate) struct Sight {
     /// With the sets below, and all in place of an empty one.
     pub(crate) state: Abs,
     sets: Sets,
-    /// The locks by which ways differ that met here or before. No rule on locks is told of them.
+    /// The locks by which paths differ that met here or before. No rule on locks is reported of them.
     unsure: Locks,
 }
 
-/// A point that follows, from 0, and what is known when it is reached.
+/// A point that follows, from 0, and the sight when it is reached.
 #[derive(Drop)]
 pub(crate) struct Way {
     pub(crate) point: usize,
     pub(crate) sight: Sight,
 }
 
-/// Where a point leads: first where a call succeeds or a test holds, then otherwise.
+/// Where a point leads: first if a call succeeds or a test holds, then otherwise.
 #[derive(Drop)]
 pub(crate) struct Ways {
     pub(crate) first: Option<Way>,
@@ -35,7 +35,7 @@ pub(crate) struct Ways {
 }
 
 impl Sight {
-    /// At the entry of a callback of the place.
+    /// The sight at the entry of a callback of the place.
     #[tactic(auto, unfolding(crate::specs::Sight::entered))]
     pub(crate) fn entry(alloc: Global, place: Place) -> Sight
         ensures { result ≡ spec.entered place }
@@ -48,7 +48,7 @@ impl Sight {
         }
     }
 
-    /// What is known by these sets, with the locks of a state.
+    /// The sight with these sets, and with the locks of a state.
     fn of(state: &Abs, sets: Sets, unsure: Locks) -> Sight
         ensures { result ≡ spec.sight state.now sets unsure }
     {
@@ -59,7 +59,7 @@ impl Sight {
         }
     }
 
-    /// Whether a fault about a subject is told.
+    /// Whether a fault about a subject is reported.
     pub(crate) fn tells(&self, subject: Subject) -> bool
         ensures { result ≡ spec.tells self.now subject }
     {
@@ -69,7 +69,7 @@ impl Sight {
         }
     }
 
-    /// The locks by which this and another way to the same point differ.
+    /// The locks by which this and another path to the same point differ.
     fn differ(&self, other: &Sight) -> Locks
         ensures { result ≡ spec.differ self.now other.now }
     {
@@ -86,7 +86,7 @@ impl Sight {
             .without(&other.unsure)
     }
 
-    /// The sets of both, or of this alone, where the other way came with other locks.
+    /// The sets of both, or of this alone if the other path came with different locks.
     fn joined_sets(&self, other: &Sight) -> Sets
         ensures { result ≡ spec.joined_sets self.now other.now }
     {
@@ -97,15 +97,15 @@ impl Sight {
         }
     }
 
-    /// The locks that are unsure where both ways meet.
+    /// The locks that are unsure where both paths meet.
     fn joined_unsure(&self, other: &Sight) -> Locks
         ensures { result ≡ spec.joined_unsure self.now other.now }
     {
         self.unsure.union(&other.unsure).union(&self.differ(other))
     }
 
-    /// What is known where another way comes to the same point; none where that tells nothing new. A way that came with other locks is
-    /// not joined: they are unsure from here on.
+    /// The sight after another path came to the same point; none if that adds nothing. A path that came with different locks is not joined:
+    /// they are unsure from here on.
     #[tactic(auto, unfolding(crate::specs::Sight::joined))]
     pub(crate) fn joined(&self, other: &Sight) -> Option<Sight>
         ensures { result ≡ spec.joined self.now other.now }
@@ -119,7 +119,7 @@ impl Sight {
         }
     }
 
-    /// What is known behind an instruction that made a state.
+    /// The sight after an instruction that made a state.
     #[tactic(auto, unfolding(crate::specs::Sight::seen))]
     fn seen(&self, mended: &Sets, instruction: &Instruction, granted: bool, state: &Abs) -> Sight
         ensures { result ≡ spec.seen self.now mended.now instruction.now granted state.now }
@@ -128,7 +128,7 @@ impl Sight {
         Sight::of(state, sets, self.unsure)
     }
 
-    /// What is known behind an instruction by one outcome.
+    /// The sight after an instruction by one outcome.
     #[tactic(auto, unfolding(crate::specs::Sight::way))]
     fn way(
         &self,
@@ -148,7 +148,7 @@ impl Sight {
         }
     }
 
-    /// Where a point leads when what is wrong there is mended.
+    /// The points to which a point leads once its faults are fixed.
     #[tactic(auto, unfolding(crate::specs::Sight::past))]
     pub(crate) fn past(
         &self,

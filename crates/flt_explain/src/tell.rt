@@ -1,4 +1,4 @@
-//! Findings as they are told.
+//! Findings as they are reported.
 
 ghost use Rattle.std.specs.Prelude.{◌≡◌, OnOk};
 ghost use Rattle.flt_explain.specs.Told as spec;
@@ -11,7 +11,7 @@ use flt_rules::{LockNumber, Rule};
 use sqlite_items::Items;
 use std::alloc::AllocError;
 
-/// Where findings are told: callbacks and points from 0, lines from 1.
+/// The place where findings are reported: callbacks and points from 0, lines from 1.
 #[derive(Clone, Copy)]
 pub(crate) struct Spot {
     pub(crate) callback: usize,
@@ -32,7 +32,7 @@ impl Spot {
         }
     }
 
-    /// Tells what is wrong at the point, as far as it isn't told yet.
+    /// Reports the faults at the point, as far as they aren't reported yet.
     pub(crate) fn tell_faults(
         self,
         findings: &mut Items<Finding>,
@@ -49,7 +49,7 @@ impl Spot {
         Ok(())
     }
 
-    /// Tells that the ways from the point meet others with other locks.
+    /// Reports that the paths from the point meet others with different locks.
     #[tactic(auto, unfolding(crate::specs::Walk::locks_told))]
     pub(crate) fn tell_locks(
         self,
@@ -61,7 +61,7 @@ impl Spot {
         self.tell_each(findings, differ, &LOCKS)
     }
 
-    /// The same of some locks.
+    /// The same for some locks.
     fn tell_each(
         self,
         findings: &mut Items<Finding>,

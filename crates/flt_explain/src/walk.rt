@@ -1,4 +1,4 @@
-//! The walk over the points of one callback, past what is wrong there.
+//! The walk over the points of one callback, past the faults there.
 
 ghost use Rattle.std.specs.Prelude.{◌≡◌, OnOk, IfOk, is_some};
 ghost use Rattle.std.specs.Option.{option_copied};
@@ -18,7 +18,7 @@ use std::alloc::{AllocError, Global};
 /// How often a point is looked at, at most. Each time but the first its sets have grown, an empty one has come back, or a lock is unsure.
 const LOOKS: usize = 80;
 
-/// What was found so far at the points of a callback, and which of them are pending.
+/// The sights at the points of a callback so far, and which points are pending.
 #[derive(Drop)]
 struct Walk {
     points: Items<Option<Sight>>,
@@ -39,7 +39,7 @@ fn first(flags: &[bool]) -> Option<usize>
 }
 
 impl Walk {
-    /// Nothing is reached.
+    /// A walk in which nothing is reached.
     fn blank(alloc: Global, count: usize) -> Result<Walk, AllocError>
         ensures { IfOk result (λ w. w ≡ spec.blank count) }
     {
@@ -52,7 +52,7 @@ impl Walk {
         Ok(Walk { points, pending })
     }
 
-    /// The callback is entered, and nothing else is reached.
+    /// A walk in which the callback is entered, and nothing else is reached.
     #[tactic(auto, unfolding(crate::specs::Walk::opened))]
     fn open(alloc: Global, graph: &Graph, callback: usize) -> Result<Walk, AllocError>
         ensures { IfOk result (λ w. w ≡ spec.opened graph.now callback) }
@@ -62,7 +62,7 @@ impl Walk {
         Ok(walk)
     }
 
-    /// A point is to be looked at, or no longer.
+    /// Marks a point as pending, or as no longer pending.
     fn mark(&mut self, point: usize, is_pending: bool)
         ensures { self.new ≡ spec.marked self.old point is_pending }
     {
@@ -71,7 +71,7 @@ impl Walk {
         }
     }
 
-    /// This is known at a point from now on, and it is to be looked at.
+    /// Replaces the sight at a point, and marks the point as pending.
     fn arrive(&mut self, point: usize, sight: Sight)
         ensures { self.new ≡ spec.arrived self.old point sight }
     {
@@ -91,7 +91,7 @@ impl Walk {
         Some(point)
     }
 
-    /// What is known at a point.
+    /// The sight at a point, if it is reached.
     #[tactic(auto, using(crate::proofs::Reading::found, crate::proofs::Reading::missing))]
     fn known(&self, point: usize) -> Option<&Sight>
         ensures { option_copied result ≡ spec.known self.now point }
@@ -102,7 +102,7 @@ impl Walk {
         }
     }
 
-    /// The locks by which a way to a point differs from those that led there before.
+    /// The locks by which a path to a point differs from those that led there before.
     fn apart(&self, point: usize, sight: &Sight) -> Locks
         ensures { result ≡ spec.apart (spec.known self.now point) sight.now }
     {
@@ -112,7 +112,7 @@ impl Walk {
         }
     }
 
-    /// What becomes known at a point where a way leads there; none where that is nothing new.
+    /// The new sight at a point after a path came to it; none if that adds nothing.
     fn news(&self, point: usize, sight: Sight) -> Option<Sight>
         ensures { result ≡ spec.news (spec.known self.now point) sight }
     {
@@ -122,7 +122,7 @@ impl Walk {
         }
     }
 
-    /// A way leads to a point: the locks by which it differs from those that led there before.
+    /// Takes a path to its point, and returns the locks by which it differs from those that led there before.
     #[tactic(auto, unfolding(crate::specs::Walk::met, crate::specs::Walk::reached))]
     fn reach(&mut self, way: Option<Way>) -> Locks
         ensures differ { result ≡ spec.met self.old way }
@@ -138,7 +138,7 @@ impl Walk {
         differ
     }
 
-    /// Follows both ways from a point.
+    /// Follows both paths from a point.
     #[tactic(auto, unfolding(crate::specs::Walk::led))]
     fn follow(
         &mut self,
@@ -155,7 +155,7 @@ impl Walk {
         Ok(())
     }
 
-    /// Looks at a point that was taken: tells what is wrong there, and goes on as if it weren't.
+    /// Looks at a point that was taken: reports its faults, and continues as if it had none.
     #[tactic(auto, using(crate::proofs::Looks::looked_by), unfolding(crate::specs::Walk::looked))]
     fn look(
         &mut self,
@@ -176,7 +176,7 @@ impl Walk {
         Ok(())
     }
 
-    /// Looks at the least pending point; whether there was one.
+    /// Looks at the least pending point, and returns whether there was one.
     #[tactic(auto, unfolding(crate::specs::Walk::step))]
     fn step(
         &mut self,
@@ -197,7 +197,7 @@ impl Walk {
     }
 }
 
-/// What is wrong at a point.
+/// The faults at a point.
 #[tactic(auto, unfolding(crate::specs::Walk::wrong))]
 fn wrong(alloc: Global, graph: &Graph, spot: Spot, state: &Abs) -> Result<Items<Fault>, AllocError>
     ensures { IfOk result (λ fs. fs ≡ spec.wrong graph.now spot state.now) }
@@ -206,7 +206,7 @@ fn wrong(alloc: Global, graph: &Graph, spot: Spot, state: &Abs) -> Result<Items<
     Ok(faults)
 }
 
-/// A point of a callback, where findings are told.
+/// A point of a callback, where findings are reported.
 fn spot(graph: &Graph, callback: usize, point: usize) -> Spot
     ensures { result ≡ spec.spot graph.now callback point }
 {
@@ -217,7 +217,7 @@ fn spot(graph: &Graph, callback: usize, point: usize) -> Spot
     }
 }
 
-/// Tells all that is wrong in a callback.
+/// Reports all faults in a callback.
 #[tactic(auto, using(crate::proofs::Looks::one_look, crate::proofs::Looks::no_look, crate::proofs::Looks::no_more), unfolding(crate::specs::Walk::walked))]
 pub(crate) fn walk_callback(
     alloc: Global,

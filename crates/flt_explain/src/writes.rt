@@ -1,4 +1,4 @@
-//! Which variables an instruction writes.
+//! The variables that an instruction writes.
 
 ghost use Rattle.std.specs.Prelude.{◌≡◌};
 ghost use Rattle.flt_explain.specs.Writes as spec;
@@ -14,7 +14,7 @@ fn is_change(change: Change) -> bool
     !matches!(change, Change::Stays)
 }
 
-/// What becomes of a call's operands where it succeeds, or where it fails, if it can.
+/// The effects of a call on its operands if it succeeds, or if it fails; none if it can't fail.
 fn effects(call: &Invocation, granted: bool) -> Option<Effects>
     ensures { result ≡ spec.effects call.now granted }
 {
@@ -54,7 +54,7 @@ fn action_writes(action: Action, subject: Subject) -> bool
     }
 }
 
-/// Whether an instruction gives a variable a new status, where a call succeeds or where it fails.
+/// Whether an instruction gives a variable a new status, if a call succeeds or if it fails.
 pub(crate) fn writes(instruction: &Instruction, granted: bool, subject: Subject) -> bool
     ensures { result ≡ spec.writes instruction.now granted subject }
 {

@@ -1,4 +1,4 @@
-//! What may come next in a world, within the bounds of a round.
+//! The moves that may come next in a world, within the bounds of a round.
 
 use crate::key::is_runner;
 use crate::round_search::{Search, State};
@@ -100,7 +100,8 @@ impl<'p> Search<'p> {
 
     // ---- arrivals
 
-    /// Whether an operation of a kind may start a callback, where only near ones come one in which something is looked for.
+    /// Whether an operation of a kind may start a callback. In a round of near operations, it must be a callback in which something is
+    /// sought.
     fn is_coming(&self, kind: Operation) -> bool {
         for filter in 0..MAX_FILTERS {
             if !self.round.is_near && self.plan.has_callback(filter, Place::Pre(kind)) {
@@ -117,7 +118,7 @@ impl<'p> Search<'p> {
         false
     }
 
-    /// How many files there are for an operation that arrives.
+    /// The number of files for an operation that arrives.
     fn files(&self, world: &World) -> usize {
         if world.alive() > 0 {
             2

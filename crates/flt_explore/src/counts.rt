@@ -1,6 +1,6 @@
-//! How many states there are of each callback.
+//! The number of states of each callback.
 
-/// How many states there are of each callback, and of none.
+/// The number of states of each callback, and of none.
 #[derive(Clone, Copy)]
 pub(crate) struct Counts {
     counts: [u32; 17],

@@ -1,5 +1,5 @@
-//! What tells worlds apart, as a number that is spread over 64 bits. Two worlds of one number are taken for the same, which loses journals
-//! at most. Contexts and visits are numbered in the order in which they are met; variables that aren't read later aren't looked at.
+//! The keys that distinguish worlds, as numbers that are spread over 64 bits. Two worlds of one number are taken for the same, which at
+//! most loses journals. Contexts and visits are numbered in the order in which they are met; variables that aren't read later are ignored.
 
 use flt_activation::{Activation, Named};
 use flt_graph::OperationVariable;
@@ -16,7 +16,7 @@ fn mixed(number: u64, part: u64) -> u64 {
     product ^ (product >> 29)
 }
 
-/// The number so far, and the numbers of what was met.
+/// The number so far, and the numbers of the contexts and visits that were met.
 #[derive(Clone, Copy)]
 struct Mix {
     number: u64,
@@ -211,7 +211,7 @@ fn put_variables(mix: &mut Mix, activation: &Activation, live: Live) {
     }
 }
 
-/// How often it holds what. Each is numbered by what names it.
+/// Takes in how many times an activation holds each context and visit, by the numbers of these.
 fn put_held(mix: &mut Mix, activation: &Activation) {
     for place in 0..MAX_CONTEXTS {
         let held = activation.held(place);
@@ -308,7 +308,7 @@ fn put_detaching(mix: &mut Mix, world: &World) {
     }
 }
 
-/// The number of a world in which an activation is on.
+/// The number of a world in which this activation, or none, is running.
 pub(crate) fn key_of(plan: &Plan, world: &World, runner: Option<u8>) -> u64 {
     let mut mix = Mix {
         number: 1,
@@ -334,7 +334,7 @@ pub(crate) fn key_of(plan: &Plan, world: &World, runner: Option<u8>) -> u64 {
     mix.number
 }
 
-/// Whether the activation at a place is the one that is on.
+/// Whether the activation at a place is the running one.
 pub(crate) fn is_runner(runner: Option<u8>, place: u8) -> bool {
     match runner {
         Some(runner) => runner == place,

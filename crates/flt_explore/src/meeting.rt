@@ -1,4 +1,4 @@
-//! The world that is looked for in a search for a deadlock: activations stand at the points of a circle, and none of them can go on.
+//! The world that a search for a deadlock seeks: activations are at the points of a circle, and none of them can continue.
 
 use crate::round_search::{Search, State};
 use crate::targets::Stand;
@@ -6,7 +6,7 @@ use flt_model::JournalEntry;
 use flt_small_world::{Course, MAX_ACTIVATIONS, World};
 use std::alloc::AllocError;
 
-/// Whether the activation at a place stands at a point.
+/// Whether the activation at a place is at a point.
 fn is_at(world: &World, place: u8, stand: Stand) -> bool {
     let activation = world.activation(place);
     activation.is_on
@@ -23,7 +23,7 @@ impl<'p> Search<'p> {
         matches!(other.step(self.plan, place, true, &mut left), Course::Stuck)
     }
 
-    /// Whether an activation stands at a point that can't go on there.
+    /// Whether an activation is at a point and can't continue there.
     fn is_stuck_at(&self, world: &World, stand: Stand) -> bool {
         for place in 0..MAX_ACTIVATIONS {
             if is_at(world, place, stand) && self.is_stuck(world, place) {
@@ -33,7 +33,7 @@ impl<'p> Search<'p> {
         false
     }
 
-    /// Whether that is so at each point of the circle.
+    /// Whether an activation is stuck at each point of the circle.
     fn is_meeting(&self, world: &World) -> bool {
         for stand in self.targets.circle.iter() {
             if !self.is_stuck_at(world, *stand) {
@@ -43,7 +43,7 @@ impl<'p> Search<'p> {
         true
     }
 
-    /// Notes the first state in which activations wait at all points of the circle that is looked for.
+    /// Notes the first state in which activations wait at all points of the circle, if one is sought.
     pub(crate) fn look_for_meeting(&mut self, state: &State) {
         if self.targets.circle.is_empty() || self.meeting.is_some() {
             return;
@@ -55,11 +55,11 @@ impl<'p> Search<'p> {
         }
     }
 
-    /// The entries that lead to activations that wait at all points of the circle; none where that wasn't met.
+    /// The entries that lead to activations that wait at all points of the circle, or none if that wasn't met.
     ///
     /// # Errors
     ///
-    /// Where a growth was refused.
+    /// `AllocError` if a growth is refused.
     pub fn journal_to_meeting(&self) -> Result<Option<Vec<JournalEntry>>, AllocError> {
         match self.meeting {
             Some(node) => Ok(Some(self.paths.journal(node)?)),

@@ -3,19 +3,19 @@
 use flt_model::JournalEntry;
 use std::alloc::{AllocError, Global};
 
-/// How many nodes back turns are looked for that come again, and how many entries a turn has at most.
+/// The most nodes back at which repeated turns are sought, and the most entries of a turn.
 const MAX_NODES: usize = 64;
 
 const MAX_TURN: usize = 4_096;
 
-/// Some entries behind those of another node, so often.
+/// Some entries after those of another node, repeated.
 #[derive(Clone, Copy)]
 struct Node {
     from: Option<usize>,
     first: usize,
     count: usize,
     times: usize,
-    /// How many entries there are in all.
+    /// The number of all its entries.
     depth: usize,
 }
 
@@ -58,7 +58,7 @@ impl Paths {
         }
     }
 
-    /// How many entries there are.
+    /// The number of entries.
     pub(crate) fn len(&self) -> usize {
         self.entries.len()
     }
@@ -67,12 +67,12 @@ impl Paths {
         Ok(self.entries.push(entry)?)
     }
 
-    /// The entries from one on are of no node.
+    /// Forgets the entries from one on, which are of no node.
     pub(crate) fn forget(&mut self, first: usize) {
         self.entries.truncate(first);
     }
 
-    /// The entries from one up to another once more, behind all.
+    /// Appends a copy of the entries from one up to another.
     pub(crate) fn copy(&mut self, first: usize, end: usize) -> Result<(), AllocError> {
         for place in first..end {
             if let Some(entry) = self.entries.get(place) {
@@ -83,7 +83,7 @@ impl Paths {
         Ok(())
     }
 
-    /// How many entries lead to a node, and to none.
+    /// The number of entries that lead to a node. It is 0 for none.
     pub(crate) fn depth(&self, node: Option<usize>) -> usize {
         match node {
             Some(number) => match self.nodes.get(number) {
@@ -113,7 +113,7 @@ impl Paths {
         Ok(number)
     }
 
-    /// The node of the entries from one on.
+    /// Adds the node of the entries from one on.
     pub(crate) fn add_node(
         &mut self,
         from: Option<usize>,
@@ -131,7 +131,7 @@ impl Paths {
         }
     }
 
-    /// The nodes behind another one, or behind none, up to this one, from the last; none where it isn't behind that.
+    /// The nodes after another one, or after none, up to this one, from the last. None if it isn't after that.
     fn nodes_behind(
         &self,
         anchor: Option<usize>,
@@ -172,7 +172,7 @@ impl Paths {
         }
     }
 
-    /// The steps of an activation from one node to another; none where others made some too, or they are many.
+    /// The steps of an activation from one node to another, or none if others made some too, or if they are many.
     fn turn(
         &self,
         anchor: usize,
@@ -196,7 +196,7 @@ impl Paths {
         }
     }
 
-    /// The node behind which the steps of an activation that led from one node to another come so often again; none where others made some
+    /// Adds the node after which the steps of an activation from one node to another are repeated so many times. None if others made some
     /// too.
     pub(crate) fn add_turns(
         &mut self,

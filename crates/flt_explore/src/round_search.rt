@@ -12,22 +12,22 @@ use flt_small_world::{Course, NOTHING_MADE, Next, OPENING, World};
 use std::alloc::{AllocError, Global};
 use std::collections::{BTreeMap, HashMap};
 
-/// How many entries a journal has at most.
+/// The most entries of a journal.
 const MAX_DEPTH: usize = 12_000;
 
-/// How many states wait at most, and how many of them in one callback.
+/// The most states that wait, and the most of them in one callback.
 const MAX_WAITING: usize = 12_000;
 
 const MAX_OF_CALLBACK: u32 = 5_000;
 
-/// How many moves a round makes at most for each of its states.
+/// The most moves of a round for each of its states.
 const MOVES: u32 = 5;
 
-/// How often all depths are gone through at most.
+/// The most passes through all depths.
 const MAX_PASSES: u32 = 1_000;
 
-/// How many states of one callback are gone on from at one depth before others are, the first time that all depths are gone through, the
-/// second time, and so on.
+/// The number of states of one callback that are expanded at one depth before others are, in the first pass through all depths, the second
+/// pass, and so on.
 fn fair_share(pass: u32) -> u32 {
     match pass {
         0 => 16,
@@ -36,10 +36,10 @@ fn fair_share(pass: u32) -> u32 {
     }
 }
 
-/// How many steps are made in a row that nobody sees.
+/// The most steps made in a row that nobody sees.
 const MAX_CHAIN: usize = 2_000;
 
-/// What is left of the bounds of the whole search.
+/// The rest of the bounds of the whole search.
 #[derive(Clone, Copy)]
 pub struct Left {
     pub states: u32,
@@ -47,19 +47,19 @@ pub struct Left {
     pub steps: u32,
 }
 
-/// A world that is gone on from.
+/// A world to expand.
 #[derive(Clone, Copy)]
 pub(crate) struct State {
     pub(crate) node: Option<usize>,
     depth: usize,
     pub(crate) world: World,
-    /// The activation that is on.
+    /// The running activation.
     pub(crate) runner: Option<u8>,
-    /// How often one was left that could go on.
+    /// The number of times that an activation was left that could continue.
     switches: u8,
-    /// Whether the one that is on is left now.
+    /// Whether the running one is left now.
     is_left: bool,
-    /// The state that waits behind it at its depth.
+    /// The state that waits after it at its depth.
     next: Option<usize>,
 }
 
@@ -73,7 +73,7 @@ pub struct Found {
 }
 
 impl State {
-    /// The callback that is on; a number of its own where none is.
+    /// The callback that is running. If none is, a number of its own.
     fn class(&self) -> usize {
         match self.runner {
             Some(a) if self.world.activation(a).is_on => self.world.activation(a).callback,
@@ -82,13 +82,13 @@ impl State {
     }
 }
 
-/// A state whose activation stands within turns.
+/// A state whose activation is within turns.
 #[derive(Clone, Copy)]
 struct Anchor {
     node: usize,
-    /// How many turns are left of the innermost `repeat`.
+    /// The number of turns left of the innermost `repeat`.
     left: u64,
-    /// How many local steps lead to its next step.
+    /// The number of local steps that lead to its next step.
     steps: u32,
 }
 
@@ -113,31 +113,31 @@ pub struct Search<'p> {
     pub(crate) paths: Paths,
     states: Vec<State>,
     layers: Vec<Layer>,
-    /// The places in the list of states that are free, and how many wait.
+    /// The places in the list of states that are free, and the number of states that wait.
     free: Option<usize>,
     waiting: usize,
     classes: Counts,
-    /// How many states of one callback are gone on from at one depth now.
+    /// The number of states of one callback that are now expanded at one depth.
     share: u32,
-    /// How many moves are left of the round's.
+    /// The number of the round's moves that are left.
     moves: u32,
     /// The kinds of operations that come.
     pub(crate) coming: [bool; 4],
-    /// The keys that were met, and with how few switches.
+    /// The keys that were met, and the number of switches of each.
     seen: HashMap<u64, u8>,
     /// The states within turns that were met last, by keys without the turns that are left.
     anchors: BTreeMap<u64, Anchor>,
     pub found: Vec<Found>,
-    /// The first world in which activations stand at the points of the circle that is looked for, and none of them can go on.
+    /// The first world in which activations are at the points of the circle that is sought, and none of them can continue.
     pub(crate) meeting: Option<usize>,
     /// The most entries of a break that stands for something, or of the path to that world.
     pub(crate) longest: usize,
     pub left: Left,
-    /// Whether something wasn't gone on from.
+    /// Whether some state wasn't expanded.
     pub is_cut: bool,
 }
 
-/// How a move ends.
+/// The end of a move.
 #[derive(Clone, Copy)]
 pub(crate) enum Taken {
     Stuck,
@@ -212,7 +212,7 @@ impl<'p> Search<'p> {
         Ok(true)
     }
 
-    /// A state waits, if it is new.
+    /// Adds a state to those that wait, if it is new.
     fn push_state(
         &mut self,
         from: &State,
@@ -240,7 +240,7 @@ impl<'p> Search<'p> {
         Ok(!is_full)
     }
 
-    /// A state waits.
+    /// Adds a state to those that wait.
     fn put_state(&mut self, state: &mut State) -> Result<(), AllocError> {
         state.depth = self.paths.depth(state.node);
         state.next = None;
@@ -257,8 +257,8 @@ impl<'p> Search<'p> {
 
     // ---- turns that come again
 
-    /// Makes the turns at once that come again where a state stands. False where the state is dropped: one like it on another path has more
-    /// turns left.
+    /// Makes at once the turns that are repeated from a state. False if the state is dropped: one like it on another path has more turns
+    /// left.
     fn leap(&mut self, state: &mut State) -> Result<bool, AllocError> {
         let (Some(a), Some(node)) = (state.runner, state.node) else {
             return Ok(true);
@@ -286,7 +286,7 @@ impl<'p> Search<'p> {
         self.leap_from(state, a, anchor, own)
     }
 
-    /// The same, where an earlier state was alike but for the turns that are left.
+    /// The same, if an earlier state was alike except for the turns that are left.
     fn leap_from(
         &mut self,
         state: &mut State,
@@ -332,7 +332,7 @@ impl<'p> Search<'p> {
         Ok(number)
     }
 
-    /// A state that was gone on from is taken out.
+    /// Takes out a state that was expanded.
     fn drop_state(&mut self, number: usize, class: usize) {
         if let Some(place) = self.states.get_mut(number) {
             place.next = self.free;
@@ -344,7 +344,7 @@ impl<'p> Search<'p> {
 
     // ---- breaks
 
-    /// The depth of the break of a number; great where there is none.
+    /// The depth of the break of a number. It is great if there is no break.
     fn length_of(&self, number: Option<usize>) -> usize {
         match number {
             Some(number) => match self.found.get(number) {
@@ -355,7 +355,7 @@ impl<'p> Search<'p> {
         }
     }
 
-    /// Something is broken by the entries from one on.
+    /// Notes a break by the entries from one on, if none so short stands for its violation.
     fn meet(
         &mut self,
         from: &State,
@@ -395,11 +395,11 @@ impl<'p> Search<'p> {
         Ok(())
     }
 
-    /// The entries that lead to a break, and with it.
+    /// The entries that lead to a break, its own included.
     ///
     /// # Errors
     ///
-    /// Where a growth was refused.
+    /// `AllocError` if a growth is refused.
     pub fn journal(&self, found: &Found) -> Result<Vec<JournalEntry>, AllocError> {
         self.paths.journal(found.node)
     }
@@ -415,7 +415,7 @@ impl<'p> Search<'p> {
         }
     }
 
-    /// An activation makes its next step.
+    /// Makes the next step of an activation.
     fn step(&mut self, world: &mut World, a: u8, grant: bool) -> Result<Course, AllocError> {
         let activation = world.activation(a);
         let entry = JournalEntry::Go {
@@ -438,7 +438,7 @@ impl<'p> Search<'p> {
         !world.is_seen(self.plan, a) && !world.has_choice(self.plan, a)
     }
 
-    /// The activation that is on, if it makes its next step at once.
+    /// The running activation, if it makes its next step at once.
     fn next_at_once(&self, state: &mut State) -> Option<u8> {
         let a = state.runner?;
         if !state.world.activation(a).is_on {
@@ -452,7 +452,7 @@ impl<'p> Search<'p> {
         }
     }
 
-    /// Steps are made in a row that nobody sees and that leave no choice. The state before them waits where one of them breaks something.
+    /// Makes steps in a row that nobody sees and that leave no choice. The state before them waits if one of them breaks something.
     fn chain(&mut self, from: &State, state: &mut State, first: usize) -> Result<(), AllocError> {
         if self.next_at_once(state).is_none() {
             return self.push_state(from, state, first);
@@ -469,7 +469,7 @@ impl<'p> Search<'p> {
         Ok(())
     }
 
-    /// Makes these steps. True where one of them breaks something.
+    /// Makes these steps. True if one of them breaks something.
     fn go_in_row(
         &mut self,
         from: &State,
@@ -498,7 +498,7 @@ impl<'p> Search<'p> {
         Ok(false)
     }
 
-    /// The state before a chain that broke something waits, to be left.
+    /// Adds the state before a chain that broke something to those that wait, with its activation left.
     fn leave(
         &mut self,
         from: &State,
@@ -558,7 +558,7 @@ impl<'p> Search<'p> {
         self.chain(from, &mut state, first)
     }
 
-    /// Takes one off the moves that are left. False where there is none.
+    /// Spends one of the moves that are left. False if none is.
     fn spend_move(&mut self) -> bool {
         match (self.moves.checked_sub(1), self.left.moves.checked_sub(1)) {
             (Some(own), Some(left)) => {
@@ -588,7 +588,7 @@ impl<'p> Search<'p> {
 
     // ---- all states
 
-    /// The one that is on goes on. None where no other may come; else what another one costs.
+    /// Continues the running activation. None if no other may come, or else the cost of another one.
     fn take_runner(&mut self, from: &State) -> Result<Option<u8>, AllocError> {
         let Some(a) = from.runner else {
             return Ok(Some(0));
@@ -631,7 +631,7 @@ impl<'p> Search<'p> {
         self.targets.open == 0 && depth.saturating_add(1) >= self.longest
     }
 
-    /// Takes one off the states that are left. False where there is none, or no move is left.
+    /// Spends one of the states that are left. False if none is, or no move is left.
     fn spend_state(&mut self) -> bool {
         if self.moves == 0 || self.left.moves == 0 || self.left.steps == 0 {
             self.is_cut = true;
@@ -653,7 +653,7 @@ impl<'p> Search<'p> {
         }
     }
 
-    /// The first state that waits at a depth. They are taken out of it.
+    /// Takes out the states that wait at a depth, and returns the first.
     fn take_layer(&mut self, depth: usize) -> Option<usize> {
         let layer = self.layers.get_mut(depth)?;
         let first = layer.first;
@@ -661,7 +661,7 @@ impl<'p> Search<'p> {
         first
     }
 
-    /// The state of a number, and those behind it, wait at their depth again.
+    /// Has the state of a number, and those after it, wait at their depth again.
     fn put_back(&mut self, depth: usize, number: Option<usize>) -> Result<(), AllocError> {
         let mut next = number;
         for _ in 0..MAX_WAITING {
@@ -678,8 +678,7 @@ impl<'p> Search<'p> {
         Ok(())
     }
 
-    /// Goes on from a state, unless enough of its callback were gone on from at its depth: then it waits again. False where the round
-    /// is over.
+    /// Expands a state, unless enough of its callback were expanded at its depth: then it waits again. False if the round is over.
     fn take_state<W: SearchWatch>(
         &mut self,
         depth: usize,
@@ -722,7 +721,7 @@ impl<'p> Search<'p> {
         }
     }
 
-    /// Goes through the states of a depth. False where the round is over.
+    /// Expands the states of a depth. False if the round is over.
     fn go_through<W: SearchWatch>(
         &mut self,
         depth: usize,
@@ -743,7 +742,7 @@ impl<'p> Search<'p> {
         Ok(true)
     }
 
-    /// Goes through all depths. False where the round is over.
+    /// Passes through all depths. False if the round is over.
     fn pass<W: SearchWatch>(&mut self, watched: &mut Watched<'_, W>) -> Result<bool, AllocError> {
         for depth in 0..MAX_DEPTH {
             if depth >= self.layers.len() {
@@ -756,7 +755,7 @@ impl<'p> Search<'p> {
         Ok(self.waiting > 0)
     }
 
-    /// Goes through the round.
+    /// Runs the round.
     fn run<W: SearchWatch>(&mut self, watched: &mut Watched<'_, W>) -> Result<(), AllocError> {
         let opening = State {
             node: None,
@@ -781,11 +780,11 @@ impl<'p> Search<'p> {
     }
 }
 
-/// Goes through a round, for what is looked for, with what is left of the bounds.
+/// Explores a round for these targets, with the rest of the bounds.
 ///
 /// # Errors
 ///
-/// Where a growth was refused.
+/// `AllocError` if a growth is refused.
 pub fn explore<'p, W: SearchWatch>(
     alloc: Global,
     plan: &'p Plan,

@@ -1,31 +1,31 @@
-//! How far each round of the search goes.
+//! The bounds of each round of the search.
 
 /// The bounds of a round.
 #[derive(Clone, Copy)]
 pub struct Round {
-    /// How many operations may be there that aren't done, and how many may come in all.
+    /// The most operations that may be there and not done, and the most that may come in all.
     pub(crate) alive: u32,
     pub(crate) total: u32,
-    /// How often an activation may be left that could go on.
+    /// The most times that an activation may be left that could continue.
     pub(crate) switches: u8,
-    /// How many operations may be cancelled.
+    /// The most operations that may be cancelled.
     pub(crate) cancels: u32,
     /// Whether a filter may be detached.
     pub(crate) detaches: bool,
-    /// Whether only operations come that can start a callback in which something is looked for.
+    /// Whether only operations come that can start a callback in which something is sought.
     pub(crate) is_near: bool,
-    /// How many files there are for the first operation, and for those behind it.
+    /// The number of files for the first operation, and for those after it.
     pub(crate) first_files: usize,
     pub(crate) files: usize,
-    /// How many states are gone on from, where all rounds have `ALL_STATES`.
+    /// The number of states to expand, if all rounds have `ALL_STATES`.
     pub(crate) states: u32,
 }
 
-/// Of how many states in all the rounds have their shares.
+/// The number of states in all rounds, of which each has its share.
 const ALL_STATES: u64 = 40_000;
 
 impl Round {
-    /// The same round where all have so many states.
+    /// The same round, if all rounds have this many states.
     pub fn within(self, states: u32) -> Round {
         let share = u64::from(self.states) * u64::from(states) / ALL_STATES;
         Round {
@@ -117,7 +117,7 @@ pub const ROUNDS: [Round; 7] = [
 ];
 
 /// The rounds of a search for a deadlock, from the narrowest: one operation with its work items, and then as many operations at once as
-/// there may be activations. Near operations come alone, but in the last one.
+/// there may be activations. Only near operations come, except in the last one.
 pub const MEETINGS: [Round; 5] = [
     Round {
         alive: 1,

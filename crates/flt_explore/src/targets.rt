@@ -1,11 +1,11 @@
-//! What is looked for, and where: at points of callbacks, and anywhere in them.
+//! The targets of a search: violations at points of callbacks, and anywhere in them.
 
 use flt_model::Violation;
 use flt_plan::Plan;
 use flt_small_world::{MAX_FILTERS, VIOLATIONS, Violations};
 use std::alloc::{AllocError, Global};
 
-/// Where an activation stands: filters from the highest, callbacks and points from 0.
+/// The point at which an activation is: filters from the highest, callbacks and points from 0.
 #[derive(Clone, Copy)]
 pub struct Stand {
     pub filter: u8,
@@ -53,7 +53,7 @@ impl Firsts {
 /// A point, or a whole callback.
 #[derive(Clone, Copy)]
 pub(crate) struct Target {
-    /// What is looked for there.
+    /// The violations that are sought there.
     pub(crate) wanted: Violations,
     pub(crate) firsts: Firsts,
     /// The last goal that was added.
@@ -66,14 +66,14 @@ const NO_TARGET: Target = Target {
     goal: None,
 };
 
-/// A callback: what is looked for at any of its points, and in one of them.
+/// A callback: the targets at any of its points, and in one of them.
 #[derive(Drop)]
 struct Callback {
     filter: u8,
     callback: usize,
-    /// What is looked for anywhere in it.
+    /// The target anywhere in it.
     anywhere: Target,
-    /// What is looked for at a point of it or anywhere.
+    /// The violations sought at a point of it or anywhere.
     whole: Target,
     points: Vec<Target>,
 }
@@ -87,14 +87,14 @@ struct Open {
     is_open: bool,
 }
 
-/// All that is looked for.
+/// All targets of a search.
 #[derive(Drop)]
 pub struct Targets {
     callbacks: Vec<Callback>,
     goals: Vec<Open>,
-    /// The points at which activations wait for one another in the deadlock that is looked for; none where no deadlock is.
+    /// The points at which activations wait for one another in the deadlock that is sought, or none if no deadlock is.
     pub(crate) circle: Vec<Stand>,
-    /// How many goals are open.
+    /// The number of open goals.
     pub(crate) open: usize,
 }
 
@@ -134,11 +134,11 @@ impl Callback {
 }
 
 impl Targets {
-    /// Nothing is looked for in any callback of some filters.
+    /// No target in any callback of some filters.
     ///
     /// # Errors
     ///
-    /// Where a growth was refused.
+    /// `AllocError` if a growth is refused.
     pub fn new(alloc: Global, plan: &Plan) -> Result<Targets, AllocError> {
         let mut callbacks = Vec::new(alloc);
         for filter in 0..MAX_FILTERS {
@@ -160,11 +160,11 @@ impl Targets {
         })
     }
 
-    /// Nothing but a deadlock is looked for: activations at these points, none of which can go on.
+    /// The targets of a search for a deadlock alone: activations at these points, none of which can continue.
     ///
     /// # Errors
     ///
-    /// Where a growth was refused.
+    /// `AllocError` if a growth is refused.
     pub fn of_circle(alloc: Global, plan: &Plan, circle: &[Stand]) -> Result<Targets, AllocError> {
         let mut targets = Targets::new(alloc, plan)?;
         for stand in circle {
@@ -192,11 +192,11 @@ impl Targets {
         None
     }
 
-    /// Looks for some violations, at a point of a callback or anywhere in it.
+    /// Adds violations to seek, at a point of a callback or anywhere in it.
     ///
     /// # Errors
     ///
-    /// Where a growth was refused.
+    /// `AllocError` if a growth is refused.
     pub fn add(
         &mut self,
         filter: u8,
@@ -223,7 +223,7 @@ impl Targets {
         Ok(())
     }
 
-    /// The goals from one on that want a violation are met.
+    /// Meets the goals from one on that want a violation.
     fn close(&mut self, goal: Option<usize>, violation: Violation) {
         let mut next = goal;
         for _ in 0..self.goals.len() {
@@ -241,7 +241,7 @@ impl Targets {
         }
     }
 
-    /// The number of the break that stands for a violation at a point, and in the callback.
+    /// The first breaks of each violation at a point, and in its callback.
     pub fn firsts(&self, stand: Stand) -> (Firsts, Firsts) {
         match self.found(stand.filter, stand.callback) {
             Some(own) => match own.points.get(stand.point) {
@@ -252,7 +252,7 @@ impl Targets {
         }
     }
 
-    /// Whether something of a violation is looked for at a point, and in the callback.
+    /// Whether a violation is sought at a point, and in the callback.
     pub fn wants(&self, stand: Stand, violation: Violation) -> (bool, bool) {
         match self.found(stand.filter, stand.callback) {
             Some(own) => match own.points.get(stand.point) {
@@ -266,7 +266,7 @@ impl Targets {
         }
     }
 
-    /// Whether something is looked for in a callback.
+    /// Whether something is sought in a callback.
     pub(crate) fn is_looked_in(&self, filter: u8, callback: usize) -> bool {
         match self.found(filter, callback) {
             Some(own) => !own.whole.wanted.is_empty() || self.is_in_circle(filter, callback),
@@ -284,7 +284,7 @@ impl Targets {
         false
     }
 
-    /// A break stands for its violation at its point.
+    /// Notes a break that stands for its violation at its point.
     pub(crate) fn put_at_point(&mut self, met: Met) {
         let mut goal = None;
         if let Some(own) = self.callback(met.stand.filter, met.stand.callback) {
@@ -296,7 +296,7 @@ impl Targets {
         self.close(goal, met.violation);
     }
 
-    /// A break stands for its violation in its callback.
+    /// Notes a break that stands for its violation in its callback.
     pub(crate) fn put_in_callback(&mut self, met: Met) {
         let mut goal = None;
         if let Some(own) = self.callback(met.stand.filter, met.stand.callback) {

@@ -1,15 +1,15 @@
-//! Who watches a search.
+//! Watchers of a search.
 
-/// After how many states a watcher is told how far the search has come.
+/// The number of states between two reports to a watcher.
 const STATES_A_LOOK: u32 = 10_000;
 
-/// Watches a search for runs. Nothing that it does changes what is found.
+/// A watcher of a search for runs. It doesn't change the results.
 pub trait SearchWatch {
-    /// So many states have been gone on from in all.
+    /// Reports the number of states that have been expanded in all.
     fn gone_on(&mut self, states: u32);
 }
 
-/// Takes no notice.
+/// A watcher that takes no notice.
 #[derive(Drop)]
 pub struct UnwatchedSearch;
 
@@ -17,7 +17,7 @@ impl SearchWatch for UnwatchedSearch {
     fn gone_on(&mut self, _states: u32) {}
 }
 
-/// How many states were gone on from, in one search or in several, and who is told of it.
+/// The number of states expanded, in one search or in several, and the watcher.
 #[derive(Drop)]
 pub struct Watched<'w, W: SearchWatch> {
     watch: &'w mut W,
@@ -25,12 +25,12 @@ pub struct Watched<'w, W: SearchWatch> {
 }
 
 impl<'w, W: SearchWatch> Watched<'w, W> {
-    /// No state was gone on from yet.
+    /// A watched search in which no state has been expanded yet.
     pub fn new(watch: &'w mut W) -> Watched<'w, W> {
         Watched { watch, states: 0 }
     }
 
-    /// One more state was gone on from.
+    /// Counts one more expanded state.
     pub(crate) fn add_state(&mut self) {
         self.states = self.states.saturating_add(1);
         if self.states % STATES_A_LOOK == 0 {

@@ -143,7 +143,7 @@ not_suppressed = array_member (codes "suppressions") []
 
 -- where what is found comes from
 abbrev pub origin : File → Maker → List Token
-origin file m = marked_location file m.marks (codes "this makes it so")
+origin file m = marked_location file m.marks (codes "this caused it")
 
 abbrev pub related : File → Option Maker → List Token
 related file None = []

@@ -1,4 +1,4 @@
-//! What a run of SARIF says of its files and columns.
+//! The members of a SARIF run for its files and columns.
 
 ghost use Rattle.std.specs.Prelude.{◌∷◌, [], codes, flat_map};
 ghost use Rattle.json.specs.Token.{string};
@@ -54,7 +54,7 @@ fn put_artifact(alloc: Global, writer: &mut Writer, name: &str) -> Result<(), Al
     close_object(writer)
 }
 
-/// A file for each name.
+/// Writes a file for each name.
 fn put_each(alloc: Global, writer: &mut Writer, names: &[&str]) -> Result<(), AllocError>
     ensures { Adds result writer.old writer.new (flat_map (λ n. spec.artifact n.now) names.now) }
 {
@@ -106,7 +106,7 @@ fn put_column_kind(writer: &mut Writer) -> Result<(), AllocError>
     put_string(writer, "columnKind", "utf16CodeUnits")
 }
 
-/// How files and columns are named.
+/// Writes how files and columns are named.
 pub(crate) fn put_setting(
     alloc: Global,
     writer: &mut Writer,

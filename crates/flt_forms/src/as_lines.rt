@@ -1,4 +1,4 @@
-//! What is found of texts, line by line.
+//! The findings in texts, line by line.
 
 ghost use Rattle.std.specs.Prelude.{◌≡◌, ◌++◌, [], IfOk, List, ℕ, max};
 ghost use Rattle.flt_forms.specs.Fault.{IsFaultLine};
@@ -22,16 +22,16 @@ use flt_syntax::{SyntaxFault, Tree, fails_exactly_where_nothing_is_spelled};
 use flt_warning_details::{WarningDetail, WarningOptions};
 use std::alloc::{AllocError, Global};
 
-/// What a line is.
+/// The style of a line.
 #[derive(Clone, Copy, Debug)]
 pub enum Style {
     /// A JSON object.
     Object,
-    /// A sentence after the file's name, its line and its column, as compilers say it.
+    /// A sentence after the file's name, its line and its column, as compilers print it.
     Sentence,
 }
 
-/// The line of a text that doesn't parse, behind what is there.
+/// Adds the line of a text that doesn't parse to the output.
 fn unread(
     alloc: Global,
     out: Vec<u8>,
@@ -53,7 +53,7 @@ fn unread(
     Ok(written)
 }
 
-/// The lines of what is found of a text that parses, behind what is there.
+/// Adds the lines of the findings in a text that parses to the output.
 fn known(
     alloc: Global,
     out: Vec<u8>,
@@ -94,7 +94,7 @@ fn put_judged(
     }
 }
 
-/// A line for each warning, after what is there.
+/// Adds a line for each warning to the output.
 fn put_warned(
     alloc: Global,
     out: Vec<u8>,
@@ -110,7 +110,7 @@ fn put_warned(
     }
 }
 
-/// The lines of a text, after what is there, and its status.
+/// Adds the lines of a text to the output; returns the text's status, too.
 fn put_source(
     alloc: Global,
     out: Vec<u8>,
@@ -138,7 +138,7 @@ pub(crate) fn greater(a: u8, b: u8) -> u8
     if a < b { b } else { a }
 }
 
-/// The lines of several texts, after what is there, and the greatest status.
+/// Adds the lines of several texts to the output; returns the greatest status, too.
 fn put_sources(
     alloc: Global,
     out: Vec<u8>,
@@ -163,13 +163,14 @@ fn put_sources(
     Ok(told)
 }
 
-/// What is wrong with some texts, line by line: one for each finding of a text that parses, in their order, and one for a text
-/// that doesn't; then one for each of its warnings; and, of objects, one for a text that has none of these. docs/FORMATS.md says how they are written. The status is that of `explain`: 0 where nothing
-/// is found, 1 where something is, or where warnings count and one is shown, 2 where a text doesn't parse.
+/// The findings and warnings of some texts, line by line: a line for each finding of a text that parses, in their order, and one for a text
+/// that doesn't; then one for each of its warnings; and, with objects, one for a text that has none of these. docs/FORMATS.md says how they
+/// are written. The status is that of `explain`: 0 if nothing is found, 1 if there are findings, or if warnings count and one is shown, 2
+/// if a text doesn't parse.
 ///
 /// # Errors
 ///
-/// Where a growth was refused.
+/// `AllocError` if a growth is refused.
 pub fn lines(
     alloc: Global,
     style: Style,

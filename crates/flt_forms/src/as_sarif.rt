@@ -1,4 +1,4 @@
-//! What is found of texts, as SARIF 2.1.0.
+//! The findings in texts, as SARIF 2.1.0.
 
 ghost use Rattle.std.specs.Prelude.{IfOk, List, codes};
 ghost use Rattle.flt_forms.specs.Members.{Added, array_member};
@@ -29,7 +29,7 @@ use std::alloc::{AllocError, Global};
 
 // ---- the results
 
-/// The result of a text that doesn't parse.
+/// Writes the result of a text that doesn't parse.
 fn put_unread(
     alloc: Global,
     writer: &mut Writer,
@@ -59,7 +59,7 @@ fn put_unread(
     Ok(())
 }
 
-/// The results of a text that parses.
+/// Writes the results of a text that parses.
 fn put_known(
     alloc: Global,
     writer: &mut Writer,
@@ -95,7 +95,7 @@ fn put_judged(
     }
 }
 
-/// The results of a text, in a document of files of these names; it gives the text's status.
+/// Writes the results of a text, in a document of files of these names; returns the text's status.
 fn put_source(
     alloc: Global,
     writer: &mut Writer,
@@ -114,7 +114,7 @@ fn put_source(
     Ok(status_of(options.is_strict, &judged, warned.as_slice()))
 }
 
-/// The results of several texts; it gives the greatest status.
+/// Writes the results of several texts; returns the greatest status.
 fn put_sources(
     alloc: Global,
     writer: &mut Writer,
@@ -229,14 +229,14 @@ fn put_document(
     Ok(status)
 }
 
-/// What is wrong with some texts, as one SARIF 2.1.0 document and a line feed: a result for each finding of a text that parses, in
-/// their order, and one for a text that doesn't; then one for each of its warnings. The document has each file once, by its name as a
-/// reference, and says how the program ran, with a notification for each file that isn't read. The status is that of the texts: 0 where
-/// nothing is found, 1 where something is, or where warnings count and one is shown, 2 where a text doesn't parse.
+/// The findings and warnings of some texts, as one SARIF 2.1.0 document and a line feed: a result for each finding of a text that parses,
+/// in their order, and one for a text that doesn't; then one for each of its warnings. The document has each file once, by its name as a
+/// reference, and says how the program ran, with a notification for each file that isn't read. The status is that of the texts: 0 if
+/// nothing is found, 1 if there are findings, or if warnings count and one is shown, 2 if a text doesn't parse.
 ///
 /// # Errors
 ///
-/// Where a growth was refused.
+/// `AllocError` if a growth is refused.
 #[tactic(auto, unfolding(crate::specs::Sarif::IsSarif))]
 pub fn sarif(
     alloc: Global,

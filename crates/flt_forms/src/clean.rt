@@ -1,4 +1,4 @@
-//! A text in which nothing is found and of which nothing is warned, as JSON.
+//! Texts without findings and warnings, as JSON.
 
 ghost use Rattle.std.specs.Prelude.{◌≡◌, ◌++◌, IfOk};
 ghost use Rattle.flt_forms.specs.Clean as spec;
@@ -32,7 +32,7 @@ fn is_nothing(found: &[Finding], warned: &[WarningDetail]) -> bool
     }
 }
 
-/// Whether a text parses, nothing is found in it, and nothing is warned of.
+/// Whether a text parses and has neither findings nor warnings.
 fn is_clean(judged: &Judged, warned: &[WarningDetail]) -> bool
     ensures { result ≡ spec.is_clean judged.now warned.now }
 {
@@ -50,7 +50,7 @@ fn put_clean(writer: &mut Writer, name: &str) -> Result<(), AllocError>
     close_object(writer)
 }
 
-/// The line of a text in which there is nothing, after what is there.
+/// Adds the line of such a text to the output.
 fn put_line(out: Vec<u8>, name: &str) -> Result<Vec<u8>, AllocError>
     ensures { IfOk result (λ v. v.items ≡ out.items ++ line_of (spec.clean name.now)) }
 {
@@ -76,7 +76,7 @@ fn put_object(
     }
 }
 
-/// A line, if there is nothing in a text, after what is there.
+/// Adds the line of a text to the output, if it is such a text and lines are objects.
 pub(crate) fn put_clean_lines(
     out: Vec<u8>,
     style: Style,

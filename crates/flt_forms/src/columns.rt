@@ -6,7 +6,7 @@ ghost use Rattle.flt_forms.specs.Columns as spec;
 use flt_places::Lines;
 use flt_tree::Position;
 
-/// How many units a byte of UTF-8 brings.
+/// The number of units that a byte of UTF-8 adds.
 fn units_of(byte: u8) -> usize
     ensures value { result ≡ spec.units_of byte }
     ensures few { result ≤ 2 }
@@ -22,7 +22,7 @@ fn units_of(byte: u8) -> usize
     }
 }
 
-/// How many units some bytes of UTF-8 have.
+/// The number of units of some bytes of UTF-8.
 fn units(bytes: &[u8]) -> usize
     ensures value { result ≡ spec.units bytes.now }
     ensures few { result < 2 ^ 64 - 1 }
@@ -34,7 +34,7 @@ fn units(bytes: &[u8]) -> usize
     units
 }
 
-/// How many bytes stand before the one so many behind a column; all where there are no more.
+/// The number of bytes before the one that is `count` bytes after a column; all of them if the line has no more.
 fn count_before(line: &[u8], column: usize, count: usize) -> usize
     ensures { result ≡ min (column - 1 + count) (length line.now) }
 {
@@ -44,7 +44,7 @@ fn count_before(line: &[u8], column: usize, count: usize) -> usize
         .min(line.len())
 }
 
-/// The bytes before the one so many behind a column.
+/// The bytes before the one that is `count` bytes after a column.
 #[tactic(auto, using(crate::proofs::Fronts::within))]
 fn front(line: &[u8], column: usize, count: usize) -> &[u8]
     ensures { result.now ≡ take (column - 1 + count) line.now }
@@ -52,14 +52,14 @@ fn front(line: &[u8], column: usize, count: usize) -> &[u8]
     &line[..count_before(line, column, count)]
 }
 
-/// The column so many bytes behind a place in its line.
+/// The column that is `count` bytes after a place in its line.
 pub(crate) fn column_behind(lines: &Lines<'_>, place: Position, count: usize) -> usize
     ensures { result ≡ spec.column_behind lines.now place count }
 {
     units(front(lines.line(place.line), place.column, count)) + 1
 }
 
-/// The column of the last of so many bytes from a column of a line on. It counts in bytes.
+/// The column of the last of `count` bytes from a column of a line on. It counts in bytes.
 pub(crate) fn column_up_to(lines: &Lines<'_>, line: usize, column: usize, count: usize) -> usize
     ensures { result ≡ spec.column_up_to lines.now line column count }
 {

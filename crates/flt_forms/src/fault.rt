@@ -1,4 +1,4 @@
-//! What is said of a text that doesn't parse, as JSON.
+//! The faults of texts that don't parse, as JSON.
 
 ghost use Rattle.std.specs.Prelude.{◌≡◌, ◌++◌, IfOk, codes, map, option_copied};
 ghost use Rattle.flt_forms.specs.Fault as spec;
@@ -17,17 +17,17 @@ use json::Writer;
 use sqlite_items::Items;
 use std::alloc::{AllocError, Global};
 
-/// What begins the line that says how to fix a fault.
+/// The beginning of the line that says how to fix a fault.
 const HELP: &[u8] = b"   = help: ";
 
-/// What stands behind the word for help with which a line begins.
+/// The text after `HELP`, if a line begins with it.
 fn help_on(line: &[u8]) -> Option<&[u8]>
     ensures { option_copied result ≡ spec.behind (codes "   = help: ") line.now }
 {
     line.strip_prefix(HELP)
 }
 
-/// The same of the first line that begins so; nothing where none does.
+/// The same for the first line that begins with it; empty if no line does.
 fn first_help<'a>(lines: &[&'a [u8]]) -> &'a [u8]
     ensures { result.now ≡ spec.first_behind (codes "   = help: ") (map (λ l. l.now) lines.now) }
 {
@@ -41,7 +41,7 @@ fn first_help<'a>(lines: &[&'a [u8]]) -> &'a [u8]
     b""
 }
 
-/// How to fix a fault; empty where that isn't said.
+/// How to fix a fault; empty if its notes don't say it.
 #[tactic(auto, unfolding(crate::specs::Fault::help_in))]
 pub(crate) fn help_of(alloc: Global, told: &Told) -> Result<Vec<u8>, AllocError>
     ensures { IfOk result (λ help. help.items ≡ spec.help_in told.now.notes.items) }
@@ -50,7 +50,7 @@ pub(crate) fn help_of(alloc: Global, told: &Told) -> Result<Vec<u8>, AllocError>
     Vec::from_slice(alloc, first_help(lines.as_slice()))
 }
 
-/// The column of the last byte of what is found where a text is refused.
+/// The column of the last byte of the text at which a text is refused.
 fn last_column(lines: &Lines<'_>, fault: SyntaxFault, found: &[u8]) -> usize
     ensures { result ≡ spec.last_column lines.now fault found.now }
 {
@@ -83,7 +83,7 @@ fn put_place(
     put_string(writer, "rule", fault_name(fault.kind))
 }
 
-/// The words of what is expected, in order.
+/// The words that are expected, in order.
 fn words_of(alloc: Global, expected: &Items<Expected>) -> Result<Items<&'static [u8]>, AllocError>
     ensures { IfOk result (λ ws. map (λ w. w.now) ws ≡ map (λ e. e.word.now) expected.now) }
 {
@@ -120,7 +120,7 @@ fn put_choices(alloc: Global, writer: &mut Writer, choices: &Choices<'_>) -> Res
     put_names(alloc, writer, &choices.names)
 }
 
-/// A fault of a file, with how to fix it.
+/// Writes a fault of a file, with how to fix it.
 fn put_fault(
     alloc: Global,
     writer: &mut Writer,
@@ -144,7 +144,7 @@ fn put_fault(
     close_object(writer)
 }
 
-/// A fault on a line of its own, behind what is there.
+/// Adds a fault on a line of its own to the output.
 pub(crate) fn put_fault_line(
     alloc: Global,
     out: Vec<u8>,

@@ -23,14 +23,14 @@ fn is_same(name: &str, other: &str) -> bool
     name == other
 }
 
-/// Where a name is among others first, if it is there.
+/// The first place of a name among others, if it is there.
 fn position_of(names: &[&str], name: &str) -> Option<usize>
     ensures { result ≡ position (λ n. spec.is_same name.now n.now) names.now }
 {
     names.iter().position(|other| is_same(name, other))
 }
 
-/// The number of a name among others; their number where it isn't there.
+/// The number of a name among others; their number if it isn't there.
 fn number_of(names: &[&str], name: &str) -> usize
     ensures { result ≡ spec.number_of names.now name.now }
 {

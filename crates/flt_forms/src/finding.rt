@@ -30,7 +30,7 @@ fn put_place(writer: &mut Writer, detail: &Detail) -> Result<(), AllocError>
     put_marks(writer, detail.marks)
 }
 
-/// A rule's number.
+/// Writes a rule's number.
 fn put_rule_name(alloc: Global, writer: &mut Writer, rule: Rule) -> Result<(), AllocError>
     ensures { Adds result writer.old writer.new (string_member (codes "rule") (rule_name rule)) }
 {
@@ -39,7 +39,7 @@ fn put_rule_name(alloc: Global, writer: &mut Writer, rule: Rule) -> Result<(), A
     put_string(writer, "rule", name.as_str())
 }
 
-/// What a rule says.
+/// Writes a rule's text.
 fn put_rule_text(writer: &mut Writer, rule: Rule) -> Result<(), AllocError>
     ensures { Adds result writer.old writer.new (string_member (codes "text") (rule_text rule)) }
 {
@@ -72,7 +72,7 @@ fn put_state(writer: &mut Writer, state: Option<&'static str>) -> Result<(), All
     }
 }
 
-/// How it is reached.
+/// Writes how a finding is reached.
 fn put_path(
     alloc: Global,
     writer: &mut Writer,
@@ -122,7 +122,7 @@ fn put_finding(
     close_object(writer)
 }
 
-/// A finding on a line of its own, behind what is there.
+/// Adds a finding on a line of its own to the output.
 fn put_line(
     alloc: Global,
     out: Vec<u8>,
@@ -145,7 +145,7 @@ fn put_line(
     Ok(out)
 }
 
-/// A line for each finding of a text with this graph, after what is there.
+/// Adds a line for each finding of a text with this graph to the output.
 pub(crate) fn put_lines(
     alloc: Global,
     out: Vec<u8>,

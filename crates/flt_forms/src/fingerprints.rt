@@ -1,4 +1,4 @@
-//! What tells results apart whatever lines they are on.
+//! Fingerprints of results, whatever lines they are on.
 
 ghost use Rattle.std.specs.Prelude.{◌≡◌, ◌≤◌, ◌-◌, ◌∷◌, ◌++◌, [], IfOk, Some, drop, length, min, string_bytes, take};
 ghost use Rattle.flt_forms.specs.Fingerprints as spec;
@@ -12,7 +12,7 @@ use std::fmt;
 
 // ---- what is at a place
 
-/// How many bytes of a line are before a region's end, where the region begins in it.
+/// The number of bytes before a region's end in the line in which it begins.
 fn width(line: &[u8], region: Region) -> usize
     ensures { result ≡ min (spec.width line.now region) (length line.now) }
 {
@@ -23,7 +23,7 @@ fn width(line: &[u8], region: Region) -> usize
     }
 }
 
-/// What is before a region's end in the line in which it begins.
+/// The bytes before a region's end in the line in which it begins.
 #[tactic(auto, using(crate::proofs::Fronts::within))]
 fn front(line: &[u8], region: Region) -> &[u8]
     ensures { result.now ≡ take (spec.width line.now region) line.now }
@@ -39,7 +39,7 @@ fn from_column(line: &[u8], column: usize) -> &[u8]
     &line[column.saturating_sub(1).min(line.len())..]
 }
 
-/// What a region has in the line in which it begins.
+/// The text of a region in the line in which it begins.
 fn text_in<'a>(lines: &Lines<'a>, region: Region) -> &'a [u8]
     ensures { result.now ≡ spec.text_in lines.now region }
 {
@@ -49,7 +49,7 @@ fn text_in<'a>(lines: &Lines<'a>, region: Region) -> &'a [u8]
     )
 }
 
-/// The word that a warning names; nothing where it names none.
+/// The word that a warning names; empty if it names none.
 fn word_in<'a>(lines: &Lines<'a>, operand: Option<Region>) -> &'a [u8]
     ensures { result.now ≡ spec.word_in lines.now operand }
 {
@@ -59,7 +59,7 @@ fn word_in<'a>(lines: &Lines<'a>, operand: Option<Region>) -> &'a [u8]
     }
 }
 
-/// The statement that made a finding so, or its own.
+/// The statement that caused a finding, or its own.
 fn made_at(origin: &Option<Maker>, statement: Region) -> Region
     ensures { result ≡ spec.made_at origin.now statement }
 {
@@ -167,7 +167,7 @@ fn is_same(key: &[u8], other: &Items<u8>) -> bool
     other.as_slice() == key
 }
 
-/// How many results before have the same key.
+/// The number of earlier results that have the same key.
 fn times(before: &[Items<u8>], key: &[u8]) -> usize
     ensures exact { result ≡ spec.times before.now key.now }
     ensures within { result ≤ length before.now }
@@ -181,7 +181,7 @@ fn times(before: &[Items<u8>], key: &[u8]) -> usize
     times
 }
 
-/// The fingerprint of a result with this key, where these are the keys of those before.
+/// The fingerprint of a result with this key, after results with the keys `before`.
 fn fingerprint(alloc: Global, before: &[Items<u8>], key: &str) -> Result<String, AllocError>
     ensures { IfOk result (λ print. string_bytes print ≡ spec.fingerprint before.now key.now) }
 {
@@ -192,7 +192,7 @@ fn fingerprint(alloc: Global, before: &[Items<u8>], key: &str) -> Result<String,
     format!(in alloc; "{labelled}")
 }
 
-/// The fingerprint of the next result, whose key is one of those before from then on.
+/// The fingerprint of the next result, whose key is added to those before.
 pub(crate) fn next_fingerprint(
     alloc: Global,
     before: &mut Items<Items<u8>>,

@@ -1,5 +1,5 @@
-//! What `explain` finds, for other programs: line by line, or as SARIF. It exports `lines` and `sarif`, and
-//! `UnreadFile`, by which SARIF tells of a file that isn't read.
+//! The findings of `explain` for other programs: line by line, or as SARIF. It exports `lines` and `sarif`, and `UnreadFile`, by which
+//! SARIF reports a file that isn't read.
 #![tactic(auto)]
 
 mod artifacts;

@@ -41,7 +41,7 @@ pub(crate) fn put_key(writer: &mut Writer, name: &str) -> Result<(), AllocError>
     writer.key(name)
 }
 
-/// A member whose value is a text.
+/// Writes a member whose value is a text.
 pub(crate) fn put_string(writer: &mut Writer, name: &str, text: &str) -> Result<(), AllocError>
     ensures { spec.Adds result writer.old writer.new (spec.string_member name.now text.now) }
 {
@@ -49,7 +49,7 @@ pub(crate) fn put_string(writer: &mut Writer, name: &str, text: &str) -> Result<
     writer.string(text)
 }
 
-/// The same of bytes; what isn't UTF-8 is U+FFFD.
+/// The same for bytes; bytes that aren't UTF-8 become U+FFFD.
 pub(crate) fn put_text(
     alloc: Global,
     writer: &mut Writer,
@@ -76,7 +76,7 @@ pub(crate) fn put_null(writer: &mut Writer, name: &str) -> Result<(), AllocError
     writer.null()
 }
 
-/// The place of the first byte, and that of the last.
+/// Writes the place of the first byte, and that of the last.
 pub(crate) fn put_region_members(writer: &mut Writer, region: Region) -> Result<(), AllocError>
     ensures { spec.Adds result writer.old writer.new (spec.region_members region) }
 {
@@ -104,7 +104,7 @@ fn put_operand(writer: &mut Writer, region: Option<Region>) -> Result<(), AllocE
     }
 }
 
-/// Where a statement stands, and in it what a finding names.
+/// Writes the place of a statement, and in it that of the word that a finding names.
 pub(crate) fn put_marks(writer: &mut Writer, marks: Marks) -> Result<(), AllocError>
     ensures { spec.Adds result writer.old writer.new (spec.marks_members marks) }
 {
@@ -112,7 +112,7 @@ pub(crate) fn put_marks(writer: &mut Writer, marks: Marks) -> Result<(), AllocEr
     put_operand(writer, marks.operand)
 }
 
-/// Null where there is no text.
+/// The same, with null for an empty text.
 pub(crate) fn put_filled(
     alloc: Global,
     writer: &mut Writer,
@@ -127,7 +127,7 @@ pub(crate) fn put_filled(
     }
 }
 
-/// A member whose value is a text; what isn't UTF-8 is U+FFFD.
+/// Writes a member whose value is a text; bytes that aren't UTF-8 become U+FFFD.
 pub(crate) fn put_items(
     alloc: Global,
     writer: &mut Writer,
@@ -140,7 +140,7 @@ pub(crate) fn put_items(
     put_string(writer, name, text.as_str())
 }
 
-/// Null where there is no text.
+/// The same, with null for an empty text.
 pub(crate) fn put_filled_items(
     alloc: Global,
     writer: &mut Writer,
@@ -162,7 +162,7 @@ fn put_item(alloc: Global, writer: &mut Writer, bytes: &[u8]) -> Result<(), Allo
     writer.string(text.as_str())
 }
 
-/// A member whose value is bytes; null where there are none.
+/// Writes a member whose value is bytes; null if there are none.
 pub(crate) fn put_bytes(
     alloc: Global,
     writer: &mut Writer,
@@ -180,7 +180,7 @@ pub(crate) fn put_bytes(
     }
 }
 
-/// A member whose value is texts, in order.
+/// Writes a member whose value is texts, in order.
 pub(crate) fn put_texts(
     alloc: Global,
     writer: &mut Writer,

@@ -48,7 +48,7 @@ fn joined(alloc: Global, lines: &[&[u8]]) -> Result<Vec<u8>, AllocError>
     Ok(out)
 }
 
-/// What a page says first after its title, as one line.
+/// The first paragraph of a page after its title, as one line.
 pub(crate) fn first_paragraph(alloc: Global, page: &[u8]) -> Result<Vec<u8>, AllocError>
     ensures { IfOk result (λ v. v.items ≡ spec.first_paragraph page.now) }
 {

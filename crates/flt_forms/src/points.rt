@@ -1,4 +1,4 @@
-//! Where the points of a callback are.
+//! The places of the points of a callback.
 
 ghost use Rattle.std.specs.Prelude.{◌≡◌};
 ghost use Rattle.flt_forms.specs.Points as spec;
@@ -16,7 +16,7 @@ pub struct Points<'a> {
 }
 
 impl Points<'_> {
-    /// Where the statement of a point is; of an `if` what it asks. Points count from 0.
+    /// The region of the statement of a point; of an `if`, that of its condition. Points count from 0.
     pub fn region(&self, point: usize) -> Region
         ensures { result ≡ spec.regions self.now point }
     {

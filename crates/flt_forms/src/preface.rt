@@ -1,4 +1,4 @@
-//! What each object of the form `lines` begins with.
+//! The first members of each object of the form `lines`.
 
 ghost use Rattle.flt_forms.specs.Members.{Adds};
 ghost use Rattle.flt_forms.specs.Preface as spec;
@@ -7,10 +7,10 @@ use crate::members::{put_number, put_string};
 use json::Writer;
 use std::alloc::AllocError;
 
-/// The number of the form. It goes up where a member goes or has another meaning.
+/// The number of the form. It grows if a member is removed or gets another meaning.
 const VERSION: usize = 2;
 
-/// The number of the form, what the line is, and the file's name.
+/// Writes the number of the form, the kind of the line, and the file's name.
 pub(crate) fn put_preface(writer: &mut Writer, kind: &str, name: &str) -> Result<(), AllocError>
     ensures { Adds result writer.old writer.new (spec.preface kind.now name.now) }
 {

@@ -38,7 +38,7 @@ pub(crate) fn put_message(
     close_object(writer)
 }
 
-/// The folder that a relative name is from, by its name in the document.
+/// Writes the folder that a relative name is from, by its name in the document.
 fn put_base(writer: &mut Writer, is_absolute: bool) -> Result<(), AllocError>
     ensures { Adds result writer.old writer.new (spec.base is_absolute) }
 {
@@ -48,7 +48,7 @@ fn put_base(writer: &mut Writer, is_absolute: bool) -> Result<(), AllocError>
     put_string(writer, "uriBaseId", "%SRCROOT%")
 }
 
-/// How a file is named.
+/// Writes how a file is named.
 pub(crate) fn put_reference(
     alloc: Global,
     writer: &mut Writer,
@@ -60,7 +60,7 @@ pub(crate) fn put_reference(
     put_base(writer, reference.is_absolute)
 }
 
-/// A file, by its name and its number.
+/// Writes a file, by its name and its number.
 fn put_artifact(alloc: Global, writer: &mut Writer, file: &File<'_>) -> Result<(), AllocError>
     ensures { Adds result writer.old writer.new (spec.artifact_location file.now) }
 {
@@ -71,7 +71,7 @@ fn put_artifact(alloc: Global, writer: &mut Writer, file: &File<'_>) -> Result<(
     close_object(writer)
 }
 
-/// The column of a place, in UTF-16 units.
+/// Writes the column of a place, in UTF-16 units.
 fn put_column(
     writer: &mut Writer,
     name: &str,
@@ -93,7 +93,7 @@ fn put_region(writer: &mut Writer, lines: &Lines<'_>, place: Position) -> Result
     close_object(writer)
 }
 
-/// A place in a file.
+/// Writes a place in a file.
 fn put_physical(
     alloc: Global,
     writer: &mut Writer,
@@ -109,7 +109,7 @@ fn put_physical(
     close_object(writer)
 }
 
-/// A place in a file, with words.
+/// Writes a place in a file, with words.
 fn put_location(
     alloc: Global,
     writer: &mut Writer,
@@ -125,7 +125,7 @@ fn put_location(
     close_object(writer)
 }
 
-/// Where something begins and ends.
+/// Writes where a region begins and ends.
 fn put_whole_region(
     writer: &mut Writer,
     name: &str,
@@ -143,7 +143,7 @@ fn put_whole_region(
     close_object(writer)
 }
 
-/// What is marked, and what stands round it.
+/// Writes the region of the operand and that of the statement round it, or that of the statement alone.
 fn put_marked_regions(
     writer: &mut Writer,
     lines: &Lines<'_>,
@@ -176,7 +176,7 @@ fn put_marked_physical(
     close_object(writer)
 }
 
-/// What is marked in a file, with words.
+/// Writes the regions of marks in a file, with words.
 pub(crate) fn put_marked_location(
     alloc: Global,
     writer: &mut Writer,
@@ -192,7 +192,7 @@ pub(crate) fn put_marked_location(
     close_object(writer)
 }
 
-/// The places of a result: what is marked, with words.
+/// Writes the places of a result: the regions of its marks, with words.
 pub(crate) fn put_marked_locations(
     alloc: Global,
     writer: &mut Writer,
@@ -210,7 +210,7 @@ pub(crate) fn put_marked_locations(
 
 // ---- ways
 
-/// A place on a way.
+/// Writes a place on a path.
 fn put_flow_location(
     alloc: Global,
     writer: &mut Writer,
@@ -226,7 +226,7 @@ fn put_flow_location(
     close_object(writer)
 }
 
-/// A step, if something is asked there.
+/// Writes a step, if it has words.
 fn put_flow_step(
     alloc: Global,
     writer: &mut Writer,
@@ -269,7 +269,7 @@ fn put_finding_place(
     close_object(writer)
 }
 
-/// The places of a way to a finding, with the finding last.
+/// Writes the places of a path to a finding, with the finding last.
 fn put_thread_places(
     alloc: Global,
     writer: &mut Writer,
@@ -329,7 +329,7 @@ fn put_threads(
     close_array(writer)
 }
 
-/// A way to a finding.
+/// Writes a path to a finding.
 fn put_flow(
     alloc: Global,
     writer: &mut Writer,
@@ -344,7 +344,7 @@ fn put_flow(
     close_object(writer)
 }
 
-/// The other way, if there is one.
+/// Writes the other path, if there is one.
 fn put_other_flow(
     alloc: Global,
     writer: &mut Writer,
@@ -360,7 +360,7 @@ fn put_other_flow(
     }
 }
 
-/// Both ways.
+/// Writes both paths.
 fn put_both_flows(
     alloc: Global,
     writer: &mut Writer,
@@ -388,7 +388,7 @@ fn put_found_flows(
     }
 }
 
-/// The ways, where one was found and another finding's don't serve.
+/// Writes the paths, if one was found and those of no other finding serve.
 fn put_own_flows(
     alloc: Global,
     writer: &mut Writer,
@@ -403,7 +403,7 @@ fn put_own_flows(
     }
 }
 
-/// The ways of a result.
+/// Writes the paths of a result.
 fn put_flows(
     alloc: Global,
     writer: &mut Writer,
@@ -427,7 +427,7 @@ pub(crate) fn put_level(writer: &mut Writer) -> Result<(), AllocError>
     put_string(writer, "level", "error")
 }
 
-/// That nothing in the text allows it.
+/// Writes that nothing in the text allows the result.
 pub(crate) fn put_not_suppressed(writer: &mut Writer) -> Result<(), AllocError>
     ensures { Adds result writer.old writer.new spec.not_suppressed }
 {
@@ -444,7 +444,7 @@ fn put_origin(
 ) -> Result<(), AllocError>
     ensures { Adds result writer.old writer.new (spec.origin file.now maker.now) }
 {
-    let words = Vec::from_slice(alloc, b"this makes it so")?;
+    let words = Vec::from_slice(alloc, b"this caused it")?;
     put_marked_location(alloc, writer, file, maker.marks, &words)
 }
 
@@ -462,7 +462,7 @@ fn put_related_origin(
     }
 }
 
-/// Where what is found comes from.
+/// Writes the place that caused a finding, if there is one.
 fn put_related(
     alloc: Global,
     writer: &mut Writer,
@@ -478,7 +478,7 @@ fn put_related(
     close_array(writer)
 }
 
-/// The head of a callback, what is said of it, and a fingerprint.
+/// Writes the head of a callback, the subject of a result in it, and a fingerprint.
 pub(crate) fn put_fingerprints(
     alloc: Global,
     writer: &mut Writer,
@@ -534,7 +534,7 @@ fn put_result_members(
     put_not_suppressed(writer)
 }
 
-/// A finding of this fingerprint.
+/// Writes a finding of this fingerprint.
 fn put_result(
     alloc: Global,
     writer: &mut Writer,
@@ -549,7 +549,7 @@ fn put_result(
     close_object(writer)
 }
 
-/// A finding with its fingerprint, where these are the keys of those before; its key is one of them from then on.
+/// Writes a finding with its fingerprint, after findings with the keys `before`, to which its key is added.
 fn put_next_result(
     alloc: Global,
     writer: &mut Writer,
@@ -566,7 +566,7 @@ fn put_next_result(
     Ok(())
 }
 
-/// Findings, in their order.
+/// Writes findings, in their order.
 pub(crate) fn put_results(
     alloc: Global,
     writer: &mut Writer,
@@ -584,7 +584,7 @@ pub(crate) fn put_results(
 
 // ---- faults
 
-/// The column behind what stands where a text is refused.
+/// Writes the column after the bytes at which a text is refused.
 fn put_fault_end(
     writer: &mut Writer,
     lines: &Lines<'_>,
@@ -601,7 +601,7 @@ fn put_fault_end(
     )
 }
 
-/// Where a text is refused, up to behind what stands there.
+/// Writes the region of the bytes at which a text is refused.
 fn put_fault_region(
     writer: &mut Writer,
     lines: &Lines<'_>,
@@ -660,7 +660,7 @@ fn put_fault_location(
     close_object(writer)
 }
 
-/// The places of a fault: one.
+/// Writes the places of a fault: one.
 fn put_fault_locations(
     alloc: Global,
     writer: &mut Writer,
@@ -710,7 +710,7 @@ fn put_fault_members(
     put_not_suppressed(writer)
 }
 
-/// A fault of a text.
+/// Writes a fault of a text.
 pub(crate) fn put_fault_result(
     alloc: Global,
     writer: &mut Writer,

@@ -18,7 +18,7 @@ use flt_warnings::Kind;
 use json::Writer;
 use std::alloc::{AllocError, Global};
 
-/// What a result is of.
+/// The rule, the fault or the kind of warning of a result.
 #[derive(Clone, Copy)]
 pub enum Reported {
     Broken(Rule),
@@ -132,7 +132,7 @@ fn level_of(reported: Reported) -> &'static str
     }
 }
 
-/// How often what is said is so.
+/// How often its results are true.
 fn precision_of(reported: Reported) -> &'static str
     ensures { result.now ≡ spec.precision_of reported }
 {
@@ -224,7 +224,7 @@ fn put_words(writer: &mut Writer, name: &str, reported: Reported) -> Result<(), 
     put_string(writer, name, words_of(reported))
 }
 
-/// The words, as a message of this name.
+/// Writes the words, as a message of this name.
 fn put_words_member(writer: &mut Writer, name: &str, reported: Reported) -> Result<(), AllocError>
     ensures { Adds result writer.old writer.new (spec.words_member name.now reported) }
 {
@@ -305,7 +305,7 @@ fn put_described(alloc: Global, writer: &mut Writer, page: &str) -> Result<(), A
     close_object(writer)
 }
 
-/// What a page says first, if there is one.
+/// Writes the first paragraph of a page, if there is one.
 fn put_description(alloc: Global, writer: &mut Writer, page: Option<&str>) -> Result<(), AllocError>
     ensures { Adds result writer.old writer.new (spec.description page.entry) }
 {
@@ -325,7 +325,7 @@ fn put_page(writer: &mut Writer, page: &str) -> Result<(), AllocError>
     close_object(writer)
 }
 
-/// A page, if there is one.
+/// Writes a page, if there is one.
 fn put_help(writer: &mut Writer, page: Option<&str>) -> Result<(), AllocError>
     ensures { Adds result writer.old writer.new (spec.help page.entry) }
 {
@@ -354,7 +354,7 @@ fn put_rule_item(
     close_object(writer)
 }
 
-/// A rule with its page.
+/// Writes a rule with its page.
 fn put_rule(alloc: Global, writer: &mut Writer, reported: Reported) -> Result<(), AllocError>
     ensures { IfOk result (λ _. (ts : List Token) × spec.IsRule reported ts × Added writer.old writer.new ts) }
 {
@@ -364,7 +364,7 @@ fn put_rule(alloc: Global, writer: &mut Writer, reported: Reported) -> Result<()
     Ok(())
 }
 
-/// Rules, in their order.
+/// Writes rules, in their order.
 fn put_rules(alloc: Global, writer: &mut Writer, rules: &[Reported]) -> Result<(), AllocError>
     ensures { IfOk result (λ _. (ts : List Token) × spec.AreRules rules.now ts × Added writer.old writer.new ts) }
 {
@@ -387,7 +387,7 @@ fn put_rules_member(alloc: Global, writer: &mut Writer) -> Result<(), AllocError
 
 // ---- the tool
 
-/// What `fltstack --version` prints behind the program's name, too.
+/// The version that `fltstack --version` prints after the program's name, too.
 const VERSION: &str = "0.1.0";
 
 fn put_versions(writer: &mut Writer) -> Result<(), AllocError>
@@ -409,7 +409,7 @@ fn put_driver(alloc: Global, writer: &mut Writer) -> Result<(), AllocError>
     Ok(())
 }
 
-/// What made the results, with all rules.
+/// Writes the tool that made the results, with all rules.
 pub(crate) fn put_tool(alloc: Global, writer: &mut Writer) -> Result<(), AllocError>
     ensures { IfOk result (λ _. (ts : List Token) × spec.AreRules spec.all ts × Added writer.old writer.new (spec.tool ts)) }
 {
@@ -435,7 +435,7 @@ fn put_index(writer: &mut Writer, reported: Reported) -> Result<(), AllocError>
     put_number(writer, "ruleIndex", index_of(reported))
 }
 
-/// Which rule a result is of.
+/// Writes the rule of a result.
 pub(crate) fn put_of_rule(
     alloc: Global,
     writer: &mut Writer,

@@ -1,4 +1,4 @@
-//! What is found of texts, a sentence a line, as compilers say it.
+//! The findings in texts, a sentence per line, as compilers print them.
 
 ghost use Rattle.std.specs.Prelude.{◌≡◌, ◌++◌, List, ℕ, IfOk, Some, flat_map, string_bytes};
 ghost use Rattle.flt_forms.specs.Lines.{AreShortLines};
@@ -32,7 +32,7 @@ impl fmt::Display for Tag<'_> {
     }
 }
 
-/// What stands before the words: the file's name, the place and the tag.
+/// The beginning of a line, before its words: the file's name, the place and the tag.
 #[derive(Drop)]
 struct Head<'a> {
     name: &'a str,
@@ -77,7 +77,7 @@ fn head_of(
     format!(in alloc; "{head}")
 }
 
-/// Words and a line feed behind a head, behind what is there.
+/// Adds a head, words and a line feed to the output.
 fn put_sentence(out: Vec<u8>, head: &str, words: &[u8]) -> Result<Vec<u8>, AllocError>
     ensures { IfOk result (λ v. v.items ≡ out.items ++ spec.sentence head.now words.now) }
 {
@@ -88,7 +88,7 @@ fn put_sentence(out: Vec<u8>, head: &str, words: &[u8]) -> Result<Vec<u8>, Alloc
     Ok(out)
 }
 
-/// The line of a finding, behind what is there.
+/// Adds the line of a finding to the output.
 fn put_finding(
     alloc: Global,
     out: Vec<u8>,
@@ -104,7 +104,7 @@ fn put_finding(
     put_sentence(out, head.as_str(), detail.words.title.as_slice())
 }
 
-/// A line for each finding, behind what is there.
+/// Adds a line for each finding to the output.
 fn put_findings(
     alloc: Global,
     out: Vec<u8>,
@@ -120,7 +120,7 @@ fn put_findings(
     Ok(out)
 }
 
-/// The lines of what is found of a text that parses, behind what is there.
+/// Adds the lines of the findings in a text that parses to the output.
 pub(crate) fn put_short_lines(
     alloc: Global,
     out: Vec<u8>,
@@ -136,7 +136,7 @@ pub(crate) fn put_short_lines(
     put_findings(alloc, out, source.name, details.as_slice())
 }
 
-/// The line of a warning that is shown, after what is there.
+/// Adds the line of a warning that is shown to the output.
 fn put_shown(
     alloc: Global,
     out: Vec<u8>,
@@ -150,7 +150,7 @@ fn put_shown(
     put_sentence(out, head.as_str(), detail.title.as_slice())
 }
 
-/// The line of a warning, after what is there; none where a comment allows it.
+/// Adds the line of a warning to the output, unless a comment allows it.
 fn put_warning(
     alloc: Global,
     out: Vec<u8>,
@@ -165,7 +165,7 @@ fn put_warning(
     }
 }
 
-/// A line for each warning that is shown, after what is there.
+/// Adds a line for each warning that is shown to the output.
 pub(crate) fn put_short_warnings(
     alloc: Global,
     out: Vec<u8>,
@@ -181,7 +181,7 @@ pub(crate) fn put_short_warnings(
     Ok(out)
 }
 
-/// The line of a fault, behind what is there.
+/// Adds the line of a fault to the output.
 fn put_fault(
     alloc: Global,
     out: Vec<u8>,
@@ -199,7 +199,7 @@ fn put_fault(
     put_sentence(out, head.as_str(), words)
 }
 
-/// The line of a text that doesn't parse, behind what is there.
+/// Adds the line of a text that doesn't parse to the output.
 pub(crate) fn put_short_fault(
     alloc: Global,
     out: Vec<u8>,

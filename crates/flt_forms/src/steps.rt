@@ -15,7 +15,7 @@ use json::Writer;
 use sqlite_items::Items;
 use std::alloc::{AllocError, Global};
 
-/// How a step comes out.
+/// Writes the outcome of a step.
 fn put_side(writer: &mut Writer, granted: bool) -> Result<(), AllocError>
     ensures { Adds result writer.old writer.new (string_member (codes "side") (spec.side granted)) }
 {
@@ -33,14 +33,14 @@ fn kind_name(kind: WayKind) -> &'static str
     }
 }
 
-/// What a path is.
+/// Writes the kind of a path.
 pub(crate) fn put_kind(writer: &mut Writer, kind: WayKind) -> Result<(), AllocError>
     ensures { Adds result writer.old writer.new (string_member (codes "kind") (spec.kind_name kind)) }
 {
     put_string(writer, "kind", kind_name(kind))
 }
 
-/// The number of the finding whose path serves, or null.
+/// Writes the number of the finding whose path serves, or null.
 pub(crate) fn put_like(writer: &mut Writer, like: Option<usize>) -> Result<(), AllocError>
     ensures { Adds result writer.old writer.new (spec.like_member like) }
 {
@@ -50,7 +50,7 @@ pub(crate) fn put_like(writer: &mut Writer, like: Option<usize>) -> Result<(), A
     }
 }
 
-/// Where a point is.
+/// Writes the place of a point.
 fn put_place(writer: &mut Writer, points: &Points<'_>, point: usize) -> Result<(), AllocError>
     ensures { Adds result writer.old writer.new (region_members (regions points.now point)) }
 {
@@ -88,7 +88,7 @@ pub(crate) fn put_steps(
     close_array(writer)
 }
 
-/// The step that made a finding so, with where it stands.
+/// Writes the step that caused a finding, with its place.
 fn put_maker(alloc: Global, writer: &mut Writer, maker: &Maker) -> Result<(), AllocError>
     ensures { Adds result writer.old writer.new (spec.maker maker.now) }
 {

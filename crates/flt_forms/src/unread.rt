@@ -21,7 +21,7 @@ pub struct UnreadFile {
     pub name: String,
     /// Why it isn't read.
     pub why: String,
-    /// What to do about it.
+    /// How to fix that.
     pub help: &'static str,
 }
 
@@ -70,7 +70,7 @@ fn put_places(alloc: Global, writer: &mut Writer, file: &UnreadFile) -> Result<(
     close_array(writer)
 }
 
-/// That a file isn't read, and why.
+/// Writes that a file isn't read, and why.
 fn put_notification(alloc: Global, writer: &mut Writer, file: &UnreadFile) -> Result<(), AllocError>
     ensures { Adds result writer.old writer.new (spec.notification file.now) }
 {
@@ -81,7 +81,7 @@ fn put_notification(alloc: Global, writer: &mut Writer, file: &UnreadFile) -> Re
     close_object(writer)
 }
 
-/// The same of several files, in their order.
+/// The same for several files, in their order.
 fn put_each(alloc: Global, writer: &mut Writer, files: &[UnreadFile]) -> Result<(), AllocError>
     ensures { Adds result writer.old writer.new (flat_map spec.notification files.now) }
 {
@@ -157,7 +157,7 @@ fn put_invocation(
     close_object(writer)
 }
 
-/// How the program ran, beside these files that aren't read, by the status of the others.
+/// Writes how the program ran, with these files that aren't read, by the status of the others.
 pub(crate) fn put_invocations(
     alloc: Global,
     writer: &mut Writer,

@@ -10,7 +10,7 @@ use std::alloc::{AllocError, Global};
 #[derive(Drop)]
 pub struct Reference {
     pub uri: Items<u8>,
-    /// Of a name from the root; any other is one from the folder in which the program runs.
+    /// Whether the name is from the root; any other is from the folder in which the program runs.
     pub is_absolute: bool,
 }
 
@@ -56,14 +56,14 @@ fn is_absolute(name: &[u8]) -> bool
     }
 }
 
-/// What stands before the bytes of a name.
+/// The text before the bytes of a name.
 fn scheme(is_absolute: bool) -> &'static [u8]
     ensures { result.now ≡ spec.scheme is_absolute }
 {
     if is_absolute { b"file://" } else { b"" }
 }
 
-/// A name behind a scheme: each byte that doesn't stand for itself is `%` and its two digits.
+/// A name after a scheme: each byte that doesn't stand for itself is `%` and its two digits.
 fn uri(alloc: Global, scheme: &[u8], name: &[u8]) -> Result<Vec<u8>, AllocError>
     ensures { IfOk result (λ v. v.items ≡ scheme.now ++ spec.uri_of name.now) }
 {

@@ -1,4 +1,4 @@
-//! What is warned of a text, and the status that comes of it.
+//! The warnings of a text, and the status that results.
 
 ghost use Rattle.std.specs.Prelude.{◌≡◌, IfOk};
 ghost use Rattle.flt_forms.specs.Warned as spec;

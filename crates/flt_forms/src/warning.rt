@@ -16,21 +16,21 @@ use json::Writer;
 use sqlite_items::Items;
 use std::alloc::{AllocError, Global};
 
-/// That something breaks no rule.
+/// Writes the level of a warning, which breaks no rule.
 pub(crate) fn put_warning_level(writer: &mut Writer) -> Result<(), AllocError>
     ensures { Adds result writer.old writer.new (string_member (codes "level") (codes "warning")) }
 {
     put_string(writer, "level", "warning")
 }
 
-/// The name of a kind of warnings under a name.
+/// Writes the name of a kind of warnings under a name.
 pub(crate) fn put_kind_name(writer: &mut Writer, name: &str, kind: Kind) -> Result<(), AllocError>
     ensures { Adds result writer.old writer.new (string_member name.now (kind_name kind)) }
 {
     put_string(writer, name, kind.name())
 }
 
-/// The numbers of a callback and of a point.
+/// Writes the numbers of a callback and of a point.
 pub(crate) fn put_numbers(writer: &mut Writer, site: Site) -> Result<(), AllocError>
     ensures { Adds result writer.old writer.new (spec.numbers site) }
 {
@@ -45,7 +45,7 @@ fn put_no_site(writer: &mut Writer) -> Result<(), AllocError>
     put_null(writer, "point")
 }
 
-/// The point that a warning is about, or nulls.
+/// Writes the point that a warning is about, or nulls.
 fn put_site(writer: &mut Writer, site: Option<Site>) -> Result<(), AllocError>
     ensures { Adds result writer.old writer.new (spec.site_members site) }
 {
@@ -55,7 +55,7 @@ fn put_site(writer: &mut Writer, site: Option<Site>) -> Result<(), AllocError>
     }
 }
 
-/// That it is no finding, and where it is.
+/// Writes the level and the place of a warning.
 fn put_place(writer: &mut Writer, detail: &WarningDetail) -> Result<(), AllocError>
     ensures { Adds result writer.old writer.new (spec.place detail.now) }
 {
@@ -74,7 +74,7 @@ fn put_words(alloc: Global, writer: &mut Writer, detail: &WarningDetail) -> Resu
     put_filled_items(alloc, writer, "note", &detail.note)
 }
 
-/// Another place, with what is there.
+/// Writes another place, with its words.
 fn put_related_place(
     alloc: Global,
     writer: &mut Writer,
@@ -101,7 +101,7 @@ fn put_related_places(
     Ok(())
 }
 
-/// The other places, in order.
+/// Writes the other places, in order.
 fn put_related(alloc: Global, writer: &mut Writer, detail: &WarningDetail) -> Result<(), AllocError>
     ensures { Adds result writer.old writer.new (spec.related detail.now) }
 {
@@ -111,7 +111,7 @@ fn put_related(alloc: Global, writer: &mut Writer, detail: &WarningDetail) -> Re
     close_array(writer)
 }
 
-/// The reason of the comment that allows a warning, or null.
+/// Writes the reason of the comment that allows a warning, or null.
 fn put_suppressed(
     alloc: Global,
     writer: &mut Writer,
@@ -142,7 +142,7 @@ fn put_warning(
     close_object(writer)
 }
 
-/// A warning on a line of its own, after what is there.
+/// Adds a warning on a line of its own to the output.
 fn put_line(
     alloc: Global,
     out: Vec<u8>,
@@ -158,7 +158,7 @@ fn put_line(
     Ok(out)
 }
 
-/// A line for each warning, after what is there.
+/// Adds a line for each warning to the output.
 pub(crate) fn put_warnings(
     alloc: Global,
     out: Vec<u8>,

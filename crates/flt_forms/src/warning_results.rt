@@ -57,7 +57,7 @@ fn put_related_places(
     Ok(())
 }
 
-/// The other places, in order.
+/// Writes the other places, in order.
 fn put_related(
     alloc: Global,
     writer: &mut Writer,
@@ -74,7 +74,7 @@ fn put_related(
 
 // ---- properties
 
-/// The point that a warning is about, if there is one.
+/// Writes the point that a warning is about, if there is one.
 fn put_site(writer: &mut Writer, site: Option<Site>) -> Result<(), AllocError>
     ensures { Adds result writer.old writer.new (spec.site_members site) }
 {
@@ -109,7 +109,7 @@ fn put_properties(
     close_object(writer)
 }
 
-/// That a comment in the text allows a warning, for this reason.
+/// Writes that a comment in the text allows a warning, for this reason.
 fn put_suppression(alloc: Global, writer: &mut Writer, reason: &Items<u8>) -> Result<(), AllocError>
     ensures { Adds result writer.old writer.new (spec.suppression reason.now) }
 {
@@ -148,7 +148,7 @@ fn put_suppressions(
 
 // ---- results
 
-/// A warning of this fingerprint, with this title, in the callback of this head.
+/// Writes a warning of this fingerprint, with this title, in the callback of this head.
 fn put_result_members(
     alloc: Global,
     writer: &mut Writer,
@@ -171,7 +171,7 @@ fn put_result_members(
     put_suppressions(alloc, writer, &detail.reason)
 }
 
-/// A warning of this fingerprint.
+/// Writes a warning of this fingerprint.
 fn put_result(
     alloc: Global,
     writer: &mut Writer,
@@ -188,7 +188,7 @@ fn put_result(
     close_object(writer)
 }
 
-/// A warning with its fingerprint, where these are the keys of those before; its key is one of them from then on.
+/// Writes a warning with its fingerprint, after warnings with the keys `before`, to which its key is added.
 fn put_next_result(
     alloc: Global,
     writer: &mut Writer,
@@ -205,7 +205,7 @@ fn put_next_result(
     Ok(())
 }
 
-/// Warnings, in their order.
+/// Writes warnings, in their order.
 pub(crate) fn put_warning_results(
     alloc: Global,
     writer: &mut Writer,

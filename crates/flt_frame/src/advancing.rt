@@ -16,7 +16,7 @@ use flt_graph::{Graph, callbacks_have_graphs, lists_have_points, lists_have_turn
 /// No callback costs as much, and each local step costs one at least.
 const MAX_COST: u32 = 1_000_000;
 
-/// One local step more of a standing, and whether there was one: where others see the next step, nothing is changed.
+/// Makes one local step of a `Standing`, and answers whether it did: if others see the next step, nothing is changed.
 fn go_further(graph: &Graph, draining: bool, after: &mut Standing) -> bool
     ensures local { result ≡ is_some (stepped draining (instruction_at graph.now after.old.callback after.old.point) after.old) }
     ensures after { after.new
@@ -26,7 +26,7 @@ fn go_further(graph: &Graph, draining: bool, after: &mut Standing) -> bool
     after.step_locally(draining, instruction)
 }
 
-/// Makes a frame's local steps on the points of its filter, and answers how many. The standing that is lent is the frame's before them.
+/// Makes a frame's local steps on the points of its filter, and answers how many. The `Standing` that is lent is the frame's before them.
 fn go_locally(graph: &Graph, frame: &Frame, after: &mut Standing) -> u32
     requires { after.old ≡ frame.now.standing }
     ensures few { result ≤ 1000000 }

@@ -7,7 +7,7 @@ ghost use Rattle.flt_rules.specs.Held as rules;
 use flt_rules::{Access, HeldLock, LockNumber};
 use std::marker::Model;
 
-/// What stands in an unused place.
+/// The value of an unused place.
 const NO_LOCK: HeldLock = HeldLock {
     lock: LockNumber::L0,
     access: Access::Exclusive,
@@ -38,7 +38,7 @@ impl Model for HeldLocks {
     ghost inverse_ok = { λ h p i. record { locks = p.filled i; used = p.counted i } };
 }
 
-/// Whether two lists have the same locks, held in the same way.
+/// Whether two lists have the same locks, each with the same access.
 fn are_same(left: &[HeldLock], right: &[HeldLock]) -> bool
     ensures { result ≡ pointwise rules.same_held left.now right.now }
 {
@@ -51,7 +51,7 @@ fn are_same(left: &[HeldLock], right: &[HeldLock]) -> bool
     }
 }
 
-/// Whether the lock is among some, in either way.
+/// Whether the lock is among some, exclusively or shared.
 fn holds_lock(lock: LockNumber, locks: &[HeldLock]) -> bool
     ensures { result ≡ rules.holds_lock lock locks.now }
 {

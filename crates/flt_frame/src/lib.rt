@@ -1,8 +1,8 @@
 //! How far activations have come, and their local steps, on points with turns in place of trees.
 //!
-//! A standing is what a machine keeps of an activation: its point, the repeats in progress round it, its variables and the locks that
-//! it holds. A frame is a standing that was taken from a machine; `advance` makes its local steps, up to the next one that others see,
-//! without the machine. Nothing here allocates. Contracts say which of the machine's activations a standing stands for.
+//! A `Standing` is a machine's record of an activation: its point, the repeats in progress round it, its variables and the locks that it
+//! holds. A frame is a `Standing` that was taken from a machine; `advance` makes its local steps, up to the next one that others see,
+//! without the machine. Nothing here allocates. Contracts say which of the machine's activations a `Standing` represents.
 #![tactic(auto)]
 
 mod advancing;

@@ -56,7 +56,7 @@ impl Loaded {
         self.altitudes.len()
     }
 
-    /// The number of the filter at an altitude; past all filters where there is none.
+    /// The number of the filter at an altitude; past all filters if none has it.
     pub fn number(&self, altitude: u32) -> usize
         ensures { (p : List Filter) → spec.AreLoaded p self.now → result ≡ program.filter_of p altitude }
     {
@@ -64,7 +64,7 @@ impl Loaded {
         first_equal(altitudes, altitude).unwrap_or(altitudes.len())
     }
 
-    /// The altitude of a filter; none where it isn't there.
+    /// The altitude of a filter; none if it isn't there.
     pub fn altitude(&self, filter: usize) -> Option<u32>
         ensures { (p : List Filter) → spec.AreLoaded p self.now → result ≡ option_map (λ f. f.altitude) (slice_get p filter) }
     {
@@ -73,7 +73,7 @@ impl Loaded {
 
     // ---- callbacks
 
-    /// The callbacks of a filter; none where it isn't there.
+    /// The callbacks of a filter; none if it isn't there.
     fn callbacks(&self, filter: usize) -> &[CallbackGraph]
         ensures { result.now ≡ (spec.graph_at self.now.graphs filter).callbacks }
     {
@@ -92,7 +92,7 @@ impl Loaded {
             .any(|callback| is_event(event, callback.place))
     }
 
-    /// The number of a filter's callback for an event; past all callbacks where there is none.
+    /// The number of a filter's callback for an event; past all callbacks if it has none.
     fn callback_for(&self, filter: usize, event: Place) -> usize
         ensures { result ≡ position_or_len (λ c. spec.is_event event c.place) (spec.graph_at self.now.graphs filter).callbacks }
     {
@@ -114,7 +114,7 @@ impl Loaded {
         self.has(filter, Place::Post(kind))
     }
 
-    /// The number of a filter's pre callback of the operation; past all callbacks where there is none.
+    /// The number of a filter's pre callback of the operation; past all callbacks if it has none.
     pub fn pre(&self, filter: usize, kind: Operation) -> usize
         ensures number { (p : List Filter) → spec.AreLoaded p self.now →
             result ≡ spec.callback_for (program.is_pre_of kind) (program.callbacks_at p filter) }
@@ -125,7 +125,7 @@ impl Loaded {
         self.callback_for(filter, Place::Pre(kind))
     }
 
-    /// The number of a filter's post callback of the operation; past all callbacks where there is none.
+    /// The number of a filter's post callback of the operation; past all callbacks if it has none.
     pub fn post(&self, filter: usize, kind: Operation) -> usize
         ensures number { (p : List Filter) → spec.AreLoaded p self.now →
             result ≡ spec.callback_for (program.is_post_of kind) (program.callbacks_at p filter) }
@@ -136,7 +136,7 @@ impl Loaded {
         self.callback_for(filter, Place::Post(kind))
     }
 
-    /// The number of a filter's `canceled` callback; past all callbacks where there is none.
+    /// The number of a filter's `canceled` callback; past all callbacks if it has none.
     pub fn canceled(&self, filter: usize) -> usize
         ensures number { (p : List Filter) → spec.AreLoaded p self.now →
             result ≡ spec.callback_for program.is_canceled (program.callbacks_at p filter) }
@@ -146,7 +146,7 @@ impl Loaded {
         self.callback_for(filter, Place::Canceled)
     }
 
-    /// Where a callback runs; as a generic routine where it isn't there.
+    /// Where a callback runs; as a generic routine if it isn't there.
     pub fn place(&self, filter: usize, callback: usize) -> Place
         ensures { (p : List Filter) → spec.AreLoaded p self.now → result ≡ program.place_at (program.callbacks_at p filter) callback }
     {
@@ -158,8 +158,8 @@ impl Loaded {
 
     // ---- points
 
-    /// What is done at a point of a filter's callback, and where that leads; the end where the point isn't there.
-    /// `standings_have_points` says what it has to do with the statements that remain.
+    /// The instruction at a point of a filter's callback, with the points where it leads; the end if the point doesn't exist.
+    /// `standings_have_points` relates it to the statements that remain.
     pub fn instruction(&self, filter: usize, callback: usize, point: usize) -> Instruction
         ensures { result ≡ spec.instruction_in self.now filter callback point }
     {

@@ -11,7 +11,7 @@ use flt_graph::{Instruction, Turn};
 use flt_tree::{Action, OperationVariable, Test};
 
 impl Standing {
-    /// Computes a number, or sets a variable to NULL, and answers whether it did: where others see the action, nothing is changed.
+    /// Computes a number, or sets a variable to NULL, and answers whether it did: if others see the action, nothing is changed.
     fn act(&mut self, action: &Action) -> bool
         ensures local { result ≡ is_some (model.after_action (activation_with self.old []) action.now) }
         ensures after { self.new
@@ -35,7 +35,7 @@ impl Standing {
         }
     }
 
-    /// What a test says of the activation's own variables and flag; none where it asks of the operation.
+    /// The result of a test of the activation's own variables and flag; none if it is about the operation.
     fn test(&self, draining: bool, test: Test) -> Option<bool>
         ensures { result ≡ model.holds_test draining (activation_with self.now []) test }
     {
@@ -54,8 +54,8 @@ impl Standing {
         }
     }
 
-    /// A turn of the `repeat` at the standing's point, whose text has so many: to its body where one is left, otherwise behind it.
-    /// False, and nothing is changed, where the body would nest too deep.
+    /// Makes a turn of the `repeat` at the point, whose text has `text` turns: to its body if a turn is left, otherwise past it. False, and
+    /// nothing is changed, if the body would nest too deep.
     fn turn(&mut self, text: u64, body: usize, behind: usize) -> bool
         ensures local { result ≡ is_some (spec.turned text body behind self.old) }
         ensures after { self.new ≡ unwrap_or (spec.turned text body behind self.old) self.old }
@@ -77,7 +77,7 @@ impl Standing {
         false
     }
 
-    /// Makes the step of an instruction, and answers whether it is local: where others see it, nothing is changed.
+    /// Makes the step of an instruction, and answers whether it is local: if others see it, nothing is changed.
     pub(crate) fn step_locally(&mut self, draining: bool, instruction: &Instruction) -> bool
         ensures local { result ≡ is_some (spec.stepped draining instruction.now self.old) }
         ensures after { self.new ≡ unwrap_or (spec.stepped draining instruction.now self.old) self.old }

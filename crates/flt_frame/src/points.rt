@@ -1,4 +1,4 @@
-//! The law of standings: what remains of an activation where its standing's point has an instruction.
+//! The law of `Standing`s: the instruction at a `Standing`'s point, and the statements that remain of its activation.
 
 ghost use Rattle.std.specs.Prelude.{ℕ, Bool, List};
 ghost use Rattle.flt_frame.specs.Firsts as spec;
@@ -14,10 +14,10 @@ ghost use Rattle.flt_tree.specs.declared.filter.Filter.{Filter};
 
 use flt_graph::{callbacks_have_graphs, lists_have_points, lists_have_turns};
 
-/// Whichever activation a standing stands for: the instruction at its point is that of the first statement that remains, and what
-/// remains after an outcome of that statement stands where the outcome leads, with the turns after it. And by the instruction: which
-/// statement remains first, and that what remains behind it stands where the instruction leads. Where the callback isn't there nothing
-/// remains, and the instruction is the end. It does nothing: its clauses are the law.
+/// Whichever activation a `Standing` represents: the instruction at its point is that of the first statement that remains, and the
+/// statements that remain after an outcome of it are at the point where the outcome leads, with the turns after it. The instruction also
+/// determines which statement remains first, and the statements after it are at the point where the instruction leads. If the callback
+/// doesn't exist, nothing remains, and the instruction is the end. It does nothing: its clauses are the law.
 pub fn standings_have_points()
     ensures first { (p : List Filter) (l : Loaded) (filter : ℕ) (s : Standing) (act : Activation) → AreLoaded p l →
         StandsFor (callbacks_at p filter) s act →

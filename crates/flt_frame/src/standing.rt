@@ -11,8 +11,8 @@ use crate::turns::Turns;
 use flt_graph::lists_have_turns;
 use flt_tree::{Atom, ContextVariable, Expression, NumberVariable, OperationVariable};
 
-/// How far an activation has come: its point, its variables and the locks that it holds. A variable keeps its number when what it names
-/// is released or handed over.
+/// How far an activation has come: its point, its variables and the locks that it holds. A variable keeps its number when the object that
+/// it names is released or handed over.
 #[derive(Clone, Copy)]
 pub struct Standing {
     /// The number of its callback, from 0.
@@ -74,14 +74,14 @@ impl Standing {
         self.numbers[variable.place()]
     }
 
-    /// The number of the context that a variable names; none where it is NULL.
+    /// The number of the context that a variable names; none if it is NULL.
     pub fn context(&self, variable: ContextVariable) -> Option<usize>
         ensures { result ≡ model.context_in (spec.activation_with self.now []) variable }
     {
         self.contexts[variable.place()]
     }
 
-    /// The number of the visit that a variable names; none where it is NULL.
+    /// The number of the visit that a variable names; none if it is NULL.
     pub fn operation(&self, variable: OperationVariable) -> Option<usize>
         ensures { result ≡ model.operation_in (spec.activation_with self.now []) variable }
     {

@@ -12,7 +12,7 @@ use std::marker::Model;
 /// How deep repeats may nest.
 const MAX_REPEATS: usize = 4;
 
-/// What stands in an unused place.
+/// The value of an unused place.
 const NO_TURN: Turn = Turn { point: 0, left: 0 };
 
 /// The repeats in progress round a point, the innermost first, at most four. Unused places are blank, so that equal repeats are
@@ -68,7 +68,7 @@ fn with_first(turns: [Turn; 4], first: Turn) -> [Turn; 4]
     [first, a, b, c]
 }
 
-/// The turns without the first one, and a blank behind them.
+/// The turns without the first one, and a blank after them.
 fn without_first(turns: [Turn; 4]) -> [Turn; 4]
     ensures { result ≡ spec.without_first turns }
 {
@@ -94,7 +94,7 @@ impl Turns {
         &self.turns[..self.used]
     }
 
-    /// How many turns are left of the `repeat` at a point; where it isn't in progress, as many as its text has.
+    /// How many turns are left of the `repeat` at a point; if it isn't in progress, as many as its text has.
     pub(crate) fn left_at(&self, point: usize, text: u64) -> u64
         ensures { result ≡ graph.left_at point text self.now }
     {
@@ -114,7 +114,7 @@ impl Turns {
         }
     }
 
-    /// The `repeat` at a point is left, if it is in progress: what remains are those round it.
+    /// Leaves the `repeat` at a point, if it is in progress: those round it remain.
     pub(crate) fn leave(&mut self, point: usize)
         ensures { self.new ≡ graph.turns_round point self.old }
     {

@@ -8,14 +8,14 @@ use flt_rules::{LockKind, Place};
 use flt_tree::Span;
 use sqlite_items::Items;
 
-/// A point: what is done there, and where that stands.
+/// A point: its instruction, and the place of that in the text.
 #[derive(Clone, Copy)]
 pub struct Point {
     pub span: Span,
     pub instruction: Instruction,
 }
 
-/// An end that stands nowhere.
+/// An end without a place in the text.
 static NO_POINT: Point = Point {
     span: Span {
         line: 0,
@@ -47,7 +47,7 @@ impl Graph {
         self.callbacks.len()
     }
 
-    /// How many points a callback has; none where it isn't there.
+    /// How many points a callback has; none if it isn't there.
     #[tactic(auto, using(crate::proofs::Reading::found, crate::proofs::Reading::missing))]
     pub fn points(&self, callback: usize) -> usize
         ensures { result ≡ spec.points_at self.now callback }
@@ -58,7 +58,7 @@ impl Graph {
         }
     }
 
-    /// The place of a callback; that of a generic routine where it isn't there.
+    /// The place of a callback; that of a generic routine if it isn't there.
     #[tactic(auto, using(crate::proofs::Reading::found, crate::proofs::Reading::missing))]
     pub fn place(&self, callback: usize) -> Place
         ensures { result ≡ spec.place_at self.now callback }
@@ -69,7 +69,7 @@ impl Graph {
         }
     }
 
-    /// A point of a callback; where it isn't there, an end that stands nowhere.
+    /// A point of a callback; if it doesn't exist, an end without a place in the text.
     #[tactic(auto, using(crate::proofs::Reading::found, crate::proofs::Reading::missing))]
     #[inline(always)]
     fn point(&self, callback: usize, point: usize) -> &Point
@@ -85,29 +85,29 @@ impl Graph {
         }
     }
 
-    /// The line of a point, from 1: that of the first token of its statement, or of the closing brace for the end. It is 0
-    /// where the point isn't there.
+    /// The line of a point, from 1: that of the first token of its statement, or of the closing brace for the end. It is 0 if the point
+    /// isn't there.
     pub fn line(&self, callback: usize, point: usize) -> usize
         ensures { result ≡ spec.line_at self.now callback point }
     {
         self.span(callback, point).line
     }
 
-    /// Where a point stands: its statement, or the closing brace for the end. Where the point isn't there it is nowhere: all is 0.
+    /// The place of a point in the text: its statement, or the closing brace for the end. If the point doesn't exist, all is 0.
     pub fn span(&self, callback: usize, point: usize) -> Span
         ensures { result ≡ spec.span_at self.now callback point }
     {
         self.point(callback, point).span
     }
 
-    /// What is done at a point, and where that leads; the end where the point isn't there.
+    /// The instruction at a point, with the points where it leads; the end if the point doesn't exist.
     pub fn instruction(&self, callback: usize, point: usize) -> Instruction
         ensures { result ≡ spec.instruction_at self.now callback point }
     {
         *self.instruction_ref(callback, point)
     }
 
-    /// What `instruction` answers, lent and not copied.
+    /// The same as `instruction`, lent and not copied.
     pub fn instruction_ref(&self, callback: usize, point: usize) -> &Instruction
         ensures { result.now ≡ spec.instruction_at self.now callback point }
     {

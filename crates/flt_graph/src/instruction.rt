@@ -1,4 +1,4 @@
-//! What is done at a point.
+//! Instructions: the actions at points.
 
 ghost use Rattle.std.specs.Prelude.{◌≡◌};
 ghost use Rattle.flt_graph.specs.Instruction as spec;
@@ -10,7 +10,7 @@ use flt_tree::{
     Routine, Status, Test,
 };
 
-/// A call with its operands by what they are to it.
+/// A call with its operands by their roles.
 #[derive(Clone, Copy)]
 pub struct Invocation {
     pub call: Call,
@@ -26,7 +26,7 @@ pub struct Invocation {
     pub routine: Option<usize>,
 }
 
-/// What is done at a point, with the points that follow it, from 0.
+/// The action at a point, with the points that follow it, from 0.
 #[derive(Clone, Copy)]
 pub enum Instruction {
     /// A statement that neither calls nor branches, and the next point.
@@ -36,7 +36,7 @@ pub enum Instruction {
     Call(Invocation, usize, usize),
     /// A test, the point where it holds and the point where it doesn't.
     Test(Test, usize, usize),
-    /// The number of turns, the point of the body and the point behind.
+    /// The number of turns, the point of the body and the point after the `repeat`.
     Repeat(u64, usize, usize),
     Return(Option<Status>),
     /// The end of the body.

@@ -42,14 +42,14 @@ fn size(statement: &Statement) -> usize
     }
 }
 
-/// Where a block begins: at its first statement, or where what follows it stands.
+/// The point where a block begins: that of its first statement, or else the point after the block.
 fn entry(block: &[Statement], at: usize, after: usize) -> usize
     ensures { result ≡ entry_of block.now at after }
 {
     if block.is_empty() { after } else { at }
 }
 
-/// Where a block begins that stands behind another one; how many points that one has is counted only if this one has some.
+/// The point where a block begins that comes after another one, whose points are counted only if this one has some.
 fn entry_behind(before: &[Statement], block: &[Statement], at: usize, after: usize) -> usize
     requires { at + points before.now ≤ max_points }
     ensures { result ≡ entry_of block.now (at + points before.now) after }
@@ -61,7 +61,7 @@ fn entry_behind(before: &[Statement], block: &[Statement], at: usize, after: usi
     }
 }
 
-/// One more point. Room is made first: `push` would hand the point back where memory is refused, and takes longer for that.
+/// Adds a point. Room is made first: `push` would hand the point back if memory is refused, and takes longer for that.
 #[inline(always)]
 fn push_point(
     found: &mut Vec<Point>,
@@ -75,8 +75,8 @@ fn push_point(
     Ok(())
 }
 
-/// Adds the point of a statement, behind which the point `after` stands. Each kind of statement adds its own: an instruction that is
-/// handed on is taken apart and put together again.
+/// Adds the point of a statement, after which comes the point `after`. Each kind of statement adds its own: an instruction that is handed
+/// on is taken apart and put together again.
 #[inline(always)]
 fn push_statement(
     callbacks: &[Callback],
@@ -116,7 +116,7 @@ fn push_statement(
     }
 }
 
-/// Adds the points of a block, which ends where the point `after` stands.
+/// Adds the points of a block, after which comes the point `after`.
 #[cycle(lower)]
 fn add_block(
     callbacks: &[Callback],
@@ -141,7 +141,7 @@ fn add_block(
     Ok(())
 }
 
-/// Adds the points of a statement, behind which the point `after` stands.
+/// Adds the points of a statement, after which comes the point `after`.
 #[cycle(lower)]
 fn add_statement(
     callbacks: &[Callback],

@@ -1,4 +1,4 @@
-//! The laws of points: where the remaining lists of a run stand in a lowered callback.
+//! The laws of points: which points of a lowered callback the remaining lists of a run have.
 
 ghost use Rattle.std.specs.Prelude.{◌≡◌, ℕ, List, Bool, Some, length, slice_get};
 ghost use Rattle.flt_graph.specs.Graph.{point_in, callback_at, place_at, instruction_at};
@@ -13,8 +13,8 @@ ghost use Rattle.flt_tree.specs.declared.filter.Callback.{Callback};
 ghost use Rattle.flt_tree.specs.declared.filter.Filter.{Filter};
 ghost use Rattle.flt_tree.specs.declared.filter.Statement.{Statement};
 
-/// Each remaining list of a callback has a point, where its first statement is done, and what remains after an outcome
-/// of that statement stands at that outcome's successor. It does nothing: its clauses are the law.
+/// Each remaining list of a callback has a point, where its first statement is done, and the list that remains after an outcome of that
+/// statement has the point of that outcome's successor. It does nothing: its clauses are the law.
 pub fn lists_have_points()
     ensures whole { (body : List Statement) → spec.Stands body 0 body }
     ensures first { (all : List Callback) (c : Callback) (g : CallbackGraph) (p : ℕ) (list : List Statement) → IsGraphOf all c g →
@@ -41,7 +41,7 @@ pub fn one_graph_at_most()
     ensures { (f : Filter) (g h : Graph) → IsWellFormed f → IsLowered f g → IsLowered f h → g ≡ h }
 {}
 
-/// What each instruction of a well-formed filter names is there: a call of the queue has its `canceled` callback, a work item its
+/// Each instruction of a well-formed filter names callbacks that exist: a call of the queue has its `canceled` callback, a work item its
 /// routine, of the kind that its place asks. It does nothing: its clause is the law.
 pub fn instructions_are_served()
     ensures { (f : Filter) (g : Graph) (k n : ℕ) → IsWellFormed f → IsLowered f g →

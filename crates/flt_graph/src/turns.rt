@@ -20,9 +20,9 @@ pub struct Turn {
     pub left: u64,
 }
 
-/// A point and its turns do for a remaining list. A body stands at 0 with no turns; what remains after an outcome of the first
-/// statement stands at that outcome's successor, with the turns after it; a `repeat` has as many turns left as its point. No list
-/// that stands costs more than the body, and in a well-formed filter none has more turns than repeats may nest. It does nothing:
+/// A point and its turns represent a remaining list. Point 0 with no turns represents the body; the successor of an outcome of the first
+/// statement, with the turns after it, represents the list that remains after that outcome; a `repeat` has as many turns left as its point.
+/// No represented list costs more than the body, and in a well-formed filter none has more turns than repeats may nest. It does nothing:
 /// its clauses are the law.
 pub fn lists_have_turns()
     ensures whole { (body : List Statement) → spec.StandsWith body 0 [] body }

@@ -189,7 +189,7 @@ sentence absence.WorkItem =
 sentence absence.OwnOperation = codes "a filter makes no operations of its own: leave this call out"
 sentence absence.FileName = codes "there are no file names: `n0 = file data` gives the number of the file"
 sentence absence.FinalStatus =
-    codes "there are no other final statuses: write the nearest, since the rules refuse `STATUS_PENDING` and tell no others apart"
+    codes "there are no other final statuses: write the nearest, since the rules refuse `STATUS_PENDING` and distinguish no others"
 sentence absence.Change = codes "what an operation asks for can't be changed: leave this call out"
 sentence absence.Memory = codes "there is no memory but the number of a context, `value c0`: leave this call out"
 sentence absence.Port = codes "there are no communication ports: leave this call out"

@@ -128,7 +128,7 @@ title_by_fault E02 t ps = found t ++ codes " is no word or number"
 title_by_fault E04 t ps = unknown t ps
 title_by_fault E05 t ps = codes "the name " ++ (found t ++ codes " is declared twice")
 title_by_fault E06 t ps = codes "a limit is passed at " ++ found t
-title_by_fault E08 t ps = found t ++ codes " stands twice in one call"
+title_by_fault E08 t ps = found t ++ codes " appears twice in one call"
 title_by_fault E01 t ps = expected t ps
 title_by_fault E03 t ps = expected t ps
 title_by_fault E07 t ps = expected t ps
@@ -137,7 +137,7 @@ title_by_fault E07 t ps = expected t ps
 abbrev pub title_by_hint : Option Text → Trouble → List Phrase → Text
 title_by_hint (Some words) t ps = words
 title_by_hint None t ps =
-    if is_callback_twice t.hint then codes "this " ++ (found t ++ codes " callback stands twice")
+    if is_callback_twice t.hint then codes "this " ++ (found t ++ codes " callback appears twice")
     else title_by_fault t.spot.fault.kind t ps
 
 abbrev pub title_by_call : Option OpenCall → Trouble → List Phrase → Text

@@ -1,9 +1,9 @@
-//! What the language leaves out, and what to write in its place.
+//! The features that the language leaves out, and what to write in their place.
 
 ghost use Rattle.std.specs.Prelude.{◌≡◌, map};
 ghost use Rattle.flt_hints.specs.Absences as spec;
 
-/// What the language leaves out.
+/// A feature that the language leaves out.
 #[derive(Clone, Copy)]
 pub(crate) enum Absence {
     // Of contexts of other things than streams and instances.
@@ -316,7 +316,7 @@ pub(crate) fn surroundings() -> &'static [(&'static [u8], Absence)]
     &SURROUNDINGS
 }
 
-/// What the first entry of a table with which a word begins says.
+/// The feature of the first entry of a table with which a word begins.
 fn absence_among(table: &[(&'static [u8], Absence)], word: &[u8]) -> Option<Absence>
     ensures { result ≡ spec.named_among (map (λ e. (e.0.now, e.1)) table.now) word.now }
 {
@@ -328,7 +328,7 @@ fn absence_among(table: &[(&'static [u8], Absence)], word: &[u8]) -> Option<Abse
     None
 }
 
-/// What the language leaves out, if a word names it.
+/// The feature that the language leaves out, if a word names one.
 #[tactic(auto, unfolding(crate::specs::Absences::absence_of))]
 pub(crate) fn absence_of(word: &[u8]) -> Option<Absence>
     ensures { result ≡ spec.absence_of word.now }
@@ -361,7 +361,7 @@ pub(crate) fn absence_of(word: &[u8]) -> Option<Absence>
 }
 
 impl Absence {
-    /// One sentence: that the language has no such thing, and what to write instead.
+    /// One sentence: the language has no such feature, and what to write instead.
     pub(crate) fn sentence(self) -> &'static str
         ensures { result.now ≡ spec.sentence self }
     {
@@ -422,7 +422,7 @@ impl Absence {
             Absence::FileName =>
                 "there are no file names: `n0 = file data` gives the number of the file",
             Absence::FinalStatus =>
-                "there are no other final statuses: write the nearest, since the rules refuse `STATUS_PENDING` and tell no others apart",
+                "there are no other final statuses: write the nearest, since the rules refuse `STATUS_PENDING` and distinguish no others",
             Absence::Change => "what an operation asks for can't be changed: leave this call out",
             Absence::Memory =>
                 "there is no memory but the number of a context, `value c0`: leave this call out",

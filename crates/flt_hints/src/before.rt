@@ -1,11 +1,11 @@
-//! What stands before a token.
+//! The kinds of the tokens before a token.
 
 ghost use Rattle.std.specs.Prelude.{◌≡◌};
 ghost use Rattle.flt_hints.specs.Before as spec;
 
 use flt_syntax::{Kind, Token};
 
-/// The kinds of the two tokens before another, that of the end where there is none.
+/// The kinds of the two tokens before another, each that of the end of the text if there is no such token.
 #[derive(Clone, Copy)]
 pub(crate) struct KindsBefore {
     pub(crate) last: Kind,

@@ -1,4 +1,4 @@
-//! What may stand in a place of a text.
+//! The words, symbols and names that are legal at a place of a text.
 
 ghost use Rattle.std.specs.Prelude.{◌≡◌, ◌≤◌, false, [], ◌++◌, length, map, IfOk, OnOk};
 ghost use Rattle.flt_hints.specs.Choices as spec;
@@ -31,14 +31,14 @@ pub struct Expected {
     pub kind: Kind,
 }
 
-/// What may stand in a place of a text.
+/// The words, symbols and names that are legal at a place of a text.
 #[derive(Drop)]
 pub struct Choices<'a> {
-    /// The words of the language that may, and behind them its symbols.
+    /// The legal words of the language, then its legal symbols.
     pub expected: Items<Expected>,
     pub takes_number: bool,
     pub takes_name: bool,
-    /// Names that the text declares and that may stand there.
+    /// The legal names among those that the text declares.
     pub names: Items<&'a [u8]>,
 }
 
@@ -48,7 +48,7 @@ fn symbols() -> &'static [(&'static [u8], Kind)]
     &SYMBOLS
 }
 
-/// Adds those of a table that may stand in a place.
+/// Adds the words or symbols of a table that are legal at a place.
 #[tactic(auto, unfolding(crate::specs::Choices::possible))]
 fn add_possible(
     alloc: Global,
@@ -70,7 +70,7 @@ fn add_possible(
     Ok(())
 }
 
-/// The words and symbols of the language that may stand in a place.
+/// The words and symbols of the language that are legal at a place.
 fn expected_in(alloc: Global, gap: Gap<'_>) -> Result<Items<Expected>, AllocError>
     ensures { IfOk result (λ es. map spec.entry_of es ≡ spec.possible (gap_of gap.entry) vocabulary ++ spec.possible (gap_of gap.entry) spec.symbols) }
 {
@@ -80,7 +80,7 @@ fn expected_in(alloc: Global, gap: Gap<'_>) -> Result<Items<Expected>, AllocErro
     Ok(found)
 }
 
-/// Those of some names that may stand in a place.
+/// The names, among the given ones, that are legal at a place.
 #[tactic(auto, unfolding(crate::specs::Choices::possible_names))]
 fn names_in<'a>(
     alloc: Global,
@@ -98,7 +98,7 @@ fn names_in<'a>(
     Ok(found)
 }
 
-/// Whether a name that is new to a text may stand in a place of it.
+/// Whether a name that is new to a text is legal at a place of it.
 fn takes_name(alloc: Global, text: &[u8], gap: Gap<'_>) -> Result<bool, AllocError>
     requires { length text.now ≤ max_text }
     ensures { IfOk result (λ b. spec.TakesName text.now (gap_of gap.entry) b) }
@@ -109,7 +109,7 @@ fn takes_name(alloc: Global, text: &[u8], gap: Gap<'_>) -> Result<bool, AllocErr
     Ok(taken)
 }
 
-/// What may stand in a place of a text that declares some names.
+/// The words, symbols and names that are legal at a place of a text that declares the given names.
 pub(crate) fn choices_in<'a>(
     alloc: Global,
     text: &[u8],
@@ -149,7 +149,7 @@ impl<'a> Choices<'a> {
         }
     }
 
-    /// Whether nothing may stand there.
+    /// Whether nothing is legal there.
     #[tactic(auto, unfolding(crate::specs::Choices::are_none))]
     pub(crate) fn are_none(&self) -> bool
         ensures { result ≡ spec.are_none self.now }
@@ -157,7 +157,7 @@ impl<'a> Choices<'a> {
         self.expected.len() == 0 && !self.takes_number && !self.takes_name && self.names.len() == 0
     }
 
-    /// Whether a word or symbol of a kind may stand there.
+    /// Whether a word or symbol of a kind is legal there.
     #[tactic(auto, unfolding(crate::specs::Choices::takes))]
     pub(crate) fn takes(&self, kind: Kind) -> bool
         ensures { result ≡ spec.takes self.now kind }

@@ -1,9 +1,9 @@
-//! What is probably wrong, and how to mend it.
+//! The probable mistakes, and how to fix them.
 
 ghost use Rattle.std.specs.Prelude.{◌≡◌};
 ghost use Rattle.flt_hints.specs.Hint as spec;
 
-/// What is probably wrong where a text doesn't parse.
+/// The probable mistake in a text that doesn't parse.
 #[derive(Clone, Copy)]
 pub enum Hint {
     // Of the text as a whole.
@@ -31,7 +31,7 @@ pub enum Hint {
     TooLongWord,
     // Of words that the language has, or the driver kit, or C.
     Prefix,
-    /// A word names what the language leaves out; `Absence` says what.
+    /// A word names a feature that the language leaves out: `Absence` says which.
     LeftOut,
     FinalStatus,
     Comparison,
@@ -77,7 +77,7 @@ pub enum Hint {
 }
 
 impl Hint {
-    /// One sentence on how to mend it.
+    /// One sentence that says how to fix it.
     pub(crate) fn sentence(self) -> &'static str
         ensures { result.now ≡ spec.sentence self }
     {
@@ -87,7 +87,7 @@ impl Hint {
                 "the text begins with a byte order mark: save it as ASCII or as UTF-8 without the mark",
             Hint::NotAscii => "outside comments a text is ASCII",
             Hint::Comment => "a comment begins with `#` and ends with the line",
-            Hint::Semicolon => "nothing stands between statements: leave the `;` out",
+            Hint::Semicolon => "nothing separates statements: leave the `;` out",
             Hint::Bracket => "what a call takes follows it without brackets or commas",
             Hint::Address => "what a call gives is named without `&`",
             Hint::AndOr =>
@@ -107,7 +107,7 @@ impl Hint {
             Hint::TooLongWord => "a word has at most 64 bytes",
             Hint::Prefix => "the driver kit's prefix is left out",
             Hint::LeftOut => "the language leaves this out",
-            Hint::FinalStatus => "a final status stands behind `COMPLETE`",
+            Hint::FinalStatus => "a final status follows `COMPLETE`",
             Hint::Comparison => "numbers are compared by `==`",
             Hint::Assignment => "a variable is set by `=`",
             Hint::EqualsNull =>
@@ -118,13 +118,12 @@ impl Hint {
             Hint::Copy =>
                 "a variable can't be copied: `FltReferenceContext c0 as c1` gives c1 a reference of its own",
             Hint::NamelessContext =>
-                "a context stands behind the word `context`, as in `return WITH_CALLBACK context c0`",
-            Hint::NamelessOld =>
-                "what the call gives back stands behind the word `old`, as in `old c1`",
+                "a context follows the word `context`, as in `return WITH_CALLBACK context c0`",
+            Hint::NamelessOld => "what the call gives back follows the word `old`, as in `old c1`",
             Hint::NamelessCopy =>
-                "what gets the new reference stands behind the word `as`, as in `FltReferenceContext c0 as c1`",
+                "the variable that gets the new reference follows the word `as`, as in `FltReferenceContext c0 as c1`",
             Hint::NeedsContext =>
-                "a context stands behind the word `context`, and is `c0` to `c7` or `arg`, as in `return WITH_CALLBACK context c0`",
+                "a context follows the word `context`, and is `c0` to `c7` or `arg`, as in `return WITH_CALLBACK context c0`",
             Hint::NeedsFinalStatus =>
                 "`COMPLETE` takes a final status, as in `return COMPLETE STATUS_ACCESS_DENIED`",
             Hint::TakenOperand =>
@@ -132,14 +131,14 @@ impl Hint {
             Hint::CanFail => "this call can fail: write `if`, the call, and a block `{ }`",
             Hint::NeverFails => "this call always succeeds: write it without `if`",
             Hint::Success =>
-                "the call itself stands behind `if`: the first block is taken where it succeeds",
+                "the call itself follows `if`: the first block is taken where it succeeds",
             Hint::ElseIf => "there is no `else if`: put the `if` into the block of the `else`",
-            Hint::LoneElse => "an `else` stands right behind the first block of its `if`",
+            Hint::LoneElse => "an `else` comes right after the first block of its `if`",
             Hint::Loop => "the only loop is `repeat NUMBER { }`",
             Hint::Jump => "there are no jumps: use `if` and `else`, or `return`",
             Hint::MissingBrace => "a `}` is missing before this",
             Hint::LateLock => "locks are declared before `queue` and before the callbacks",
-            Hint::LateQueue => "`queue` stands once, after the locks and before the callbacks",
+            Hint::LateQueue => "`queue` is written once, after the locks and before the callbacks",
             Hint::NeedsQueue =>
                 "this call needs the filter's queue: write `queue` before the callbacks",
             Hint::NeedsSpinLock =>
@@ -150,8 +149,7 @@ impl Hint {
                 "the filter has no push lock: declare one after the altitude, `lock push NAME`",
             Hint::OtherKind => "this name is declared, but isn't of the kind that the call takes",
             Hint::NameTwice => "this name is declared before: choose another",
-            Hint::CallbackTwice =>
-                "this callback stands in the text already: put both bodies into one",
+            Hint::CallbackTwice => "this callback is in the text already: put both bodies into one",
             Hint::VariableTwice => "a call takes a variable once: use another one",
             Hint::NeedsCanceled => "a filter with a queue has a `canceled` callback: add one",
             Hint::NeedsPre =>

@@ -1,4 +1,4 @@
-//! Finds out what is probably wrong, by what is found and what stands round it.
+//! Finds the probable mistake from the token where a text is refused and its surroundings.
 
 ghost use Rattle.std.specs.Prelude.{◌≡◌, map};
 ghost use Rattle.std.specs.Char.{is_ascii_digit};
@@ -17,7 +17,7 @@ use crate::kinds::{
 use crate::names::has_name;
 use flt_syntax::{FaultKind, Kind, same_kind};
 
-/// What is found, and what stands round it.
+/// The token where a text is refused, and its surroundings.
 #[derive(Clone, Copy)]
 pub(crate) struct Scene<'a> {
     pub(crate) before: KindsBefore,
@@ -25,11 +25,11 @@ pub(crate) struct Scene<'a> {
     pub(crate) bytes: &'a [u8],
     /// Whether a word of the language is probably meant.
     pub(crate) is_meant: bool,
-    /// Whether it is a misspelt word for what the language leaves out.
+    /// Whether it is a misspelt name of a feature that the language leaves out.
     pub(crate) is_misspelt_absence: bool,
-    /// Whether it stands in the line of the token before it.
+    /// Whether it is in the line of the token before it.
     pub(crate) goes_on: bool,
-    /// The text behind it.
+    /// The text after it.
     pub(crate) behind: &'a [u8],
     /// Whether the text declares a lock or a routine of this name.
     pub(crate) is_declared: bool,
@@ -37,7 +37,7 @@ pub(crate) struct Scene<'a> {
 
 // ---- bytes with which no token begins
 
-/// Signs that mean one thing wherever they stand.
+/// Signs that mean the same wherever they appear.
 const SIGNS: [(u8, Hint); 15] = [
     (b'*', Hint::Operator),
     (b'%', Hint::Operator),
@@ -63,7 +63,7 @@ fn signs() -> &'static [(u8, Hint)]
     &SIGNS
 }
 
-/// What a sign of a table means.
+/// The meaning of a sign in a table.
 fn meant_among(table: &[(u8, Hint)], byte: u8) -> Option<Hint>
     ensures { result ≡ spec.meant_among table.now byte }
 {
@@ -84,7 +84,7 @@ fn begins_with(bytes: &[u8], first: u8) -> bool
     }
 }
 
-/// Of a slash: of a comment of other languages, or of arithmetic.
+/// The hint for a slash: it begins a comment of other languages, or is arithmetic.
 fn slash_hint(behind: &[u8]) -> Hint
     ensures { result ≡ spec.slash_hint behind.now }
 {
@@ -95,7 +95,7 @@ fn slash_hint(behind: &[u8]) -> Hint
     }
 }
 
-/// Of an ampersand: half of an `and`, or the address of what follows.
+/// The hint for an ampersand: it is half of an `and`, or takes the address of what follows.
 fn ampersand_hint(behind: &[u8]) -> Hint
     ensures { result ≡ spec.ampersand_hint behind.now }
 {
@@ -106,7 +106,7 @@ fn ampersand_hint(behind: &[u8]) -> Hint
     }
 }
 
-/// Of a point.
+/// The hint for a point.
 fn point_hint(scene: Scene<'_>, choices: &Choices<'_>) -> Hint
     ensures { result ≡ spec.point_hint (scene_of scene.entry) choices.now }
 {
@@ -125,7 +125,7 @@ fn is_byte_order_mark(scene: Scene<'_>) -> bool
     scene.bytes == b"\xef".as_slice() && scene.behind.starts_with(b"\xbb\xbf")
 }
 
-/// Of a byte that isn't ASCII.
+/// The hint for a byte that isn't ASCII.
 fn foreign_hint(scene: Scene<'_>, byte: u8) -> Option<Hint>
     ensures { result ≡ spec.foreign_hint (scene_of scene.entry) byte }
 {
@@ -138,7 +138,7 @@ fn foreign_hint(scene: Scene<'_>, byte: u8) -> Option<Hint>
     }
 }
 
-/// Of a byte with which no token begins.
+/// The hint for a byte with which no token begins.
 fn byte_hint(scene: Scene<'_>, choices: &Choices<'_>, byte: u8) -> Option<Hint>
     ensures { result ≡ spec.byte_hint (scene_of scene.entry) choices.now byte }
 {
@@ -153,7 +153,7 @@ fn byte_hint(scene: Scene<'_>, choices: &Choices<'_>, byte: u8) -> Option<Hint>
     }
 }
 
-/// The same of what is found.
+/// The hint for a token, by its first byte.
 fn stray_hint(scene: Scene<'_>, choices: &Choices<'_>) -> Option<Hint>
     ensures { result ≡ spec.stray_hint (scene_of scene.entry) choices.now (scene_of scene.entry).bytes }
 {
@@ -186,7 +186,7 @@ fn are_digits(run: &[u8]) -> bool
     true
 }
 
-/// Of a run that is no word or number.
+/// The hint for a run that is no word or number.
 fn malformed_hint(run: &[u8]) -> Hint
     ensures { result ≡ spec.malformed_hint run.now }
 {
@@ -205,7 +205,7 @@ fn malformed_hint(run: &[u8]) -> Hint
 
 // ---- words that the language hasn't
 
-/// What the language leaves out, if a word that stands in a place names it.
+/// The feature that the language leaves out, if a word at a place names one.
 pub(crate) fn absence_in(bytes: &[u8], choices: &Choices<'_>) -> Option<Absence>
     ensures { result ≡ spec.absence_in bytes.now choices.now }
 {
@@ -225,7 +225,7 @@ fn takes_context(kind: Kind) -> bool
     matches!(kind, Kind::WithCallback | Kind::Synchronize)
 }
 
-/// Of a name in place of what a status takes, behind it in its line.
+/// The hint for a name in place of the operand of a status, after the status in its line.
 fn operand_hint(scene: Scene<'_>, choices: &Choices<'_>) -> Option<Hint>
     ensures { result ≡ spec.operand_hint (scene_of scene.entry) choices.now }
 {
@@ -241,7 +241,7 @@ fn operand_hint(scene: Scene<'_>, choices: &Choices<'_>) -> Option<Hint>
     }
 }
 
-/// Of a word that names what the language leaves out.
+/// The hint for a word that names a feature that the language leaves out.
 fn absence_hint(scene: Scene<'_>, choices: &Choices<'_>) -> Option<Hint>
     ensures { result ≡ spec.absence_hint (scene_of scene.entry) choices.now }
 {
@@ -260,7 +260,7 @@ const JUMP_WORDS: [&[u8]; 4] = [b"goto", b"break", b"continue", b"switch"];
 
 const JOINING_WORDS: [&[u8]; 2] = [b"and", b"or"];
 
-/// Of a word that the language hasn't.
+/// The hint for a word that the language hasn't.
 fn name_hint(scene: Scene<'_>, choices: &Choices<'_>) -> Option<Hint>
     ensures { result ≡ spec.name_hint (scene_of scene.entry) choices.now }
 {
@@ -302,7 +302,7 @@ fn is_operator(kind: Kind) -> bool
     is_equality(kind) || same_kind(kind, Kind::NotEqual) || is_sum(kind)
 }
 
-/// Of an operator.
+/// The hint for an operator.
 fn operator_hint(found: Kind, choices: &Choices<'_>) -> Option<Hint>
     ensures { result ≡ spec.operator_hint found choices.now }
 {
@@ -321,7 +321,7 @@ fn operator_hint(found: Kind, choices: &Choices<'_>) -> Option<Hint>
     }
 }
 
-/// Whether a variable behind a status that takes a context was read as the beginning of a statement.
+/// Whether a variable after a status that takes a context was read as the beginning of a statement.
 fn has_nameless_context(scene: Scene<'_>, choices: &Choices<'_>) -> bool
     ensures { result ≡ spec.has_nameless_context (scene_of scene.entry) choices.now }
 {
@@ -340,7 +340,7 @@ fn has_taken_operand(scene: Scene<'_>, choices: &Choices<'_>) -> bool
         && choices.takes(Kind::Return)
 }
 
-/// Of a context variable that lacks a word before it.
+/// The hint for a context variable that lacks a word before it.
 fn nameless_hint(scene: Scene<'_>, choices: &Choices<'_>) -> Option<Hint>
     ensures { result ≡ spec.nameless_hint (scene_of scene.entry) choices.now }
 {
@@ -357,7 +357,7 @@ fn nameless_hint(scene: Scene<'_>, choices: &Choices<'_>) -> Option<Hint>
     }
 }
 
-/// Of a word that has its place elsewhere in the text, or behind another word.
+/// The hint for a word that belongs elsewhere in the text, or after another word.
 fn place_hint(scene: Scene<'_>, choices: &Choices<'_>) -> Option<Hint>
     ensures { result ≡ spec.place_hint (scene_of scene.entry) choices.now }
 {
@@ -373,7 +373,7 @@ fn place_hint(scene: Scene<'_>, choices: &Choices<'_>) -> Option<Hint>
     }
 }
 
-/// Of a word between statements.
+/// The hint for a word between statements.
 fn between_hint(scene: Scene<'_>, choices: &Choices<'_>) -> Option<Hint>
     ensures { result ≡ spec.between_hint (scene_of scene.entry) choices.now }
 {
@@ -395,7 +395,7 @@ fn between_hint(scene: Scene<'_>, choices: &Choices<'_>) -> Option<Hint>
     }
 }
 
-/// Of a call, or a word between statements.
+/// The hint for a call, or for a word between statements.
 fn statement_hint(scene: Scene<'_>, choices: &Choices<'_>) -> Option<Hint>
     ensures { result ≡ spec.statement_hint (scene_of scene.entry) choices.now }
 {
@@ -408,7 +408,7 @@ fn statement_hint(scene: Scene<'_>, choices: &Choices<'_>) -> Option<Hint>
     }
 }
 
-/// Which lock has to be declared for a call.
+/// The hint that names the lock that must be declared for a call.
 fn needs_lock(kind: Kind) -> Option<Hint>
     ensures { result ≡ spec.needs_lock kind }
 {
@@ -423,7 +423,7 @@ fn needs_lock(kind: Kind) -> Option<Hint>
     }
 }
 
-/// Of what stands in place of a lock's name, where the filter declares no lock that the call takes: nothing may stand there.
+/// The hint for a token in place of a lock's name, if the filter declares no lock that the call takes: nothing is legal there.
 fn lock_hint(scene: Scene<'_>, choices: &Choices<'_>) -> Option<Hint>
     ensures { result ≡ spec.lock_hint (scene_of scene.entry) choices.now }
 {
@@ -434,7 +434,7 @@ fn lock_hint(scene: Scene<'_>, choices: &Choices<'_>) -> Option<Hint>
     }
 }
 
-/// Of a name, an operator or another token.
+/// The hint for a name, an operator or another token.
 fn found_hint(scene: Scene<'_>, choices: &Choices<'_>) -> Option<Hint>
     ensures { result ≡ spec.found_hint (scene_of scene.entry) choices.now }
 {
@@ -447,7 +447,7 @@ fn found_hint(scene: Scene<'_>, choices: &Choices<'_>) -> Option<Hint>
     }
 }
 
-/// Of a token by what stands before it.
+/// The hint for a token by the tokens before it.
 fn token_hint_behind(scene: Scene<'_>, choices: &Choices<'_>) -> Option<Hint>
     ensures { result ≡ spec.token_hint_behind (scene_of scene.entry) choices.now }
 {
@@ -460,7 +460,7 @@ fn token_hint_behind(scene: Scene<'_>, choices: &Choices<'_>) -> Option<Hint>
     }
 }
 
-/// Of a token that the grammar doesn't have there.
+/// The hint for a token that the grammar doesn't have there.
 fn token_hint(scene: Scene<'_>, choices: &Choices<'_>) -> Option<Hint>
     ensures { result ≡ spec.token_hint (scene_of scene.entry) choices.now }
 {
@@ -476,7 +476,7 @@ fn takes_queue(kind: Kind) -> bool
     matches!(kind, Kind::InsertIo | Kind::RemoveNextIo)
 }
 
-/// Of a name that isn't known there.
+/// The hint for a name that isn't known there.
 fn unknown_hint(scene: Scene<'_>, choices: &Choices<'_>) -> Option<Hint>
     ensures { result ≡ spec.unknown_hint (scene_of scene.entry) choices.now }
 {
@@ -489,7 +489,7 @@ fn unknown_hint(scene: Scene<'_>, choices: &Choices<'_>) -> Option<Hint>
     }
 }
 
-/// Of a name that is declared twice.
+/// The hint for a name that is declared twice.
 fn twice_hint(scene: Scene<'_>) -> Hint
     ensures { result ≡ spec.twice_hint (scene_of scene.entry) }
 {
@@ -506,7 +506,7 @@ fn is_lock_kind(kind: Kind) -> bool
     matches!(kind, Kind::Spin | Kind::Fast | Kind::Push)
 }
 
-/// Of a limit that is passed.
+/// The hint for a limit that is passed.
 fn limit_hint(scene: Scene<'_>) -> Hint
     ensures { result ≡ spec.limit_hint (scene_of scene.entry) }
 {
@@ -527,7 +527,7 @@ fn limit_hint(scene: Scene<'_>) -> Hint
     }
 }
 
-/// Of a declaration that lacks another one.
+/// The hint for a declaration that lacks another one.
 fn incomplete_hint(scene: Scene<'_>) -> Hint
     ensures { result ≡ spec.incomplete_hint (scene_of scene.entry) }
 {
@@ -538,7 +538,7 @@ fn incomplete_hint(scene: Scene<'_>) -> Hint
     }
 }
 
-/// What is probably wrong.
+/// The hint for a fault: the probable mistake, if one is known.
 #[tactic(auto, unfolding(crate::specs::Hinting::hint_of))]
 pub(crate) fn hint(kind: FaultKind, scene: Scene<'_>, choices: &Choices<'_>) -> Option<Hint>
     ensures { result ≡ spec.hint_of kind (scene_of scene.entry) choices.now }

@@ -1,4 +1,4 @@
-//! The kinds of words that stand in like places.
+//! The kinds of words that appear in like places.
 
 ghost use Rattle.std.specs.Prelude.{◌≡◌};
 ghost use Rattle.flt_hints.specs.Kinds as spec;
@@ -50,7 +50,7 @@ pub(crate) fn is_call(kind: Kind) -> bool
     is_fallible(kind) || is_plain(kind)
 }
 
-/// Whether it is a word that stands among the operands of calls and isn't a variable's or a status.
+/// Whether it is a word that appears among the operands of calls and isn't a variable's or a status.
 pub(crate) fn is_operand_word(kind: Kind) -> bool
     ensures { result ≡ spec.is_operand_word kind }
 {

@@ -1,5 +1,5 @@
-//! What is said of a text that doesn't parse: what stands where it is refused, what may stand there in its place, what is probably
-//! meant, and how to mend it. What may stand there is tried by the parser, so that no table can differ from it.
+//! Explains why a text doesn't parse, and how to fix it: where it is refused, which words are legal there, and which one is probably meant.
+//! The parser itself tries the legal words, so that no table can differ from it.
 #![tactic(auto)]
 
 mod absences;

@@ -1,4 +1,4 @@
-//! Which word is probably meant, and what is probably wrong, in the place of a token.
+//! The word that is probably meant, and the probable mistake, in the place of a token.
 
 ghost use Rattle.std.specs.Prelude.{◌≡◌, true, map, None, IfOk, IfSome};
 ghost use Rattle.std.specs.Option.{option_map};
@@ -21,7 +21,7 @@ use crate::trial::{Gap, if_it_may};
 use flt_syntax::{FaultKind, Kind, Token, same_kind};
 use std::alloc::{AllocError, Global};
 
-/// What the driver kit's names begin with, and the language leaves out.
+/// Beginnings of the driver kit's names that the language leaves out.
 const PREFIXES: [&[u8]; 5] = [
     b"FLT_PREOP_SUCCESS_",
     b"FLT_PREOP_",
@@ -50,7 +50,7 @@ fn without_prefix(word: &[u8]) -> Option<&[u8]>
     without_one(PREFIXES.as_slice(), word)
 }
 
-/// Whether what is found is a misspelt word for what the language leaves out.
+/// Whether a token is a misspelt name of a feature that the language leaves out.
 fn is_misspelt_absence(
     alloc: Global,
     kind: FaultKind,
@@ -71,8 +71,8 @@ fn is_misspelt_absence(
     }
 }
 
-/// Whether a word of the language is probably meant by what is found: a word that the language neither has nor leaves out, since
-/// another word in place of one that is left out would say something else.
+/// Whether a word is probably a misspelt word of the language. It must be one that the language neither has nor leaves out, since another
+/// word in place of one that is left out would mean something else.
 fn may_be_misspelt(kind: FaultKind, found: Kind, word: &[u8]) -> bool
     ensures { result ≡ spec.may_be_misspelt kind found word.now }
 {
@@ -83,7 +83,7 @@ fn may_be_misspelt(kind: FaultKind, found: Kind, word: &[u8]) -> bool
     }
 }
 
-/// What is compared with the words that may stand there: a word, or what is left of it without a prefix.
+/// The part of a word that is compared with the legal words: all of it, or the rest after a prefix.
 fn written(word: &[u8]) -> &[u8]
     ensures { result.now ≡ spec.written word.now }
 {
@@ -93,7 +93,7 @@ fn written(word: &[u8]) -> &[u8]
     }
 }
 
-/// The word that is probably meant by what is found.
+/// The word that is probably meant by the token.
 #[tactic(auto, unfolding(crate::specs::Meant::meant_by, crate::specs::Absences::is_left_out))]
 pub(crate) fn meant<'a>(
     alloc: Global,
@@ -118,7 +118,7 @@ pub(crate) fn meant<'a>(
     if_it_may(alloc, gap, word)
 }
 
-/// What is found, and what stands round it.
+/// The token, and its surroundings.
 fn scene_at<'a>(
     alloc: Global,
     text: &'a [u8],
@@ -144,7 +144,7 @@ fn scene_at<'a>(
     })
 }
 
-/// What is probably wrong in the place of a token.
+/// The hint for the token at a place.
 #[tactic(auto, unfolding(crate::specs::Meant::hint_at))]
 pub(crate) fn hint_at<'a>(
     alloc: Global,

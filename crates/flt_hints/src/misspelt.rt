@@ -1,4 +1,4 @@
-//! Words that are misspelt, and name what the language leaves out.
+//! Misspelt names of features that the language leaves out.
 
 ghost use Rattle.std.specs.Prelude.{◌≡◌, map, IfOk};
 ghost use Rattle.flt_hints.specs.Misspelt as spec;
@@ -10,10 +10,10 @@ use flt_nearest::distance;
 use flt_syntax::{Kind, keywords};
 use std::alloc::{AllocError, Global};
 
-/// How many letters a beginning has at least: by a shorter one a word of the text's own would be taken for another.
+/// The least number of letters of a beginning: with a shorter one a word of the text's own would be taken for another.
 const LEAST: usize = 8;
 
-/// What a beginning names, and how many of its letters a word has otherwise.
+/// The feature that a beginning names, and the number of its letters in which a word differs.
 #[derive(Clone, Copy)]
 pub(crate) struct NearAbsence {
     pub(crate) absence: Absence,
@@ -29,14 +29,14 @@ fn begin_alike(word: &[u8], other: &[u8]) -> bool
     }
 }
 
-/// How many letters of a beginning a word has otherwise.
+/// The number of letters of a beginning in which a word differs.
 fn difference(alloc: Global, word: &[u8], beginning: &[u8]) -> Result<usize, AllocError>
     ensures { IfOk result (λ d. d ≡ spec.difference word.now beginning.now) }
 {
     distance(alloc, &word[..beginning.len().min(word.len())], beginning)
 }
 
-/// What a beginning names, if a word nearly begins so. One letter in six may differ.
+/// The feature that a beginning names, if a word nearly begins with it. One letter in six may differ.
 fn near(
     alloc: Global,
     word: &[u8],
@@ -56,7 +56,7 @@ fn near(
     }
 }
 
-/// The nearer of two, the first where both are as near.
+/// The nearer of two, the first if both are as near.
 fn nearer(one: Option<NearAbsence>, other: Option<NearAbsence>) -> Option<NearAbsence>
     ensures { result ≡ spec.nearer one other }
 {
@@ -73,7 +73,7 @@ fn nearer(one: Option<NearAbsence>, other: Option<NearAbsence>) -> Option<NearAb
     }
 }
 
-/// The nearest of what is nearest so far and what the beginnings of a table name.
+/// The nearest of the candidate so far and the features that the beginnings of a table name.
 #[tactic(auto, using(crate::proofs::Nearer::nearer_in_turn))]
 fn nearest_among(
     alloc: Global,
@@ -90,7 +90,7 @@ fn nearest_among(
     Ok(nearest)
 }
 
-/// What the nearest beginning names, of all that the language leaves out.
+/// The feature that the nearest beginning names, among all that the language leaves out.
 #[tactic(auto, unfolding(crate::specs::Misspelt::nearest), using(crate::proofs::Nearer::nearer_in_turn))]
 fn nearest(alloc: Global, word: &[u8]) -> Result<Option<NearAbsence>, AllocError>
     ensures { IfOk result (λ near. near ≡ spec.nearest word.now) }
@@ -121,8 +121,8 @@ fn are_farther(
     Ok(true)
 }
 
-/// What the language leaves out, if a misspelt word probably names it: it begins nearly as a word does that names it, and no word of the
-/// language is as near.
+/// The feature that the language leaves out, if a misspelt word probably names one: the word nearly begins with its name, and no word of
+/// the language is as near.
 #[tactic(auto, unfolding(crate::specs::Misspelt::misspelt_absence))]
 pub(crate) fn misspelt_absence(alloc: Global, word: &[u8]) -> Result<Option<Absence>, AllocError>
     ensures { IfOk result (λ absence. absence ≡ spec.misspelt_absence word.now) }

@@ -10,7 +10,7 @@ use flt_syntax::{Kind, Token, bytes_of};
 use sqlite_items::Items;
 use std::alloc::{AllocError, Global};
 
-/// How many names are looked at: a text that parses declares fewer.
+/// The number of names that are considered at most: a text that parses declares fewer.
 const MAX_NAMES: usize = 32;
 
 /// Whether the name of a lock or a routine follows.
@@ -60,7 +60,7 @@ fn is_word(kind: Kind) -> bool
     !is_symbol(kind) && !is_other(kind)
 }
 
-/// The words that stand right behind one that a name follows.
+/// The words directly after one that a name follows.
 fn names_behind<'a>(
     alloc: Global,
     text: &'a [u8],
@@ -92,14 +92,14 @@ pub(crate) fn has_name(others: &[&[u8]], name: &[u8]) -> bool
     false
 }
 
-/// Whether a name is looked at behind others.
+/// Whether a name is considered after others.
 fn is_looked_at(others: &[&[u8]], name: &[u8]) -> bool
     ensures { result ≡ spec.is_looked_at (map (λ n. n.now) others.now) name.now }
 {
     others.len() < MAX_NAMES && !has_name(others, name)
 }
 
-/// Some names, each once, as many as are looked at.
+/// Some names, each once, as many as are considered.
 fn each_once<'a>(alloc: Global, names: &[&'a [u8]]) -> Result<Items<&'a [u8]>, AllocError>
     ensures { IfOk result (λ ns. map (λ n. n.now) ns ≡ spec.each_once [] (map (λ n. n.now) names.now)) }
 {

@@ -1,4 +1,4 @@
-//! Which word is meant where another one stands.
+//! The word that is meant by a misspelt one.
 
 ghost use Rattle.std.specs.Prelude.{◌≡◌, ◌≤◌, length, map, IfOk};
 ghost use Rattle.std.specs.List.{fold};
@@ -8,7 +8,7 @@ use crate::choices::{Choices, Expected};
 use flt_nearest::Nearest;
 use std::alloc::{AllocError, Global};
 
-/// How many letters of a word count: those behind what all final statuses begin with.
+/// The number of letters of a word that count: those after the prefix that all final statuses share.
 fn letters(word: &[u8]) -> usize
     ensures { result ≡ spec.letters word.now }
 {
@@ -19,14 +19,14 @@ fn letters(word: &[u8]) -> usize
     }
 }
 
-/// How many letters may differ: a third of those that count, and always one.
+/// The number of letters that may differ: a third of those that count, but always one.
 fn reach(a: &[u8], b: &[u8]) -> usize
     ensures { result ≡ spec.reach a.now b.now }
 {
     (letters(a).max(letters(b)) / 3).max(1)
 }
 
-/// The nearest of what is nearest so far and words of the language.
+/// The nearest of the candidate so far and words of the language.
 fn nearest_expected<'a>(
     alloc: Global,
     written: &[u8],
@@ -42,7 +42,7 @@ fn nearest_expected<'a>(
     Ok(nearest)
 }
 
-/// The nearest of what is nearest so far and some names.
+/// The nearest of the candidate so far and some names.
 fn nearest_name<'a>(
     alloc: Global,
     written: &[u8],
@@ -58,7 +58,7 @@ fn nearest_name<'a>(
     Ok(nearest)
 }
 
-/// The word that is nearest to what is written, of those that may stand there.
+/// The word that is nearest to the written one, among those that are legal there.
 #[tactic(auto, unfolding(crate::specs::Nearest::nearest_word), using(crate::proofs::Folds::fold_steps))]
 pub(crate) fn nearest_word<'a>(
     alloc: Global,

@@ -1,4 +1,4 @@
-//! A name that stands nowhere in a text.
+//! A name that doesn't occur in a text.
 
 ghost use Rattle.std.specs.Prelude.{◌≡◌, ◌≤◌, [], ◌∷◌, ◌++◌, length, IfOk};
 ghost use Rattle.flt_hints.specs.Names as spec;
@@ -6,7 +6,7 @@ ghost use Rattle.flt_tree.specs.Limits.{max_text};
 
 use std::alloc::{AllocError, Global};
 
-/// How often bytes stand in a text.
+/// The number of times that bytes occur in a text.
 fn occurrences(text: &[u8], word: &[u8]) -> usize
     ensures value { result ≡ spec.occurrences word.now text.now }
     ensures few { result ≤ length text.now }
@@ -22,7 +22,7 @@ fn occurrences(text: &[u8], word: &[u8]) -> usize
     found
 }
 
-/// A name with a letter behind it.
+/// A name with a letter after it.
 fn with_letter(alloc: Global, name: &[u8], letter: u8) -> Result<Vec<u8>, AllocError>
     ensures { IfOk result (λ v. v.items ≡ name.now ++ letter ∷ []) }
 {
@@ -32,7 +32,7 @@ fn with_letter(alloc: Global, name: &[u8], letter: u8) -> Result<Vec<u8>, AllocE
     Ok(longer)
 }
 
-/// A name with the letter behind it with which it stands in a text less often.
+/// A name with a letter after it: the one with which it occurs in a text less often.
 fn rarer(alloc: Global, text: &[u8], name: &[u8]) -> Result<Vec<u8>, AllocError>
     ensures { IfOk result (λ v. spec.IsRarer text.now name.now v.items) }
 {
@@ -47,7 +47,7 @@ fn rarer(alloc: Global, text: &[u8], name: &[u8]) -> Result<Vec<u8>, AllocError>
     }
 }
 
-/// A name that stands nowhere in a text: with each letter it stands there at most half as often.
+/// A name that doesn't occur in a text: each further letter at least halves how often it occurs.
 pub(crate) fn new_name(alloc: Global, text: &[u8]) -> Result<Vec<u8>, AllocError>
     requires { length text.now ≤ max_text }
     ensures { IfOk result (λ v. spec.IsNew text.now v.items) }

@@ -1,4 +1,4 @@
-//! A call that isn't complete where the text goes on in another line.
+//! A call that isn't complete when the text continues in another line.
 
 ghost use Rattle.std.specs.Prelude.{◌≡◌, map};
 ghost use Rattle.std.specs.Option.{option_map};
@@ -12,14 +12,14 @@ use crate::kinds::{
 };
 use flt_syntax::{FaultKind, Kind, Token, keywords, same_kind};
 
-/// A call that lacks an operand: its word, and the line where that stands, from 1.
+/// A call that lacks an operand: its word, and the line of that word, from 1.
 #[derive(Clone, Copy)]
 pub struct OpenCall {
     pub kind: Kind,
     pub line: usize,
 }
 
-/// Whether a word may be a part of a call, behind the call's own word.
+/// Whether a word may be a part of a call, after the call's own word.
 fn is_part(kind: Kind) -> bool
     ensures { result ≡ spec.is_part kind }
 {
@@ -60,7 +60,7 @@ fn open_before(tokens: &[Token], token: Token) -> Option<OpenCall>
     so_far
 }
 
-/// The last call before a token, if nothing but its operands stands between, and all of them in lines above.
+/// The last call before a token, if only its operands are between the two, and all of them in lines above.
 fn call_above(tokens: &[Token], token: Token) -> Option<OpenCall>
     ensures { result ≡ spec.call_above tokens.now token }
 {
@@ -71,7 +71,7 @@ fn call_above(tokens: &[Token], token: Token) -> Option<OpenCall>
     }
 }
 
-/// Whether an operand of a call is what may stand there: neither what follows a call nor what follows a variable that begins a statement.
+/// Whether an operand of a call is legal there, and not a word that follows a call or a variable at the beginning of a statement.
 fn take_operand(choices: &Choices<'_>) -> bool
     ensures { result ≡ spec.take_operand choices.now }
 {
@@ -81,7 +81,7 @@ fn take_operand(choices: &Choices<'_>) -> bool
             || choices.takes(Kind::Assign))
 }
 
-/// Whether what is found is a word or a symbol of the language.
+/// Whether a token is a word or a symbol of the language.
 fn is_of_the_language(kind: Kind) -> bool
     ensures { result ≡ spec.is_of_the_language kind }
 {
@@ -91,7 +91,7 @@ fn is_of_the_language(kind: Kind) -> bool
     )
 }
 
-/// The call that lacks an operand where a token begins something else in a line of its own.
+/// The call that lacks an operand, if a token begins something else in a line of its own.
 pub(crate) fn open_call(
     fault: FaultKind,
     tokens: &[Token],
@@ -124,9 +124,9 @@ fn word_among(table: &[(&'static [u8], Kind)], kind: Kind) -> &'static [u8]
 /// The words of a lock that a call takes.
 #[derive(Clone, Copy)]
 pub(crate) struct LockWords {
-    /// What the call lacks.
+    /// The operand that the call lacks.
     pub(crate) name: &'static str,
-    /// How it is declared, where the filter declares none.
+    /// How it is declared, if the filter declares none.
     pub(crate) declaration: &'static str,
 }
 

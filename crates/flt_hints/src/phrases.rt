@@ -1,4 +1,4 @@
-//! What may stand in a place, in words.
+//! Phrases for the words, symbols and names that are legal at a place.
 
 ghost use Rattle.std.specs.Prelude.{◌≡◌, ◌++◌, map, IfOk, OnOk};
 ghost use Rattle.std.specs.List.{list_any};
@@ -14,7 +14,7 @@ use flt_syntax::Kind;
 use sqlite_items::Items;
 use std::alloc::{AllocError, Global};
 
-/// A kind of thing that may stand there, or a word itself.
+/// A kind of legal words, or a word itself.
 #[derive(Clone, Copy)]
 pub(crate) enum Phrase<'a> {
     Kind(&'static str),
@@ -33,7 +33,7 @@ fn begins_test(kind: Kind) -> bool
     matches!(kind, Kind::Irp | Kind::Draining)
 }
 
-/// Whether a variable or a call stands there, which begin statements and tests.
+/// Whether a word is a variable or a call, which begin statements and tests.
 fn begins_either(kind: Kind, word: &[u8]) -> bool
     ensures { result ≡ spec.begins_either kind word.now }
 {
@@ -43,7 +43,7 @@ fn begins_either(kind: Kind, word: &[u8]) -> bool
         || word.starts_with(b"Ex")
 }
 
-/// The name of a word's kind that it has wherever it stands.
+/// The name of a word's kind that it has wherever it appears.
 fn own_name(kind: Kind) -> Option<&'static str>
     ensures { option_map (λ name. name.now) result ≡ spec.own_name kind }
 {
@@ -62,7 +62,7 @@ fn own_name(kind: Kind) -> Option<&'static str>
     }
 }
 
-/// The name of a word's kind, where words of its kind are told by that.
+/// The name of a word's kind, if phrases name its kind in place of the word.
 fn kind_name(kind: Kind, word: &[u8], choices: &Choices<'_>) -> Option<&'static str>
     ensures { option_map (λ name. name.now) result ≡ spec.kind_name kind word.now choices.now }
 {
@@ -106,7 +106,7 @@ fn has_kind(phrases: &[Phrase<'_>], name: &str) -> bool
     false
 }
 
-/// Whether a phrase is a kind that is among others already.
+/// Whether a phrase is a kind that is already among others.
 fn is_said(phrases: &[Phrase<'_>], phrase: Phrase<'_>) -> bool
     ensures { result ≡ spec.is_said (map spec.phrase_of phrases.now) (spec.phrase_of phrase.entry) }
 {
@@ -116,7 +116,7 @@ fn is_said(phrases: &[Phrase<'_>], phrase: Phrase<'_>) -> bool
     }
 }
 
-/// Adds the words of the language that may stand there, each kind once.
+/// Adds the phrases for the legal words of the language, each kind once.
 fn add_expected(
     phrases: &mut Items<Phrase<'static>>,
     expected: &[Expected],
@@ -134,7 +134,7 @@ fn add_expected(
     Ok(())
 }
 
-/// What may stand in a place, each kind once.
+/// The phrases for all that is legal at a place, each kind once.
 #[tactic(auto, unfolding(crate::specs::Phrases::phrases))]
 pub(crate) fn phrases(
     alloc: Global,

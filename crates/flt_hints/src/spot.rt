@@ -1,4 +1,4 @@
-//! Where a text is refused, and what stands there.
+//! The place where a text is refused, and the token there.
 
 ghost use Rattle.std.specs.Prelude.{◌≡◌, IfOk};
 ghost use Rattle.std.specs.List.{find};
@@ -9,14 +9,14 @@ use flt_syntax::{SyntaxFault, Token, bytes_of, tokens};
 use sqlite_items::Items;
 use std::alloc::{AllocError, Global};
 
-/// How many bytes a text has at most.
+/// The greatest number of bytes of a text.
 const MAX_TEXT: usize = 65_536;
 
-/// Where a text is refused, and what stands there.
+/// The place where a text is refused, and the token there.
 #[derive(Clone, Copy)]
 pub struct Spot<'a> {
     pub fault: SyntaxFault,
-    /// None where the text is too large.
+    /// None if the text is too large.
     pub token: Option<Token>,
     /// The bytes of the token: none at the end of the text.
     pub bytes: &'a [u8],
@@ -40,7 +40,7 @@ fn token_at(fault: SyntaxFault, tokens: &[Token]) -> Option<Token>
     None
 }
 
-/// The tokens of a text, none where it is too large.
+/// The tokens of a text: none if it is too large.
 pub(crate) fn tokens_of(alloc: Global, text: &[u8]) -> Result<Items<Token>, AllocError>
     ensures { IfOk result (λ ts. ts ≡ spec.tokens_of text.now) }
 {
@@ -60,7 +60,7 @@ fn bytes_at(text: &[u8], token: Option<Token>) -> &[u8]
     }
 }
 
-/// What stands where a text has its first fault.
+/// The place and the token of a text's first fault.
 pub(crate) fn spot_at<'a>(text: &'a [u8], tokens: &[Token], fault: SyntaxFault) -> Spot<'a>
     requires refused { Fails text.now fault }
     requires tokens { tokens.now ≡ spec.tokens_of text.now }

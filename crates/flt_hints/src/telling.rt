@@ -1,4 +1,4 @@
-//! What is said of a text that doesn't parse, in words for people.
+//! Explains a text that doesn't parse, in words for people.
 
 ghost use Rattle.std.specs.Prelude.{◌≡◌, ◌<◌, ◌+◌, ◌∷◌, [], ◌++◌, map, IfOk, OnOk};
 ghost use Rattle.std.specs.Fmt.{decimal};
@@ -16,18 +16,18 @@ use crate::troubles::Trouble;
 use flt_syntax::FaultKind;
 use std::alloc::{AllocError, Global};
 
-/// What is said of a text that doesn't parse, in words.
+/// The explanation of a text that doesn't parse, in words.
 #[derive(Drop)]
 pub struct Told {
-    /// What is expected and what is found: one line without its end.
+    /// The expected and the found tokens: one line without its end.
     pub title: Vec<u8>,
-    /// What stands behind the marks under what is found: which word is probably meant, or nothing.
+    /// The text after the marks under the found token: the word that is probably meant, or nothing.
     pub meant: Vec<u8>,
-    /// The lines below: which declared names may stand there, and how to mend what is wrong.
+    /// The lines below: the declared names that are legal there, and how to fix the mistake.
     pub notes: Vec<u8>,
 }
 
-/// How many bytes of a token are shown at most.
+/// The greatest number of bytes of a token that are shown.
 const MAX_SHOWN: usize = 80;
 
 fn text(out: &mut Vec<u8>, text: &str) -> Result<(), AllocError>
@@ -36,7 +36,7 @@ fn text(out: &mut Vec<u8>, text: &str) -> Result<(), AllocError>
     out.extend_from_slice(text.as_bytes())
 }
 
-/// A byte as it is shown: `?` for one that isn't printed as it stands.
+/// A byte as it is shown: `?` if it isn't printable ASCII.
 fn shown(byte: u8) -> u8
     ensures { result ≡ spec.shown byte }
 {
@@ -56,14 +56,14 @@ fn all_shown(out: &mut Vec<u8>, bytes: &[u8]) -> Result<(), AllocError>
     Ok(())
 }
 
-/// What stands behind the bytes of a token.
+/// The closing mark after the bytes of a token.
 fn closing_mark(bytes: &[u8]) -> &'static str
     ensures { result.now ≡ spec.closing_mark bytes.now }
 {
     if bytes.len() > MAX_SHOWN { "..`" } else { "`" }
 }
 
-/// Bytes of a text in marks. What isn't printed as it stands is a `?`.
+/// Bytes of a text in marks. A byte that isn't printable ASCII is a `?`.
 #[tactic(auto, unfolding(crate::specs::Telling::quoted), using(crate::proofs::Written::joined))]
 fn quoted(out: &mut Vec<u8>, bytes: &[u8]) -> Result<(), AllocError>
     ensures { OnOk result (out.new.items ≡ out.old.items ++ spec.quoted bytes.now) }
@@ -82,7 +82,7 @@ fn said(out: &mut Vec<u8>, phrase: Phrase<'_>) -> Result<(), AllocError>
     }
 }
 
-/// What stands between a phrase and those behind it.
+/// The separator between a phrase and those after it.
 fn joint(behind: &[Phrase<'_>]) -> &'static str
     ensures { result.now ≡ spec.joint (map phrase_of behind.now) }
 {
@@ -107,7 +107,7 @@ fn listed(out: &mut Vec<u8>, phrases: &[Phrase<'_>]) -> Result<(), AllocError>
     Ok(())
 }
 
-/// What is found.
+/// The found token.
 fn found(out: &mut Vec<u8>, trouble: &Trouble<'_>) -> Result<(), AllocError>
     ensures { OnOk result (out.new.items ≡ out.old.items ++ spec.found trouble.now) }
 {
@@ -118,7 +118,7 @@ fn found(out: &mut Vec<u8>, trouble: &Trouble<'_>) -> Result<(), AllocError>
     }
 }
 
-/// What may stand there.
+/// The legal words, symbols and names.
 #[tactic(auto, using(crate::proofs::Written::joined))]
 fn awaited(out: &mut Vec<u8>, phrases: &[Phrase<'_>]) -> Result<(), AllocError>
     ensures { OnOk result (out.new.items ≡ out.old.items ++ spec.awaited (map phrase_of phrases.now)) }
@@ -132,7 +132,7 @@ fn awaited(out: &mut Vec<u8>, phrases: &[Phrase<'_>]) -> Result<(), AllocError>
     }
 }
 
-/// What is expected, and what is found.
+/// The expected and the found tokens.
 #[tactic(auto, using(crate::proofs::Written::joined))]
 fn expected(
     out: &mut Vec<u8>,
@@ -146,7 +146,7 @@ fn expected(
     found(out, trouble)
 }
 
-/// What a call lacks: the name of a lock, or else what may stand there.
+/// The operand that a call lacks: the name of a lock, or else whatever is legal there.
 fn operand(out: &mut Vec<u8>, call: OpenCall, phrases: &[Phrase<'_>]) -> Result<(), AllocError>
     ensures { OnOk result (out.new.items ≡ out.old.items ++ spec.operand call (map phrase_of phrases.now)) }
 {
@@ -156,7 +156,7 @@ fn operand(out: &mut Vec<u8>, call: OpenCall, phrases: &[Phrase<'_>]) -> Result<
     }
 }
 
-/// What a call lacks, and what is found in its place.
+/// The operand that a call lacks, and the token found in its place.
 #[tactic(auto, using(crate::proofs::Written::joined))]
 fn operand_expected(
     out: &mut Vec<u8>,
@@ -172,7 +172,7 @@ fn operand_expected(
     found(out, trouble)
 }
 
-/// What is found, behind some words and before others.
+/// The found token, after some words and before others.
 #[tactic(auto, using(crate::proofs::Written::joined))]
 fn around(
     out: &mut Vec<u8>,
@@ -193,7 +193,7 @@ fn needs_queue(hint: Option<Hint>) -> bool
     matches!(hint, Some(Hint::NeedsQueue))
 }
 
-/// Whether nothing may stand there that has a phrase.
+/// Whether nothing that has a phrase is legal there.
 fn is_nothing(phrases: &[Phrase<'_>]) -> bool
     ensures { result ≡ spec.is_nothing (map phrase_of phrases.now) }
 {
@@ -203,7 +203,7 @@ fn is_nothing(phrases: &[Phrase<'_>]) -> bool
     }
 }
 
-/// Whether all that can be said of a name is that it isn't known.
+/// Whether the title says of a name only that it isn't known.
 #[tactic(auto, unfolding(crate::specs::Telling::is_unknown))]
 fn is_unknown(hint: Option<Hint>, phrases: &[Phrase<'_>]) -> bool
     ensures { result ≡ spec.is_unknown hint (map phrase_of phrases.now) }
@@ -219,7 +219,7 @@ fn unknown_name(out: &mut Vec<u8>, trouble: &Trouble<'_>) -> Result<(), AllocErr
     found(out, trouble)
 }
 
-/// What is wrong with a name.
+/// The title for a name that isn't known there.
 fn unknown(
     out: &mut Vec<u8>,
     trouble: &Trouble<'_>,
@@ -234,7 +234,7 @@ fn unknown(
     }
 }
 
-/// What is wrong, where the hint alone says it.
+/// The title that a hint alone gives.
 fn own_title(hint: Option<Hint>) -> Option<&'static str>
     ensures { option_map (λ words. words.now) result ≡ spec.own_title hint }
 {
@@ -253,7 +253,7 @@ fn is_callback_twice(hint: Option<Hint>) -> bool
     matches!(hint, Some(Hint::CallbackTwice))
 }
 
-/// What is wrong, by the fault.
+/// The title by the fault.
 fn title_by_fault(
     out: &mut Vec<u8>,
     trouble: &Trouble<'_>,
@@ -267,12 +267,12 @@ fn title_by_fault(
         FaultKind::E04 => unknown(out, trouble, phrases),
         FaultKind::E05 => around(out, "the name ", trouble, " is declared twice"),
         FaultKind::E06 => around(out, "a limit is passed at ", trouble, ""),
-        FaultKind::E08 => around(out, "", trouble, " stands twice in one call"),
+        FaultKind::E08 => around(out, "", trouble, " appears twice in one call"),
         FaultKind::E01 | FaultKind::E03 | FaultKind::E07 => expected(out, trouble, phrases),
     }
 }
 
-/// What is wrong, by what the hint says, or else by the fault.
+/// The title by the hint, or else by the fault.
 fn title_by_hint(
     out: &mut Vec<u8>,
     trouble: &Trouble<'_>,
@@ -284,13 +284,13 @@ fn title_by_hint(
     match own_title(trouble.hint) {
         Some(words) => text(out, words),
         None if is_callback_twice(trouble.hint) => {
-            around(out, "this ", trouble, " callback stands twice")
+            around(out, "this ", trouble, " callback appears twice")
         }
         None => title_by_fault(out, trouble, phrases),
     }
 }
 
-/// What is wrong, in one line without its end: what is expected, and what is found.
+/// The title, in one line without its end: the expected and the found tokens.
 #[tactic(auto, unfolding(crate::specs::Telling::title_of))]
 fn title(alloc: Global, out: &mut Vec<u8>, trouble: &Trouble<'_>) -> Result<(), AllocError>
     ensures { OnOk result (out.new.items ≡ out.old.items ++ spec.title_of trouble.now) }
@@ -311,7 +311,7 @@ fn question(out: &mut Vec<u8>, word: &[u8]) -> Result<(), AllocError>
     text(out, "?")
 }
 
-/// Which word is probably meant, if one is.
+/// The word that is probably meant, if one is.
 #[tactic(auto, unfolding(crate::specs::Telling::meant_of))]
 fn meant(out: &mut Vec<u8>, trouble: &Trouble<'_>) -> Result<(), AllocError>
     ensures { OnOk result (out.new.items ≡ out.old.items ++ spec.meant_of trouble.now) }
@@ -344,7 +344,7 @@ fn declared_here(out: &mut Vec<u8>, name: &[u8], names: &[&[u8]]) -> Result<(), 
     text(out, "\n")
 }
 
-/// The names that may stand there, in a line.
+/// The names that are legal there, in a line.
 fn names(out: &mut Vec<u8>, names: &[&[u8]]) -> Result<(), AllocError>
     ensures { OnOk result (out.new.items ≡ out.old.items ++ spec.names_line names.now) }
 {
@@ -374,7 +374,7 @@ fn number(out: &mut Vec<u8>, value: usize) -> Result<(), AllocError>
     digit(out, (value % 10) as u8)
 }
 
-/// That a call isn't complete: its word, and its line.
+/// A note that a call isn't complete, with its word and its line.
 fn incomplete(out: &mut Vec<u8>, call: OpenCall) -> Result<(), AllocError>
     ensures { OnOk result (out.new.items ≡ out.old.items ++ spec.incomplete call) }
 {
@@ -384,7 +384,7 @@ fn incomplete(out: &mut Vec<u8>, call: OpenCall) -> Result<(), AllocError>
     number(out, call.line)
 }
 
-/// The same with what it lacks.
+/// The same with the operand that it lacks.
 #[tactic(auto, unfolding(crate::specs::Telling::lacking), using(crate::proofs::Written::joined))]
 fn lacking(out: &mut Vec<u8>, call: OpenCall, phrases: &[Phrase<'_>]) -> Result<(), AllocError>
     ensures { OnOk result (out.new.items ≡ out.old.items ++ spec.lacking call (map phrase_of phrases.now)) }
@@ -394,7 +394,7 @@ fn lacking(out: &mut Vec<u8>, call: OpenCall, phrases: &[Phrase<'_>]) -> Result<
     operand(out, call, phrases)
 }
 
-/// How a lock is declared, where a call takes one and the filter declares none.
+/// How a lock is declared, if a call takes one and the filter declares none.
 #[tactic(auto, unfolding(crate::specs::Telling::declaration))]
 fn declaration(call: OpenCall, trouble: &Trouble<'_>) -> &'static str
     ensures { result.now ≡ spec.declaration call trouble.now }
@@ -405,7 +405,7 @@ fn declaration(call: OpenCall, trouble: &Trouble<'_>) -> &'static str
     }
 }
 
-/// What a call lacks, by what may stand there.
+/// The operand that a call lacks, by the legal words.
 fn lacking_there(
     alloc: Global,
     out: &mut Vec<u8>,
@@ -432,7 +432,7 @@ fn call_help(
     text(out, declaration(call, trouble))
 }
 
-/// What the language leaves out, by the word that names it, be it misspelt.
+/// The feature that the language leaves out, by the word that names it, even a misspelt one.
 fn absence_at(alloc: Global, trouble: &Trouble<'_>) -> Result<Option<Absence>, AllocError>
     ensures { IfOk result (λ absence. absence ≡ spec.absence_at trouble.now) }
 {
@@ -443,7 +443,7 @@ fn absence_at(alloc: Global, trouble: &Trouble<'_>) -> Result<Option<Absence>, A
     misspelt_absence(alloc, trouble.spot.bytes)
 }
 
-/// What to write in place of what the language leaves out.
+/// The words to write in place of a feature that the language leaves out.
 fn absence_sentence(alloc: Global, trouble: &Trouble<'_>) -> Result<&'static str, AllocError>
     ensures { IfOk result (λ words. words.now ≡ spec.absence_sentence (spec.absence_at trouble.now)) }
 {
@@ -470,7 +470,7 @@ fn sentence(alloc: Global, trouble: &Trouble<'_>, hint: Hint) -> Result<&'static
     }
 }
 
-/// How to mend what is wrong.
+/// How to fix the mistake.
 fn help(alloc: Global, out: &mut Vec<u8>, trouble: &Trouble<'_>) -> Result<(), AllocError>
     ensures { OnOk result (out.new.items ≡ out.old.items ++ spec.help_by trouble.now.open_call trouble.now.hint trouble.now) }
 {
@@ -481,7 +481,7 @@ fn help(alloc: Global, out: &mut Vec<u8>, trouble: &Trouble<'_>) -> Result<(), A
     }
 }
 
-/// How to mend what is wrong, in a line.
+/// How to fix the mistake, in a line.
 #[tactic(auto, using(crate::proofs::Written::joined))]
 fn help_line(alloc: Global, out: &mut Vec<u8>, trouble: &Trouble<'_>) -> Result<(), AllocError>
     ensures { OnOk result (out.new.items ≡ out.old.items ++ spec.help_line trouble.now) }
@@ -494,7 +494,7 @@ fn help_line(alloc: Global, out: &mut Vec<u8>, trouble: &Trouble<'_>) -> Result<
     text(out, "\n")
 }
 
-/// Which declared names may stand there, and how to mend what is wrong.
+/// The declared names that are legal there, and how to fix the mistake.
 #[tactic(auto, unfolding(crate::specs::Telling::notes_of), using(crate::proofs::Written::joined))]
 fn notes(alloc: Global, out: &mut Vec<u8>, trouble: &Trouble<'_>) -> Result<(), AllocError>
     ensures { OnOk result (out.new.items ≡ out.old.items ++ spec.notes_of trouble.now) }
@@ -505,11 +505,11 @@ fn notes(alloc: Global, out: &mut Vec<u8>, trouble: &Trouble<'_>) -> Result<(), 
     help_line(alloc, out, trouble)
 }
 
-/// What is said of a text that doesn't parse, in words for people.
+/// Explains a text that doesn't parse, in words for people.
 ///
 /// # Errors
 ///
-/// Where a growth was refused.
+/// `AllocError` if a growth is refused.
 pub fn tell(alloc: Global, trouble: &Trouble<'_>) -> Result<Told, AllocError>
     ensures title { IfOk result (λ told. told.title.items ≡ spec.title_of trouble.now) }
     ensures meant { IfOk result (λ told. told.meant.items ≡ spec.meant_of trouble.now) }

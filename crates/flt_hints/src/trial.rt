@@ -7,14 +7,14 @@ ghost use Rattle.flt_hints.specs.Trial.{gap_of};
 use flt_syntax::{FaultKind, ParseError, SyntaxFault, Token, parse, the_fault_is_the_one_told};
 use std::alloc::{AllocError, Global};
 
-/// A place of a text: what stands before it, and what behind it.
+/// A place of a text: the bytes before it, and the bytes after it.
 #[derive(Clone, Copy)]
 pub struct Gap<'a> {
     pub before: &'a [u8],
     pub behind: &'a [u8],
 }
 
-/// What is kept behind a token.
+/// The bytes after a token that are kept for a trial.
 fn kept_behind(kind: FaultKind, behind: &[u8]) -> &[u8]
     ensures { result.now ≡ spec.kept_behind kind behind.now }
 {
@@ -49,7 +49,7 @@ fn tried(alloc: Global, gap: Gap<'_>, word: &[u8]) -> Result<Vec<u8>, AllocError
     Ok(text)
 }
 
-/// The line of a word that is tried behind a text, from 1.
+/// The line of a word that is tried after a text, from 1.
 fn line_behind(before: &[u8]) -> usize
     ensures { result ≡ spec.line_behind before.now }
 {
@@ -71,7 +71,7 @@ fn is_past(line: usize, fault: SyntaxFault) -> bool
     }
 }
 
-/// Whether a word may stand in a place.
+/// Whether a word is legal at a place.
 #[tactic(auto, unfolding(crate::specs::Trial::may_stand))]
 pub(crate) fn may_stand(alloc: Global, gap: Gap<'_>, word: &[u8]) -> Result<bool, AllocError>
     ensures { IfOk result (λ b. b ≡ spec.may_stand (gap_of gap.entry) word.now) }
@@ -85,7 +85,7 @@ pub(crate) fn may_stand(alloc: Global, gap: Gap<'_>, word: &[u8]) -> Result<bool
     }
 }
 
-/// A word, if it may stand in a place.
+/// The word, if it is legal at a place.
 pub(crate) fn if_it_may<'a>(
     alloc: Global,
     gap: Gap<'_>,

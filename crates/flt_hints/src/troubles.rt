@@ -1,4 +1,4 @@
-//! What is said of a text that doesn't parse.
+//! The report on a text that doesn't parse.
 
 ghost use Rattle.std.specs.Prelude.{◌≡◌, ◌≤◌, length, IfOk};
 ghost use Rattle.flt_hints.specs.Choices.{AreChoices};
@@ -18,20 +18,20 @@ use crate::trial::gap_at;
 use flt_syntax::{FaultKind, ParseError, SyntaxFault, Token, parse};
 use std::alloc::{AllocError, Global};
 
-/// What is said of a text that doesn't parse.
+/// The report on a text that doesn't parse.
 #[derive(Drop)]
 pub struct Trouble<'a> {
     pub spot: Spot<'a>,
     pub choices: Choices<'a>,
-    /// The word that is probably meant: the only one of those that may stand there that is near to what is found.
+    /// The word that is probably meant: the only legal one that is near to the found one.
     pub meant: Option<&'a [u8]>,
     /// The call before it that lacks an operand, if one does.
     pub open_call: Option<OpenCall>,
-    /// What is probably wrong besides, and how to mend it.
+    /// Another probable mistake, and how to fix it.
     pub hint: Option<Hint>,
 }
 
-/// What is said where there is no token: the text is too large.
+/// The report without a token: the text is too large.
 fn without_token<'a>(alloc: Global, spot: Spot<'a>) -> Trouble<'a>
     ensures spot { result.spot ≡ spot.entry }
     ensures none { spec.AreNone result }
@@ -45,7 +45,7 @@ fn without_token<'a>(alloc: Global, spot: Spot<'a>) -> Trouble<'a>
     }
 }
 
-/// What may stand in the place of a token.
+/// The words, symbols and names that are legal in the place of a token.
 fn choices_at<'a>(
     alloc: Global,
     text: &'a [u8],
@@ -61,7 +61,7 @@ fn choices_at<'a>(
     choices_in(alloc, text, gap_at(kind, text, token), names.as_slice())
 }
 
-/// What is said in the place of a token.
+/// The report at the place of a token.
 fn with_token<'a>(
     alloc: Global,
     text: &'a [u8],
@@ -87,7 +87,7 @@ fn with_token<'a>(
     })
 }
 
-/// What is said of a text that has this fault.
+/// The report on a text that has this fault.
 #[tactic(auto, using(crate::proofs::Placed::with_token_if, crate::proofs::Placed::without_token))]
 fn trouble_at<'a>(
     alloc: Global,
@@ -106,12 +106,12 @@ fn trouble_at<'a>(
     }
 }
 
-/// What is said of a text, if it doesn't parse: where it is refused, what stands there, what may stand there instead, and what is
-/// probably wrong. Each word is tried by the parser, which takes milliseconds in a text of the greatest size.
+/// The report on a text, if it doesn't parse: where it is refused, the token there, the words that are legal instead, and the probable
+/// mistake. Each word is tried by the parser, which takes milliseconds for a text of the greatest size.
 ///
 /// # Errors
 ///
-/// Where a growth was refused.
+/// `AllocError` if a growth is refused.
 pub fn describe<'a>(alloc: Global, text: &'a [u8]) -> Result<Option<Trouble<'a>>, AllocError>
     ensures { IfOk result (spec.IsDescribed text.now) }
 {

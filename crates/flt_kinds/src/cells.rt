@@ -7,13 +7,13 @@ ghost use Rattle.std.specs.Prelude.{◌≡◌, ◌<◌, ◌++◌, ◌^◌, None,
 use crate::slot::{Slot, Spot};
 use std::alloc::{AllocError, Global};
 
-/// How many points a callback has at most, with its end.
+/// The greatest number of points of a callback, with its end.
 const MAX_POINTS: usize = 513;
 
-/// How many variables of contexts there are at a point.
+/// The number of variables of contexts at a point.
 const VARIABLES: usize = 9;
 
-/// How many cells a callback has.
+/// The number of cells of a callback.
 const CELLS: usize = 4617;
 
 /// Adds the empty cells of a callback.
@@ -53,7 +53,7 @@ fn index(callbacks: usize, slot: Slot) -> usize
     }
 }
 
-/// What the cell of a place has; nothing where there is none.
+/// The content of a place's cell. None if there is no such cell.
 #[tactic(auto, unfolding(crate::specs::Cells::cell))]
 pub(crate) fn cell(callbacks: usize, cells: &[Option<Spot>], slot: Slot) -> Option<Spot>
     requires { length cells.now ≡ spec.cells_for callbacks }

@@ -25,7 +25,7 @@ const VARIABLES: [ContextVariable; 9] = [
     ContextVariable::Arg,
 ];
 
-/// What a callback is given.
+/// The argument of a callback.
 fn argument(callback: usize) -> Slot
     ensures { result ≡ spec.argument callback }
 {
@@ -74,7 +74,7 @@ fn keeps(instruction: &Instruction, outcome: bool, variable: ContextVariable) ->
     }
 }
 
-/// Where an instruction leads by its outcome, if it goes on.
+/// The point to which an instruction leads by its outcome, if it leads to one.
 fn successor(instruction: &Instruction, outcome: bool) -> Option<usize>
     ensures { result ≡ successor_of instruction.now outcome }
 {
@@ -167,7 +167,7 @@ fn follow(
     Ok(())
 }
 
-/// What the post callbacks are given that go on with an operation of a kind, or of any.
+/// The arguments of the post callbacks that continue an operation of a kind, or of any.
 fn followed(
     out: &mut Vec<Slot>,
     kind: Option<Operation>,

@@ -12,7 +12,7 @@ use flt_graph::{Graph, Tree};
 use flt_rules::Anchor;
 use std::alloc::{AllocError, Global};
 
-/// What the contexts of a filter are.
+/// The kinds of a filter's contexts.
 #[derive(Drop)]
 pub enum ContextKinds {
     /// Each has one kind: contexts of the instance are allocated at these statements, and contexts of a stream at all others.
@@ -21,7 +21,7 @@ pub enum ContextKinds {
     Refused(Mixed),
 }
 
-/// Where each context has a kind, none has two. It does nothing: its clause is the law.
+/// If each context has a kind, none has two. It does nothing at run time: its clause is a law.
 
 pub fn kinds_exclude_mixtures()
     ensures { (g : Graph) (listed : List Spot) (m : Mixed) → spec.AreKinds g listed → spec.IsMixed g m → ⊥ }
@@ -31,7 +31,7 @@ pub fn kinds_exclude_mixtures()
 ///
 /// # Errors
 ///
-/// Where a growth was refused.
+/// `AllocError` if a growth is refused.
 #[tactic(auto, using(crate::proofs::Narrow::narrow, crate::proofs::Deciding::mixed_is, crate::proofs::Deciding::kinds_are))]
 pub fn context_kinds(alloc: Global, tree: &Tree, graph: &Graph) -> Result<ContextKinds, AllocError>
     requires { IsLowered tree.now.filter graph.now }

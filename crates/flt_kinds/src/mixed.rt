@@ -17,9 +17,9 @@ use std::alloc::{AllocError, Global};
 pub struct Mixed {
     /// The statement that allocates or gives it.
     pub site: Spot,
-    /// The statement that sets it on a stream, or `site` where that gives a stream's context.
+    /// The statement that sets it on a stream, or `site` if that gives a stream's context.
     pub stream: Spot,
-    /// The statement that sets it on the instance, or `site` where that gives the instance's context.
+    /// The statement that sets it on the instance, or `site` if that gives the instance's context.
     pub instance: Spot,
 }
 

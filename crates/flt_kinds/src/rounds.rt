@@ -50,7 +50,7 @@ fn carry_all(callbacks: usize, at: Spot, cells: &mut [Option<Spot>], mut flows: 
     changed
 }
 
-/// Notes a statement that sets a context, where that is.
+/// Notes the statement at a point, if it sets a context.
 #[tactic(auto, unfolding(crate::specs::Rounds::noted, crate::specs::Rounds::notes))]
 fn note(
     callbacks: usize,
@@ -164,7 +164,7 @@ fn round_on(
     round(alloc, graph, anchor, cells.as_mut_slice())
 }
 
-/// For each place a statement that may set the context which is there, on a stream or on the instance, where one may.
+/// For each place a statement that may set the context which is there, on a stream or on the instance, if there is one.
 pub(crate) fn settled(
     alloc: Global,
     graph: &Graph,

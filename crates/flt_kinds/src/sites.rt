@@ -58,7 +58,7 @@ pub(crate) fn set_at(
     }
 }
 
-/// Where the context is that the statement at a point allocates, if it does.
+/// The place of the context that the statement at a point allocates, if it does.
 #[tactic(auto, unfolding(crate::specs::Sites::begun_at))]
 pub(crate) fn begun_at(graph: &Graph, callback: usize, point: usize) -> Option<Slot>
     ensures { result ≡ spec.begun_at graph.now callback point }
@@ -72,7 +72,7 @@ pub(crate) fn begun_at(graph: &Graph, callback: usize, point: usize) -> Option<S
     }
 }
 
-/// What a call gives a context of, as it comes out.
+/// The stream or the instance whose context a call gives, by its outcome.
 fn giver(call: Call, outcome: bool) -> Option<Anchor>
     ensures { result ≡ spec.giver call outcome }
 {
@@ -92,7 +92,7 @@ fn gives(anchor: Option<Anchor>, slot: Option<Slot>) -> Option<Given>
     }
 }
 
-/// The stream's or the instance's context that the statement at a point gives, as it comes out, and where that is.
+/// The stream's or the instance's context that the statement at a point gives, by its outcome, and the place of that context.
 #[tactic(auto, unfolding(crate::specs::Sites::given_at))]
 pub(crate) fn given_at(graph: &Graph, callback: usize, point: usize, outcome: bool) -> Option<Given>
     ensures { result ≡ spec.given_at graph.now callback point outcome }

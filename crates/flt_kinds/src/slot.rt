@@ -21,7 +21,7 @@ pub enum Slot {
 /// How a statement takes a context on.
 #[derive(Clone, Copy)]
 pub struct Flow {
-    /// The variable that has the context before the statement; none where the queue has it.
+    /// The variable that has the context before the statement. None if the queue has it.
     pub from: Option<ContextVariable>,
     pub to: Slot,
 }

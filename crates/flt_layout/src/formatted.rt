@@ -7,7 +7,7 @@ use crate::writer::lay_out;
 use flt_syntax::{ParseError, SyntaxFault, parse};
 use std::alloc::{AllocError, Global};
 
-/// How many bytes a text has at most.
+/// The greatest number of bytes of a text.
 const MAX_TEXT: usize = 65_536;
 
 /// Why a text isn't laid out.

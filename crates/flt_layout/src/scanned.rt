@@ -1,4 +1,4 @@
-//! What is at the front of a text, or of the tokens that are left.
+//! The front of a text, or of the tokens that are left.
 
 ghost use Rattle.flt_layout.specs.Items as spec;
 ghost use Rattle.flt_syntax.specs.Cursor as cursor;
@@ -26,14 +26,14 @@ pub fn front(z: &[u8], n: usize) -> &[u8]
     if n <= z.len() { &z[..n] } else { z }
 }
 
-/// What follows so many bytes.
+/// The bytes after so many others.
 pub fn after_front(z: &[u8], n: usize) -> &[u8]
     ensures { result.now ≡ drop n z.now }
 {
     if n <= z.len() { &z[n..] } else { &[] }
 }
 
-/// What follows a comment: its line feed, or nothing at the end of the text.
+/// The rest of a text after a comment: from its line feed on, or nothing at the end of the text.
 pub fn after_comment(mut rest: &[u8]) -> &[u8]
     ensures { result.now ≡ lex.after_comment rest.entry.now }
 {

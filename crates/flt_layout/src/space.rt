@@ -1,4 +1,4 @@
-//! What is written between items.
+//! The space between items.
 
 ghost use Rattle.flt_layout.specs.Items as items;
 ghost use Rattle.flt_layout.specs.Layout as spec;
@@ -44,7 +44,7 @@ fn new_line(out: &mut Vec<u8>, level: usize) -> Result<(), AllocError>
     Ok(())
 }
 
-/// What is written before an item.
+/// The space before an item.
 pub fn gap(out: &mut Vec<u8>, space: Space, level: usize) -> Result<(), AllocError>
     ensures { OnOk result (out.new.items ≡ out.old.items ++ spec.gap space level) }
 {

@@ -1,4 +1,4 @@
-//! What the items before decide about the next one.
+//! The state after some items, which decides how the next one is laid.
 
 ghost use Rattle.flt_layout.specs.Layout as spec;
 ghost use Rattle.std.specs.Prelude.{◌≡◌, ◌<◌, ◌^◌, ◌++◌, OnOk};
@@ -15,7 +15,7 @@ pub enum Place {
     Comment,
 }
 
-/// The last item, how deep a statement is here, how many names are to come, and whether the last token wants another.
+/// The last item, the depth of a statement here, the number of names to come, and whether the last token wants another.
 #[derive(Clone, Copy)]
 pub struct State {
     pub place: Place,
@@ -98,14 +98,14 @@ fn is_set(kind: Kind) -> bool
     )
 }
 
-/// What may begin a statement, a declaration or a head, and the brace that ends a block.
+/// Words that may begin a statement, a declaration or a head, and the brace that ends a block.
 fn may_begin(kind: Kind) -> bool
     ensures { result ≡ spec.may_begin kind }
 {
     is_first(kind) || is_plain_call(kind) || is_set(kind)
 }
 
-/// What an operand, a call or a test follows, which begins nothing.
+/// Words after which an operand, a call or a test follows, which begins no statement.
 fn wants_more(kind: Kind) -> bool
     ensures { result ≡ spec.wants_more kind }
 {
@@ -136,7 +136,7 @@ fn wants_more(kind: Kind) -> bool
     )
 }
 
-/// How many words follow a word whatever they are.
+/// The number of words that follow a word whatever they are.
 fn names_after(kind: Kind) -> usize
     ensures { result ≡ spec.names_after kind }
 {
@@ -195,7 +195,7 @@ pub fn placed(s: State, kind: Kind, space: Space) -> Space
     }
 }
 
-/// How deep a token is that is the first of its line.
+/// The depth of a token that is the first of its line.
 pub fn depth(s: State, kind: Kind) -> usize
     requires { s.level < 2 ^ 32 }
     ensures { result ≡ spec.depth s kind }

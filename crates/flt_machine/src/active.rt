@@ -1,4 +1,4 @@
-//! How many activations of each filter go on: a count beside the activations, so that nobody walks along them.
+//! How many activations of each filter haven't ended: a count beside the activations, so that nobody searches them.
 
 ghost use Rattle.std.specs.Prelude.{◌≡◌, ◌≢◌, ℕ, ◌+◌, ◌-◌, ◌^◌, ◌<◌, ◌≤◌, nat_lt, length, get_or, set, OnOk, OnErr};
 
@@ -22,7 +22,7 @@ pub(crate) fn make_room(
     Ok(())
 }
 
-/// One activation more of the filter goes on.
+/// Counts an activation of the filter that starts.
 pub(crate) fn count_start(counts: &mut Vec<usize>, filter: usize)
     requires room { filter < length counts.old.items }
     requires few { get_or counts.old.items filter 0 < 2 ^ 64 - 1 }
@@ -31,7 +31,7 @@ pub(crate) fn count_start(counts: &mut Vec<usize>, filter: usize)
     counts[filter] += 1;
 }
 
-/// One that went on has ended.
+/// Counts an activation of the filter that ends.
 pub(crate) fn count_end(counts: &mut Vec<usize>, filter: usize)
     requires { 1 ≤ get_or counts.old.items filter 0 }
     ensures { counts.new.items ≡ set counts.old.items filter (get_or counts.old.items filter 0 - 1) }
@@ -41,7 +41,7 @@ pub(crate) fn count_end(counts: &mut Vec<usize>, filter: usize)
     }
 }
 
-/// Whether one goes on.
+/// Whether an activation of the filter hasn't ended.
 pub(crate) fn has_any(counts: &[usize], filter: usize) -> bool
     ensures { result ≡ nat_lt 0 (get_or counts.now filter 0) }
 {

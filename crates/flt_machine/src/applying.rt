@@ -74,7 +74,7 @@ impl Board {
         decide(loaded, &self.store, step, self.is_active_for(loaded, step)).is_some()
     }
 
-    /// What would get a ticket by a move that is enabled: the `next` that `apply` gives. Nothing where the move isn't enabled.
+    /// The subjects that would get a ticket by a move: the `next` that `apply` gives. It is empty if the move isn't enabled.
     pub fn tickets(
         &self,
         heap: &mut Heap,
@@ -130,8 +130,7 @@ impl Board {
         flt_dispatch::next_of(loaded, &self.store, serial)
     }
 
-    /// The move of the teardown of the filter at an altitude; none where it isn't being detached, or where only its activations are
-    /// left.
+    /// The move of the teardown of the filter at an altitude; none if it isn't being detached, or if only its activations are left.
     pub fn next_detach(&self, loaded: &Loaded, altitude: u32) -> Option<Move>
         requires own { IsOwn loaded.now self.now }
         ensures next { Now loaded.now self.now (λ p m. turns.ComesNextOf p m.world altitude result) }
@@ -141,7 +140,7 @@ impl Board {
         flt_dispatch::next_of_teardown(loaded, &self.store, altitude, active)
     }
 
-    /// Whether the filter at an altitude is being detached: its teardown has begun and not ended. It isn't where there is none.
+    /// Whether the filter at an altitude is being detached: its teardown has begun and not ended. False if no filter has that altitude.
     pub fn is_detaching(&self, loaded: &Loaded, altitude: u32) -> bool
         requires own { IsOwn loaded.now self.now }
         ensures { Now loaded.now self.now (λ p m. result ≡ is_detaching (presence_at m.world.store (filter_of p altitude))) }
@@ -149,7 +148,7 @@ impl Board {
         self.store.is_detaching(loaded.number(altitude))
     }
 
-    /// Whether an activation of the filter goes on whose teardown a move ends.
+    /// Whether a move ends the teardown of a filter with an activation that hasn't ended.
     fn is_active_for(&self, loaded: &Loaded, step: Move) -> bool
         ensures { Now loaded.now self.now (λ p m. IsActive p step result m.world.actors m.world.activations) }
     {
@@ -166,7 +165,7 @@ impl Board {
             || (matches!(step, Move::Arrive { .. }) && self.store.operations() >= MAX_OPERATIONS)
     }
 
-    /// A decision is made, and one entry more says so; or nothing is.
+    /// Carries a decision out and adds its entry, or changes nothing.
     fn make(
         &mut self,
         heap: &mut Heap,
@@ -208,7 +207,7 @@ impl Board {
         Ok(Events { list, next })
     }
 
-    /// An activation starts.
+    /// Starts the activation that a decision starts.
     fn start(
         &mut self,
         heap: &mut Heap,
@@ -246,7 +245,7 @@ impl Board {
     }
 }
 
-/// How far an activation that starts has come. It has gained the visit that it is given.
+/// The `Standing` of an activation that starts. It has gained the visit that it is given.
 fn standing_of(start: Start) -> Standing
     ensures { (p : List Filter) → Begins p (Some start) (Some result) }
 {

@@ -1,4 +1,4 @@
-//! The board, and what is there.
+//! The board, and reads of it.
 
 ghost use Rattle.std.specs.Prelude.{◌≡◌, ◌≢◌, ◌↔◌, ◌≤◌, ◌<◌, ℕ, true, List, length, option_map, Some, None, IfOk, OnOk, OnErr, MatchOption, if◌then◌else◌};
 ghost use Rattle.std.specs.List.{list_any};
@@ -32,13 +32,13 @@ use std::marker::Model;
 /// How many entries a journal may have.
 pub const MAX_ENTRIES: usize = 1_000_000;
 
-/// A machine of one thread, with its journal. It holds no texts: each call that needs the filters is lent what is loaded, and its
-/// condition is that this is the board's own.
+/// A machine of one thread, with its journal. It holds no texts: each call that needs the filters is lent the loaded ones, and its
+/// condition is that these are the board's own.
 #[derive(Drop)]
 pub struct Board {
     pub(crate) actors: Vec<Actor>,
     pub(crate) standings: Vec<Option<Kept>>,
-    /// By filter, how many of its activations go on. A filter without a count has none.
+    /// For each filter, how many of its activations haven't ended. A filter without a count has none.
     pub(crate) active: Vec<usize>,
     pub(crate) store: Store,
     pub(crate) journal: Journal,
@@ -107,7 +107,7 @@ impl Board {
         }
     }
 
-    /// An activation as it is, where it has started and not ended.
+    /// An activation as it is, if it has started and not ended.
     pub fn checkout(&self, activation: u32) -> Option<Frame>
         ensures frame { result ≡ option_map (spec.frame_of self.now activation) (spec.standing_of self.now activation) }
         ensures stands { (p : List Filter) (m : Moment) → IsAt p self.now m →
@@ -124,7 +124,7 @@ impl Board {
         })
     }
 
-    /// Whether an activation of the filter goes on.
+    /// Whether the filter has an activation that hasn't ended.
     pub(crate) fn has_active(&self, filter: usize) -> bool
         ensures { result ≡ spec.has_standing filter self.now.actors self.now.standings }
     {
@@ -156,8 +156,8 @@ impl Board {
         self.store.outcome(serial)
     }
 
-    /// What happened. Each activation that is there or was there was started by one of the entries; and it makes at most as many steps as
-    /// the callback costs with which it started, so 1,000,000 at most.
+    /// The entries so far. Each activation was started by one of them, and makes at most as many steps as its callback costs, so 1,000,000
+    /// at most.
     pub fn journal(&self) -> &Journal
         ensures entries { result.now ≡ self.now.entries }
         ensures started { (p : List Filter) (a : ℕ) → IsBoard p self.now → a < length self.now.standings →

@@ -35,14 +35,14 @@ use flt_rules::{Access, Call};
 use flt_store::Change;
 use std::alloc::AllocError;
 
-/// What a commit answers. After anything but `Committed` the board and its journal are as they were.
+/// The answer of a commit. After any but `Committed` the board and its journal are unchanged.
 #[derive(Drop)]
 pub enum Commit {
     /// The steps were made.
     Committed(Events),
     /// The activation isn't in the state that the frame was taken from.
     Stale,
-    /// Other activations hold the lock that the step asks for in a way that refuses it.
+    /// Other activations hold the lock that the step would take, and exclude that.
     Blocked,
     /// There are 1,000,000 entries.
     Full,
@@ -51,8 +51,8 @@ pub enum Commit {
 }
 
 impl Board {
-    /// Makes the local steps of an advance, and the step after them. `grant` is the system's choice, where that step leaves one.
-    /// What was advanced must have been advanced on what is loaded.
+    /// Makes the local steps of an advance, and the step after them. `grant` is the system's choice, if that step leaves one. The
+    /// activation must have been advanced on the same loaded filters.
     pub fn commit(
         &mut self,
         heap: &mut Heap,
@@ -128,7 +128,7 @@ impl Board {
         }
     }
 
-    /// Whether the step asks for a lock that others hold in a way that refuses it.
+    /// Whether the step would take a lock that others hold, and that excludes it.
     fn is_blocked(&self, caller: &Caller, instruction: Instruction) -> bool
         ensures { result ≡ spec.is_refused_lock self.now.store caller.now instruction }
     {
@@ -148,7 +148,7 @@ impl Board {
             .may_take(caller.filter, lock, caller.activation, access)
     }
 
-    /// The steps are made, and one entry more says so; or nothing is.
+    /// Makes the steps and adds their entry, or changes nothing.
     fn go_on(
         &mut self,
         heap: &mut Heap,
@@ -187,7 +187,7 @@ impl Board {
         })
     }
 
-    /// A change is made, and one entry more says what happened; or nothing is.
+    /// Makes a change and adds its entry, or changes nothing.
     fn write_down(
         &mut self,
         heap: &mut Heap,
@@ -206,7 +206,7 @@ impl Board {
         Ok(())
     }
 
-    /// How far an activation that goes on has come from now on, or that it has ended.
+    /// Sets how far an activation that hasn't ended has come, or that it has ended.
     fn put(&mut self, activation: usize, later: Option<Standing>)
         requires there { IsSome (standing_of self.old activation) }
         requires small { IfSome later (λ s. IsSmall (length self.old.entries) s) }
@@ -218,7 +218,7 @@ impl Board {
         }
     }
 
-    /// An activation that goes on has ended.
+    /// Ends an activation.
     fn end(&mut self, activation: usize)
         requires there { IsSome (standing_of self.old activation) }
         ensures { self.new ≡ record self.old { standings = set self.old.standings activation None } }
@@ -229,7 +229,7 @@ impl Board {
     }
 }
 
-/// An activation that goes on.
+/// The activation, if it hasn't ended.
 fn going(activation: u32, goes: bool) -> Option<Subject>
     ensures { tickets.one_of result ≡ (if goes then subject.Activation activation ∷ [] else []) }
 {
@@ -252,7 +252,7 @@ fn entry_of(advanced: &Advanced, instruction: Instruction, grant: bool) -> Journ
     }
 }
 
-/// How far the caller has come after a plan's step; none where the step ends the activation.
+/// How far the caller has come after a plan's step; none if the step ends the activation.
 fn standing_after(caller: &Caller, instruction: Instruction, plan: &Plan) -> Option<Standing>
     requires leads { is_end plan.now.write ≡ false → leads_on instruction ≡ true }
     requires free { TakesNone caller.now.standing.locks plan.now.write }
@@ -268,7 +268,7 @@ fn standing_after(caller: &Caller, instruction: Instruction, plan: &Plan) -> Opt
     }
 }
 
-/// An activation that goes on is so from now on.
+/// Replaces the `Standing` of an activation that hasn't ended.
 fn renew(standings: &mut Vec<Option<Kept>>, activation: usize, later: Standing)
     requires { IsSome (get_or standings.old.items activation None) }
     ensures { standings.new.items ≡ set standings.old.items activation (Some later) }
@@ -280,7 +280,7 @@ fn renew(standings: &mut Vec<Option<Kept>>, activation: usize, later: Standing)
     }
 }
 
-/// Whether the system may refuse what is called.
+/// Whether the instruction is a call that the system may refuse.
 fn leaves_choice(instruction: Instruction) -> bool
     ensures { result ≡ spec.leaves_choice_at instruction }
 {

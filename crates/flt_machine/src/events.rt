@@ -1,4 +1,4 @@
-//! What a move or a step did.
+//! The effect of a move or a step: its events, and the subjects that get a ticket.
 
 ghost use Rattle.std.specs.Prelude.{◌≡◌, ◌≢◌, ◌++◌, IfOk, OnOk, OnErr};
 ghost use Rattle.flt_dispatch.specs.Decisions as spec;
@@ -9,17 +9,17 @@ use flt_model::{Event, Object, Subject};
 use sqlite_items::Items;
 use std::alloc::AllocError;
 
-/// What a move or a step did.
+/// The effect of a move or a step: its events, and the subjects that get a ticket.
 #[derive(Drop)]
 pub struct Events {
     /// In the order in which it happened.
     pub list: Items<Event>,
-    /// What gets a ticket by it: what the next move may be about. Operations, activations, work items, entries and a teardown, each by
-    /// rising number; entries from the lowest altitude to the highest.
+    /// The subjects that get a ticket by it, since the next move may be about them: operations, activations, work items, entries and a
+    /// teardown, each by rising number; entries from the lowest altitude to the highest.
     pub next: Vec<Subject>,
 }
 
-/// The events of a move, where the number of the activation that it may start is this.
+/// The events of a move, given the number of the activation that it may start.
 pub(crate) fn events_of(
     heap: &mut Heap,
     activation: usize,

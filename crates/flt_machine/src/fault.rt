@@ -10,7 +10,7 @@ use std::alloc::AllocError;
 pub enum ApplyFault {
     /// The machine's move isn't enabled.
     NotEnabled,
-    /// There are 1,000,000 entries, or 65,536 operations where one more arrives.
+    /// There are 1,000,000 entries, or 65,536 operations if one more arrives.
     Full,
     /// A growth was refused.
     OutOfMemory,

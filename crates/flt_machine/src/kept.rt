@@ -1,4 +1,4 @@
-//! Standings of activations that go on.
+//! The `Standing`s of activations that haven't ended.
 
 ghost use Rattle.std.specs.Prelude.{◌≡◌, ◌≢◌, IfOk, OnOk, OnErr};
 
@@ -7,7 +7,7 @@ use flt_frame::Standing;
 use std::alloc::AllocError;
 use std::marker::Model;
 
-/// A standing that takes no room once its activation has ended.
+/// A `Standing` that takes no room once its activation has ended.
 #[derive(Drop)]
 pub(crate) struct Kept {
     inner: Box<Standing>,

@@ -1,7 +1,7 @@
 //! The board: an executable machine of one thread, with a journal.
 //!
-//! Each call of a board is exactly the machine's step, for any texts, accepted or not. What a call does is found out first, by reading
-//! alone; then what may need memory grows; then the change is made. So a refusal leaves board and journal as they were.
+//! Each call of a board is exactly the machine's step, for any texts, accepted or not. It first finds its effect by reading alone, then
+//! grows all that may need memory, then makes the change. So a refusal leaves board and journal unchanged.
 #![tactic(auto)]
 
 mod active;
@@ -22,5 +22,5 @@ pub use fault::ApplyFault;
 pub use flt_frame::{Advanced, Frame, Loaded, LoadedFault, advance};
 /// How an operation ended at its lowest point.
 pub use flt_store::Outcome;
-/// What a call answers that was refused memory.
+/// The answer of a call that was refused memory.
 pub use std::alloc::AllocError as OutOfMemory;

@@ -1,4 +1,5 @@
-//! What gets a ticket by a step: what the next move may be about. It is found out before the step's change is made, by reading alone.
+//! The subjects that get a ticket by a step, since the next move may be about them. They are found before the step's change is made, by
+//! reading alone.
 
 ghost use Rattle.std.specs.Prelude.{◌≡◌, ◌≢◌, ℕ, ◌+◌, ◌≤◌, ◌&&◌, ◌++◌, true, false, not, nat_lt, length, map, get_or, Option, OnOk, OnErr, IfOk};
 ghost use Rattle.std.specs.List.{list_any};
@@ -16,7 +17,7 @@ use flt_model::Subject;
 use flt_store::{Change, Position, Store, Way};
 use std::alloc::AllocError;
 
-/// What gets a ticket by a change of what activations share, with the activation that starts or goes on.
+/// The subjects that get a ticket by a change of the store, with the activation that starts or hasn't ended.
 pub(crate) fn subjects_by(
     heap: &mut Heap,
     loaded: &Loaded,
@@ -43,7 +44,7 @@ pub(crate) fn subjects_by(
     Ok(next)
 }
 
-/// What may be there.
+/// Adds a subject, if there is one.
 fn push_one(
     heap: &mut Heap,
     one: Option<Subject>,
@@ -91,7 +92,7 @@ fn item_by(store: &Store, change: Change) -> Option<Subject>
     }
 }
 
-/// The operation of a visit, where settling it so leaves that operation neither in a visit nor done.
+/// The operation of a visit, if settling the visit by this `Way` leaves the operation neither in a visit nor done.
 fn settled_operation(store: &Store, visit: usize, way: Way) -> Option<Subject>
     ensures { (x : Option ℕ) → spec.operations store.now (after_change store.now (change.Settle visit x way)) ≡ spec.one_of result }
 {
@@ -108,7 +109,7 @@ fn settled_operation(store: &Store, visit: usize, way: Way) -> Option<Subject>
     }
 }
 
-/// Whether an operation there goes on that is led so from a filter, and isn't over: it is once it is up, where it is spent.
+/// Whether an operation at a position moves on by this `Way` from a filter without being done: it is done once it is up and spent.
 fn leads_on(from: Position, filter: usize, way: Way, spent: bool) -> bool
     ensures { result ≡ (spec.goes_on (position_of from) (spec.lands filter (way_of way) (position_of from))
         && not (is_up (spec.lands filter (way_of way) (position_of from)) && spent)) }
@@ -122,7 +123,7 @@ fn leads_on(from: Position, filter: usize, way: Way, spent: bool) -> bool
     }
 }
 
-/// Whether an operation there would go on below a filter.
+/// Whether an operation at a position would move on below a filter.
 fn goes_below(from: Position, filter: usize) -> bool
     ensures { result ≡ spec.goes_on (position_of from) (machine.Down (filter + 1)) }
 {
@@ -133,7 +134,7 @@ fn goes_below(from: Position, filter: usize) -> bool
     }
 }
 
-/// Whether an operation there would go on by going up.
+/// Whether an operation at a position would move on by going up.
 fn goes_up(from: Position) -> bool
     ensures { result ≡ spec.goes_on (position_of from) machine.Up }
 {
@@ -165,7 +166,7 @@ fn push_entries(
     }
 }
 
-/// Whether an entry of an operation stands in a filter's queue.
+/// Whether a filter's queue has an entry of an operation.
 fn stands(store: &Store, filter: usize, serial: u32) -> bool
     ensures { result ≡ list_any (is_entry_of store.now serial) (machine.queue_at store.now filter) }
 {
@@ -188,7 +189,7 @@ fn is_cancelled_at(store: &Store, filter: usize, serial: u32) -> bool
     is_there(store, serial) && stands(store, filter, serial) && !store.is_detaching(filter)
 }
 
-/// The entries of an operation that is cancelled, but where the filter is being detached.
+/// The entries of an operation that is cancelled, unless the filter is being detached.
 fn push_cancelled(
     heap: &mut Heap,
     loaded: &Loaded,
@@ -219,7 +220,7 @@ fn push_cancelled(
     Ok(())
 }
 
-/// Whether an operation is cancelled, and no entry of it stands in a filter's queue.
+/// Whether an operation is cancelled, and a filter's queue has no entry of it.
 fn is_new(store: &Store, filter: usize, serial: u32) -> bool
     ensures { result ≡ (nat_lt serial (length store.now.arrivals) && ((machine.route_at store.now serial).cancelled
         && not (list_any (is_entry_of store.now serial) (machine.queue_at store.now filter)))) }
@@ -227,7 +228,7 @@ fn is_new(store: &Store, filter: usize, serial: u32) -> bool
     is_there(store, serial) && store.cancelled(serial) && !stands(store, filter, serial)
 }
 
-/// An entry that comes to a queue where its operation is cancelled already, unless one of that operation stands there.
+/// Adds an entry that is inserted into a queue after its operation was cancelled, unless the queue has one of that operation already.
 fn push_inserted(
     heap: &mut Heap,
     loaded: &Loaded,

@@ -8,7 +8,7 @@ use flt_model::{Journal, JournalEntry};
 use flt_store::{Change, Store};
 use std::alloc::AllocError;
 
-/// What activations share is changed, and one entry more says what happened; or nothing is.
+/// Changes the store and adds the entry that says so, or changes nothing.
 pub(crate) fn write(
     heap: &mut Heap,
     journal: &mut Journal,

@@ -1,5 +1,5 @@
-//! Tests of the board: journals that it makes are those that the machine can make, entry by entry and within memory, by turns, at random
-//! and up to the limits. Each of them is replayed by the monitor. They stand apart from `flt_machine`, so that it is not proved twice.
+//! Tests of the board: its journals are those that the machine can make, entry by entry and within memory, by turns, at random and up to
+//! the limits. Each of them is replayed by the monitor. They are apart from `flt_machine`, so that it is not proved twice.
 #![tactic(auto)]
 
 #[cfg(test)]

@@ -15,14 +15,14 @@ const READ: Move = Move::Arrive {
     file: 0,
 };
 
-/// The monitor finds nothing of what was made.
+/// Asserts that the monitor finds nothing in the journal that was made.
 fn is_clean(rt: &impl Abort, alloc: Global, texts: &[&str], journal: &Journal) -> Result<(), Fail> {
     let found = finding(alloc, texts, journal)?;
     assert!(rt; found.is_none());
     Ok(())
 }
 
-/// Lets an activation go on to its end, or to what stops it: how often it went, and the last answer.
+/// Runs an activation to its end, or until something stops it. Returns how many times it continued, and the last answer.
 fn go_on(scene: &mut Scene, alloc: Global, activation: u32) -> (usize, Answer) {
     for count in 0..1_000_000usize {
         let answer = scene.go(alloc, activation, None, true);
@@ -33,7 +33,7 @@ fn go_on(scene: &mut Scene, alloc: Global, activation: u32) -> (usize, Answer) {
     (1_000_000, Answer::Went)
 }
 
-/// A read arrives, and its callback goes on to its end, or to what stops it.
+/// Lets a read arrive, and runs its callback to its end, or until something stops it.
 fn read_on(scene: &mut Scene, alloc: Global, serial: u32) -> (usize, Answer) {
     let arrived = scene.apply(alloc, READ);
     if arrived != Answer::Went {
@@ -46,7 +46,7 @@ fn read_on(scene: &mut Scene, alloc: Global, serial: u32) -> (usize, Answer) {
     go_on(scene, alloc, serial)
 }
 
-/// How many steps the entries say that an activation made.
+/// The number of steps that an activation made, by the entries.
 fn steps_of(entries: &[JournalEntry], wanted: u32) -> u64 {
     let mut sum = 0u64;
     for entry in entries {
@@ -64,7 +64,7 @@ fn steps_of(entries: &[JournalEntry], wanted: u32) -> u64 {
     sum
 }
 
-/// Whether nothing more is written, and nothing changes: what is enabled is refused as full, and nothing else is.
+/// Whether nothing more is written, and nothing changes: enabled moves are refused as full, and no others are.
 fn no_entry_more(scene: &mut Scene, alloc: Global) -> bool {
     let before = scene.look();
     before.entries == 1_000_000
@@ -77,13 +77,13 @@ fn no_entry_more(scene: &mut Scene, alloc: Global) -> bool {
         && scene.look() == before
 }
 
-/// Both reads that ended made so many steps.
+/// Asserts the number of steps of both reads that ended.
 fn have_steps(rt: &impl Abort, entries: &[JournalEntry]) {
     assert!(rt; steps_of(entries, 0) == 802_002);
     assert!(rt; steps_of(entries, 1) == 802_002);
 }
 
-/// The reads fill the journal, and nothing more is written.
+/// Fills the journal with reads, and asserts that nothing more is written.
 fn last_entry(rt: &impl Abort, scene: &mut Scene, alloc: Global) -> Result<(), Fail> {
     assert!(rt; read_on(scene, alloc, 0) == (400_001, Answer::NotEnabled));
     assert!(rt; scene.apply(alloc, Move::Lower { serial: 0 }) == Answer::Went);
@@ -95,7 +95,7 @@ fn last_entry(rt: &impl Abort, scene: &mut Scene, alloc: Global) -> Result<(), F
     is_clean(rt, alloc, &[texts::GOES_ON], scene.board().journal())
 }
 
-/// The same of a new board.
+/// The same on a new board.
 fn entries_are_made(rt: &impl Abort, alloc: Global) -> Result<(), Fail> {
     match Scene::new(alloc, &[texts::GOES_ON]) {
         Ok(mut scene) => {
@@ -107,21 +107,21 @@ fn entries_are_made(rt: &impl Abort, alloc: Global) -> Result<(), Fail> {
     }
 }
 
-/// Each of two reads goes on 400,001 times, by 802,002 steps: 1,001 of the outer `repeat`, 401,000 of the inner one, 400,000 that ask for
+/// Each of two reads continues 400,001 times, by 802,002 steps: 1,001 of the outer `repeat`, 401,000 of the inner one, 400,000 that test
 /// the file, and the `return`. With three moves each they make 800,008 entries, and the third read makes the rest: two moves, and 199,990
-/// times it goes on.
+/// continuations.
 #[test]
 fn a_journal_has_a_million_entries_and_no_more(rt: HostRuntime) -> Result<(), Fail> {
     entries_are_made(&rt, rt.alloc())
 }
 
-/// A read arrives: what gets a ticket by it.
+/// Lets a read arrive. Returns the subject that gets a ticket by it.
 fn ticket_of_read(scene: &mut Scene, alloc: Global) -> Result<Option<Subject>, ApplyFault> {
     let next = scene.tickets_of_move(alloc, READ)?;
     Ok(next.first().copied())
 }
 
-/// The first of so many reads that gets another ticket than that of its number.
+/// The first of this many reads that gets another ticket than that of its number.
 fn first_without_ticket(
     scene: &mut Scene,
     alloc: Global,
@@ -135,7 +135,7 @@ fn first_without_ticket(
     Ok(None)
 }
 
-/// Whether no operation more arrives and nothing changes, and the last one goes on.
+/// Whether no further operation arrives, nothing changes, and the last one continues.
 fn no_operation_more(scene: &mut Scene, alloc: Global) -> bool {
     let before = scene.look();
     scene.apply(alloc, READ) == Answer::Full
@@ -145,7 +145,7 @@ fn no_operation_more(scene: &mut Scene, alloc: Global) -> bool {
         && scene.apply(alloc, Move::Pre { serial: 65_535 }) == Answer::Went
 }
 
-/// As many reads arrive on a new board as there may be.
+/// Lets as many reads arrive on a new board as there may be.
 fn operations_arrive(alloc: Global) -> Result<bool, Fail> {
     match Scene::new(alloc, &[texts::PASSES]) {
         Ok(mut scene) => {

@@ -1,5 +1,5 @@
-//! A cancellation, a teardown or a refusal at each moment of runs that turns make. How many entries a run has follows by hand. A move or a
-//! turn that is refused memory changes nothing, and goes when it is made again.
+//! A cancellation, a teardown or a refusal at each moment of runs that turns make. The number of entries of a run follows by hand. A move
+//! or a turn that is refused memory changes nothing, and succeeds when it is made again.
 
 use crate::scene::{Look, Scene, finding};
 use crate::texts;
@@ -11,23 +11,24 @@ use std::alloc::{AllocError, Global};
 use std::collections::VecDeque;
 use std::test::Fail;
 
-/// Operations that arrive one after the other, each once no ticket is left, and what is asked for besides, each time in a run of its own.
+/// Operations that arrive one after the other, each once no ticket is left, and the extra moves, each in a run of its own.
 struct Case {
     texts: &'static [&'static str],
     arrivals: &'static [Operation],
-    /// How many entries the run has where nothing is asked for.
+    /// The number of entries of the run without an extra move or a refusal.
     entries: usize,
-    /// How many it has where a grant choice is refused, by the choice.
+    /// The number of entries of the run in which a grant choice is refused, by the choice.
     refused: &'static [usize],
     asked: &'static [Asked],
 }
 
-/// A move that is made once a run has so many entries.
+/// A move that is made once a run has a given number of entries.
 struct Asked {
     step: Move,
-    /// How many entries the run has at the end where it had none, one, two and so on, up to all; 0 where the move isn't enabled then.
+    /// The number of entries of the run at its end, if the move is made when it has none, one, two and so on, up to all; 0 if the move
+    /// isn't enabled then.
     entries: &'static [usize],
-    /// From which moment on the first operation ends as cancelled.
+    /// The moment from which on the first operation ends as cancelled.
     cancelled: usize,
 }
 
@@ -135,21 +136,21 @@ static CASES: [Case; 4] = [
     },
 ];
 
-/// How many turns a run has at most.
+/// The most turns of a run.
 const TURNS: usize = 100;
 
-/// How many subjects are looked at.
+/// The number of subjects that are compared.
 const SUBJECTS: usize = 5;
 
-/// How many subjects a move gives tickets at most.
+/// The most subjects that get tickets by a move.
 const MOST_NAMED: usize = 2;
 
-/// What a run goes by.
+/// The state that drives a run.
 #[derive(Drop)]
 struct Player {
     subjects: VecDeque<Subject>,
     choices: Choices,
-    /// How many of the operations have arrived.
+    /// The number of operations that have arrived.
     arrived: usize,
     /// Whether memory was refused.
     refused: bool,
@@ -157,7 +158,7 @@ struct Player {
     changed: bool,
 }
 
-/// What a board and a player show.
+/// The visible state of a board and a player.
 #[derive(Clone, Copy, PartialEq)]
 struct Shown {
     board: Look,
@@ -188,13 +189,13 @@ impl Player {
         }
     }
 
-    /// A call was refused memory.
+    /// Notes that a call was refused memory.
     fn note_refusal(&mut self, scene: &Scene, before: Shown) {
         self.refused = true;
         self.changed = self.changed || self.shown(scene) != before;
     }
 
-    /// Makes a move. What gets a ticket by it comes behind the others. A move that is refused changes nothing.
+    /// Makes a move. The subjects that get tickets by it come after the others. A move that is refused changes nothing.
     fn make(&mut self, scene: &mut Scene, alloc: Global, step: Move) -> Result<(), ApplyFault> {
         self.subjects.reserve(MOST_NAMED)?;
         let next = scene.tickets_of_move(alloc, step)?;
@@ -204,7 +205,7 @@ impl Player {
         Ok(())
     }
 
-    /// The same. Where memory is refused, the move is made once more.
+    /// The same. If memory is refused, the move is made once more.
     fn make_or_again(
         &mut self,
         scene: &mut Scene,
@@ -219,7 +220,7 @@ impl Player {
         self.make(scene, alloc, step)
     }
 
-    /// Takes a turn. Where memory is refused, it is taken once more.
+    /// Takes a turn. If memory is refused, it is taken once more.
     fn turn_or_again(&mut self, scene: &mut Scene, alloc: Global) -> Result<bool, TurnFault> {
         let before = self.shown(scene);
         match scene.turn(alloc, &mut self.subjects, &mut self.choices) {
@@ -229,7 +230,7 @@ impl Player {
         scene.turn(alloc, &mut self.subjects, &mut self.choices)
     }
 
-    /// Takes a turn, or lets the next operation arrive. It answers false where nothing is left.
+    /// Takes a turn, or lets the next operation arrive. False if nothing is left.
     fn goes_on(
         &mut self,
         scene: &mut Scene,
@@ -252,7 +253,7 @@ impl Player {
         Ok(true)
     }
 
-    /// Goes on until there are so many entries, or nothing is left: whether nothing is.
+    /// Continues until there are this many entries, or nothing is left. Returns whether nothing is.
     fn goes_to(
         &mut self,
         scene: &mut Scene,
@@ -271,7 +272,7 @@ impl Player {
         Ok(false)
     }
 
-    /// Makes a move, if it is enabled: whether it is.
+    /// Makes a move, if it is enabled. Returns whether it is.
     fn tries(&mut self, scene: &mut Scene, alloc: Global, step: Move) -> Result<bool, ApplyFault> {
         match self.make_or_again(scene, alloc, step) {
             Err(ApplyFault::NotEnabled) => Ok(false),
@@ -279,7 +280,7 @@ impl Player {
         }
     }
 
-    /// Goes on until nothing is left: whether that is so in the end, and the journal is legal.
+    /// Continues until nothing is left. Returns whether nothing is, and the journal is legal.
     fn ends(&mut self, scene: &mut Scene, alloc: Global, case: &Case) -> Result<bool, Fail> {
         Ok(
             self.goes_to(scene, alloc, case.arrivals, usize::MAX)?
@@ -287,7 +288,7 @@ impl Player {
         )
     }
 
-    /// Whether all was as it should be. That memory was refused is carried out where it was.
+    /// Whether all was right. If it was, but memory was refused, the result is `OutOfMemory`.
     fn result(&self, fine: bool) -> Result<bool, ApplyFault> {
         if self.refused && fine && !self.changed {
             return Err(ApplyFault::OutOfMemory);
@@ -296,7 +297,7 @@ impl Player {
     }
 }
 
-/// How many grant choices a journal says were refused.
+/// The number of grant choices that were refused, by a journal.
 fn refusals(entries: &[JournalEntry]) -> usize {
     entries
         .iter()
@@ -304,7 +305,7 @@ fn refusals(entries: &[JournalEntry]) -> usize {
         .count()
 }
 
-/// Whether a filter that was to be detached is detached in the end.
+/// Whether a filter of a `Detach` is detached in the end.
 fn is_detached(entries: &[JournalEntry], step: Move) -> bool {
     match step {
         Move::Detach { altitude } => entries.iter().any(|entry| *entry
@@ -313,7 +314,7 @@ fn is_detached(entries: &[JournalEntry], step: Move) -> bool {
     }
 }
 
-/// Whether a board's run has the move at its moment, and goes on from there as the case says.
+/// Whether a board's run has the move at its moment, and continues from there as in the case.
 fn has_move(scene: &Scene, asked: &Asked, moment: usize) -> bool {
     let journal = scene.board().journal();
     asked.entries.get(moment) == Some(&journal.len())
@@ -322,7 +323,7 @@ fn has_move(scene: &Scene, asked: &Asked, moment: usize) -> bool {
         && (scene.look().ends[0] == 4) == (moment >= asked.cancelled)
 }
 
-/// What is asked for in a run.
+/// The deviation of a run.
 #[derive(Clone, Copy)]
 enum Wish {
     Nothing,
@@ -332,7 +333,7 @@ enum Wish {
     Move(usize, usize),
 }
 
-/// Whether a run on a board goes as the case says where nothing is asked for.
+/// Whether a run on a board agrees with the case, without a deviation.
 fn goes_alone(
     scene: &mut Scene,
     player: &mut Player,
@@ -346,7 +347,7 @@ fn goes_alone(
     )
 }
 
-/// The same where a grant choice is refused: the journal says so, once.
+/// The same with a refused grant choice, which is in the journal once.
 fn goes_refused(
     scene: &mut Scene,
     player: &mut Player,
@@ -360,7 +361,7 @@ fn goes_refused(
     Ok(fine && case.refused.get(number) == Some(&entries.len()) && refusals(entries) == 1)
 }
 
-/// The same where a move is asked for at a moment. A move that isn't enabled changes nothing.
+/// The same with a move at a moment. A move that isn't enabled changes nothing.
 fn goes_moved(
     scene: &mut Scene,
     player: &mut Player,
@@ -380,7 +381,7 @@ fn goes_moved(
     Ok(fine && as_said)
 }
 
-/// Whether a run on a board goes as the case says.
+/// Whether a run on a board agrees with the case.
 fn goes_by(
     scene: &mut Scene,
     player: &mut Player,
@@ -398,14 +399,14 @@ fn goes_by(
     }
 }
 
-/// The same of a new player.
+/// The same with a new player.
 fn goes_so(scene: &mut Scene, alloc: Global, case: &Case, wish: Wish) -> Result<bool, Fail> {
     let mut player = Player::new(alloc);
     let fine = goes_by(scene, &mut player, alloc, case, wish)?;
     Ok(player.result(fine)?)
 }
 
-/// The same of a new board.
+/// The same on a new board.
 fn plays_so(alloc: Global, case: &Case, wish: Wish) -> Result<bool, Fail> {
     match Scene::new(alloc, case.texts) {
         Ok(mut scene) => {
@@ -417,7 +418,7 @@ fn plays_so(alloc: Global, case: &Case, wish: Wish) -> Result<bool, Fail> {
     }
 }
 
-/// Whether the case says of each moment of its run what comes of a move then.
+/// Whether the case has a result of the move for each moment of its run.
 fn has_all_moments(case: &Case, row: usize) -> bool {
     match case.asked.get(row) {
         Some(asked) => asked.entries.len().checked_sub(1) == Some(case.entries),
@@ -425,7 +426,7 @@ fn has_all_moments(case: &Case, row: usize) -> bool {
     }
 }
 
-/// Whether each moment of a run comes to what the case says of it.
+/// Whether the move has the case's result at each moment of a run.
 fn moments_go_so(alloc: Global, case: &Case, row: usize) -> Result<bool, Fail> {
     for moment in 0..=case.entries {
         if !plays_so(alloc, case, Wish::Move(row, moment))? {
@@ -435,7 +436,7 @@ fn moments_go_so(alloc: Global, case: &Case, row: usize) -> Result<bool, Fail> {
     Ok(has_all_moments(case, row))
 }
 
-/// The first of a case's moves that comes to anything else at some moment.
+/// The first of a case's moves that has another result at some moment.
 fn first_wrong_move(alloc: Global, case: &Case) -> Result<Option<usize>, Fail> {
     for row in 0..case.asked.len() {
         if !moments_go_so(alloc, case, row)? {
@@ -445,7 +446,7 @@ fn first_wrong_move(alloc: Global, case: &Case) -> Result<Option<usize>, Fail> {
     Ok(None)
 }
 
-/// Whether each refusal comes to what the case says of it, and there are no more grant choices.
+/// Whether each refusal has the case's result, and there are no more grant choices.
 fn refusals_go_so(alloc: Global, case: &Case) -> Result<bool, Fail> {
     for number in 0..case.refused.len() {
         if !plays_so(alloc, case, Wish::Refusal(number))? {
@@ -455,7 +456,7 @@ fn refusals_go_so(alloc: Global, case: &Case) -> Result<bool, Fail> {
     plays_so(alloc, case, Wish::Nothing)
 }
 
-/// The first case that comes to anything else: its number, and that of the move, where it is one.
+/// The first case that has another result: its number, and that of the move, if a move has it.
 fn first_wrong(alloc: Global, cases: &[Case]) -> Result<Option<(usize, Option<usize>)>, Fail> {
     for (number, case) in cases.iter().enumerate() {
         let wrong = first_wrong_move(alloc, case)?;

@@ -1,4 +1,4 @@
-//! Moves at random, with fixed seeds: each journal is one that the machine can make, and what is accepted breaks nothing.
+//! Moves at random, with fixed seeds: each journal is one that the machine can make, and accepted filters break nothing.
 
 ghost use Rattle.std.specs.Prelude.{◌<◌};
 
@@ -191,16 +191,16 @@ static STACKS: [Stack; 33] = [
     },
 ];
 
-/// How often each journal is begun anew.
+/// The number of runs of each stack.
 const RUNS: u64 = 12;
 
-/// How many turns a run has.
+/// The number of turns of a run.
 const TURNS: usize = 400;
 
-/// How many kinds of entries there are.
+/// The number of kinds of entries.
 const KINDS: usize = 13;
 
-/// What drives a board at random, and how many operations and activations there are.
+/// A driver of a board at random, with the numbers of operations and activations.
 #[derive(Drop)]
 struct Player {
     dice: Dice,
@@ -324,7 +324,7 @@ impl Player {
         }
     }
 
-    /// Makes a turn, and says whether the board is as it should be then. What is written is counted by its kind.
+    /// Makes a turn, and returns whether the board is right after it. The new entry is counted by its kind.
     fn plays(&mut self, scene: &mut Scene, alloc: Global, kinds: &mut [u64; KINDS]) -> bool {
         let before = scene.look();
         let answer = self.turn(scene, alloc);
@@ -343,7 +343,7 @@ impl Player {
     }
 }
 
-/// A move that the board names must be enabled.
+/// Makes a move that the board names, which must be enabled.
 fn named(scene: &mut Scene, alloc: Global, step: Option<Move>) -> Answer {
     match step {
         Some(step) => match scene.apply(alloc, step) {
@@ -354,7 +354,7 @@ fn named(scene: &mut Scene, alloc: Global, step: Option<Move>) -> Answer {
     }
 }
 
-/// Makes the turns of a run. The number of the first that goes wrong, if there is one.
+/// Makes the turns of a run. Returns the number of the first that goes wrong, if there is one.
 fn first_wrong(
     player: &mut Player,
     scene: &mut Scene,
@@ -369,7 +369,7 @@ fn first_wrong(
     None
 }
 
-/// Plays a stack with a seed on a board, and answers what the monitor finds of the run; as of none where a turn went wrong.
+/// Plays a stack with a seed on a board. Returns the monitor's finding of the run, or 0 and the turn if a turn went wrong.
 fn play_on(
     scene: &mut Scene,
     alloc: Global,
@@ -389,7 +389,7 @@ fn play_on(
     }
 }
 
-/// The same of a new board.
+/// The same on a new board.
 fn play(
     alloc: Global,
     stack: &Stack,
@@ -406,7 +406,7 @@ fn play(
     }
 }
 
-/// Plays each stack. Of filters that are accepted each run is legal; others break something in one of them.
+/// Plays each stack. If its filters are accepted, each run is legal; others break something in one of their runs.
 fn play_all(
     rt: &impl Abort,
     alloc: Global,
@@ -432,7 +432,7 @@ fn all_are_made(rt: &impl Abort, kinds: &[u64]) {
     }
 }
 
-/// All stacks. The texts of a table weigh in each function that names it, so this alone does.
+/// All stacks. The texts of a table weigh in each function that names it, so only this one does.
 fn stacks() -> &'static [Stack] {
     &STACKS
 }

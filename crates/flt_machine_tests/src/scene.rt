@@ -1,4 +1,4 @@
-//! A board with what is loaded, driven entry by entry.
+//! A board with its loaded filters, driven entry by entry.
 
 ghost use Rattle.std.specs.Prelude.{IfOk};
 ghost use Rattle.std.specs.List.{All};
@@ -20,10 +20,10 @@ use std::collections::VecDeque;
 use std::marker::Model;
 use std::test::Fail;
 
-/// How many contexts, operations and activations are looked at.
+/// The number of contexts, operations and activations that are compared.
 pub(crate) const SHOWN: usize = 5;
 
-/// What a board answers to an entry.
+/// The answer of a board to an entry.
 #[derive(Clone, Copy, PartialEq)]
 pub(crate) enum Answer {
     Went,
@@ -32,11 +32,11 @@ pub(crate) enum Answer {
     Blocked,
     Full,
     OutOfMemory,
-    /// What no entry may answer: calls that don't fit together.
+    /// An answer that no entry may have: calls contradict one another.
     Wrong,
 }
 
-/// What a board shows.
+/// The visible state of a board.
 #[derive(Clone, Copy, PartialEq)]
 pub(crate) struct Look {
     pub(crate) entries: usize,
@@ -85,8 +85,8 @@ pub(crate) fn journal_of(alloc: Global, entries: &str) -> Result<Journal, Fail> 
     Ok(read(alloc, &mut bytes)?)
 }
 
-/// What the monitor finds of a journal, as a number, with the number of the entry: nothing where it is legal, 0 where it isn't a
-/// run, 1 to 8 for what it breaks.
+/// The monitor's finding of a journal, as a number, with the number of the entry: none if it is legal, 0 if it isn't a run, 1 to 8 for the
+/// violation.
 pub(crate) fn finding(
     alloc: Global,
     texts: &[&str],
@@ -113,7 +113,7 @@ fn number_of(violation: Violation) -> u8 {
     }
 }
 
-/// How an operation ended, as a number: 0 where it is on its way, 1 where it was disallowed, then the final statuses.
+/// The end of an operation, as a number: 0 if it hasn't ended, 1 if it was disallowed, then the final statuses.
 fn end_of(outcome: Option<Outcome>) -> u8 {
     match outcome {
         None => 0,
@@ -131,7 +131,7 @@ fn went(fine: bool) -> Answer {
     if fine { Answer::Went } else { Answer::Wrong }
 }
 
-/// What a board answers to a move that it doesn't make.
+/// The answer for a move that a board doesn't make.
 fn refusal(fault: ApplyFault) -> Answer {
     match fault {
         ApplyFault::NotEnabled => Answer::NotEnabled,
@@ -140,7 +140,7 @@ fn refusal(fault: ApplyFault) -> Answer {
     }
 }
 
-/// The same of what a commit answers.
+/// The same for a commit.
 fn answer_of(commit: Commit) -> Answer {
     match commit {
         Commit::Committed(_) => Answer::Went,
@@ -151,7 +151,7 @@ fn answer_of(commit: Commit) -> Answer {
     }
 }
 
-/// What a board answers to an advance. It is the loaded filters' own then as before.
+/// The answer of a board to an advance. Afterwards it is again the loaded filters' own.
 fn commit_on(
     board: &mut Board,
     alloc: Global,
@@ -166,7 +166,7 @@ fn commit_on(
     answer_of(board.commit(&mut Heap::new(alloc), loaded, advanced, grant))
 }
 
-/// Takes a turn on a board. It is the loaded filters' own then as before.
+/// Takes a turn on a board. Afterwards it is again the loaded filters' own.
 fn turn_on(
     board: &mut Board,
     alloc: Global,
@@ -187,7 +187,7 @@ impl Scene {
         Ok(Scene { loaded, board })
     }
 
-    /// Ends it: it is dropped here alone.
+    /// Ends it. Only here is it dropped.
     pub(crate) fn end(self) {}
 
     pub(crate) fn board(&self) -> &Board {
@@ -202,7 +202,7 @@ impl Scene {
         self.board.next_detach(&self.loaded, altitude)
     }
 
-    /// Makes a move, by which these must get a ticket.
+    /// Makes a move, by which these subjects must get tickets.
     fn apply_for(&mut self, alloc: Global, step: Move, tickets: &[Subject]) -> Answer {
         match self.board.apply(&mut Heap::new(alloc), &self.loaded, step) {
             Ok(events) => went(events.next.as_slice() == tickets),
@@ -210,7 +210,7 @@ impl Scene {
         }
     }
 
-    /// Makes a move. What gets a ticket by it is asked first, and must be answered so.
+    /// Makes a move. The board is asked beforehand for the subjects that get tickets by it, and its answer must be right.
     fn apply_asked(&mut self, alloc: Global, step: Move) -> Answer {
         match self
             .board
@@ -221,7 +221,7 @@ impl Scene {
         }
     }
 
-    /// The same. Whether the move is enabled is asked before, and must be answered so.
+    /// The same. The board is also asked beforehand whether the move is enabled, and its answer must be right.
     pub(crate) fn apply(&mut self, alloc: Global, step: Move) -> Answer {
         let enabled = self.board.enabled(&self.loaded, step);
         let answer = self.apply_asked(alloc, step);
@@ -231,8 +231,7 @@ impl Scene {
         answer
     }
 
-    /// An activation goes on to the next step that others see, by so many steps where a number is given. The same frame again is
-    /// stale then.
+    /// Continues an activation to the next step that others see, by this many steps if a number is given. The same frame is then stale.
     pub(crate) fn go(
         &mut self,
         alloc: Global,
@@ -258,7 +257,7 @@ impl Scene {
         }
     }
 
-    /// Makes a move: what gets a ticket by it.
+    /// Makes a move. Returns the subjects that get tickets by it.
     pub(crate) fn tickets_of_move(
         &mut self,
         alloc: Global,
@@ -268,7 +267,7 @@ impl Scene {
         Ok(events.next)
     }
 
-    /// The same of an activation that goes on, by so many steps.
+    /// The same for an activation that continues by this many steps.
     fn tickets_of_go(
         &mut self,
         alloc: Global,
@@ -290,7 +289,7 @@ impl Scene {
         }
     }
 
-    /// Takes a turn. It answers false where there is no ticket.
+    /// Takes a turn. False if there is no ticket.
     pub(crate) fn turn(
         &mut self,
         alloc: Global,
@@ -300,7 +299,7 @@ impl Scene {
         turn_on(&mut self.board, alloc, &self.loaded, subjects, choices)
     }
 
-    /// What an entry says is done: what gets a ticket by it, where it goes.
+    /// Does the action of an entry. Returns the subjects that get tickets by it, if it succeeds.
     pub(crate) fn tickets_of(
         &mut self,
         alloc: Global,
@@ -316,7 +315,7 @@ impl Scene {
         }
     }
 
-    /// What an entry says is done.
+    /// Does the action of an entry.
     pub(crate) fn enter(&mut self, alloc: Global, entry: JournalEntry) -> Answer {
         match entry {
             JournalEntry::Move(step) => self.apply(alloc, step),
@@ -328,7 +327,7 @@ impl Scene {
         }
     }
 
-    /// What the board shows.
+    /// The visible state of the board.
     pub(crate) fn look(&self) -> Look {
         let entries = self.board.journal().len();
         let mut look = Look {

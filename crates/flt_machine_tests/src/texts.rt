@@ -3,7 +3,7 @@
 /// Sees each read and lets it through.
 pub(crate) const PASSES: &str = "filter a altitude 100\npre read {\nreturn NO_CALLBACK\n}\n";
 
-/// Sees each read on its way down and on its way up.
+/// Sees each read as it goes down and as it comes back up.
 pub(crate) const UPPER: &str =
     "filter b altitude 200\npre read {\nreturn WITH_CALLBACK\n}\npost read {\nif arg != NULL {\nFltReleaseContext arg\n}\nreturn FINISHED_PROCESSING\n}\n";
 
@@ -15,7 +15,7 @@ pub(crate) const LOWER: &str =
 pub(crate) const PENDS: &str =
     "filter q altitude 100\nqueue\npre read {\nif irp data {\nif FltCbdqInsertIo data {\nreturn PENDING\n}\n}\nreturn NO_CALLBACK\n}\ncanceled {\nif arg != NULL {\nFltReleaseContext arg\n}\nFltCompletePendedPreOperation data COMPLETE STATUS_CANCELLED\n}\n";
 
-/// Pends each read, and with a write lets the first of them go on.
+/// Pends each read, and with a write lets the first of them continue.
 pub(crate) const REMOVES: &str =
     "filter q altitude 100\nqueue\npre read {\nif irp data {\nif FltCbdqInsertIo data {\nreturn PENDING\n}\n}\nreturn NO_CALLBACK\n}\ncanceled {\nif arg != NULL {\nFltReleaseContext arg\n}\nFltCompletePendedPreOperation data COMPLETE STATUS_CANCELLED\n}\npre write {\nif FltCbdqRemoveNextIo o0 context c0 {\nif c0 != NULL {\nFltReleaseContext c0\n}\nFltCompletePendedPreOperation o0 NO_CALLBACK\n}\nreturn NO_CALLBACK\n}\n";
 
@@ -39,7 +39,7 @@ pub(crate) const QUEUES_AND_PASSES: &str =
 pub(crate) const SHARES: &str =
     "filter a altitude 100\nlock push l\npre read {\nFltAcquirePushLockShared l\nn0 = file data\nFltReleasePushLock l\nreturn NO_CALLBACK\n}\n";
 
-/// Asks 400,000 times for the file of a read.
+/// Tests the file of a read 400,000 times.
 pub(crate) const GOES_ON: &str =
     "filter a altitude 100\npre read {\nrepeat 1000 {\nrepeat 400 {\nn0 = file data\n}\n}\nreturn NO_CALLBACK\n}\n";
 

@@ -1,5 +1,5 @@
-//! What gets a ticket by each entry of journals that are written out. What is expected follows by hand: an operation that an entry
-//! leaves neither in a visit nor done, an activation that starts or goes on, an entry of a queue that comes to wait for its
+//! The subjects that get tickets by each entry of journals that are written out. The expected ones follow by hand: an operation that an
+//! entry leaves neither in a visit nor done, an activation that starts or continues, an entry of a queue that comes to wait for its
 //! cancellation, and a teardown that begins.
 
 use crate::scene::{Scene, journal_of};
@@ -9,7 +9,7 @@ use std::alloc::Global;
 use std::process::Abort;
 use std::test::Fail;
 
-/// The texts of a board's filters, and a journal with what gets a ticket by each of its entries.
+/// The texts of a board's filters, and a journal with the subjects that get tickets by each of its entries.
 #[derive(Clone, Copy)]
 struct Case {
     texts: &'static [&'static str],
@@ -107,7 +107,7 @@ const CASES: [Case; 4] = [
     },
 ];
 
-/// Whether an entry goes, and gives these their tickets.
+/// Whether an entry succeeds, and gives these their tickets.
 fn gives(scene: &mut Scene, alloc: Global, entry: JournalEntry, wanted: &[Subject]) -> bool {
     match scene.tickets_of(alloc, entry) {
         Some(tickets) => tickets.as_slice() == wanted,
@@ -115,7 +115,7 @@ fn gives(scene: &mut Scene, alloc: Global, entry: JournalEntry, wanted: &[Subjec
     }
 }
 
-/// The number of the first entry that doesn't, if there is one.
+/// The number of the first entry that fails or gives other tickets, if there is one.
 fn first_wrong(
     scene: &mut Scene,
     alloc: Global,
@@ -151,7 +151,7 @@ fn drive_through(
     }
 }
 
-/// The same of the case's journal.
+/// The same with the case's journal.
 fn drive(alloc: Global, case: &Case) -> Result<Option<usize>, Fail> {
     let journal = journal_of(alloc, case.entries)?;
     drive_through(alloc, case, journal.entries())

@@ -1,6 +1,6 @@
-//! Journals that a board goes through, entry by entry, and what is there at the end. What is expected follows by hand from what the
-//! machine does. Other journals, and entries that don't go, stand with their verdicts in `examples/verdicts/`. A board refuses such an
-//! entry, and stays as it was.
+//! Journals that a board makes, entry by entry, and the state at their end. The expected state follows by hand from the machine's rules.
+//! Other journals, and entries that aren't enabled, are in `examples/verdicts/` with their verdicts. A board refuses such an entry, and
+//! stays as it was.
 
 use crate::scene::{Answer, Scene, finding, journal_of};
 use crate::texts;
@@ -16,15 +16,15 @@ struct Case {
     texts: &'static [&'static str],
     /// Line by line.
     entries: &'static str,
-    /// Moves that aren't enabled where the journal has so many entries.
+    /// Moves that aren't enabled once the journal has this many entries.
     disabled: &'static [(usize, Move)],
-    /// Activations whose next step waits for a lock where the journal has so many entries.
+    /// Activations whose next step waits for a lock once the journal has this many entries.
     blocked: &'static [(usize, u32)],
-    /// What the monitor finds.
+    /// The monitor's finding.
     finding: Option<(u8, usize)>,
     /// The references of contexts at the end.
     references: &'static [Option<u64>],
-    /// How operations ended, as numbers (`scene.rt`).
+    /// The ends of operations, as numbers (`scene.rt`).
     ends: &'static [u8],
 }
 
@@ -176,7 +176,7 @@ static SCENES: [Case; 13] = [
     },
 ];
 
-/// Whether the board says beforehand that this entry comes next, where it is one of the moves of which it says so.
+/// Whether the board says beforehand that this entry comes next, if it is a move of a kind that it names beforehand.
 fn is_next(scene: &Scene, entry: JournalEntry) -> Option<bool> {
     let JournalEntry::Move(step) = entry else {
         return None;
@@ -193,7 +193,7 @@ fn is_next(scene: &Scene, entry: JournalEntry) -> Option<bool> {
     }
 }
 
-/// Makes an entry. A call that is refused memory changes nothing, and goes when it is made again.
+/// Makes an entry. A call that is refused memory changes nothing, and succeeds when it is made again.
 fn made(scene: &mut Scene, alloc: Global, entry: JournalEntry, refused: &mut bool) -> Answer {
     let before = scene.look();
     let answer = scene.enter(alloc, entry);
@@ -207,7 +207,7 @@ fn made(scene: &mut Scene, alloc: Global, entry: JournalEntry, refused: &mut boo
     scene.enter(alloc, entry)
 }
 
-/// Makes an entry, and says whether it goes, and is one that the board named beforehand.
+/// Makes an entry. Returns whether it succeeds, and is one that the board named beforehand.
 fn goes(scene: &mut Scene, alloc: Global, entry: JournalEntry, refused: &mut bool) -> bool {
     let before = scene.look();
     let next = is_next(scene, entry);
@@ -235,7 +235,7 @@ fn ends_so(scene: &Scene, case: &Case) -> bool {
     true
 }
 
-/// Whether what the case says doesn't go here is refused so.
+/// Whether the moves and activations that are disabled or blocked here by the case are refused accordingly.
 fn are_refused(
     scene: &mut Scene,
     alloc: Global,
@@ -274,7 +274,7 @@ fn nothing_else_goes(
     are_refused(scene, alloc, case, here, refused) && scene.look() == before
 }
 
-/// Makes the entries one by one, and says whether each goes, and what the case says doesn't go is refused.
+/// Makes the entries one by one. Returns whether each succeeds, and the disabled and blocked ones of the case are refused.
 fn all_go(
     scene: &mut Scene,
     alloc: Global,
@@ -292,8 +292,8 @@ fn all_go(
     nothing_else_goes(scene, alloc, case, entries.len(), refused)
 }
 
-/// Whether a board goes through the case's journal, and the monitor finds what is wanted. That memory was refused is carried out at the
-/// end.
+/// Whether a board makes the case's journal, and the monitor has the expected finding. If all is well but memory was refused, the result is
+/// `OutOfMemory`.
 fn goes_so(alloc: Global, case: &Case, scene: &mut Scene, journal: &Journal) -> Result<bool, Fail> {
     let mut refused = false;
     if !all_go(scene, alloc, case, journal.entries(), &mut refused)
@@ -308,7 +308,7 @@ fn goes_so(alloc: Global, case: &Case, scene: &mut Scene, journal: &Journal) -> 
     Ok(true)
 }
 
-/// The same of a new board.
+/// The same on a new board.
 fn drive_through(alloc: Global, case: &Case, journal: &Journal) -> Result<bool, Fail> {
     match Scene::new(alloc, case.texts) {
         Ok(mut scene) => {
@@ -320,7 +320,7 @@ fn drive_through(alloc: Global, case: &Case, journal: &Journal) -> Result<bool, 
     }
 }
 
-/// The same of the journal that the case spells.
+/// The same with the journal that the case spells.
 fn drive(alloc: Global, case: &Case) -> Result<bool, Fail> {
     let journal = journal_of(alloc, case.entries)?;
     drive_through(alloc, case, &journal)

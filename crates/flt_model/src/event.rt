@@ -1,22 +1,22 @@
-//! What a step of the machine lets others see, in the order in which it happens.
+//! The events of a step of the machine that others can see, in the order in which they happen.
 //!
-//! Activations, contexts and visits are named by their numbers, each from 0 in the order in which they came. A visit is one
-//! call of a filter for one operation, before the filters below it or after them.
+//! Activations, contexts and visits are named by their numbers, each from 0 in the order in which they came. A visit is one call of a
+//! filter for one operation, before the filters below it or after them.
 
 use flt_rules::{Call, LockNumber, Possessed};
 use flt_tree::Status;
 
-/// What an activation can hold.
+/// An object that an activation can hold.
 #[derive(Clone, Copy)]
 pub enum Object {
     Context(usize),
     Visit(usize),
 }
 
-/// How a status reaches the filter manager.
+/// The channel by which a status reaches the filter manager.
 #[derive(Clone, Copy)]
 pub enum Answer {
-    /// Returned by the callback, or missing where one is wanted.
+    /// Returned by the callback, or missing if one is expected.
     Returned(Option<Status>),
     /// Handed on by FltCompletePendedPreOperation, for the visit.
     CompletesPre {
@@ -37,13 +37,13 @@ pub enum Event {
     Call(usize, Call),
     /// A status is given.
     Status(usize, Answer),
-    /// A lock is asked for.
+    /// A lock is requested.
     Lock(usize, LockNumber),
     /// A lock is given back.
     Unlock(usize, LockNumber),
-    /// What a variable names is used.
+    /// The object that a variable names is used.
     Use(usize, Object),
-    /// A variable is used that is NULL.
+    /// A variable that is NULL is used.
     Empty(usize),
     /// The activation holds the object once more.
     Gain(usize, Object),

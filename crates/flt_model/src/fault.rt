@@ -1,4 +1,4 @@
-//! Why no journal was read.
+//! The faults for which no journal is read.
 
 ghost use Rattle.flt_model.specs.declared.fault.JournalFault.TheVariants.{OutOfMemory};
 ghost use Rattle.std.specs.Prelude.{◌≡◌};

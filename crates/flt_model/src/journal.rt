@@ -9,7 +9,7 @@ use sqlite_items::Items;
 use std::alloc::{AllocError, Global};
 use std::marker::Model;
 
-/// What happened on a stack, entry by entry.
+/// The history of a stack, entry by entry.
 #[derive(Drop)]
 pub struct Journal {
     entries: Items<JournalEntry>,
@@ -33,7 +33,7 @@ impl Journal {
         }
     }
 
-    /// One more entry, as the last one.
+    /// Adds an entry, as the last one.
     pub fn push(&mut self, heap: &mut Heap, entry: JournalEntry) -> Result<(), AllocError>
         ensures ok { OnOk result (self.new ≡ self.old ++ entry ∷ []) }
         ensures err { OnErr result (self.new ≡ self.old) }
@@ -43,21 +43,21 @@ impl Journal {
         heap.push_item(&mut self.entries, entry)
     }
 
-    /// Takes the last entry back out; none where there is no entry.
+    /// Takes the last entry back out, or none if there is no entry.
     pub fn pop(&mut self) -> Option<JournalEntry>
         ensures { MatchOption result ((self.old ≡ []) × (self.new ≡ [])) (λ e. self.old ≡ self.new ++ e ∷ []) }
     {
         self.entries.pop()
     }
 
-    /// How many entries there are.
+    /// The number of entries.
     pub fn len(&self) -> usize
         ensures { result ≡ length self.now }
     {
         self.entries.len()
     }
 
-    /// The entry of a number, counted from 0; none past the last one.
+    /// The entry of a number, counted from 0, or none past the last one.
     pub fn entry(&self, number: usize) -> Option<JournalEntry>
         ensures { result ≡ slice_get self.now number }
     {

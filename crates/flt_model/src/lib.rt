@@ -1,5 +1,5 @@
-//! The machine that filters run on: its moves, and the text of journals, which are lists of them. `specs/` defines what the
-//! machine does, which is what everything else of this project is held against.
+//! The machine that filters run on: its moves, and the text of journals, which are lists of them. `specs/` defines the machine's behaviour,
+//! against which everything else of this project is checked.
 #![tactic(auto)]
 
 mod event;

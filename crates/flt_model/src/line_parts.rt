@@ -1,4 +1,4 @@
-//! What stands in a journal's lines, for other texts that have such lines.
+//! The parts of a journal's lines, for other texts that have such lines.
 
 ghost use Rattle.std.specs.Prelude.{◌≡◌, ℕ, ◌+◌, ◌≤◌, ◌∷◌, ◌++◌, length, IfOk};
 ghost use Rattle.flt_model.specs.JournalText as format;
@@ -24,7 +24,7 @@ pub fn read_move<R: Source>(reader: &mut R, first: u8) -> Result<Move, Stop>
     move_by(reader, first)
 }
 
-/// A word, and the number behind it that ends the line.
+/// A word, and the number after it that ends the line.
 pub fn read_number<R: Source>(reader: &mut R, word: &[u8]) -> Result<u32, Stop>
     // What is read is spelled so.
     ensures spelled { IfOk result (λ number. R.coming reader.old ≡ word.now ++ (format.number_text number 10 ++ R.coming reader.new)) }

@@ -99,7 +99,7 @@ fn grant<R: Source>(reader: &mut R) -> Result<bool, Stop>
 
 // Each line is read from its second byte on.
 
-/// The rest of a word, and the number behind it that ends the line.
+/// The rest of a word, and the number after it that ends the line.
 #[tactic(auto, unfolding(crate::specs::JournalTextReading::numbered))]
 pub(crate) fn numbered<R: Source>(reader: &mut R, word: &[u8]) -> Result<u32, Stop>
     ensures read { spec.Reads (spec.numbered word.now (R.coming reader.old)) result (R.coming reader.new) }
@@ -110,7 +110,7 @@ pub(crate) fn numbered<R: Source>(reader: &mut R, word: &[u8]) -> Result<u32, St
     number(reader, b'\n')
 }
 
-/// The rest of a word, and two numbers behind it that end the line.
+/// The rest of a word, and two numbers after it that end the line.
 #[tactic(auto, unfolding(crate::specs::JournalTextReading::twice_numbered))]
 fn twice_numbered<R: Source>(reader: &mut R, word: &[u8]) -> Result<(u32, u32), Stop>
     ensures read { spec.Reads (spec.twice_numbered word.now (R.coming reader.old)) result (R.coming reader.new) }

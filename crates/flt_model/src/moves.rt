@@ -1,4 +1,4 @@
-//! The moves of the machine, and what a journal says of each: a move, or how an activation went on.
+//! The moves of the machine, and the entries of a journal: a move, or the steps with which an activation continued.
 //!
 //! Operations, activations and work items are named by their serial number, from 0 in the order in which they came, filters
 //! by their altitude, files by a number of the script's own.
@@ -8,7 +8,7 @@ ghost use Rattle.flt_model.specs.Moves as spec;
 
 use flt_rules::{Mode, Operation};
 
-/// Whether an operation of the kind can come in so: create and cleanup are I/O request packets.
+/// Whether an operation of the kind can come in by this mode: create and cleanup are I/O request packets.
 pub fn fits_mode(kind: Operation, mode: Mode) -> bool
     ensures { result ≡ spec.fits_mode kind mode }
 {
@@ -18,7 +18,7 @@ pub fn fits_mode(kind: Operation, mode: Mode) -> bool
     }
 }
 
-/// What a context is linked to.
+/// The object to which a context is linked.
 #[derive(Clone, Copy, PartialEq, Eq)]
 pub enum Key {
     /// A stream, by the number of its file.
@@ -36,7 +36,7 @@ pub enum Move {
         mode: Mode,
         file: u32,
     },
-    /// The operation's pre callback of the filter that it stands at is called.
+    /// The operation's pre callback of the filter at which it is is called.
     Pre {
         serial: u32,
     },
@@ -48,7 +48,7 @@ pub enum Move {
     Lower {
         serial: u32,
     },
-    /// On the way up the post callback that the latest frame stands for is called.
+    /// As the operation goes up, the post callback of its latest frame is called.
     Post {
         serial: u32,
     },
@@ -90,8 +90,8 @@ pub enum Move {
 pub enum JournalEntry {
     /// A move.
     Move(Move),
-    /// An activation goes on by as many steps, the last of which is a call or another step that others can see. `grant` says
-    /// whether an allocation or a queued work item was granted there.
+    /// An activation continues by this many steps, the last of which is a call or another step that others can see. `grant` says whether an
+    /// allocation or a queued work item was granted there.
     Go {
         activation: u32,
         steps: u32,

@@ -1,4 +1,4 @@
-//! Altitudes: whether two filters of a run have the same one, and where a filter stands.
+//! Altitudes: whether two filters of a run have the same one, and the place of a filter by its altitude.
 
 ghost use Rattle.std.specs.Prelude.{◌≡◌, ◌==◌, List, insert, MatchOption};
 ghost use Rattle.std.specs.List.{list_any};
@@ -14,7 +14,7 @@ fn has_altitude(trees: &[Tree], altitude: u64) -> bool
     trees.iter().any(|tree| tree.filter.altitude == altitude)
 }
 
-/// The first filter whose altitude an earlier one has, by its number from 0; none where all altitudes differ.
+/// The first filter whose altitude an earlier one has, by its number from 0, or none if all altitudes differ.
 pub fn first_repeated(trees: &[Tree]) -> Option<usize>
     ensures { MatchOption result (spec.HasDistinctAltitudes (spec.filters_of trees.now)) (spec.IsRepeated (spec.filters_of trees.now)) }
 {
@@ -26,7 +26,7 @@ pub fn first_repeated(trees: &[Tree]) -> Option<usize>
     None
 }
 
-/// A filter goes where the first lower one stands, by its number from 0. It does nothing: its clause is the law.
+/// A filter is inserted at the place of the first lower one, by its number from 0. It does nothing at run time: its clause is the law.
 pub fn filters_have_places()
     ensures { (f : Filter) (filters : List Filter) → spec.put_by_altitude f filters ≡ insert filters (spec.first_lower f filters) f }
 {}

@@ -13,7 +13,7 @@ use crate::streams::Source;
 use counted_heap::Heap;
 use std::alloc::Global;
 
-/// How many entries a journal that is read has at most.
+/// The most entries of a journal that is read.
 pub const MAX_ENTRIES: usize = 1_000_000;
 
 const FIRST_LINE: &[u8] = b"fltjournal 1\n";
@@ -34,7 +34,7 @@ fn closed<R: Source>(reader: &mut R, found: Journal) -> Result<Journal, JournalF
     }
 }
 
-/// The entries, if the last line follows and nothing behind it.
+/// The entries, if the last line follows and nothing after it.
 fn ending<R: Source>(reader: &mut R, found: Journal) -> Result<Journal, JournalFault>
     requires { length found ≤ 1000000 }
     ensures read { spec.ReadsAll (spec.ending found (R.coming reader.old)) result (R.coming reader.new) }
@@ -79,7 +79,7 @@ fn journal<R: Source>(alloc: Global, reader: &mut R) -> Result<Journal, JournalF
     }
 }
 
-/// The journal that the reader's bytes spell, all of them. It stops at the first malformed byte.
+/// The journal that all of the reader's bytes spell. It stops at the first malformed byte.
 pub fn read<R: Source>(alloc: Global, reader: &mut R) -> Result<Journal, JournalFault>
     // What is read is spelled so, and nothing is left.
     ensures spelled { IfOk result (λ journal. R.coming reader.old ≡ format.spelling journal) }

@@ -1,4 +1,4 @@
-//! The bytes of a reader, and the numbers that stand in them.
+//! The bytes of a reader, and the numbers in them.
 
 ghost use Rattle.std.specs.Prelude.{◌≡◌, ◌<◌, ◌≤◌, ◌+◌, length, IfSome};
 ghost use Rattle.flt_model.specs.JournalTextReading as spec;
@@ -33,7 +33,7 @@ pub(crate) fn byte<R: Source>(reader: &mut R) -> Result<u8, Stop>
     reader.next()?.ok_or(Stop::Wrong)
 }
 
-/// These bytes, one by one.
+/// Reads these bytes, one by one.
 #[cold]
 #[inline(never)]
 #[tactic(auto, using(crate::proofs::ReadingSteps::exactly_none))]
@@ -50,7 +50,7 @@ fn exactly_by_bytes<R: Source>(reader: &mut R, bytes: &[u8]) -> Result<(), Stop>
     Ok(())
 }
 
-/// The same, by what is at hand if that will do.
+/// The same, from the bytes at hand if they suffice.
 #[inline(always)]
 pub(crate) fn exactly<R: Source>(reader: &mut R, bytes: &[u8]) -> Result<(), Stop>
     ensures read { spec.Reads (spec.exactly bytes.now (R.coming reader.old)) result (R.coming reader.new) }
@@ -81,7 +81,7 @@ fn with_digit(number: u32, digit: u8) -> Option<u32>
     }
 }
 
-/// The digits of a number behind those that were read, so many at most, and the byte behind it.
+/// The digits of a number after those that were read, `left` at most, and the byte after it.
 #[tactic(auto, using(crate::proofs::ReadingSteps::digits_none, crate::proofs::ReadingSteps::digits_end, crate::proofs::ReadingSteps::digits_last, crate::proofs::ReadingSteps::digits_wrong, crate::proofs::ReadingSteps::digits_more))]
 fn digits<R: Source>(reader: &mut R, left: usize, end: u8, number: u32) -> Result<u32, Stop>
     requires { left < 100 }
@@ -107,8 +107,8 @@ fn digits<R: Source>(reader: &mut R, left: usize, end: u8, number: u32) -> Resul
     }
 }
 
-/// A number of eight digits at most that stands in these bytes, with the byte behind it, and how many bytes both take. None of one that is cut
-/// off or malformed, and none of 0.
+/// A number of eight digits at most with which these bytes begin, with the byte after it, and the number of bytes of both. None if it is
+/// cut off, malformed or 0.
 #[inline(always)]
 fn number_in(bytes: &[u8], end: u8) -> Option<(u32, usize)>
     ensures { IfSome result (λ q. spec.IsNumberIn end bytes.now q.0 q.1) }
@@ -128,7 +128,7 @@ fn number_in(bytes: &[u8], end: u8) -> Option<(u32, usize)>
     None
 }
 
-/// A number with no zero in front, and the byte behind it, byte by byte.
+/// A number without leading zeros, and the byte after it, byte by byte.
 #[cold]
 #[inline(never)]
 #[tactic(auto, unfolding(crate::specs::JournalTextReading::number))]
@@ -148,7 +148,7 @@ fn number_by_bytes<R: Source>(reader: &mut R, end: u8) -> Result<u32, Stop>
     }
 }
 
-/// The same, by what is at hand if that will do.
+/// The same, from the bytes at hand if they suffice.
 pub(crate) fn number<R: Source>(reader: &mut R, end: u8) -> Result<u32, Stop>
     ensures read { spec.Reads (spec.number end (R.coming reader.old)) result (R.coming reader.new) }
     ensures fails { spec.Counts result (R.failures reader.old) (R.failures reader.new) }

@@ -5,8 +5,8 @@ ghost use Rattle.std.specs.Prelude.{◌≡◌, IsSome};
 use crate::streams::{ReadFault, Sink, Source, WriteFault};
 use std::io::{Read, Write};
 
-/// A reader whose bytes are known, as a `Source`. It has none at hand: each byte is a read of its own, so a `BufReader` is best for what
-/// the system reads. What comes of a file is known to nobody: read it whole, and give the bytes.
+/// A reader whose bytes are known, as a `Source`. It has none at hand: each byte is a read of its own, so a `BufReader` is best for reading
+/// from the system. The bytes of a file aren't known in this sense: read it whole, and give the bytes.
 #[derive(Drop)]
 pub struct Reading<R: Read + Drop> {
     pub(crate) inner: R,
@@ -16,7 +16,7 @@ pub struct Reading<R: Read + Drop> {
 }
 
 impl<R: Read + Drop> Reading<R> {
-    /// What this reader still gives comes. No read has failed yet.
+    /// A source of the bytes that this reader still gives. No read has failed yet.
     pub fn new(inner: R) -> Reading<R>
         requires known { IsSome (R.remaining inner) }
         ensures inner { result.inner ≡ inner }
@@ -30,7 +30,7 @@ impl<R: Read + Drop> Reading<R> {
         }
     }
 
-    /// The reader, with what is left of it.
+    /// The reader, with the bytes that are left.
     pub fn into_inner(self) -> R
         ensures { result ≡ self.inner }
     {
@@ -75,7 +75,7 @@ impl<R: Read + Drop> Source for Reading<R> {
     fn pass(&mut self, _count: usize) {}
 }
 
-/// A writer as a `Sink`, which has taken what the writer contains. An interruption fails, and so does a write that takes nothing of some
+/// A writer as a `Sink`, which has taken the writer's contents. An interruption fails, and likewise a write that takes nothing of some
 /// bytes. It doesn't flush.
 #[derive(Drop)]
 pub struct Writing<W: Write + Drop> {
@@ -84,7 +84,7 @@ pub struct Writing<W: Write + Drop> {
 }
 
 impl<W: Write + Drop> Writing<W> {
-    /// What is put goes to this writer. No write has failed yet.
+    /// A sink that writes to this writer. No write has failed yet.
     pub fn new(inner: W) -> Writing<W>
         ensures inner { result.inner ≡ inner }
         ensures fine { result.failures ≡ 0 }
@@ -92,7 +92,7 @@ impl<W: Write + Drop> Writing<W> {
         Writing { inner, failures: 0 }
     }
 
-    /// The writer, with what it has taken.
+    /// The writer, with the bytes that it has taken.
     pub fn into_inner(self) -> W
         ensures { result ≡ self.inner }
     {

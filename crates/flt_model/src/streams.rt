@@ -8,7 +8,7 @@ ghost use Rattle.std.specs.Prelude.{◌≡◌, ◌≢◌, ℕ, ◌+◌, ◌≤�
 #[derive(Clone, Copy, Debug)]
 pub struct ReadFault;
 
-/// A write failed. How many of its bytes were taken before isn't known.
+/// A write failed. The number of its bytes that were taken before isn't known.
 #[derive(Clone, Copy, Debug)]
 pub struct WriteFault;
 
@@ -27,7 +27,7 @@ pub trait Source {
     // The count of its reads, to which each adds one at most.
     ghost reads: { Self → ℕ };
 
-    /// The next byte, or that there is none.
+    /// The next byte, or none at the end.
     fn next(&mut self) -> Result<Option<u8>, ReadFault>
         ensures byte { IfOk result (λ b. Gives (coming self.old) b (coming self.new)) }
         ensures fine { OnOk result (failures self.new ≡ failures self.old) }
@@ -39,7 +39,7 @@ pub trait Source {
         ensures bytes { result.now ≡ at_hand self.now }
         ensures first { ComesFirst (at_hand self.now) (coming self.now) };
 
-    /// Passes over so many of the bytes at hand, which is no read.
+    /// Passes over this many of the bytes at hand, which is no read.
     fn pass(&mut self, count: usize)
         requires { count ≤ length (at_hand self.old) }
         ensures left { coming self.new ≡ drop count (coming self.old) }
@@ -84,7 +84,7 @@ pub trait Sink {
     // The count of its failures, which is another one after each.
     ghost failures: { Self → ℕ };
 
-    /// Takes some of the bytes, and answers how many; at least one if there are any.
+    /// Takes some of the bytes, and returns how many; at least one if there are any.
     fn put(&mut self, bytes: &[u8]) -> Result<usize, WriteFault>
         ensures within { IfOk result (λ n. n ≤ length bytes.now) }
         ensures moves { IfOk result (λ n. 0 < length bytes.now → 0 < n) }

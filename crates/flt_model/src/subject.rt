@@ -1,11 +1,11 @@
-//! What the next move may be about.
+//! The subjects of moves that may come next.
 
-/// What waits for a move to be made: a worker takes one, and makes the move that comes next of it. Numbers are those of moves.
+/// A subject waits for a move to be made: a worker takes one, and makes the move that comes next for it. Numbers are those of moves.
 #[derive(Clone, Copy, PartialEq, Eq)]
 pub enum Subject {
     /// An operation that is neither done nor in a visit, by its serial number.
     Operation(u32),
-    /// An activation that goes on.
+    /// An activation that continues.
     Activation(u32),
     /// A queued work item.
     Item(u32),

@@ -1,4 +1,4 @@
-//! What can be wrong with a run, and what is answered about a journal.
+//! Violations of a run, and verdicts about a journal.
 
 /// A violation, named by its number as it is printed. At one moment the least is reported.
 #[derive(Clone, Copy)]
@@ -9,7 +9,7 @@ pub enum Violation {
     V2,
     /// A visit is settled twice.
     V3,
-    /// An unsettled visit hasn't exactly one owner, or a settled one has an owner.
+    /// An unsettled visit doesn't have exactly one owner, or a settled one has an owner.
     V4,
     /// A status, or the mode of a pended operation, isn't legal.
     V5,
@@ -21,13 +21,13 @@ pub enum Violation {
     V8,
 }
 
-/// What is answered about a journal. Entries are numbered from 0.
+/// The verdict about a journal. Entries are numbered from 0.
 #[derive(Clone, Copy)]
 pub enum Verdict {
     /// It is a run that breaks nothing.
     Legal,
     /// The entry isn't enabled, and none before it broke anything.
     NotARun(usize),
-    /// The violation stands after the entry, and none before it.
+    /// The violation holds after the entry, and none before it.
     Breaks(Violation, usize),
 }

@@ -24,7 +24,7 @@ fn put_decimal<W: Sink>(writer: &mut W, number: u32) -> Result<(), WriteFault>
     put_all(writer, &[digit])
 }
 
-/// A number, and a byte behind it.
+/// Writes a number, and a byte after it.
 #[tactic(auto, using(crate::proofs::WritingSteps::two_parts))]
 fn put_number<W: Sink>(writer: &mut W, number: u32, end: u8) -> Result<(), WriteFault>
     ensures ok { OnOk result (Appends (W.taken writer.old) (W.taken writer.new) (spec.number_text number end)) }
@@ -35,7 +35,7 @@ fn put_number<W: Sink>(writer: &mut W, number: u32, end: u8) -> Result<(), Write
     put_all(writer, &[end])
 }
 
-/// A word, a number and a byte behind it.
+/// Writes a word, a number and a byte after it.
 #[tactic(auto, using(crate::proofs::WritingSteps::two_parts))]
 fn put_named<W: Sink>(writer: &mut W, word: &[u8], number: u32, end: u8) -> Result<(), WriteFault>
     ensures ok { OnOk result (Appends (W.taken writer.old) (W.taken writer.new) (word.now ++ spec.number_text number end)) }
@@ -88,7 +88,7 @@ fn put_arrive<W: Sink>(
     put_named(writer, mode_text(mode), file, b'\n')
 }
 
-/// A word and two numbers.
+/// Writes a word and two numbers.
 #[tactic(auto, using(crate::proofs::WritingSteps::three_parts))]
 fn put_two<W: Sink>(
     writer: &mut W,

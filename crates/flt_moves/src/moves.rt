@@ -1,4 +1,4 @@
-//! The moves of the filter manager and of worker threads: when each is enabled, and what it does.
+//! The moves of the filter manager and of worker threads: when each is enabled, and its effect.
 
 ghost use Rattle.std.specs.Prelude.{◌≡◌, List, Some, None, IfOk, OnOk, MatchOption};
 ghost use Rattle.flt_model.specs.declared.event.Event.{Event};
@@ -16,7 +16,7 @@ use std::alloc::{AllocError, Global};
 
 // ---- operations arrive, go down and up, and are cancelled
 
-/// One more operation, at the highest filter.
+/// Adds an operation, at the highest filter.
 fn add_operation(world: &mut World<'_>, alloc: Global, arrival: Arrival) -> Result<(), AllocError>
     ensures { OnOk result (world.new ≡ record world.old { store = moves.with_arrival world.old.store arrival }) }
 {
@@ -157,7 +157,7 @@ fn visit_last_frame(world: &mut World<'_>, operation: usize) -> Option<Frame>
     }
 }
 
-/// The operation is on its way up.
+/// The operation goes up: the post callback of its last frame starts.
 fn post_last<'a>(
     world: &mut World<'a>,
     alloc: Global,
@@ -224,7 +224,7 @@ fn cancel(world: &mut World<'_>, operation: usize) -> bool
     true
 }
 
-/// Makes a move, with its events. False where it isn't enabled.
+/// Makes a move, with its events. False if it isn't enabled.
 pub fn make<'a>(
     world: &mut World<'a>,
     alloc: Global,

@@ -1,4 +1,4 @@
-//! Callbacks that start: each is a new activation, which gains what it is given.
+//! Callbacks that start: each is a new activation, which gains the objects that it is given.
 
 ghost use Rattle.std.specs.Prelude.{◌≡◌, ◌++◌, Some, length, OnOk};
 ghost use Rattle.flt_model.specs.Effects.{gains_context};
@@ -13,7 +13,7 @@ use flt_tree::Statement;
 use flt_world::{Stack, World, push_event};
 use std::alloc::{AllocError, Global};
 
-/// Whose callback starts, what it runs, and what it is given.
+/// A callback that starts: its filter, its statements, and the objects that it is given.
 #[derive(Drop)]
 pub(crate) struct Start<'a> {
     pub(crate) actor: Actor,
@@ -22,7 +22,7 @@ pub(crate) struct Start<'a> {
     pub(crate) context: Option<usize>,
 }
 
-/// A new activation gains what it is given.
+/// A new activation gains the objects that it is given.
 fn gain_given(
     number: usize,
     visit: Option<usize>,

@@ -165,7 +165,7 @@ fn is_item_of(filter: usize, item: &Option<Item>) -> bool
     }
 }
 
-/// Whether an activation of the filter goes on.
+/// Whether the filter has an activation that hasn't ended.
 #[tactic(auto, using(crate::proofs::Moving::active_past))]
 fn has_active(filter: usize, actors: &[Actor], activations: &[Activation<'_>]) -> bool
     ensures { result ≡ moves.has_active filter actors.now activations.now }

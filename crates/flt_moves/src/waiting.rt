@@ -1,4 +1,4 @@
-//! The callbacks of what waits: cancelled entries of a queue, and work items.
+//! The callbacks of cancelled queue entries and of work items.
 
 ghost use Rattle.std.specs.Prelude.{◌≡◌, find, IfOk};
 ghost use Rattle.flt_model.specs.Moves as moves;

@@ -1,4 +1,4 @@
-//! Which word is meant where another one is written: the one of which the fewest letters differ, if it is alone.
+//! Finds the word that is meant by a misspelt one: the one in which the fewest letters differ, if it is alone.
 #![tactic(auto)]
 
 mod nearest;

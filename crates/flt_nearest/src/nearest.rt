@@ -18,11 +18,12 @@ fn lowered(alloc: Global, word: &[u8]) -> Result<String, AllocError>
     Ok(text)
 }
 
-/// How many letters of two words differ, in lower case: one that is put in, left out, another one, or two neighbours that are swapped.
+/// The number of letters in which two words differ, in lower case: a letter that is inserted, left out or replaced, or two neighbours that
+/// are swapped.
 ///
 /// # Errors
 ///
-/// Where a growth was refused.
+/// `AllocError` if a growth is refused.
 pub fn distance(alloc: Global, one: &[u8], other: &[u8]) -> Result<usize, AllocError>
     ensures { IfOk result (λ d. d ≡ spec.distance one.now other.now) }
 {
@@ -31,20 +32,20 @@ pub fn distance(alloc: Global, one: &[u8], other: &[u8]) -> Result<usize, AllocE
     osa_distance(alloc, from.as_str(), to.as_str())
 }
 
-/// The nearest word so far. None where several are as near, or where there is none yet: then the distance is `usize::MAX`.
+/// The nearest word so far. None if several are as near, or if there is none yet: then the distance is `usize::MAX`.
 #[derive(Clone, Copy)]
 pub struct Nearest<'a> {
     pub word: Option<&'a [u8]>,
-    /// How many letters of it differ.
+    /// The number of letters in which it differs.
     pub distance: usize,
 }
 
 impl<'a> Nearest<'a> {
-    /// The nearer of what is nearest to what is written and another word, of which so many letters may differ.
+    /// The nearer of this word and another one to the written word. At most `reach` letters of the other word may differ.
     ///
     /// # Errors
     ///
-    /// Where a growth was refused.
+    /// `AllocError` if a growth is refused.
     pub fn or(
         self,
         alloc: Global,

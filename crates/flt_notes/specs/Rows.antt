@@ -26,7 +26,7 @@ use Rattle.flt_notes.specs.declared.setters.Setter.{Setter}
 -- how the rows of a run are read
 abbrev pub legend : List ℕ
 legend =
-    codes "    (in front: entries; behind: lines, without those that nobody else sees; `yes` and `no`: how a call went)"
+    codes "    (left: entries; right: lines, without those that nobody else sees; `yes` and `no`: how a call went)"
     ++ 10 ∷ []
 
 -- that the rule asks for the release of `arg` all the same

@@ -1,5 +1,5 @@
-//! What comes of a finding where one more callback sets the contexts that nothing in its text sets: a run of another text, which is shown as
-//! that.
+//! The outcome of a finding if one more callback sets the contexts that nothing in its text sets: a run of another text, which is shown as
+//! such.
 
 ghost use Rattle.std.specs.Prelude.{◌≡◌, Some, All, IfOk, IfSome, slice_get, string_bytes};
 ghost use Rattle.flt_notes.specs.Again as spec;
@@ -14,21 +14,21 @@ use flt_schedules::{Outcome, Outlook, Schedule, Suspect, Suspects, outcomes_amon
 use flt_search::{Broken, SearchWatch};
 use std::alloc::{AllocError, Global};
 
-/// A text that sets what another doesn't, and what comes there of the other's findings for which that would be needed.
+/// A text that sets what another doesn't, and the outcomes in it of the other's findings that need this.
 #[derive(Drop)]
 pub(crate) struct Setting {
     pub(crate) setter: Setter,
     pub(crate) outcomes: Vec<Outcome>,
 }
 
-/// What stands in front of a line of a number.
+/// The text before a line: its number and a bar.
 fn line_head(alloc: Global, line: usize) -> Result<String, AllocError>
     ensures { IfOk result (λ head. string_bytes head ≡ rows.line_head line) }
 {
     format!(in alloc; "    {line:>4} | ")
 }
 
-/// Lines with their numbers in front, from this number on.
+/// Lines with their numbers before them, from this number on.
 fn numbered(alloc: Global, first: usize, lines: &[u8]) -> Result<Vec<u8>, AllocError>
     ensures { IfOk result (λ out. out.items ≡ rows.numbered first lines.now) }
 {
@@ -57,7 +57,7 @@ fn setter_rows(alloc: Global, setter: &Setter, broken: &Broken) -> Result<Vec<u8
     Ok(out)
 }
 
-/// The finding of a number, where it is found in the text with the callback too: with the rule that it is of without it.
+/// The finding of a number, if it is found in the text with the callback too: with the rule that it has without it.
 fn suspect_again(setter: &Setter, found: &[Finding], number: usize) -> Option<Suspect>
     ensures { IfSome result (spec.IsSuspectAgain found.now) }
 {
@@ -73,7 +73,7 @@ fn suspect_again(setter: &Setter, found: &[Finding], number: usize) -> Option<Su
     }
 }
 
-/// The findings for which contexts would be needed that nothing sets, as they are in the text with the callback.
+/// The findings that need contexts which nothing sets, as they are in the text with the callback.
 fn suspects_of(
     alloc: Global,
     setter: &Setter,
@@ -93,7 +93,7 @@ fn suspects_of(
     Ok(all)
 }
 
-/// What comes of them in runs of that text.
+/// The outcomes of these findings in runs of that text.
 fn outcomes_of<W: SearchWatch>(
     alloc: Global,
     setter: &Setter,
@@ -116,7 +116,7 @@ fn outcomes_of<W: SearchWatch>(
     Ok(all)
 }
 
-/// What comes of a finding in runs of a text with one more callback.
+/// The outcome of a finding in runs of a text with one more callback.
 fn again_by(alloc: Global, outcome: &Outcome) -> Result<Again, AllocError>
     ensures { IfOk result (spec.IsAgainBy outcome.now) }
 {
@@ -127,11 +127,11 @@ fn again_by(alloc: Global, outcome: &Outcome) -> Result<Again, AllocError>
 }
 
 impl Setting {
-    /// What comes of a text's findings, of which this comes without the callback: one search for all of them, up to so many states.
+    /// The outcomes of a text's findings with the callback, given those without it: one search for all of them, up to so many states.
     ///
     /// # Errors
     ///
-    /// Where a growth was refused, or a number or a count would reach 2^32.
+    /// If memory is refused, or a number or a count would reach 2^32.
     pub(crate) fn of<W: SearchWatch>(
         alloc: Global,
         setter: Setter,
@@ -148,7 +148,7 @@ impl Setting {
         Ok(Setting { setter, outcomes })
     }
 
-    /// What comes of the finding of a number, from 0; none where it isn't found in the text with the callback.
+    /// The outcome of the finding of a number, from 0; none if it isn't found in the text with the callback.
     fn outcome(&self, number: usize) -> Option<&Outcome>
         ensures { IfSome result (λ o. spec.IsOutcomeOf self.now number o.now) }
     {
@@ -160,11 +160,11 @@ impl Setting {
         None
     }
 
-    /// What comes of the finding of a number, from 0; none where it isn't found in the text with the callback.
+    /// The outcome of the finding of a number, from 0; none if it isn't found in the text with the callback.
     ///
     /// # Errors
     ///
-    /// Where a growth was refused.
+    /// If memory is refused.
     pub(crate) fn again(
         &self,
         alloc: Global,
@@ -181,11 +181,11 @@ impl Setting {
         }
     }
 
-    /// What stands behind the line on a run: the lines of the callback, and the run as rows.
+    /// The lines after the one on a run: those of the callback, and the run as rows.
     ///
     /// # Errors
     ///
-    /// Where a growth was refused.
+    /// If memory is refused.
     pub(crate) fn rows(&self, alloc: Global, again: &Again) -> Result<Vec<u8>, AllocError>
         ensures { IfOk result (λ out. rows.AreRowsBy self.now.setter again.now out.items) }
     {

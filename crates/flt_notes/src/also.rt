@@ -1,4 +1,4 @@
-//! What a run that was shown before breaks too: by its last entry, beside the least violation, which alone its verdict says.
+//! A further violation of a run that was shown before: by its last entry, beside the least violation, which alone is in its verdict.
 
 ghost use Rattle.std.specs.Prelude.{◌≡◌, Some, Contains, IfOk, IfSome, IsTrue};
 ghost use Rattle.flt_notes.specs.Noted as spec;
@@ -13,14 +13,14 @@ use flt_schedules::{Schedule, violations_of};
 use flt_tree::Tree;
 use std::alloc::{AllocError, Global};
 
-/// Whether two findings stand at one point.
+/// Whether two findings are at one point.
 fn are_at_one_point(one: &Finding, other: &Finding) -> bool
     ensures { IsTrue result → (one.now.callback ≡ other.now.callback) × (one.now.point ≡ other.now.point) }
 {
     one.callback == other.callback && one.point == other.point
 }
 
-/// What the run of a finding that was noted before breaks by its last entry, of the last four violations the least.
+/// The violation by the last entry of the run of a finding that was noted before, the least of the last four violations.
 fn rule_of(alloc: Global, trees: &[Tree], noted: &Noted) -> Result<Option<Violation>, AllocError>
     ensures { IfOk result (λ o. IfSome o (spec.IsBrokenBy trees.now noted.now)) }
 {
@@ -44,7 +44,7 @@ fn is_prevented(finding: &Finding, violation: Violation) -> bool
     false
 }
 
-/// What the finding's rule prevents, if it is this.
+/// The violation, if the finding's rule prevents it.
 fn prevented(finding: &Finding, violation: Option<Violation>) -> Option<Violation>
     ensures { IfSome result (λ v. (violation ≡ Some v) × Contains (prevented_by finding.now.rule) v) }
 {
@@ -67,7 +67,7 @@ fn is_near(filter: usize, found: &[Finding], finding: &Finding, noted: &Noted) -
     }
 }
 
-/// What the run of a note breaks too that a finding's rule prevents.
+/// A violation by the last entry of a note's run, if a finding's rule prevents it.
 fn broken_too(
     alloc: Global,
     trees: &[Tree],
@@ -80,8 +80,8 @@ fn broken_too(
     Ok(prevented(finding, violation))
 }
 
-/// What a run of another finding at the same point breaks too that a finding's rule prevents: of the filter of this number, whose findings
-/// these are. Those at one point come one behind the other.
+/// A violation that a finding's rule prevents, by the last entry of the run of another finding at the same point: of the filter of this
+/// number, whose findings these are. The notes on one point follow each other.
 pub(crate) fn also_broken(
     alloc: Global,
     trees: &[Tree],

@@ -1,4 +1,4 @@
-//! What stands below the report of a circle of locks: a run to a deadlock, if one is found.
+//! The lines below the report of a circle of locks: a run to a deadlock, if one is found.
 
 ghost use Rattle.std.specs.Prelude.{◌≡◌, IfOk, Some, string_bytes};
 ghost use Rattle.flt_details.specs.Page.{Writes};
@@ -20,7 +20,7 @@ use std::fmt;
 
 // ---- who waits
 
-/// Writes for which lock an activation waits, and where.
+/// Writes the lock for which an activation waits, and the line.
 #[tactic(auto, unfolding(crate::specs::Deadlocked::wait_words))]
 fn tell_wait(page: &mut Page, tree: &Tree, wait: &Blocked) -> Result<(), AllocError>
     ensures { Writes result page.old page.new (spec.wait_words tree.now.filter wait.now) }
@@ -85,7 +85,7 @@ fn deadlock_line(alloc: Global, journal: &Journal) -> Result<String, AllocError>
     Ok(line)
 }
 
-/// A run to a deadlock: how long it is, its rows, and who waits at its end.
+/// The lines on a run to a deadlock: how long it is, its rows, and who waits at its end.
 fn deadlock_lines(text: &WarnedText<'_>, deadlock: &Deadlock) -> Result<Vec<u8>, AllocError>
     ensures { IfOk result (λ lines. spec.AreDeadlockLines (warned_of text.now) deadlock.now lines.items) }
 {
@@ -100,11 +100,11 @@ fn deadlock_lines(text: &WarnedText<'_>, deadlock: &Deadlock) -> Result<Vec<u8>,
 
 // ---- none
 
-/// That no run to a deadlock is among those that are tried.
+/// The line that says that no run to a deadlock is among those that are tried.
 const NOT_WITHIN: &[u8] =
     b"   = deadlock: no such run was found among those that are tried, of up to 4 operations at once\n";
 
-/// That the search was ended at so many states.
+/// The line that says that the search was ended at so many states.
 #[derive(Drop)]
 struct CutLine(u32);
 
@@ -132,7 +132,7 @@ fn cut_line(alloc: Global, states: u32) -> Result<Vec<u8>, AllocError>
 
 // ---- all
 
-/// What a search for a deadlock came to.
+/// The lines on the answer of a search for a deadlock.
 fn answer_lines(text: &WarnedText<'_>, answer: &Answer) -> Result<Vec<u8>, AllocError>
     ensures { IfOk result (λ lines. spec.AreAnswerLines (warned_of text.now) answer.now lines.items) }
 {
@@ -143,7 +143,7 @@ fn answer_lines(text: &WarnedText<'_>, answer: &Answer) -> Result<Vec<u8>, Alloc
     }
 }
 
-/// What a search for the deadlock of a circle comes to.
+/// The lines on the answer of a search for the deadlock of a circle.
 fn search_lines<W: SearchWatch>(
     text: &WarnedText<'_>,
     circle: &[Acquisition],
@@ -160,7 +160,7 @@ fn search_lines<W: SearchWatch>(
     Ok(lines)
 }
 
-/// What stands below the report of a warning that is about a circle of locks; nothing, where it is about none.
+/// The lines below the report of a warning about a circle of locks; empty if it is about none.
 pub(crate) fn run_lines<W: SearchWatch>(
     text: &WarnedText<'_>,
     circle: &[Acquisition],

@@ -1,4 +1,4 @@
-//! What is wrong with some texts, and what comes of it in runs.
+//! Reports on some texts, with the outcomes of their findings in runs.
 
 ghost use Rattle.std.specs.Prelude.{◌≡◌, ◌≢◌, ◌≤◌, true, false, IfOk, IfErr, OnOk, length, take};
 ghost use Rattle.std.specs.Io.KnownBytes.{Appends};
@@ -21,20 +21,20 @@ use flt_warning_details::WarningOptions;
 use sqlite_items::Items;
 use std::alloc::Global;
 
-/// What is asked of texts beside their reports.
+/// The settings of reports on texts.
 #[derive(Clone, Copy)]
 pub struct Asking {
-    /// Marks of a terminal colour the reports.
+    /// Whether escape sequences of a terminal colour the reports.
     pub coloured: bool,
-    /// How many states the search for runs of a text goes on from at most.
+    /// The greatest number of states from which the search for runs of a text continues.
     pub states: u32,
-    /// Nothing is put out before all is known.
+    /// Whether nothing is put out before everything is known.
     pub is_held: bool,
     /// Which warnings are left out, and whether they count.
     pub options: WarningOptions,
 }
 
-/// What is printed, and what came of the findings in it: for each that is reported by itself, in their order.
+/// The output, and the notes on the findings in it: one for each finding that is reported by itself, in their order.
 #[derive(Drop)]
 pub struct Told {
     pub explained: Explained,
@@ -43,7 +43,7 @@ pub struct Told {
     pub sent: usize,
 }
 
-/// What is printed of texts, with its status.
+/// The output for texts, with its status.
 fn finished(printed: Printed) -> Told
     ensures output { result.explained.output.items ≡ printed.output.bytes.items }
     ensures status { result.explained.status ≡ printed.total.status }
@@ -61,22 +61,21 @@ fn finished(printed: Printed) -> Told
     }
 }
 
-/// What is wrong with some texts, for people to read: each finding with the lines that show it, a way that leads there, how to mend it, and
-/// a journal that breaks what its rule prevents, if one is found. Journals are looked for by one search for all findings of a text, up to
-/// so many states: where several texts parse and the text's filter meets another one on an operation, half of them on all that parse, and
-/// for what isn't found there on the filter alone. The last line of each text is what `analyse` says of it, or `nothing found`; behind
-/// those of several texts a line says how many findings there are, and in how many of the texts. Before `nothing found` a text has its
-/// warnings that no comment of it allows, and how many they are. A text that doesn't parse and begins as a certificate, a journal or a
-/// script is taken for one: what is said of it is why a line of it is malformed, and its last line is what `check`, `replay` or `run` say
-/// of it, or `nothing found`. A script is taken for one for the filters of the texts that parse, or, where none does, for whichever
-/// filters it detaches.
+/// Reports on some texts for people: each finding with the lines that show it, a path that leads there, how to fix it, and a journal that
+/// breaks what its rule prevents, if one is found. Journals are looked for by one search for all findings of a text, up to so many states:
+/// if several texts parse and the text's filter meets another one on an operation, half of them on all that parse, and on the filter alone
+/// for the findings without a journal there. The last line of each text is that of `analyse`, or `nothing found`; after those of several
+/// texts a line says how many findings there are, and in how many of the texts. Before `nothing found` a text has its warnings that no
+/// comment of it allows, and how many they are. A text that doesn't parse and begins as a certificate, a journal or a script is taken for
+/// one: its report says why a line of it is malformed, and its last line is that of `check`, `replay` or `run`, or `nothing found`. A
+/// script is taken for one for the filters of the texts that parse, or, if none does, for whichever filters it detaches.
 ///
 /// Unless it is held back, the report of each text but the last is put out before the next one's findings are looked for.
 ///
 /// # Errors
 ///
-/// Where a growth was refused, or a number or a count would reach 2^32: then whole reports of the first texts are put out. Where a report
-/// can't be put out.
+/// `OutOfMemory` if memory is refused, or a number or a count would reach 2^32: then whole reports of the first texts are put out. `Write`
+/// if a report can't be put out.
 pub fn explain<O: Sink, W: SearchWatch>(
     alloc: Global,
     asking: Asking,

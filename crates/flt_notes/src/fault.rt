@@ -1,13 +1,13 @@
-//! Why nothing is said of texts.
+//! Why reports on texts are missing.
 
 use flt_model::WriteFault;
 use std::alloc::{AllocError, AllocFailed};
 use thiserror::Error;
 
-/// Why nothing is said of texts, or not all.
+/// Why some or all reports on texts are missing.
 #[derive(Clone, Copy, Debug, PartialEq, Eq, Error)]
 pub enum ExplainFault {
-    /// A growth was refused, or a number or a count would reach 2^32.
+    /// Memory is refused, or a number or a count would reach 2^32.
     #[error("out of memory")]
     OutOfMemory,
     #[error("cannot write")]

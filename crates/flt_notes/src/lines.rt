@@ -1,4 +1,4 @@
-//! What is said of what comes of a finding: the line that says it, and the rows behind it.
+//! The words on a finding's outcome: the line that has them, and the rows after it.
 
 ghost use Rattle.std.specs.Prelude.{◌≡◌, ◌++◌, Some, IfOk, OnOk, codes, map, string_bytes};
 ghost use Rattle.flt_notes.specs.Lines as spec;
@@ -15,20 +15,20 @@ use flt_tree::Tree;
 use std::alloc::{AllocError, Global};
 use std::fmt;
 
-/// How many blanks stand before a timeline's rows.
+/// How many blanks are before a timeline's rows.
 const INDENT: usize = 4;
 
-/// How the rows of a journal are read.
+/// The legend of a journal's rows.
 const LEGEND: &str =
-    "    (in front: entries; behind: lines, without those that nobody else sees; `yes` and `no`: how a call went)\n";
+    "    (left: entries; right: lines, without those that nobody else sees; `yes` and `no`: how a call went)\n";
 
-/// That the rule asks for the release of `arg` all the same.
+/// The note that the rule demands the release of `arg` all the same.
 const IS_STRICTER: &str =
     "   = note: stricter than the driver kit: this rule takes `arg` as possibly held in each callback that has one\n";
 
 // ---- a run
 
-/// What a journal breaks, and where, as `replay` says it.
+/// The violation of a journal and its entry, as `replay` prints them.
 #[derive(Drop)]
 struct BreakWords(Violation, usize);
 
@@ -57,7 +57,7 @@ impl fmt::Display for BreakWords {
     }
 }
 
-/// Whether an operation arrives.
+/// Whether an entry is the arrival of an operation.
 fn is_arrival(entry: &JournalEntry) -> bool
     ensures { result ≡ spec.is_arrival entry.now }
 {
@@ -115,7 +115,7 @@ pub(crate) fn lengths_of(journal: &Journal) -> Lengths
     }
 }
 
-/// A byte of a name; `?` for what isn't printed.
+/// A byte of a name as it is printed: `?` for one that isn't graphic.
 fn shown(byte: u8) -> u8
     ensures { result ≡ spec.shown byte }
 {
@@ -145,7 +145,7 @@ fn put_names(out: &mut Vec<u8>, own: &[Tree]) -> Result<(), AllocError>
     Ok(())
 }
 
-/// Writes the names of the filters of a run, where there are others beside them.
+/// Writes the names of the filters of a run, if more than one text parses.
 fn put_filters(out: &mut Vec<u8>, trees: &[Tree], own: &[Tree]) -> Result<(), AllocError>
     ensures { OnOk result (out.new.items ≡ out.old.items ++ spec.on trees.now own.now) }
 {
@@ -155,7 +155,7 @@ fn put_filters(out: &mut Vec<u8>, trees: &[Tree], own: &[Tree]) -> Result<(), Al
     Ok(())
 }
 
-/// What a run breaks, and how long it is.
+/// The violation of a run, and how long it is.
 fn broken_words(alloc: Global, broken: &Broken) -> Result<String, AllocError>
     ensures { IfOk result (λ words. string_bytes words
         ≡ spec.break_words broken.now.violation broken.now.entry ++ spec.lengths broken.now.journal) }
@@ -165,7 +165,7 @@ fn broken_words(alloc: Global, broken: &Broken) -> Result<String, AllocError>
     format!(in alloc; "{words}{lengths}")
 }
 
-/// What is said of a run of some of the filters of these trees.
+/// The words on a run of some of the filters of these trees.
 fn run_words(
     alloc: Global,
     trees: &[Tree],
@@ -196,7 +196,7 @@ fn never_started(place: Place) -> &'static str
     }
 }
 
-/// Which contexts nothing sets that calls ask for.
+/// The words on the contexts that calls get and nothing sets.
 fn never_got(unset: Unset) -> &'static str
     ensures { result.now ≡ spec.never_got unset.stream unset.instance }
 {
@@ -213,7 +213,7 @@ fn never_got(unset: Unset) -> &'static str
     }
 }
 
-/// That a run which was shown before breaks this too.
+/// The words for a run shown before that breaks this too.
 #[derive(Drop)]
 struct AlsoWords(Violation);
 
@@ -229,7 +229,7 @@ impl fmt::Display for AlsoWords {
     }
 }
 
-/// That the search was ended at so many states.
+/// The words for a search that was ended at so many states.
 #[derive(Drop)]
 struct CutWords(u32);
 
@@ -246,7 +246,7 @@ impl fmt::Display for CutWords {
     }
 }
 
-/// What is said where a search found no run, with the bound that it came to.
+/// The words for a search that found no run, with the bound at which it was ended, if it was.
 fn searched(alloc: Global, is_behind: bool, cut: Option<u32>) -> Result<String, AllocError>
     ensures { IfOk result (λ words. string_bytes words ≡ spec.searched is_behind cut) }
 {
@@ -268,7 +268,7 @@ fn searched(alloc: Global, is_behind: bool, cut: Option<u32>) -> Result<String, 
     }
 }
 
-/// Why no run is shown. That the search ended is never taken for more than that.
+/// Why no run is shown. These words never say more of a search than that it ended.
 fn missing(alloc: Global, noted: &Noted, cut: Option<u32>) -> Result<String, AllocError>
     ensures { IfOk result (λ words. string_bytes words ≡ spec.missing noted.now.also noted.now.is_behind cut) }
 {
@@ -281,7 +281,7 @@ fn missing(alloc: Global, noted: &Noted, cut: Option<u32>) -> Result<String, All
     }
 }
 
-/// Why there is no run, where a search goes on from so many states; nothing where there is one.
+/// Why there is no run, if a search continues from so many states; empty if there is one.
 fn reason(alloc: Global, states: u32, noted: &Noted) -> Result<String, AllocError>
     ensures { IfOk result (λ words. string_bytes words ≡ spec.reason states noted.now (schedule_in noted.now.scheduled)) }
 {
@@ -298,7 +298,7 @@ fn reason(alloc: Global, states: u32, noted: &Noted) -> Result<String, AllocErro
     }
 }
 
-/// The same, behind the word that says so.
+/// The same, after the word `none`.
 fn none_words(alloc: Global, states: u32, noted: &Noted) -> Result<Vec<u8>, AllocError>
     ensures { IfOk result (λ words. words.items
         ≡ codes "none: " ++ spec.reason states noted.now (schedule_in noted.now.scheduled)) }
@@ -311,7 +311,7 @@ fn none_words(alloc: Global, states: u32, noted: &Noted) -> Result<Vec<u8>, Allo
 
 // ---- notes
 
-/// The trees of the filters in whose runs something came of a finding of the filter of a number.
+/// The trees of the filters in whose runs a finding of the filter of a number has its outcome.
 pub(crate) fn own_trees<'t>(trees: &'t [Tree], number: usize, scheduled: &Scheduled) -> &'t [Tree]
     ensures { result.now ≡ own_of trees.now number scheduled.now }
 {
@@ -321,7 +321,7 @@ pub(crate) fn own_trees<'t>(trees: &'t [Tree], number: usize, scheduled: &Schedu
     }
 }
 
-/// What a note says, where these are the trees of the texts that parse.
+/// The words of a note, given the trees of the texts that parse.
 fn note_words(
     alloc: Global,
     trees: &[Tree],
@@ -359,7 +359,7 @@ pub(crate) fn note_line(
     Ok(line)
 }
 
-/// What is said of a run of a text with one more callback.
+/// The words on a run of a text with one more callback.
 #[derive(Drop)]
 struct AgainWords(Violation, usize);
 
@@ -376,7 +376,7 @@ impl fmt::Display for AgainWords {
     }
 }
 
-/// The line on what comes of a finding where one more callback sets what nothing in its text sets.
+/// The line on a run of a text with one more callback, which sets what nothing in the text sets.
 fn run_again(alloc: Global, broken: &Broken) -> Result<String, AllocError>
     ensures { IfOk result (λ line. string_bytes line ≡ spec.run_again broken.now) }
 {
@@ -388,7 +388,7 @@ fn run_again(alloc: Global, broken: &Broken) -> Result<String, AllocError>
     Ok(line)
 }
 
-/// The same; nothing where that wasn't looked for.
+/// The line on the outcome of a finding in that text; empty if it wasn't looked for.
 pub(crate) fn again_line(alloc: Global, again: &Option<Again>) -> Result<String, AllocError>
     ensures { IfOk result (λ line. string_bytes line ≡ spec.again_line again.now) }
 {
@@ -404,7 +404,7 @@ pub(crate) fn again_line(alloc: Global, again: &Option<Again>) -> Result<String,
 
 // ---- rows
 
-/// A journal on these filters as rows, and how these are read.
+/// The legend and the rows of a journal on these filters.
 pub(crate) fn journal_rows(
     alloc: Global,
     own: &[Tree],
@@ -420,7 +420,7 @@ pub(crate) fn journal_rows(
     Ok(out)
 }
 
-/// A run of these filters as rows, and how these are read.
+/// The legend and the rows of a run of these filters.
 pub(crate) fn run_rows(alloc: Global, own: &[Tree], broken: &Broken) -> Result<String, AllocError>
     ensures { IfOk result (λ rows. AreRunRows own.now broken.now (string_bytes rows)) }
 {
@@ -428,7 +428,7 @@ pub(crate) fn run_rows(alloc: Global, own: &[Tree], broken: &Broken) -> Result<S
     journal_rows(alloc, own, &broken.journal, verdict)
 }
 
-/// What stands behind the line of a note.
+/// The lines after that of a note.
 pub(crate) fn note_rows(alloc: Global, trees: &[Tree], noted: &Noted) -> Result<String, AllocError>
     ensures { IfOk result (λ rows. AreNoteRows trees.now noted.now (string_bytes rows)) }
 {

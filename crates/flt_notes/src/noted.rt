@@ -1,4 +1,4 @@
-//! What comes of the findings of texts in runs.
+//! The outcomes of the findings of texts in runs.
 
 ghost use Rattle.std.specs.Prelude.{◌≡◌};
 ghost use Rattle.std.specs.Option.{option_copied};
@@ -9,7 +9,7 @@ use flt_model::{Journal, Violation};
 use flt_schedules::{Schedule, Scheduled};
 use flt_search::Broken;
 
-/// What comes of a finding where one more callback sets the contexts that nothing in its text sets.
+/// The outcome of a finding if one more callback sets the contexts that nothing in its text sets.
 #[derive(Drop)]
 pub enum Again {
     /// This is a run of the text with that callback.
@@ -18,25 +18,25 @@ pub enum Again {
     RunsNowhere,
 }
 
-/// What comes of a finding in runs.
+/// A note on a finding: its outcome in runs.
 #[derive(Drop)]
 pub struct Noted {
     /// The number of its filter among those of the texts that parse, from 0.
     pub filter: usize,
     /// The number of the finding among those of its text, from 0.
     pub finding: usize,
-    /// Where its callback is.
+    /// The place of its callback.
     pub place: Place,
-    /// Whether each way to it that is known breaks another rule before.
+    /// Whether each known path to it breaks another rule before.
     pub is_behind: bool,
     pub scheduled: Scheduled,
-    /// What the run of a finding that was noted before, at the same point, breaks too, where this one has none.
+    /// The further violation of the run of a finding that was noted before, at the same point, if this one has no run.
     pub also: Option<Violation>,
-    /// What comes of it where one more callback sets what nothing in its text sets, if that was looked for.
+    /// Its outcome if one more callback sets what nothing in its text sets, if that was looked for.
     pub again: Option<Again>,
 }
 
-/// What comes of a finding, in whichever runs.
+/// The outcome of a finding, in whichever runs.
 pub(crate) fn schedule_of(scheduled: &Scheduled) -> &Schedule
     ensures { result.now ≡ spec.schedule_of scheduled.now }
 {

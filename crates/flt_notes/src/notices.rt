@@ -1,4 +1,4 @@
-//! What is said of a certificate, a journal or a script, for people.
+//! Reports on certificates, journals and scripts, for people.
 
 ghost use Rattle.std.specs.Prelude.{◌≡◌, IfOk, string_bytes};
 ghost use Rattle.flt_notes.specs.Notices as spec;
@@ -7,7 +7,7 @@ use flt_reasons::{Kind, Notice, Reason};
 use flt_reports::{MarkedLine, report_line};
 use std::alloc::{AllocError, Global};
 
-/// That nothing is known of the filters that a script detaches.
+/// The note that nothing is known of the filters that a script detaches.
 const ANY_ALTITUDE: &str =
     "   = note: no text that parses is named beside it, so any altitude may be detached\n";
 
@@ -25,14 +25,14 @@ pub(crate) fn detaches(script: &[u8]) -> bool
     false
 }
 
-/// One thing, or several.
+/// The word for one thing, or for several.
 fn things(count: usize, one: &'static str, several: &'static str) -> &'static str
     ensures { result.now ≡ spec.things count one.entry.now several.entry.now }
 {
     if count == 1 { one } else { several }
 }
 
-/// What is said of a certificate that is well-formed.
+/// The lines on a well-formed certificate.
 fn certificate_lines(alloc: Global, name: &str, count: usize) -> Result<String, AllocError>
     ensures { IfOk result (λ lines. string_bytes lines ≡ spec.certificate_lines name.now count) }
 {
@@ -43,7 +43,7 @@ fn certificate_lines(alloc: Global, name: &str, count: usize) -> Result<String, 
     Ok(lines)
 }
 
-/// What is said of a journal that is well-formed.
+/// The lines on a well-formed journal.
 fn journal_lines(alloc: Global, name: &str, count: usize) -> Result<String, AllocError>
     ensures { IfOk result (λ lines. string_bytes lines ≡ spec.journal_lines name.now count) }
 {
@@ -54,14 +54,14 @@ fn journal_lines(alloc: Global, name: &str, count: usize) -> Result<String, Allo
     Ok(lines)
 }
 
-/// That nothing is known of the filters of a script that is alone.
+/// The note that nothing is known of the filters of a script that is alone; empty for another.
 fn altitude_note(is_alone: bool) -> &'static str
     ensures { result.now ≡ spec.altitude_note is_alone }
 {
     if is_alone { ANY_ALTITUDE } else { "" }
 }
 
-/// What is said of a script that is well-formed; with `is_alone`, where it detaches filters and those of its stack aren't known.
+/// The lines on a well-formed script; with `is_alone`, it detaches filters and those of its stack aren't known.
 fn script_lines(
     alloc: Global,
     is_alone: bool,
@@ -78,7 +78,7 @@ fn script_lines(
     Ok(lines)
 }
 
-/// What is said of one that is well-formed.
+/// The lines on a well-formed certificate, journal or script.
 fn whole_lines(
     alloc: Global,
     is_alone: bool,
@@ -96,7 +96,7 @@ fn whole_lines(
     Ok(lines.into_bytes())
 }
 
-/// What is said of a malformed line.
+/// The report of a malformed line.
 fn malformed_lines(
     alloc: Global,
     coloured: bool,
@@ -119,8 +119,8 @@ fn malformed_lines(
     Ok(lines)
 }
 
-/// What is said of a certificate, a journal or a script; whole lines. With `is_alone` the filters of a script's stack aren't known. With
-/// `coloured`, marks of a terminal colour them.
+/// The report of a certificate, a journal or a script, in whole lines. With `is_alone` the filters of a script's stack aren't known. With
+/// `coloured`, escape sequences of a terminal colour the lines.
 pub(crate) fn notice_lines(
     alloc: Global,
     coloured: bool,

@@ -1,4 +1,4 @@
-//! What is printed so far, and what came of the findings in it.
+//! The output so far, and the notes on the findings in it.
 
 ghost use Rattle.std.specs.Prelude.{◌≡◌, [], ◌++◌, ◌∷◌, OnOk};
 ghost use Rattle.flt_notes.specs.Lines as spec;
@@ -12,7 +12,7 @@ use flt_tree::Tree;
 use sqlite_items::Items;
 use std::alloc::{AllocError, Global};
 
-/// What is printed so far, and what came of the findings in it.
+/// The output so far, and the notes on the findings in it.
 #[derive(Drop)]
 pub(crate) struct Output {
     pub(crate) bytes: Vec<u8>,
@@ -20,7 +20,7 @@ pub(crate) struct Output {
 }
 
 impl Output {
-    /// Nothing.
+    /// An empty output.
     pub(crate) fn new(alloc: Global) -> Output
         ensures bytes { result.bytes.items ≡ [] }
         ensures noted { result.noted ≡ [] }
@@ -31,7 +31,7 @@ impl Output {
         }
     }
 
-    /// Lines, none of which is taken for one on runs.
+    /// Adds lines, none of which is taken for one on runs.
     pub(crate) fn lines(&mut self, lines: &[u8]) -> Result<(), AllocError>
         ensures bytes { OnOk result (self.new.bytes.items ≡ self.old.bytes.items ++ quieted lines.now) }
         ensures noted { OnOk result (self.new.noted ≡ self.old.noted) }
@@ -39,7 +39,7 @@ impl Output {
         put_quiet(&mut self.bytes, lines)
     }
 
-    /// The lines of a note, and rows behind each of them.
+    /// Adds the lines of a note, and rows after the first of them.
     fn note_lines(
         &mut self,
         alloc: Global,
@@ -60,7 +60,8 @@ impl Output {
         Ok(())
     }
 
-    /// A note, with rows behind each of its lines. These are the trees of the texts that parse, and a search goes on from so many states.
+    /// Adds a note, with rows after each of its lines. These are the trees of the texts that parse, and a search continues from so many
+    /// states.
     pub(crate) fn note(
         &mut self,
         alloc: Global,

@@ -46,21 +46,21 @@ use flt_warning_details::{
 use sqlite_items::Items;
 use std::alloc::{AllocError, Global};
 
-/// The report of a text with its notes, and what it comes to.
+/// The report of a text with its notes, and its tally.
 #[derive(Drop)]
 pub(crate) struct Part {
     pub(crate) output: Output,
     pub(crate) tally: Tally,
 }
 
-/// What all reports have in common.
+/// The settings and trees that all reports share.
 #[derive(Clone, Copy)]
 pub(crate) struct Stage<'a> {
     pub(crate) alloc: Global,
     pub(crate) coloured: bool,
-    /// Those of the texts that parse.
+    /// The trees of the texts that parse.
     pub(crate) trees: &'a [Tree],
-    /// How many states the search for runs of a text goes on from at most.
+    /// The greatest number of states from which the search for runs of a text continues.
     pub(crate) states: u32,
     /// Which warnings are left out, and whether they count.
     pub(crate) options: WarningOptions,
@@ -112,7 +112,7 @@ fn tree_at<'a>(trees: &'a [Tree], _text: &[u8], place: usize) -> &'a Tree
     &trees[place]
 }
 
-/// The last of what came of findings.
+/// The last of the outcomes of findings, which is taken away.
 fn last_of(outcomes: &mut Vec<Outcome>) -> Outcome
     requires some { outcomes.old.items ≢ [] }
     ensures { outcomes.old.items ≡ outcomes.new.items ++ result ∷ [] }
@@ -140,7 +140,7 @@ impl Stage<'_> {
         )
     }
 
-    /// What comes of the findings of a text that are reported by themselves.
+    /// The outcomes of the findings of a text that are reported by themselves.
     fn outcomes<W: SearchWatch>(
         &self,
         known: Known<'_>,
@@ -162,7 +162,7 @@ impl Stage<'_> {
         Ok(outcomes)
     }
 
-    /// What comes of the findings for which contexts would be needed that nothing sets, where one more callback sets them.
+    /// The outcomes of the findings that need contexts which nothing sets, if one more callback sets them.
     fn setting<W: SearchWatch>(
         &self,
         known: Known<'_>,
@@ -197,7 +197,7 @@ impl Stage<'_> {
         }
     }
 
-    /// What the run of a finding that was noted before breaks too, where this one has none.
+    /// The further violation of the run of a finding that was noted before, if this one has no run.
     fn also(
         &self,
         earlier: &[Noted],
@@ -220,7 +220,7 @@ impl Stage<'_> {
         }
     }
 
-    /// What comes of a finding where one more callback sets the contexts that nothing in its text sets.
+    /// The outcome of a finding if one more callback sets the contexts that nothing in its text sets.
     fn again(
         &self,
         known: Known<'_>,
@@ -240,7 +240,7 @@ impl Stage<'_> {
         }
     }
 
-    /// The note of the finding that a report is of, behind earlier ones.
+    /// The note on the finding of a report, after earlier notes.
     fn noted(
         &self,
         earlier: &[Noted],
@@ -271,7 +271,7 @@ impl Stage<'_> {
         })
     }
 
-    /// What stands behind the line of a note on one more callback.
+    /// The lines after that of a note on one more callback.
     fn again_rows(&self, setting: &Option<Setting>, noted: &Noted) -> Result<Vec<u8>, AllocError>
         ensures { IfOk result (λ rows. AreSettingRows setting.now noted.now.again rows.items) }
     {
@@ -308,7 +308,7 @@ impl Stage<'_> {
         Ok(())
     }
 
-    /// Writes the report of a finding, and what comes of it.
+    /// Writes the report of a finding, and its outcome.
     fn put_report(
         &self,
         output: &mut Output,
@@ -333,7 +333,7 @@ impl Stage<'_> {
         Ok(())
     }
 
-    /// Writes the reports of a text's findings, of which this came, the last one first.
+    /// Writes the reports of a text's findings, given their outcomes, the last one first.
     fn put_reports(
         &self,
         output: &mut Output,
@@ -358,7 +358,7 @@ impl Stage<'_> {
         Ok(())
     }
 
-    /// Writes what is found of a text that parses, where something is found.
+    /// Writes the findings of a text that parses and has some.
     fn put_found<W: SearchWatch>(
         &self,
         output: &mut Output,
@@ -382,7 +382,7 @@ impl Stage<'_> {
         Ok(())
     }
 
-    /// What is said of a text that parses, where nothing is found: what that promises, and its warnings.
+    /// The promise and the warnings of a text that parses and has no findings.
     fn promise_and_warnings<W: SearchWatch>(
         &self,
         known: Known<'_>,
@@ -404,7 +404,7 @@ impl Stage<'_> {
         promise_and_warnings(&text, known.details, watch)
     }
 
-    /// Writes what is said where nothing is found.
+    /// Writes the promise and the warnings of a text without findings.
     fn put_warnings<W: SearchWatch>(
         &self,
         output: &mut Output,
@@ -422,7 +422,7 @@ impl Stage<'_> {
         Ok(())
     }
 
-    /// Writes what is found of a text that parses.
+    /// Writes the findings of a text that parses, or its promise and warnings.
     fn put_findings<W: SearchWatch>(
         &self,
         output: &mut Output,
@@ -462,7 +462,7 @@ impl Stage<'_> {
         Ok(Part { output, tally })
     }
 
-    /// The report of a text that parses. Its points, its findings and its warnings are looked for now.
+    /// The report of a text that parses. Its points, its findings and its warnings are computed here.
     fn parsed_part<W: SearchWatch>(
         &self,
         source: Source<'_>,
@@ -506,7 +506,7 @@ impl Stage<'_> {
         Ok(Part { output, tally })
     }
 
-    /// The filters of a stack, where there are any.
+    /// The filters of a stack, if there are any.
     fn stack(&self) -> Option<&[Tree]>
         ensures { option_map (λ trees. filters_of trees.now) result ≡ stack_of (filters_of self.now.trees.now) }
     {
@@ -526,7 +526,7 @@ impl Stage<'_> {
         }
     }
 
-    /// What is said of a certificate, a journal or a script.
+    /// The report of a certificate, a journal or a script.
     fn notice_part(&self, source: Source<'_>, notice: &Notice<'_>) -> Result<Part, AllocError>
         ensures report { IfOk result (spec.ClosesNotice notice.now) }
         ensures print { IfOk result (spec.PrintsNotice (spec.look_of self.now) self.now.trees.now source.entry notice.now) }
@@ -544,7 +544,7 @@ impl Stage<'_> {
         Ok(Part { output, tally })
     }
 
-    /// What is said of what is taken for a certificate, a journal or a script.
+    /// The report of a text that is taken for a certificate, a journal or a script.
     fn other_part(&self, source: Source<'_>, kind: Kind) -> Result<Part, AllocError>
         requires other { IsOther source.text.now kind }
         ensures report { IfOk result (spec.HasReport self.now.options (filters_of self.now.trees.now) source.entry.text.now) }

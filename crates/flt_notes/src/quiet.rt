@@ -1,18 +1,18 @@
-//! Lines that nobody can take for what is said of runs: a file's name or a line of a text may begin as one of those does.
+//! Lines that nobody can take for those on runs: a file's name or a line of a text may begin as one of those does.
 
 ghost use Rattle.std.specs.Prelude.{◌≡◌, ◌++◌, OnOk};
 ghost use Rattle.flt_notes.specs.Quiet as spec;
 
 use std::alloc::AllocError;
 
-/// Whether a line begins as one that says what comes of a finding in runs.
+/// Whether a line begins as one on a finding's outcome in runs.
 fn begins_note(line: &[u8]) -> bool
     ensures { result ≡ spec.begins_note line.now }
 {
     line.starts_with(b"   = journal: ") || line.starts_with(b"   = with a callback")
 }
 
-/// Whether lines are whole, and none of them begins so.
+/// Whether lines are whole, and none of them begins like that.
 fn is_quiet(lines: &[u8]) -> bool
     ensures { result ≡ spec.is_quiet lines.now }
 {
@@ -26,7 +26,7 @@ fn is_quiet(lines: &[u8]) -> bool
     begins
 }
 
-/// Writes lines, each that begins so with one more blank in front, and the last one with an end.
+/// Writes lines, with one more blank before each that begins like that, and with an end of the last one.
 fn put_quieted(out: &mut Vec<u8>, lines: &[u8]) -> Result<(), AllocError>
     ensures { OnOk result (out.new.items ≡ out.old.items ++ spec.quieted lines.now) }
 {
@@ -44,7 +44,7 @@ fn put_quieted(out: &mut Vec<u8>, lines: &[u8]) -> Result<(), AllocError>
     Ok(())
 }
 
-/// Writes lines as they are, where none of them begins as one that says what comes of a finding in runs. Others get one more blank in front.
+/// Writes lines as they are, if none of them begins as one on a finding's outcome in runs; those that do get one more blank before them.
 #[tactic(auto, using(crate::proofs::QuietLines::quieted_same))]
 pub(crate) fn put_quiet(out: &mut Vec<u8>, lines: &[u8]) -> Result<(), AllocError>
     ensures { OnOk result (out.new.items ≡ out.old.items ++ spec.quieted lines.now) }

@@ -1,5 +1,5 @@
-//! What texts are found to be, beside the trees of those that parse. A text that is taken for something else is read later: a script is one
-//! for all these trees.
+//! The readings of texts, beside the trees of those that parse. A text that is taken for something else is read later: a script is one for
+//! all these trees.
 
 ghost use Rattle.std.specs.Prelude.{◌≡◌, ◌++◌, ◌∷◌, [], IfOk, OnOk};
 ghost use Rattle.flt_syntax.specs.Spelling.{Spells};
@@ -13,7 +13,7 @@ use flt_syntax::{ParseError, SyntaxFault, Tree, parse};
 use sqlite_items::Items;
 use std::alloc::{AllocError, Global};
 
-/// What a text is found to be, but for its tree.
+/// The reading of a text, without its tree.
 #[derive(Clone, Copy)]
 pub(crate) enum Reading {
     Unread(SyntaxFault),
@@ -23,7 +23,7 @@ pub(crate) enum Reading {
     Known(usize),
 }
 
-/// A text, and what it is found to be.
+/// A text, and its reading.
 #[derive(Clone, Copy)]
 pub(crate) struct Studied<'a> {
     pub(crate) source: Source<'a>,
@@ -38,7 +38,7 @@ pub(crate) struct Readings<'a> {
 }
 
 impl<'a> Readings<'a> {
-    /// One more text, which doesn't parse and is taken for a certificate, a journal or a script.
+    /// Adds a text that doesn't parse and is taken for a certificate, a journal or a script.
     fn add_other(&mut self, source: Source<'a>, kind: Kind) -> Result<(), AllocError>
         requires other { IsOther source.text.now kind }
         requires old { spec.AreReadings self.old }
@@ -51,7 +51,7 @@ impl<'a> Readings<'a> {
         Ok(())
     }
 
-    /// One more text, which doesn't parse and isn't taken for anything else.
+    /// Adds a text that doesn't parse and isn't taken for anything else.
     fn add_unread(&mut self, source: Source<'a>, fault: SyntaxFault) -> Result<(), AllocError>
         requires fault { IsUnread source.text.now fault }
         requires old { spec.AreReadings self.old }
@@ -64,7 +64,7 @@ impl<'a> Readings<'a> {
         Ok(())
     }
 
-    /// One more text, which parses.
+    /// Adds a text that parses.
     fn add_known(&mut self, source: Source<'a>, tree: Tree) -> Result<(), AllocError>
         requires spelled { Spells source.text.now tree.filter }
         requires old { spec.AreReadings self.old }
@@ -78,7 +78,7 @@ impl<'a> Readings<'a> {
         Ok(())
     }
 
-    /// One more text, which doesn't parse.
+    /// Adds a text that doesn't parse.
     fn add_unparsed(&mut self, source: Source<'a>, fault: SyntaxFault) -> Result<(), AllocError>
         requires fault { Fails source.text.now fault }
         requires old { spec.AreReadings self.old }
@@ -92,7 +92,7 @@ impl<'a> Readings<'a> {
         }
     }
 
-    /// One more text.
+    /// Adds a text.
     fn add(&mut self, alloc: Global, source: Source<'a>) -> Result<(), AllocError>
         requires old { spec.AreReadings self.old }
         ensures new { OnOk result (spec.AreReadings self.new) }
@@ -107,7 +107,7 @@ impl<'a> Readings<'a> {
     }
 }
 
-/// What texts are found to be.
+/// The readings of texts.
 pub(crate) fn read_all<'a>(
     alloc: Global,
     sources: &[Source<'a>],

@@ -1,5 +1,5 @@
-//! A text with one more callback, which sets contexts that nothing in the text sets: as the driver kit's InstanceSetupCallback does, which the
-//! language leaves out.
+//! A text with one more callback that sets contexts which nothing in the text sets, as the driver kit's InstanceSetupCallback does, which
+//! the language leaves out.
 
 ghost use Rattle.std.specs.Prelude.{◌≡◌, ◌≤◌, ◌-◌, IfOk, IfSome, length, slice_get, string_bytes};
 ghost use Rattle.flt_notes.specs.Again as spec;
@@ -14,8 +14,8 @@ use sqlite_items::Items;
 use std::alloc::{AllocError, Global};
 use std::fmt::Write;
 
-/// A text that sets what another doesn't: its tree alone, its points and its findings, the lines that were added, and the number of the
-/// first of them, from 1.
+/// A text that sets contexts that another doesn't: its tree alone, its points and its findings, the lines that were added, and the number
+/// of the first of them, from 1.
 #[derive(Drop)]
 pub(crate) struct Setter {
     pub(crate) trees: Items<Tree>,
@@ -25,7 +25,7 @@ pub(crate) struct Setter {
     pub(crate) line: usize,
 }
 
-/// The operations, the one first that a driver sees least of.
+/// The operations, beginning with the one that a driver sees least often.
 const OPERATIONS: [(Operation, &str); 4] = [
     (Operation::Cleanup, "cleanup"),
     (Operation::Create, "create"),
@@ -70,7 +70,7 @@ fn setter_lines(alloc: Global, operation: &str, unset: Unset) -> Result<String, 
     Ok(out)
 }
 
-/// The lines that a filter can have behind its last one to set contexts on these anchors; none where it has a callback of each operation.
+/// The lines that a filter can have after its last one to set contexts on these anchors; none if no operation is free for that.
 fn added_lines(alloc: Global, filter: &Filter, unset: Unset) -> Result<Option<String>, AllocError> {
     for (operation, word) in OPERATIONS {
         if is_free(filter, operation, unset) {
@@ -102,7 +102,7 @@ pub(crate) fn is_same(one: &Finding, other: &Finding) -> bool {
         && number(one.rule) == number(other.rule)
 }
 
-/// Whether what is found first is the same.
+/// Whether both have a first finding, and it is the same.
 fn begin_alike(found: &[Finding], other: &[Finding]) -> bool {
     match (found, other) {
         ([first, ..], [other, ..]) => is_same(first, other),
@@ -132,7 +132,7 @@ fn whole_lines(alloc: Global, text: &[u8]) -> Result<Vec<u8>, AllocError>
     Ok(whole)
 }
 
-/// The setter of a text that is judged so, where the same is found first.
+/// The setter of a text with this judgement, if the first finding is the same.
 fn setter_of(
     alloc: Global,
     found: &[Finding],
@@ -159,7 +159,7 @@ fn setter_of(
     }
 }
 
-/// A text with these lines more.
+/// The setter of a text with these lines added.
 fn setter_with(
     alloc: Global,
     text: &[u8],
@@ -177,12 +177,12 @@ fn setter_with(
 }
 
 impl Setter {
-    /// A text with a callback that sets contexts on these anchors; none where there is none to set, no place for one, or something else is
-    /// found first then.
+    /// The setter of a text with a callback that sets contexts on these anchors; none if there is nothing to set, no operation is free for
+    /// it, or the first finding is then another one.
     ///
     /// # Errors
     ///
-    /// Where a growth was refused.
+    /// If memory is refused.
     pub(crate) fn of(
         alloc: Global,
         source: Source<'_>,

@@ -20,7 +20,7 @@ use flt_model::{Sink, put_all};
 use flt_search::SearchWatch;
 use std::alloc::{AllocError, Global};
 
-/// What is printed of texts, what they come to, and how many bytes of it are put out.
+/// The output for texts, their total, and how many bytes of the output are put out.
 #[derive(Drop)]
 pub(crate) struct Printed {
     pub(crate) output: Output,
@@ -29,7 +29,7 @@ pub(crate) struct Printed {
 }
 
 impl Printed {
-    /// Nothing.
+    /// No output.
     pub(crate) fn new(alloc: Global) -> Printed
         ensures bytes { result.output.bytes.items ≡ [] }
         ensures noted { result.output.noted ≡ [] }
@@ -47,7 +47,7 @@ impl Printed {
         }
     }
 
-    /// One more report, with its notes.
+    /// Adds a report, with its notes.
     fn add(&mut self, part: Part) -> Result<(), AllocError>
         ensures bytes { OnOk result (self.new.output.bytes.items ≡ self.old.output.bytes.items ++ part.output.bytes.items) }
         ensures noted { OnOk result (self.new.output.noted ≡ self.old.output.noted ++ part.output.noted) }
@@ -63,7 +63,7 @@ impl Printed {
         Ok(())
     }
 
-    /// Puts out what isn't put out yet.
+    /// Puts out the bytes that aren't put out yet.
     fn send<O: Sink>(&mut self, out: &mut O) -> Result<(), ExplainFault>
         requires within { self.old.sent ≤ length self.old.output.bytes.items }
         ensures output { self.new.output ≡ self.old.output }
@@ -80,7 +80,7 @@ impl Printed {
 }
 
 impl Stage<'_> {
-    /// The reports of texts with one more, and an empty line behind it.
+    /// Adds the report of one more text, and an empty line after it.
     fn add_part<W: SearchWatch>(
         &self,
         printed: &mut Printed,
@@ -97,7 +97,7 @@ impl Stage<'_> {
         Ok(())
     }
 
-    /// The same; unless that is held back, what isn't put out yet is put out then.
+    /// The same; unless reports are held back, all bytes that aren't put out yet are put out then.
     fn put_part<O: Sink, W: SearchWatch>(
         &self,
         printed: &mut Printed,
@@ -125,8 +125,8 @@ impl Stage<'_> {
         Ok(())
     }
 
-    /// The reports of texts, each with an empty line behind it. Unless that is held back, all but the last are put out, each as soon as it is
-    /// whole.
+    /// The reports of texts, each with an empty line after it. Unless they are held back, all but the last are put out, each as soon as it
+    /// is whole.
     fn put_each<O: Sink, W: SearchWatch>(
         &self,
         each: &[Studied<'_>],
@@ -156,7 +156,7 @@ impl Stage<'_> {
         Ok(printed)
     }
 
-    /// The same, and behind it how much is found.
+    /// The same, and after it the number of findings.
     fn put_several<O: Sink, W: SearchWatch>(
         &self,
         each: &[Studied<'_>],
@@ -214,8 +214,8 @@ impl Stage<'_> {
         })
     }
 
-    /// The reports of texts, and behind several of them how much is found. Unless that is held back, all but the last are put out, each as soon
-    /// as it is whole.
+    /// The reports of texts, and after several of them the number of findings. Unless they are held back, all but the last are put out,
+    /// each as soon as it is whole.
     pub(crate) fn put_all<O: Sink, W: SearchWatch>(
         &self,
         each: &[Studied<'_>],

@@ -1,4 +1,4 @@
-//! How much is found of several files.
+//! The number of findings in several files.
 
 ghost use Rattle.std.specs.Prelude.{◌≡◌, ◌+◌, IfOk, Some, max};
 ghost use Rattle.flt_notes.specs.Totals as spec;
@@ -6,14 +6,14 @@ ghost use Rattle.flt_notes.specs.Totals as spec;
 use std::alloc::AllocError;
 use std::fmt;
 
-/// What a file comes to: its status, and how many findings it has.
+/// The tally of a file: its status, and how many findings it has.
 #[derive(Clone, Copy)]
 pub(crate) struct Tally {
     pub(crate) status: u8,
     pub(crate) findings: usize,
 }
 
-/// What files come to: the greatest status, how many findings they have, and how many of them have some.
+/// The total of files: the greatest status, how many findings they have, and how many of them have some.
 #[derive(Clone, Copy)]
 pub(crate) struct Total {
     pub(crate) status: u8,
@@ -36,7 +36,7 @@ fn sum(a: usize, b: usize) -> Result<usize, AllocError>
     }
 }
 
-/// 1 where there are some, else 0.
+/// 1 if there are some, else 0.
 fn some(count: usize) -> usize
     ensures { result ≡ spec.some count }
 {
@@ -44,7 +44,7 @@ fn some(count: usize) -> usize
 }
 
 impl Total {
-    /// With a file more.
+    /// The total with one more file.
     pub(crate) fn and(self, tally: Tally) -> Result<Total, AllocError>
         ensures status { IfOk result (λ total. total.status ≡ max self.status tally.status) }
         ensures findings { IfOk result (λ total. total.findings ≡ self.findings + tally.findings) }

@@ -9,7 +9,7 @@ use std::alloc::Global;
 pub(crate) struct WarnedText<'a> {
     pub(crate) alloc: Global,
     pub(crate) coloured: bool,
-    /// How many states a search for a run goes on from at most.
+    /// The greatest number of states from which a search for a run continues.
     pub(crate) states: u32,
     /// The tree of the text, alone.
     pub(crate) own: &'a [Tree],

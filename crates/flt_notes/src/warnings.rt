@@ -1,4 +1,4 @@
-//! What is printed of a text in which nothing is found: what that promises, and its warnings.
+//! The report of a text without findings: its promise, and its warnings.
 
 ghost use Rattle.std.specs.Prelude.{◌≡◌, ◌++◌, IfOk, OnOk, Some, string_bytes};
 ghost use Rattle.flt_notes.specs.Warned.{warned_of};
@@ -72,7 +72,7 @@ impl fmt::Display for WarningCount {
     }
 }
 
-/// The line that says how many warnings there are; nothing where there are none.
+/// The line that says how many warnings there are; empty if there are none.
 fn warnings_line(alloc: Global, count: usize) -> Result<String, AllocError>
     ensures { IfOk result (λ line. string_bytes line ≡ spec.warnings_line count) }
 {
@@ -83,11 +83,11 @@ fn warnings_line(alloc: Global, count: usize) -> Result<String, AllocError>
     format!(in alloc; "{line}\n")
 }
 
-/// What a text promises in which nothing is found, the reports of its warnings that no comment allows, and how many they are; whole lines.
+/// The promise of a text without findings, the reports of its warnings that no comment allows, and how many these are, in whole lines.
 ///
 /// # Errors
 ///
-/// Where a growth was refused, or a number or a count would reach 2^32.
+/// If memory is refused, or a number or a count would reach 2^32.
 pub(crate) fn promise_and_warnings<W: SearchWatch>(
     text: &WarnedText<'_>,
     details: &[WarningDetail],

@@ -1,5 +1,4 @@
-//! Operations on their way through the filters: what arrived, where each stands, the post callbacks that wait for it, and its
-//! visits.
+//! Operations that pass the filters: their arrivals, their positions, the post callbacks that wait for them, and their visits.
 //!
 //! `parts` has the records, `visit_rows` the visits with a list of those of each operation and a count of the unsettled ones,
 //! `route_rows` how far each operation has come, with an index that finds the least operation with a frame of a filter, and
@@ -20,5 +19,5 @@ mod visit_rows;
 pub use fault::ArriveFault;
 pub use operations::{MAX_OPERATIONS, Operations};
 pub use parts::{Arrival, Frame, Outcome, Position, Started, Visit, Way};
-/// What a call answers that was refused memory.
+/// The answer of a call that was refused memory.
 pub use std::alloc::AllocError as OutOfMemory;

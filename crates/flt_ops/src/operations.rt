@@ -81,7 +81,7 @@ impl Operations {
         self.visits.len()
     }
 
-    /// What an operation is. One that isn't there reads file 0 by an I/O request packet.
+    /// The kind, mode and file of an operation. One that isn't there reads file 0 by an I/O request packet.
     pub fn arrival(&self, serial: u32) -> Arrival
         ensures { result ≡ machine.arrival_at (store_of self.now) serial }
     {
@@ -95,7 +95,7 @@ impl Operations {
         }
     }
 
-    /// Where an operation stands. One that isn't there is up.
+    /// The position of an operation. One that isn't there is up.
     pub fn position(&self, serial: u32) -> Position
         ensures { position_of result ≡ (route_of self.now serial).position }
     {
@@ -182,7 +182,7 @@ impl Operations {
         matches!(way, Way::Frames) && self.is_led(visit)
     }
 
-    /// The filter that an operation is at on its way down.
+    /// The filter that an operation is at while it goes down.
     pub fn filter_at(&self, serial: u32) -> Option<usize>
         ensures { result ≡ filter_at self.now serial }
     {
@@ -192,7 +192,7 @@ impl Operations {
         }
     }
 
-    /// The frame whose post callback is next: the last one, where the operation is on its way up.
+    /// The frame whose post callback is next: the last one, if the operation goes up.
     pub fn frame_at(&self, serial: u32) -> Option<Frame>
         ensures { result ≡ frame_at self.now serial }
     {
@@ -243,7 +243,7 @@ impl Operations {
         Ok(serial as u32)
     }
 
-    /// The pre callback of the filter that the operation is at starts. `None` where it isn't at one on its way down.
+    /// The pre callback of the filter that the operation is at starts. `None` if it isn't at one while it goes down.
     pub fn start_pre(
         &mut self,
         heap: &mut Heap,
@@ -277,7 +277,7 @@ impl Operations {
         }))
     }
 
-    /// The operation passes the filter that it is at, and `true` is answered. `false` where it isn't at one on its way down.
+    /// The operation passes the filter that it is at, and `true` is answered. `false` if it isn't at one while it goes down.
     pub fn skip(&mut self, serial: u32) -> bool
         ensures { MatchOption (filter_at self.old serial) ((result ≡ false) × (self.new ≡ self.old))
             (λ f. (result ≡ true) × (self.new ≡ after (past_filter serial f) self.old)) }
@@ -291,7 +291,7 @@ impl Operations {
         }
     }
 
-    /// The operation is carried out below the last filter, and `true` is answered. `false` where it isn't there.
+    /// The operation is carried out below the last filter, and `true` is answered. `false` if it isn't there.
     pub fn lower(&mut self, serial: u32) -> bool
         ensures answer { result ≡ is_past_filters self.old serial }
         ensures lowered { self.new ≡ (if is_past_filters self.old serial then after (lowered serial) self.old else self.old) }
@@ -304,7 +304,7 @@ impl Operations {
         is_past
     }
 
-    /// The last frame is taken off, and its post callback starts. `None` where the operation isn't up or has no frame.
+    /// The last frame is taken off, and its post callback starts. `None` if the operation isn't up or has no frame.
     #[tactic(auto, using(std::proofs::lemmas::Grind::common_steps, crate::proofs::OtherFrames::any_front, crate::proofs::OtherFrames::any_last, crate::proofs::Changes::is_last))]
     pub fn pop_frame(
         &mut self,
@@ -337,7 +337,7 @@ impl Operations {
     }
 
     /// The first frame of a filter is taken out, and its post callback starts with the draining flag; the operation stays where it is.
-    /// `None` where it has no frame of the filter.
+    /// `None` if it has no frame of the filter.
     #[tactic(auto, using(std::proofs::lemmas::Grind::common_steps, crate::proofs::OtherFrames::any_left, crate::proofs::OtherFrames::found_of))]
     pub fn drain(
         &mut self,
@@ -371,7 +371,7 @@ impl Operations {
         }))
     }
 
-    /// The operation is cancelled, and `true` is answered. `false` where it is over or cancelled already.
+    /// The operation is cancelled, and `true` is answered. `false` if it is over or cancelled already.
     pub fn cancel(&mut self, serial: u32) -> bool
         ensures answer { result ≡ not (moves.is_done (store_of self.old) serial || (route_of self.old serial).cancelled) }
         ensures cancelled { self.new ≡ (if moves.is_done (store_of self.old) serial || (route_of self.old serial).cancelled
@@ -391,7 +391,7 @@ impl Operations {
         !self.visits.is_settled(visit) && !self.visits.get(visit).draining
     }
 
-    /// The visit's operation goes on, where the visit still moves it.
+    /// Leads the visit's operation, if the visit still moves it.
     #[tactic(auto, using(std::proofs::lemmas::Grind::common_steps, crate::proofs::OtherFrames::led_within, crate::proofs::OtherFrames::led_framed, crate::proofs::Changes::is_seen))]
     fn lead(
         &mut self,
@@ -413,7 +413,7 @@ impl Operations {
         Ok(())
     }
 
-    /// The visit is settled, and its operation led so, with this context for a frame. A visit that is settled already moves
+    /// The visit is settled, and its operation led by this `Way`, with this context for a frame. A visit that is settled already moves
     /// nothing, nor does a draining one; `Way::Stays` settles nothing.
     pub fn settle(
         &mut self,

@@ -1,16 +1,16 @@
-//! What operations are made of, one struct for each record of the machine.
+//! The parts of operations, one struct for each record of the machine.
 
 use flt_rules::{FinalStatus, Mode, Operation, Stage};
 use std::marker::Model;
 
-/// Where an operation stands.
+/// The position of an operation.
 #[derive(Clone, Copy)]
 pub enum Position {
-    /// At a filter on its way down, or below the last one. Filters are numbered from the highest altitude.
+    /// Going down, at a filter or below the last one. Filters are numbered from the highest altitude.
     Down(usize),
     /// In a visit.
     Visiting,
-    /// On its way up.
+    /// Going up.
     Up,
 }
 
@@ -38,7 +38,7 @@ pub enum Way {
     Stays,
 }
 
-/// What an operation is; it never changes.
+/// The kind, mode and file of an operation; they never change.
 #[derive(Clone, Copy)]
 pub struct Arrival {
     pub kind: Operation,
@@ -120,7 +120,7 @@ impl Model for Visit {
     ghost inverse = { λ v. record { operation = v.operation; filter = v.filter; stage = v.stage; draining = v.draining } };
 }
 
-/// What a callback starts with: a new visit, the filter whose callback it is, and the completion context that its frame kept.
+/// The start of a callback: a new visit, the filter whose callback it is, and the completion context that its frame kept.
 #[derive(Clone, Copy)]
 pub struct Started {
     pub visit: usize,

@@ -79,7 +79,7 @@ fn is_frame_of(filter: usize, frame: Frame) -> bool
     frame.filter == filter
 }
 
-/// Where the first frame of a filter stands.
+/// The place of the first frame of a filter.
 fn first_place(frames: &[Frame], filter: usize) -> Option<usize>
     ensures { result ≡ position (moves.is_frame_of filter) frames.now }
 {
@@ -121,7 +121,7 @@ impl Routes {
         }
     }
 
-    /// Where an operation stands; one that isn't there is up.
+    /// The position of an operation; one that isn't there is up.
     pub(crate) fn position(&self, operation: u32) -> Position
         ensures { position_of result ≡ (get_or self.now operation machine.no_route).position }
     {
@@ -192,7 +192,7 @@ impl Routes {
 // ---- changes: each is made, or nothing is
 
 impl Routes {
-    /// One more operation, at the highest filter.
+    /// Adds an operation, at the highest filter.
     pub(crate) fn add(&mut self, heap: &mut Heap) -> Result<(), AllocError>
         ensures ok { OnOk result (self.new ≡ self.old
             ++ record { position = machine.Down 0; frames = []; cancelled = false; outcome = None } ∷ []) }
@@ -204,7 +204,7 @@ impl Routes {
         heap.push(&mut self.routes, route)
     }
 
-    /// The operation stands there from now on.
+    /// Sets the position of an operation.
     pub(crate) fn set_position(&mut self, operation: u32, position: Position)
         ensures { self.new ≡ set self.old operation
             (record (get_or self.old operation machine.no_route) { position = position_of position }) }
@@ -258,7 +258,7 @@ impl Routes {
         Ok(())
     }
 
-    /// The operation is led so from a filter, with this context for the frame.
+    /// The operation is led by this `Way` from a filter, with this context for the frame.
     pub(crate) fn lead(
         &mut self,
         heap: &mut Heap,

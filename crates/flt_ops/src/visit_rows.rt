@@ -123,7 +123,7 @@ impl Visits {
         left == 1
     }
 
-    /// Makes room for the visits of one more operation, where there is none yet.
+    /// Makes room for the visits of one more operation, if there isn't any yet.
     pub(crate) fn make_room(&mut self, heap: &mut Heap, operation: usize) -> Result<(), AllocError>
         requires { operation ≤ self.old.room }
         ensures room { OnOk result (operation < self.new.room) }

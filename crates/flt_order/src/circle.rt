@@ -11,7 +11,7 @@ use flt_graph::Graph;
 use flt_rules::LockNumber;
 use std::marker::Model;
 
-/// What stands where a path has no acquisition.
+/// The value of an unused place of a path.
 const UNUSED: Acquisition = Acquisition {
     callback: 0,
     point: 0,
@@ -111,7 +111,7 @@ fn from_taken(path: Path, lock: LockNumber) -> Option<Circle>
     Some(Circle { path, start })
 }
 
-/// A circle that is met on the path back from a lock that is left; there is one where each lock that is left is taken while one is held.
+/// A circle that is met on the path back from a lock that is left; there is one if each lock that is left is taken while one is held.
 fn circle_from(graph: &Graph, cert: &FullCert, left: &[bool; 8], lock: LockNumber) -> Option<Circle>
     requires { order.is_left left.now lock ≡ true }
     ensures circle { IfSome result (spec.IsCircle graph.now cert.now) }
@@ -133,9 +133,8 @@ fn circle_from(graph: &Graph, cert: &FullCert, left: &[bool; 8], lock: LockNumbe
     None
 }
 
-/// A circle of acquisitions, by a certificate; none exactly where locks are taken in an order. Where the certificate covers the graph, a
-/// circle has two acquisitions or more, since no lock is taken that is held. There are eight at most: no two take one lock. It takes no
-/// memory.
+/// A circle of acquisitions, by a certificate; none exactly if locks are taken in an order. If the certificate covers the graph, a circle
+/// has two acquisitions or more, since no lock is taken that is held. There are eight at most: no two take one lock. It takes no memory.
 pub fn find_circle(graph: &Graph, cert: &FullCert) -> Option<Circle>
     ensures ordered { IsNone result ↔ order.TakesInOrder graph.now cert.now }
     ensures circle { IfSome result (spec.IsCircle graph.now cert.now) }

@@ -1,4 +1,4 @@
-//! Whether a filter takes its locks in an order, by its certificate, and where it doesn't, a circle of acquisitions that shows it.
+//! Whether a filter takes its locks in an order, by its certificate, and if it doesn't, a circle of acquisitions that shows it.
 #![tactic(auto)]
 
 mod circle;

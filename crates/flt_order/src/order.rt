@@ -102,7 +102,7 @@ fn from_callback(
     None
 }
 
-/// An acquisition of the lock that holds one that is left; none where it is taken only while none that is left is held.
+/// An acquisition of the lock that holds one that is left; none if it is taken only while none that is left is held.
 pub(crate) fn taken_from(
     graph: &Graph,
     cert: &FullCert,
@@ -166,7 +166,7 @@ pub(crate) fn any_left(left: &[bool; 8]) -> Option<LockNumber>
     None
 }
 
-/// What is left when locks are taken away one after the other, each only where none that is left is held while it is taken.
+/// The locks that are left when locks are taken away one after the other, each only if none that is left is held while it is taken.
 pub(crate) fn reduce(graph: &Graph, cert: &FullCert) -> [bool; 8]
     ensures ranked { spec.AreRanked graph.now cert.now result 8 }
     ensures rest { (spec.count_left result ≡ 0) ⊎ spec.AreTakenBefore graph.now cert.now result 8 }

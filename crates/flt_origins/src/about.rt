@@ -1,4 +1,4 @@
-//! What is so of that which a finding is about.
+//! The fact about the subject of a finding.
 
 ghost use Rattle.std.specs.Prelude.{◌≡◌, IfSome, IsTrue};
 ghost use Rattle.flt_origins.specs.Facts.{is_so};
@@ -45,7 +45,7 @@ fn draining_in(draining: Draining) -> bool
     draining.digit() == 2
 }
 
-/// That the last lock was taken, if there is one.
+/// The fact that the last lock was taken, if there is one.
 fn latest_taken(locks: &[HeldLock]) -> Option<Fact>
     ensures { result ≡ spec.held_fact (spec.latest_of locks.now) }
 {
@@ -56,7 +56,7 @@ fn latest_taken(locks: &[HeldLock]) -> Option<Fact>
     }
 }
 
-/// What is so of a subject in a state that means one situation alone.
+/// The fact about a subject in a state that means one situation alone.
 fn fact_in(subject: Subject, state: &Abs) -> Option<Fact>
     ensures { result ≡ spec.fact_in subject state.now }
 {
@@ -77,9 +77,8 @@ fn fact_in(subject: Subject, state: &Abs) -> Option<Fact>
     }
 }
 
-/// What is so in a situation of that which a finding is about: the status of a variable, the mode, the answer to the draining test,
-/// whether a lock is held; of a call, that the last lock was taken, since that raised its level. None of a status, and of a call where no
-/// lock is held.
+/// The fact about a finding's subject in a situation: the status of a variable, the mode, the answer to the draining test, whether a lock
+/// is held; of a call, that the last lock was taken, since that raised its level. None of a status, and of a call if no lock is held.
 #[tactic(auto, using(crate::proofs::Subjects::alone_in))]
 pub fn fact_about(subject: Subject, situation: &Situation) -> Option<Fact>
     ensures value { result ≡ spec.fact_about subject situation.now }

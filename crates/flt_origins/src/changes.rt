@@ -1,4 +1,4 @@
-//! What becomes of a variable or a lock.
+//! The changes of a variable or a lock by an instruction.
 
 ghost use Rattle.std.specs.Prelude.{◌≡◌};
 ghost use Rattle.flt_origins.specs.Facts as spec;
@@ -7,7 +7,7 @@ use crate::names::{is_context, is_lock, is_operation};
 use flt_graph::{Action, ContextVariable, Instruction, Invocation, LockNumber, OperationVariable};
 use flt_rules::{Change, Effects, LockChange, row};
 
-/// What becomes of a variable, if it is the one that is named.
+/// The change of a variable, if it is the one that is named.
 fn change_of(named: bool, change: Change) -> Change
     ensures { result ≡ spec.change_of named change }
 {
@@ -24,7 +24,7 @@ fn latest(last: Change, first: Change) -> Change
     }
 }
 
-/// By a call that had these effects. A variable that receives a context is written last.
+/// The change by a call that had these effects. A variable that receives a context is written last.
 fn called_context(call: &Invocation, effects: &Effects, variable: ContextVariable) -> Change
     ensures { result ≡ spec.called_context call.now effects.now variable }
 {
@@ -51,7 +51,7 @@ fn called_lock(call: &Invocation, effects: &Effects, lock: LockNumber) -> LockCh
     }
 }
 
-/// What a statement makes of a variable of contexts that neither calls nor branches.
+/// The change of a variable of contexts by a statement that neither calls nor branches.
 fn acted_context(action: Action, variable: ContextVariable) -> Change
     ensures { result ≡ spec.acted_context action variable }
 {
@@ -73,7 +73,7 @@ fn acted_operation(action: Action, variable: OperationVariable) -> Change
     }
 }
 
-/// What an instruction makes of a variable of contexts, where it comes out so.
+/// The change of a variable of contexts by an instruction with this outcome.
 pub(crate) fn context_change(
     instruction: &Instruction,
     granted: bool,
@@ -94,7 +94,7 @@ pub(crate) fn context_change(
     }
 }
 
-/// What it makes of a variable of operations.
+/// The change of a variable of operations by it.
 pub(crate) fn operation_change(
     instruction: &Instruction,
     granted: bool,
@@ -115,7 +115,7 @@ pub(crate) fn operation_change(
     }
 }
 
-/// What it makes of a lock.
+/// The change of a lock by it.
 pub(crate) fn lock_change(instruction: &Instruction, granted: bool, lock: LockNumber) -> LockChange
     ensures { result ≡ spec.lock_change instruction.now granted lock }
 {

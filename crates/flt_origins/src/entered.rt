@@ -1,4 +1,4 @@
-//! What may be so when a callback is entered.
+//! The facts that may hold when a callback is entered.
 
 ghost use Rattle.std.specs.Prelude.{◌≡◌, slice_index_or};
 ghost use Rattle.flt_abs.specs.Entry.{entry};
@@ -13,7 +13,7 @@ use flt_graph::Place;
 use flt_rules::Mode;
 use std::alloc::Global;
 
-/// The set at a place; NULL alone where there is none.
+/// The set at a place; NULL alone if it has none.
 #[tactic(auto, using(crate::proofs::Reading::found, crate::proofs::Reading::missing))]
 pub(crate) fn set_at(sets: &[Statuses], place: usize) -> Statuses
     ensures { result ≡ slice_index_or sets.now place null_alone }
@@ -57,7 +57,7 @@ fn has_draining(draining: Draining, set: bool) -> bool
     }
 }
 
-/// Whether a fact may be so when a callback of the place is entered.
+/// Whether a fact may hold when a callback of the place is entered.
 pub(crate) fn may_be_at_entry(alloc: Global, place: Place, fact: Fact) -> bool
     ensures { result ≡ spec.may_be (entry place) fact }
 {

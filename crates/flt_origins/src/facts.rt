@@ -1,4 +1,4 @@
-//! What may be so in a situation, and what an instruction makes of it.
+//! Facts that may hold in a situation, and the effect of an instruction on them.
 
 ghost use Rattle.std.specs.Prelude.{◌≡◌};
 ghost use Rattle.flt_abs.specs.Outcome.{agrees, can_fail};
@@ -9,7 +9,7 @@ use crate::names::{is_context, is_operation};
 use flt_graph::{ContextVariable, Instruction, LockNumber, OperationVariable, Test};
 use flt_rules::{Change, LockChange, Mode, row};
 
-/// What is so of a variable: it is NULL, it is held, or it was released or handed over.
+/// The status of a variable: it is NULL, it is held, or it was released or handed over.
 #[derive(Clone, Copy)]
 pub enum VariableStatus {
     Null,
@@ -17,7 +17,7 @@ pub enum VariableStatus {
     Stale,
 }
 
-/// What may be so in a situation.
+/// A fact that may hold in a situation.
 #[derive(Clone, Copy)]
 pub enum Fact {
     Context(ContextVariable, VariableStatus),
@@ -54,8 +54,8 @@ fn is_lock_left(change: LockChange, held: bool) -> bool
     }
 }
 
-/// Whether a fact is so behind an instruction, whatever was so before: where `granted`, the call succeeds, and where it `gives`, a call
-/// that may give a context gives one.
+/// Whether a fact holds after an instruction, whatever held before: if `granted`, the call succeeds, and if it `gives`, a call that may
+/// give a context gives one.
 pub fn makes(instruction: &Instruction, granted: bool, gives: bool, fact: Fact) -> bool
     ensures { result ≡ spec.makes instruction.now granted gives fact }
 {
@@ -91,7 +91,7 @@ fn lock_stays(change: LockChange) -> bool
     matches!(change, LockChange::Stays)
 }
 
-/// Whether an instruction doesn't touch what a fact is about.
+/// Whether an instruction doesn't touch the subject of a fact.
 fn leaves_alone(instruction: &Instruction, granted: bool, fact: Fact) -> bool
     ensures { result ≡ spec.leaves_alone instruction.now granted fact }
 {
@@ -103,21 +103,21 @@ fn leaves_alone(instruction: &Instruction, granted: bool, fact: Fact) -> bool
     }
 }
 
-/// Whether a test may find this, where it holds so.
+/// Whether a test may have this result, given whether its condition holds.
 fn is_found(holds: bool, found: bool) -> bool
     ensures { result ≡ agrees holds found }
 {
     if found { holds } else { !holds }
 }
 
-/// Whether a test of a variable may find this, if the variable is the fact's.
+/// Whether a test of a variable may have this result, if the variable is the fact's.
 fn finds(named: bool, status: VariableStatus, found: bool) -> bool
     ensures { result ≡ spec.finds named status found }
 {
     !named || is_found(!matches!(status, VariableStatus::Null), found)
 }
 
-/// Whether a test may find this where a fact is so.
+/// Whether a test may have this result while a fact holds.
 fn may_find_with(test: Test, fact: Fact, found: bool) -> bool
     ensures { result ≡ spec.may_find_with test fact found }
 {
@@ -135,7 +135,7 @@ fn may_find_with(test: Test, fact: Fact, found: bool) -> bool
     }
 }
 
-/// Whether an instruction may come out so where a fact is so.
+/// Whether an instruction may have this outcome while a fact holds.
 fn lets_pass(instruction: &Instruction, granted: bool, fact: Fact) -> bool
     ensures { result ≡ spec.lets_pass instruction.now granted fact }
 {
@@ -148,14 +148,14 @@ fn lets_pass(instruction: &Instruction, granted: bool, fact: Fact) -> bool
     }
 }
 
-/// Whether an instruction may come out so where a fact is so, and doesn't touch it.
+/// Whether an instruction may have this outcome while a fact holds, and doesn't touch its subject.
 pub fn keeps(instruction: &Instruction, granted: bool, fact: Fact) -> bool
     ensures { result ≡ spec.keeps instruction.now granted fact }
 {
     leaves_alone(instruction, granted, fact) && lets_pass(instruction, granted, fact)
 }
-/// What an instruction makes is so behind it, what it keeps is as it was, and what is so behind it was made or kept. It does nothing: its
-/// clauses are the law.
+/// A fact that an instruction makes holds after it, a fact that it keeps is as it was, and each fact that holds after it was made or kept.
+/// It does nothing at run time: its clauses are a law.
 #[tactic(auto, using(crate::proofs::Steps::made, crate::proofs::Steps::kept, crate::proofs::Steps::made_or_kept))]
 pub fn steps_follow_situations()
     ensures made { spec.Made }

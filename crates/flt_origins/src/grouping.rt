@@ -1,4 +1,4 @@
-//! Findings that are put together: those of one callback, rule, subject and origin.
+//! Groups of findings: those of one callback, rule, subject and origin.
 
 ghost use Rattle.std.specs.Prelude.{◌≡◌, ◌++◌, ◌∷◌, [], IfOk, OnOk};
 ghost use Rattle.flt_explain.specs.Subjects.{place as place_of_subject};
@@ -12,7 +12,7 @@ use sqlite_items::Items;
 use std::alloc::{AllocError, Global};
 use std::collections::HashMap;
 
-/// A finding, where it stands among all, from 0, and what made it so, where that is known.
+/// A finding, its number among all, from 0, and its cause, if that is known.
 #[derive(Clone, Copy)]
 pub struct Traced {
     pub number: usize,
@@ -27,7 +27,7 @@ pub struct Group {
     pub others: Items<Traced>,
 }
 
-/// Where a subject stands among all: the variables, mode and draining, the locks, the call and the status.
+/// The place of a subject among all: the variables, mode and draining, the locks, the call and the status.
 fn place(subject: Subject) -> usize
     ensures { result ≡ place_of_subject subject }
 {
@@ -42,19 +42,19 @@ fn place(subject: Subject) -> usize
     }
 }
 
-/// What findings have in common that are put together: where and what they are, and what made them so.
+/// The properties that the findings of a group share: callback, rule, subject and cause.
 #[derive(Clone, Copy, PartialEq, Eq, Hash)]
 struct Common {
     callback: usize,
     rule: u8,
     subject: usize,
-    /// The point whose statement made it so; none where it is so when the callback is entered.
+    /// The point whose statement is the cause; none if the cause is the callback's entry.
     point: Option<usize>,
-    /// How that statement came out.
+    /// The outcome of that statement.
     granted: bool,
 }
 
-/// What a finding has in common with others; none where its origin isn't known.
+/// The properties that a finding shares with others; none if its origin isn't known.
 fn common_of(traced: &Traced) -> Option<Common>
     ensures { result ≡ common_of traced.now }
 {
@@ -71,14 +71,14 @@ fn common_of(traced: &Traced) -> Option<Common>
     })
 }
 
-/// Groups as they are made, and for what the findings of one have in common where it stands among them.
+/// Groups in the making, and the place of each by the properties that its findings share.
 #[derive(Drop)]
 struct Gathered {
     groups: Vec<Group>,
     places: HashMap<Common, usize>,
 }
 
-/// A finding begins a group of its own.
+/// Begins a group with a finding.
 fn begin(alloc: Global, groups: &mut Vec<Group>, traced: Traced) -> Result<(), AllocError>
     ensures { OnOk result (groups.new.items ≡ groups.old.items ++ spec.group traced [] ∷ []) }
 {
@@ -89,7 +89,7 @@ fn begin(alloc: Global, groups: &mut Vec<Group>, traced: Traced) -> Result<(), A
     Ok(())
 }
 
-/// A finding joins the group at a place.
+/// Adds a finding to the group at a place.
 fn join(groups: &mut Vec<Group>, place: usize, traced: Traced) -> Result<(), AllocError>
     ensures { OnOk result (groups.new.items ≡ joined groups.old.items place traced) }
 {
@@ -100,7 +100,7 @@ fn join(groups: &mut Vec<Group>, place: usize, traced: Traced) -> Result<(), All
 }
 
 impl Gathered {
-    /// The next finding joins the first group that it is like, or begins one.
+    /// Adds the next finding to the first group that it is like, or begins one with it.
     fn add(&mut self, alloc: Global, traced: Traced) -> Result<(), AllocError>
         requires places { ArePlaced self.old }
         ensures places { OnOk result (ArePlaced self.new) }
@@ -119,12 +119,12 @@ impl Gathered {
     }
 }
 
-/// Findings of one callback, rule, subject and origin put together, in the order of the first of each group. A finding whose origin isn't
-/// known stands alone.
+/// The groups of findings of one callback, rule, subject and origin, in the order of the first of each group. A finding whose origin isn't
+/// known is in a group by itself.
 ///
 /// # Errors
 ///
-/// Where a growth was refused.
+/// `AllocError` if a growth is refused.
 pub fn groups(alloc: Global, found: &[Traced]) -> Result<Items<Group>, AllocError>
     ensures { IfOk result (λ gs. gs ≡ spec.groups_of found.now) }
 {
@@ -138,7 +138,7 @@ pub fn groups(alloc: Global, found: &[Traced]) -> Result<Items<Group>, AllocErro
     Ok(Items::from_vec(gathered.groups))
 }
 
-/// Each finding stands in exactly one group, and all of a group agree. It does nothing: its clauses are the law.
+/// Each finding is in exactly one group, and all of a group agree. It does nothing at run time: its clauses are a law.
 #[tactic(auto, using(crate::proofs::Parts::part, crate::proofs::Parts::alike))]
 pub fn groups_part_findings()
     ensures part { spec.Part }

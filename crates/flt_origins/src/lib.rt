@@ -1,5 +1,5 @@
-//! Where what is found comes from: the statement that made it so, or the entry of the callback. It exports `origin_on`, which looks for it
-//! on a way, `origin_at`, which looks for it by the graph alone, and `groups`, which puts together what has one origin.
+//! The origins of findings: the statement that caused each, or the entry of the callback. It exports `origin_on`, which looks for one on a
+//! path, `origin_at`, which looks for one by the graph alone, and `groups`, which groups the findings of one origin.
 #![tactic(auto)]
 
 mod about;

@@ -1,4 +1,4 @@
-//! Where a fact comes from.
+//! The origin of a fact.
 
 ghost use Rattle.std.specs.Prelude.{◌≡◌, None, Some, IfOk, IfSome};
 ghost use Rattle.flt_graph.specs.Points.{successor};
@@ -12,16 +12,16 @@ use flt_ways::Step;
 use sqlite_items::Items;
 use std::alloc::{AllocError, Global};
 
-/// What makes a fact.
+/// The cause of a fact.
 #[derive(Clone, Copy)]
 pub enum Cause {
-    /// It is so when the callback is entered.
+    /// It holds when the callback is entered.
     Entry,
-    /// This step makes it, whatever was so before.
+    /// This step makes it, whatever held before.
     Made(Step),
 }
 
-/// Where a fact comes from: what makes it, and the steps since, each of which keeps it.
+/// The origin of a fact: its cause, and the steps since, each of which keeps it.
 #[derive(Drop)]
 pub struct Origin {
     pub fact: Fact,
@@ -29,7 +29,7 @@ pub struct Origin {
     pub later: Items<Step>,
 }
 
-/// The point to which an instruction leads, if it goes on.
+/// The point to which an instruction leads, if it continues.
 pub(crate) fn next(instruction: &Instruction, granted: bool) -> Option<usize>
     ensures { result ≡ successor instruction.now granted }
 {
@@ -53,7 +53,7 @@ fn is_kept(graph: &Graph, callback: usize, fact: Fact, point: usize, step: Step)
         )
 }
 
-/// Where steps lead, if each is of the point to which the one before leads, and keeps a fact.
+/// The point to which steps lead, if each is of the point to which the one before leads, and keeps a fact.
 fn leads(
     graph: &Graph,
     callback: usize,
@@ -107,7 +107,7 @@ fn behind(graph: &Graph, callback: usize, cause: Cause) -> Option<usize>
     }
 }
 
-/// Whether this is a point.
+/// Whether a point is there, and is this one.
 fn is_at(found: Option<usize>, point: usize) -> bool
     ensures { result ≡ spec.is_at found point }
 {
@@ -159,18 +159,18 @@ fn last_made<'a>(
     (cause, later)
 }
 
-/// Whatever is so at the end of a way has an origin on it. It does nothing: its clause is the law.
+/// Each fact that holds at the end of a path has an origin on it. It does nothing at run time: its clause is a law.
 #[tactic(auto, using(crate::proofs::OnWays::have_origins))]
 pub fn ways_have_origins()
     ensures { spec.HaveOrigins }
 {}
 
-/// Where a fact comes from that is so at a point, on the way of these steps: the last step that makes it, or the entry, and the steps
-/// since, which are a path of the graph to the point. None where they aren't, or where one of them doesn't keep the fact.
+/// The origin of a fact that holds at a point, on the path of these steps: the last step that makes it, or the entry, and the steps since,
+/// which are a path of the graph to the point. None if they aren't, or if one of them doesn't keep the fact.
 ///
 /// # Errors
 ///
-/// Where a growth was refused.
+/// `AllocError` if a growth is refused.
 pub fn origin_on(
     alloc: Global,
     graph: &Graph,

@@ -1,5 +1,5 @@
-//! Where a fact may come from by the graph alone, where no path is known: a search of the graph for a shortest path on which the fact is so
-//! at its end. Each point is reached once with the fact and once without it at most, so that the search comes to an end.
+//! The possible origin of a fact by the graph alone, if no path is known: a search of the graph for a shortest path at whose end the fact
+//! holds. Each point is reached once with the fact and once without it at most, so that the search comes to an end.
 
 ghost use Rattle.std.specs.Prelude.{◌≡◌, None, IfOk, IfSome, replicate, reverse};
 ghost use Rattle.flt_origins.specs.Origins as origins;
@@ -21,7 +21,7 @@ struct Mark {
     present: bool,
 }
 
-/// A point that is reached, whether the fact is so there, and the step that leads there, from the point of a number.
+/// A point that is reached, whether the fact holds there, and the step that leads there, from the point of a number.
 #[derive(Clone, Copy)]
 struct Reached {
     point: usize,
@@ -29,7 +29,7 @@ struct Reached {
     arrival: Option<(usize, Step)>,
 }
 
-/// Whether an instruction may come out so, whatever is so.
+/// Whether an instruction may have this outcome in some situation.
 fn may_come_out(instruction: &Instruction, granted: bool) -> bool
     ensures { result ≡ origins.is_outcome instruction.now granted }
 {
@@ -85,7 +85,7 @@ struct Search {
 }
 
 impl Search {
-    /// No point is reached. There is a mark for each point of a callback, and for the one that is looked for.
+    /// A search that has reached no point. It has a mark for each point of a callback, and for the one that is sought.
     fn none(alloc: Global, points: usize, point: usize) -> Result<Search, AllocError>
         ensures { IfOk result (spec.IsUnsearched points point) }
     {
@@ -100,7 +100,7 @@ impl Search {
         })
     }
 
-    /// A point is reached, with the fact or without it; once is enough.
+    /// Reaches a point, with the fact or without it, unless it was reached like that before.
     fn arrive(&mut self, one: Reached) -> Result<(), AllocError>
         ensures { IfOk result (λ _. self.new ≡ spec.arrived self.old one) }
     {
@@ -116,7 +116,7 @@ impl Search {
         Ok(())
     }
 
-    /// The entry is reached, with the fact if it may be so there, and without it.
+    /// Reaches the entry, with the fact if it may hold there, and without it.
     fn enter(&mut self, so: bool) -> Result<(), AllocError>
         ensures { IfOk result (λ _. self.new ≡ spec.entered so self.old) }
     {
@@ -135,7 +135,7 @@ impl Search {
     }
 }
 
-/// Whether a fact may be so after a step.
+/// Whether a fact may hold after a step.
 fn may_be_after(graph: &Graph, callback: usize, fact: Fact, from: Reached, step: Step) -> bool
     ensures { result ≡ spec.may_be_after graph.now callback fact from step }
 {
@@ -144,7 +144,7 @@ fn may_be_after(graph: &Graph, callback: usize, fact: Fact, from: Reached, step:
         || (from.is_so && keeps(instruction, step.granted, fact))
 }
 
-/// Reaches what a step from the point of a number leads to.
+/// Reaches the point to which a step from the point of a number leads.
 fn take(
     graph: &Graph,
     callback: usize,
@@ -188,7 +188,7 @@ fn step(point: usize, granted: bool, gives: bool) -> Step
     }
 }
 
-/// Reaches what follows the point of a number.
+/// Reaches the points that follow the point of a number.
 fn go_on(
     graph: &Graph,
     callback: usize,
@@ -238,7 +238,7 @@ fn go_on(
     )
 }
 
-/// A search for a point that has reached no more than the entry of the callback.
+/// A search for a point that has only reached the entry of the callback.
 fn entered(
     alloc: Global,
     graph: &Graph,
@@ -253,14 +253,14 @@ fn entered(
     Ok(search)
 }
 
-/// Whether this is the point that is looked for, with the fact.
+/// Whether this is the point that is sought, with the fact.
 fn is_sought(one: Reached, point: usize) -> bool
     ensures { result ≡ spec.is_sought one point }
 {
     one.point == point && one.is_so
 }
 
-/// Follows each point that is reached, in order, until it is the one that is looked for, with the fact: its number.
+/// Follows each point that is reached, in order, until it is the one that is sought, with the fact; returns its number.
 fn reach(
     graph: &Graph,
     callback: usize,
@@ -300,7 +300,7 @@ fn origin_back(fact: Fact, cause: Cause, later: Vec<Step>) -> Origin
     }
 }
 
-/// Where a fact comes from that is so at the point of a number, by the steps that led there.
+/// The origin of a fact that holds at the point of a number, by the steps that led there.
 fn traced(
     alloc: Global,
     graph: &Graph,
@@ -327,12 +327,13 @@ fn traced(
     Ok(origin_back(fact, Cause::Entry, later))
 }
 
-/// Where a fact may come from that may be so at a point: a path of the graph leads from the callback's entry to the point, something on it
-/// makes the fact, and each step since keeps it. Whether a situation allows that path isn't asked. None where no path has such an origin.
+/// A possible origin of a fact that may hold at a point: a path of the graph leads from the callback's entry to the point, the entry or a
+/// step on it makes the fact, and each step since keeps it. Whether a situation allows that path isn't checked. None if no path has such an
+/// origin.
 ///
 /// # Errors
 ///
-/// Where a growth was refused.
+/// `AllocError` if a growth is refused.
 pub fn origin_at(
     alloc: Global,
     graph: &Graph,

@@ -9,7 +9,7 @@ pub(crate) const FLT_ALLOCATE_CONTEXT: &str = "FltAllocateContext: a call
   success  c held
   failure  c NULL
 
-Held means surely held, free that it can't be held: it is NULL or stale. Behind each need stands the rule that is broken
+Held means surely held, free that it can't be held: it is NULL or stale. Each need is followed by the rule that is broken
 otherwise. Where draining may be set, only `FltReleaseContext`, `KeAcquireSpinLock` and `KeReleaseSpinLock` are legal, else
 R08.
 ";
@@ -23,7 +23,7 @@ pub(crate) const FLT_GET_STREAM_CONTEXT: &str = "FltGetStreamContext: a call
   success  c held
   failure  c NULL
 
-Held means surely held, free that it can't be held: it is NULL or stale. Behind each need stands the rule that is broken
+Held means surely held, free that it can't be held: it is NULL or stale. Each need is followed by the rule that is broken
 otherwise. Where draining may be set, only `FltReleaseContext`, `KeAcquireSpinLock` and `KeReleaseSpinLock` are legal, else
 R08.
 ";
@@ -37,7 +37,7 @@ pub(crate) const FLT_GET_INSTANCE_CONTEXT: &str = "FltGetInstanceContext: a call
   success  c held
   failure  c NULL
 
-Held means surely held, free that it can't be held: it is NULL or stale. Behind each need stands the rule that is broken
+Held means surely held, free that it can't be held: it is NULL or stale. Each need is followed by the rule that is broken
 otherwise. Where draining may be set, only `FltReleaseContext`, `KeAcquireSpinLock` and `KeReleaseSpinLock` are legal, else
 R08.
 ";
@@ -58,7 +58,7 @@ pub(crate) const FLT_SET_STREAM_CONTEXT: &str = "FltSetStreamContext: a call
   success  d NULL or held
   failure  d NULL
 
-Held means surely held, free that it can't be held: it is NULL or stale. Behind each need stands the rule that is broken
+Held means surely held, free that it can't be held: it is NULL or stale. Each need is followed by the rule that is broken
 otherwise. Where draining may be set, only `FltReleaseContext`, `KeAcquireSpinLock` and `KeReleaseSpinLock` are legal, else
 R08.
 ";
@@ -79,7 +79,7 @@ pub(crate) const FLT_SET_INSTANCE_CONTEXT: &str = "FltSetInstanceContext: a call
   success  d NULL or held
   failure  d NULL
 
-Held means surely held, free that it can't be held: it is NULL or stale. Behind each need stands the rule that is broken
+Held means surely held, free that it can't be held: it is NULL or stale. Each need is followed by the rule that is broken
 otherwise. Where draining may be set, only `FltReleaseContext`, `KeAcquireSpinLock` and `KeReleaseSpinLock` are legal, else
 R08.
 ";
@@ -93,7 +93,7 @@ pub(crate) const FLT_DELETE_STREAM_CONTEXT: &str = "FltDeleteStreamContext: a ca
   success  d held
   failure  d NULL
 
-Held means surely held, free that it can't be held: it is NULL or stale. Behind each need stands the rule that is broken
+Held means surely held, free that it can't be held: it is NULL or stale. Each need is followed by the rule that is broken
 otherwise. Where draining may be set, only `FltReleaseContext`, `KeAcquireSpinLock` and `KeReleaseSpinLock` are legal, else
 R08.
 ";
@@ -107,7 +107,7 @@ pub(crate) const FLT_DELETE_INSTANCE_CONTEXT: &str = "FltDeleteInstanceContext: 
   success  d held
   failure  d NULL
 
-Held means surely held, free that it can't be held: it is NULL or stale. Behind each need stands the rule that is broken
+Held means surely held, free that it can't be held: it is NULL or stale. Each need is followed by the rule that is broken
 otherwise. Where draining may be set, only `FltReleaseContext`, `KeAcquireSpinLock` and `KeReleaseSpinLock` are legal, else
 R08.
 ";
@@ -121,7 +121,7 @@ pub(crate) const FLT_DELETE_CONTEXT: &str = "FltDeleteContext: a call
   success  no change
   failure  none: it always succeeds
 
-Held means surely held, free that it can't be held: it is NULL or stale. Behind each need stands the rule that is broken
+Held means surely held, free that it can't be held: it is NULL or stale. Each need is followed by the rule that is broken
 otherwise. Where draining may be set, only `FltReleaseContext`, `KeAcquireSpinLock` and `KeReleaseSpinLock` are legal, else
 R08.
 ";
@@ -135,7 +135,7 @@ pub(crate) const FLT_REFERENCE_CONTEXT: &str = "FltReferenceContext: a call
   success  d held
   failure  none: it always succeeds
 
-Held means surely held, free that it can't be held: it is NULL or stale. Behind each need stands the rule that is broken
+Held means surely held, free that it can't be held: it is NULL or stale. Each need is followed by the rule that is broken
 otherwise. Where draining may be set, only `FltReleaseContext`, `KeAcquireSpinLock` and `KeReleaseSpinLock` are legal, else
 R08.
 ";
@@ -149,7 +149,7 @@ pub(crate) const FLT_RELEASE_CONTEXT: &str = "FltReleaseContext: a call
   success  c stale
   failure  none: it always succeeds
 
-Held means surely held, free that it can't be held: it is NULL or stale. Behind each need stands the rule that is broken
+Held means surely held, free that it can't be held: it is NULL or stale. Each need is followed by the rule that is broken
 otherwise. Where draining may be set, only `FltReleaseContext`, `KeAcquireSpinLock` and `KeReleaseSpinLock` are legal, else
 R08.
 ";
@@ -163,7 +163,7 @@ pub(crate) const KE_ACQUIRE_SPIN_LOCK: &str = "KeAcquireSpinLock: a call
   success  l is the latest taken
   failure  none: it always succeeds
 
-Held means surely held, free that it can't be held: it is NULL or stale. Behind each need stands the rule that is broken
+Held means surely held, free that it can't be held: it is NULL or stale. Each need is followed by the rule that is broken
 otherwise. Where draining may be set, only `FltReleaseContext`, `KeAcquireSpinLock` and `KeReleaseSpinLock` are legal, else
 R08.
 ";
@@ -177,7 +177,7 @@ pub(crate) const KE_RELEASE_SPIN_LOCK: &str = "KeReleaseSpinLock: a call
   success  l isn't taken
   failure  none: it always succeeds
 
-Held means surely held, free that it can't be held: it is NULL or stale. Behind each need stands the rule that is broken
+Held means surely held, free that it can't be held: it is NULL or stale. Each need is followed by the rule that is broken
 otherwise. Where draining may be set, only `FltReleaseContext`, `KeAcquireSpinLock` and `KeReleaseSpinLock` are legal, else
 R08.
 ";
@@ -191,7 +191,7 @@ pub(crate) const EX_ACQUIRE_FAST_MUTEX: &str = "ExAcquireFastMutex: a call
   success  l is the latest taken
   failure  none: it always succeeds
 
-Held means surely held, free that it can't be held: it is NULL or stale. Behind each need stands the rule that is broken
+Held means surely held, free that it can't be held: it is NULL or stale. Each need is followed by the rule that is broken
 otherwise. Where draining may be set, only `FltReleaseContext`, `KeAcquireSpinLock` and `KeReleaseSpinLock` are legal, else
 R08.
 ";
@@ -205,7 +205,7 @@ pub(crate) const EX_RELEASE_FAST_MUTEX: &str = "ExReleaseFastMutex: a call
   success  l isn't taken
   failure  none: it always succeeds
 
-Held means surely held, free that it can't be held: it is NULL or stale. Behind each need stands the rule that is broken
+Held means surely held, free that it can't be held: it is NULL or stale. Each need is followed by the rule that is broken
 otherwise. Where draining may be set, only `FltReleaseContext`, `KeAcquireSpinLock` and `KeReleaseSpinLock` are legal, else
 R08.
 ";
@@ -219,7 +219,7 @@ pub(crate) const FLT_ACQUIRE_PUSH_LOCK_EXCLUSIVE: &str = "FltAcquirePushLockExcl
   success  l is the latest taken
   failure  none: it always succeeds
 
-Held means surely held, free that it can't be held: it is NULL or stale. Behind each need stands the rule that is broken
+Held means surely held, free that it can't be held: it is NULL or stale. Each need is followed by the rule that is broken
 otherwise. Where draining may be set, only `FltReleaseContext`, `KeAcquireSpinLock` and `KeReleaseSpinLock` are legal, else
 R08.
 ";
@@ -233,7 +233,7 @@ pub(crate) const FLT_ACQUIRE_PUSH_LOCK_SHARED: &str = "FltAcquirePushLockShared:
   success  l is the latest taken, shared
   failure  none: it always succeeds
 
-Held means surely held, free that it can't be held: it is NULL or stale. Behind each need stands the rule that is broken
+Held means surely held, free that it can't be held: it is NULL or stale. Each need is followed by the rule that is broken
 otherwise. Where draining may be set, only `FltReleaseContext`, `KeAcquireSpinLock` and `KeReleaseSpinLock` are legal, else
 R08.
 ";
@@ -247,7 +247,7 @@ pub(crate) const FLT_RELEASE_PUSH_LOCK: &str = "FltReleasePushLock: a call
   success  l isn't taken
   failure  none: it always succeeds
 
-Held means surely held, free that it can't be held: it is NULL or stale. Behind each need stands the rule that is broken
+Held means surely held, free that it can't be held: it is NULL or stale. Each need is followed by the rule that is broken
 otherwise. Where draining may be set, only `FltReleaseContext`, `KeAcquireSpinLock` and `KeReleaseSpinLock` are legal, else
 R08.
 ";
@@ -261,7 +261,7 @@ pub(crate) const FLT_CBDQ_INSERT_IO: &str = "FltCbdqInsertIo: a call
   success  data, c stale
   failure  no change
 
-Held means surely held, free that it can't be held: it is NULL or stale. Behind each need stands the rule that is broken
+Held means surely held, free that it can't be held: it is NULL or stale. Each need is followed by the rule that is broken
 otherwise. Where draining may be set, only `FltReleaseContext`, `KeAcquireSpinLock` and `KeReleaseSpinLock` are legal, else
 R08.
 ";
@@ -275,7 +275,7 @@ pub(crate) const FLT_CBDQ_REMOVE_NEXT_IO: &str = "FltCbdqRemoveNextIo: a call
   success  o held, c NULL or held
   failure  o, c NULL
 
-Held means surely held, free that it can't be held: it is NULL or stale. Behind each need stands the rule that is broken
+Held means surely held, free that it can't be held: it is NULL or stale. Each need is followed by the rule that is broken
 otherwise. Where draining may be set, only `FltReleaseContext`, `KeAcquireSpinLock` and `KeReleaseSpinLock` are legal, else
 R08.
 ";
@@ -289,7 +289,7 @@ pub(crate) const FLT_QUEUE_DEFERRED_IO_WORK_ITEM: &str = "FltQueueDeferredIoWork
   success  data, c stale
   failure  no change
 
-Held means surely held, free that it can't be held: it is NULL or stale. Behind each need stands the rule that is broken
+Held means surely held, free that it can't be held: it is NULL or stale. Each need is followed by the rule that is broken
 otherwise. Where draining may be set, only `FltReleaseContext`, `KeAcquireSpinLock` and `KeReleaseSpinLock` are legal, else
 R08.
 ";
@@ -303,7 +303,7 @@ pub(crate) const FLT_QUEUE_GENERIC_WORK_ITEM: &str = "FltQueueGenericWorkItem: a
   success  c stale
   failure  no change
 
-Held means surely held, free that it can't be held: it is NULL or stale. Behind each need stands the rule that is broken
+Held means surely held, free that it can't be held: it is NULL or stale. Each need is followed by the rule that is broken
 otherwise. Where draining may be set, only `FltReleaseContext`, `KeAcquireSpinLock` and `KeReleaseSpinLock` are legal, else
 R08.
 ";
@@ -324,7 +324,7 @@ pub(crate) const FLT_COMPLETE_PENDED_PRE_OPERATION: &str = "FltCompletePendedPre
   success  o, c stale
   failure  none: it always succeeds
 
-Held means surely held, free that it can't be held: it is NULL or stale. Behind each need stands the rule that is broken
+Held means surely held, free that it can't be held: it is NULL or stale. Each need is followed by the rule that is broken
 otherwise. Where draining may be set, only `FltReleaseContext`, `KeAcquireSpinLock` and `KeReleaseSpinLock` are legal, else
 R08.
 ";
@@ -338,7 +338,7 @@ pub(crate) const FLT_COMPLETE_PENDED_POST_OPERATION: &str = "FltCompletePendedPo
   success  data stale
   failure  none: it always succeeds
 
-Held means surely held, free that it can't be held: it is NULL or stale. Behind each need stands the rule that is broken
+Held means surely held, free that it can't be held: it is NULL or stale. Each need is followed by the rule that is broken
 otherwise. Where draining may be set, only `FltReleaseContext`, `KeAcquireSpinLock` and `KeReleaseSpinLock` are legal, else
 R08.
 ";

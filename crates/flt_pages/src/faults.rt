@@ -13,7 +13,7 @@ At this byte no token begins: no word, no number, and no symbol of the language.
 
   = syntax 3:9 E01
 
-  What is wrong                                                                       Reported at
+  Cause                                                                               Reported at
   ----------------------------------------------------------------------------------  -----------
   a byte that begins no token, such as `;` or each byte of a letter that isn't ASCII  the byte
   a `!` with no `=` right after it                                                    the `!`
@@ -38,7 +38,7 @@ decimal, less than 2^64, and has no leading zero.
 
   = syntax 3:8 E02
 
-  What is wrong                                                  Reported at
+  Cause                                                          Reported at
   -------------------------------------------------------------  --------------
   a run that begins with a digit and isn't decimal digits alone  its first byte
   a number with a leading zero                                   the same
@@ -65,12 +65,12 @@ The grammar allows other words, names, numbers or symbols there, or the text end
 
   = syntax 3:8 E03
 
-  What is wrong                                                   Reported at
-  --------------------------------------------------------------  ------------------------------
-  another word or symbol than the grammar allows there            the token
-  a word or a symbol where only a NUMBER may stand                the token
-  a number or a symbol where only a NAME or a variable may stand  the token
-  the end of the text where more must follow                      one column after the last byte
+  Cause                                                            Reported at
+  ---------------------------------------------------------------  ------------------------------
+  another word or symbol than the grammar allows there             the token
+  a word or a symbol where only a NUMBER may appear                the token
+  a number or a symbol where only a NAME or a variable may appear  the token
+  the end of the text where more must follow                       one column after the last byte
 
   Text    (the empty text)
   Answer  `syntax 1:1 E03`
@@ -114,7 +114,7 @@ The grammar allows other words, names, numbers or symbols there, or the text end
 
   Text    `filter a altitude 100 queue lock spin s`
   Answer  `syntax 1:29 E03`
-  Why     locks stand before `queue`
+  Why     locks come before `queue`
 
   Text    `filter a altitude 100 queue pre read { FltCbdqInsertIo data } canceled { }`
   Answer  `syntax 1:40 E03`
@@ -123,7 +123,7 @@ The grammar allows other words, names, numbers or symbols there, or the text end
 
 pub(crate) const E04: &str = "E04: an unknown name
 
-A word stands where only a variable, or something that the text declares, may stand, and it names none.
+A word appears where only a variable, or something that the text declares, may appear, and it names none.
 
     filter a altitude 100
     pre read {
@@ -133,25 +133,25 @@ A word stands where only a variable, or something that the text declares, may st
 
   = syntax 3:21 E04
 
-E04 is reported only where nothing but a name of one kind may stand. Where something else could stand, the fault is E03.
+E04 is reported only where nothing but a name of one kind may appear. Where something else could appear, the fault is E03.
 
-  What is unknown  a word where only a context variable may stand: in a call, and after `value`, `old` or `context`
-  Reported at      the word
+  Unknown      a word where only a context variable may appear: in a call, and after `value`, `old` or `context`
+  Reported at  the word
 
-  What is unknown  a word where only an operation may stand: in a call, and after `file`
-  Reported at      the word
+  Unknown      a word where only an operation may appear: in a call, and after `file`
+  Reported at  the word
 
-  What is unknown  a word where only a number or a number variable may stand: after `+`, `-`, `<` or `==`, and after `value C =`
-  Reported at      the word
+  Unknown      a word where only a number or a number variable may appear: after `+`, `-`, `<` or `==`, and after `value C =`
+  Reported at  the word
 
-  What is unknown  a lock that isn't declared, or isn't of the call's kind
-  Reported at      the name
+  Unknown      a lock that isn't declared, or isn't of the call's kind
+  Reported at  the name
 
-  What is unknown  `FltCbdqInsertIo` or `FltCbdqRemoveNextIo` after `if`, in a text without `queue`
-  Reported at      the word
+  Unknown      `FltCbdqInsertIo` or `FltCbdqRemoveNextIo` after `if`, in a text without `queue`
+  Reported at  the word
 
-  What is unknown  a routine that the text doesn't declare, or not of the kind that the call takes
-  Reported at      the name, when the whole text has been read
+  Unknown      a routine that the text doesn't declare, or not of the kind that the call takes
+  Reported at  the name, when the whole text has been read
 
   Text    `filter a altitude 100 pre read { n0 = 1 + foo }`
   Answer  `syntax 1:43 E04`
@@ -199,7 +199,7 @@ The text declares a lock, a routine or another callback a second time.
 
   = syntax 3:11 E05
 
-  What is declared twice                               Reported at
+  Declared twice                                       Reported at
   ---------------------------------------------------  -------------------------------------------------------------
   the name of a lock, of whatever kind                 the second name
   the name of a routine, of whatever kind              the second name
@@ -272,7 +272,7 @@ The text lacks a callback that another part of it needs.
 
   = syntax 2:1 E07
 
-  What is missing                                               Reported at, when the whole text has been read
+  Missing                                                       Reported at, when the whole text has been read
   ------------------------------------------------------------  ----------------------------------------------
   `canceled`, where the text has `queue`                        the word `queue`
   the `pre` of the same operation, where the text has a `post`  the word `post`
@@ -296,7 +296,7 @@ A call that reads one context variable and writes another is given the same vari
 
   = syntax 4:31 E08
 
-  What stands twice                                     Reported at
+  Twice                                                 Reported at
   ----------------------------------------------------  ------------------------
   the context variable of `FltReferenceContext C as D`  D
   the context variable of a set, after `old`            the variable after `old`

@@ -19,7 +19,7 @@ corrupted, or the system stops. A second release takes a reference that belongs 
 
   = refused callback 0 point 2 line 5 R01 context not held where used
 
-To mend it, use the context before its release. If one of two paths releases it, set it to NULL there and test it later:
+To fix it, use the context before its release. If one of two paths releases it, set it to NULL there and test it later:
 
     filter a altitude 100
     pre read {
@@ -58,7 +58,7 @@ This mostly happens on a path that is rarely taken.
 
   = refused callback 0 point 3 line 8 R02 context held at end
 
-If a context is already there, the set fails and gives that one in `c1`, with a reference. To mend it, release it:
+If a context is already there, the set fails and gives that one in `c1`, with a reference. To fix it, release it:
 
     filter a altitude 100
     pre read {
@@ -79,7 +79,7 @@ pub(crate) const R03: &str = "R03: held variable overwritten
 
 A variable that may own something is set to NULL, or is given to a call that writes it.
 
-The bug. The pointer is lost, and with it the only way to release the context or to complete the operation.
+The bug. The pointer is lost, and with it the only means to release the context or to complete the operation.
 
     filter a altitude 100
     pre read {
@@ -108,7 +108,7 @@ A loop does this too, in its second turn:
 
   = refused callback 0 point 1 line 4 R03 held variable overwritten
 
-To mend it, release first, or use another variable.
+To fix it, release first, or use another variable.
 
     filter a altitude 100
     pre read {
@@ -150,7 +150,7 @@ which shows only under load.
 
   = refused callback 0 point 2 line 6 R04 operation not held where used
 
-To mend it, take what you need before you give the operation away.
+To fix it, take what you need before you give the operation away.
 
     filter q altitude 100
     queue
@@ -189,7 +189,7 @@ dismounted.
 
   = refused callback 0 point 2 line 7 R05 operation held at end
 
-To mend it, complete the operation on each path to the end.
+To fix it, complete the operation on each path to the end.
 
     filter a altitude 100
     queue
@@ -236,7 +236,7 @@ Here the operation may be fast I/O, so the insert itself is refused:
 
   = refused callback 0 point 0 line 4 R06 status not legal
 
-To mend it, test `irp data` first, queue the operation, and return `PENDING` only on the side where the insert succeeded:
+To fix it, test `irp data` first, queue the operation, and return `PENDING` only on the side where the insert succeeded:
 
     filter q altitude 100
     queue
@@ -255,7 +255,7 @@ To mend it, test `irp data` first, queue the operation, and return `PENDING` onl
       FltCompletePendedPreOperation data COMPLETE STATUS_CANCELLED
     }
 
-What a callback may return:
+The statuses that a callback may return:
 
   Status                      Callback                `data`             Mode  Further condition
   --------------------------  ----------------------  -----------------  ----  ---------------------------------------
@@ -268,7 +268,7 @@ What a callback may return:
   `FINISHED_PROCESSING`       `post`                  held               any
   `MORE_PROCESSING_REQUIRED`  `post`                  stale: given away  IRP   draining isn't possible
 
-What `FltCompletePendedPreOperation` may be given:
+The statuses that `FltCompletePendedPreOperation` may be given:
 
   Status  `COMPLETE S`, S not `STATUS_PENDING`
   Where   wherever the call is legal
@@ -323,7 +323,7 @@ A held spin lock raises the level as well:
 
   = refused callback 0 point 1 line 6 R07 call above its level
 
-To mend it, get the context in the preoperation callback and hand it over as completion context, or leave the work to a
+To fix it, get the context in the preoperation callback and hand it over as completion context, or leave the work to a
 deferred work item. Take fast mutexes before spin locks.
 
     filter a altitude 100
@@ -397,7 +397,7 @@ kind of callback.
 
   = refused callback 1 point 0 line 6 R08 call not legal at this place
 
-To mend it, test `draining` first, clean up the completion context there, and return.
+To fix it, test `draining` first, clean up the completion context there, and return.
 
     filter a altitude 100
     pre create {
@@ -441,7 +441,7 @@ another spin lock is still held, and the thread can be preempted with it.
 
   = refused callback 0 point 2 line 7 R09 lock not the latest taken
 
-To mend it, release in reverse order.
+To fix it, release in reverse order.
 
     filter a altitude 100
     lock spin s
@@ -471,7 +471,7 @@ a fast mutex the thread's APCs stay disabled.
 
   = refused callback 0 point 1 line 5 R10 lock kept at end
 
-To mend it, release before each `return`, including those in the middle.
+To fix it, release before each `return`, including those in the middle.
 
     filter a altitude 100
     lock fast m
@@ -484,7 +484,7 @@ To mend it, release before each `return`, including those in the middle.
 
 pub(crate) const R11: &str = "R11: lock taken twice
 
-A callback asks for a lock that it already holds, in whichever way it holds it and asks for it.
+A callback asks for a lock that it already holds, however it holds it and asks for it.
 
 The bug. A thread can't take a lock of any of the three kinds twice: it waits for itself.
 
@@ -511,7 +511,7 @@ shares the lock itself. Two shared requests are no better: a third callback that
 
   = refused callback 0 point 1 line 5 R11 lock taken twice
 
-To mend it, take it once, around both uses; take it exclusively if one of them needs that.
+To fix it, take it once, around both uses; take it exclusively if one of them needs that.
 
     filter a altitude 100
     lock fast m
@@ -529,7 +529,7 @@ pub(crate) const R12: &str = "R12: lock lists differ where paths meet
 Two paths lead to one point with different locks, with the same locks in another order, or with a push lock that only one of them
 shares. The fault is reported at the point that leads there.
 
-The bug. A lock is taken under a condition and released without it, or the other way round.
+The bug. A lock is taken under a condition and released without it, or the reverse.
 
     filter a altitude 100
     lock spin s
@@ -556,8 +556,8 @@ this holds even for no turn at all:
 
   = refused callback 0 point 1 line 5 R12 lock lists differ where paths meet
 
-A push lock must be held in the same way on both paths, even though one call releases it either way. What the callback may do
-under the lock depends on how it holds it.
+A push lock must be held alike on both paths, even though one call releases it however it is held. How the callback holds
+the lock decides what it may do under it.
 
     filter a altitude 100
     lock push l
@@ -573,7 +573,7 @@ under the lock depends on how it holds it.
 
   = refused callback 0 point 2 line 7 R12 lock lists differ where paths meet
 
-To mend it, release the lock on the side that takes it, and write twice what must be done on both sides.
+To fix it, release the lock on the side that takes it, and write twice what must be done on both sides.
 
     filter a altitude 100
     lock spin s
@@ -589,7 +589,7 @@ To mend it, release the lock on the side that takes it, and write twice what mus
 
 pub(crate) const R13: &str = "R13: hand-over of a variable not held
 
-A callback hands a context to a queue entry, a work item or a status (`context c`) and may not own it.
+A callback hands a context to a queue entry, a work item or a status (`context c`) and might not own it.
 
 The bug. The receiver releases what it gets. If the callback had no reference, that is one release too many, or a NULL pointer
 where none is expected.
@@ -608,7 +608,7 @@ where none is expected.
 
   = refused callback 0 point 0 line 3 R13 hand-over of a variable not held
 
-To mend it, get the context first, and release it where the call fails. If there is no context to hand over, leave `context c`
+To fix it, get the context first, and release it where the call fails. If there is no context to hand over, leave `context c`
 out.
 
     filter a altitude 100
@@ -630,26 +630,26 @@ out.
 
 pub(crate) const R14: &str = "R14: certificate does not cover
 
-This is a fault of the certificate, not of the driver: the certificate doesn't say everything that may be so. Mostly the text was
+This is a fault of the certificate, not of the driver: the certificate doesn't cover every possible situation. Mostly the text was
 changed and its certificate wasn't.
 
-  What is wrong  a callback of the text isn't in the certificate, or has another number of points there
-  Reported at    point 0 of the first such callback
+  Cause        a callback of the text isn't in the certificate, or has another number of points there
+  Reported at  point 0 of the first such callback
 
-  What is wrong  the certificate has more callbacks than the text, and those of the text agree
-  Reported at    point 0 of the text's last callback
+  Cause        the certificate has more callbacks than the text, and those of the text agree
+  Reported at  point 0 of the text's last callback
 
-  What is wrong  a thin certificate doesn't give a point that is kept
-  Reported at    that point
+  Cause        a thin certificate doesn't give a point that is kept
+  Reported at  that point
 
-  What is wrong  a thin certificate gives a point that isn't kept
-  Reported at    that point
+  Cause        a thin certificate gives a point that isn't kept
+  Reported at  that point
 
-  What is wrong  the entry's state isn't within that of point 0, or point 0 is `!` or has locks
-  Reported at    point 0 of the callback
+  Cause        the entry's state isn't within that of point 0, or point 0 is `!` or has locks
+  Reported at  point 0 of the callback
 
-  What is wrong  a point leads to a state that isn't within the next point's, or to a point that is `!`
-  Reported at    the point that leads there
+  Cause        a point leads to a state that isn't within the next point's, or to a point that is `!`
+  Reported at  the point that leads there
 
 Here the certificate says that `c0` is NULL at point 2, where the allocation succeeded:
 
@@ -673,7 +673,7 @@ Here the certificate says that `c0` is NULL at point 2, where the allocation suc
 
   = refused callback 0 point 1 line 4 R14 certificate does not cover
 
-To mend it, write what may be so: `2 211111111 11112 3 1 -`.
+To fix it, write the line that covers it: `2 211111111 11112 3 1 -`.
 
     filter a altitude 100
     pre read {
@@ -709,7 +709,7 @@ The bug. The filter manager gets whatever is in the register.
 
   = refused callback 0 point 0 line 3 R15 end without status
 
-To mend it, return a status on each path.
+To fix it, return a status on each path.
 
     filter a altitude 100
     pre read {

@@ -5,7 +5,7 @@ pub(crate) const V1: &str = "V1: stale use
 A callback uses a variable that names nothing, or that names a context or an operation that the activation
 doesn't hold; or it uses a context that was freed, or one of another filter. Only a reference of its own keeps a context alive for
 a callback. Without one, another thread deletes the context, the last reference goes, and the next read is a read of freed memory.
-Using what isn't held is a violation whether or not it is freed yet: the run in which it is freed is another interleaving of the
+Using something that isn't held is a violation whether or not it is freed yet: the run in which it is freed is another interleaving of the
 same callbacks. The same holds for an operation that was queued, deferred or completed: whoever has it now may complete it, and
 the filter manager then reuses it.
 ";
@@ -18,8 +18,8 @@ and teardown waits for it. A context that went to a frame, an entry or a work it
 
 pub(crate) const V3: &str = "V3: settled twice
 
-A settled visit is settled again: an operation is completed after a `return` passed it on, or the other way
-round. The filter manager would resume an operation that has continued or is over.
+A settled visit is settled again: an operation is completed after a `return` passed it on, or the
+reverse. The filter manager would resume an operation that has continued or is over.
 ";
 
 pub(crate) const V4: &str = "V4: not one owner
@@ -33,8 +33,8 @@ owner will complete an operation that isn't the filter's any more.
 
 pub(crate) const V5: &str = "V5: a status that isn't legal
 
-A returned status must fit the callback's stage, the operation's mode, the draining flag, what
-is registered (WITH_CALLBACK and SYNCHRONIZE need the post callback) and whether the operation is held or was given away; a pre or
+A returned status must fit the callback's stage, the operation's mode, the draining flag, the
+registered callbacks (WITH_CALLBACK and SYNCHRONIZE need the post callback) and whether the operation is held or was given away; a pre or
 post callback must return one; `canceled` and routines must not. A status given to FltCompletePendedPreOperation must be
 WITH_CALLBACK, NO_CALLBACK or COMPLETE, for a pre visit; for the `data` of `canceled` it must be COMPLETE. Only an IRP may be
 queued or deferred, whether or not that call succeeds. The filter manager acts on the status that it gets: it would look for a
@@ -50,8 +50,8 @@ the system down.
 
 pub(crate) const V7: &str = "V7: lock discipline
 
-An activation releases a lock that isn't the latest that it took, takes a lock that it holds, in either
-way, or ends with a lock. In the second case it waits for itself for ever; in the third it makes everybody else wait. It is a
+An activation releases a lock that isn't the latest that it took, takes a lock that it holds, however it
+holds it, or ends with a lock. In the second case it waits for itself for ever; in the third it makes everybody else wait. It is a
 violation, too, if a lock has an exclusive holder while another activation holds it. This half is about the world after the step,
 and the machine itself never breaks it: a lock is taken only where the other holders allow it (`locks_stay_exclusive` in
 `flt_model`). It says in one sentence what locks are for.
@@ -59,7 +59,7 @@ and the machine itself never breaks it: a lock is taken only where the other hol
 
 pub(crate) const V8: &str = "V8: not at this place
 
-A call is made at a place where the table doesn't allow it: for example a stream context is asked for
+A call is made at a place where the table doesn't allow it: for example a stream context is requested
 in the pre callback of a create, which has no stream yet. Or a draining callback does more than clean up. The system isn't ready
 for such a call there.
 ";

@@ -27,7 +27,7 @@ The text takes locks one within the other so that no order of its locks fits all
 callback takes the lock that the place before it holds.
 
 The bug. A deadlock. One callback holds the first lock and waits for the second, another holds the second and waits for the first.
-Both wait for ever, and so does each callback that asks for one of these locks later.
+Both wait for ever, as does each callback that asks for one of these locks later.
 
     filter a altitude 100
     lock push list
@@ -51,7 +51,7 @@ W01 names line 13, which takes `list` and holds `table`, and line 6, which takes
 the deadlock, the report shows it, row by row, and who waits for what at its end:
 
        = deadlock: a run leads to one, with 2 operations and 6 entries
-        (in front: entries; behind: lines, without those that nobody else sees; `yes` and `no`: how a call went)
+        (left: entries; right: lines, without those that nobody else sees; `yes` and `no`: how a call went)
         0-2  o arrive read irp 0, `pre read` starts, 5
         3-5  |   o arrive cleanup irp 0, `pre cleanup` starts, 12
         activation 1 waits for `list` on line 13, held by activation 0
@@ -88,7 +88,7 @@ pub(crate) const W02: &str = "W02: given away under a lock
 
 `FltCompletePendedPreOperation`, `FltCompletePendedPostOperation` or `FltCbdqInsertIo` is called while a lock is held.
 
-The bug. The operation goes on inside a completion: other callbacks of the filter may run before the call returns. An insert runs
+The bug. The operation continues inside a completion: other callbacks of the filter may run before the call returns. An insert runs
 `canceled` at once if the operation has been cancelled already. If one of these asks for the lock, the thread waits for itself. Others
 wait for as long as the operation takes.
 
@@ -281,11 +281,11 @@ value of such a context is changed:
     }
 
 Others may have a context that the callback got from its stream or instance, that it set there, or that came back in the variable after
-`old`. The same goes for `arg` and for the context of `FltCbdqRemoveNextIo` wherever the text hands over a context of which that is so, to
+`old`. The same goes for `arg` and for the context of `FltCbdqRemoveNextIo` wherever the text hands over such a context, to
 whichever callback. Nobody else has a context that was allocated and not set yet: give it its first value there.
 
 When it is wrong. Contexts of two streams count as one, since nothing says which stream an operation is for. A test that is made without
-the lock and made again under it counts as a read: make it under the lock alone. So do writes of one and the same number, as of a flag:
+the lock and made again under it counts as a read: make it under the lock alone. Writes of one and the same number, as of a flag, count too:
 write it under the lock, or allow the warning at the write. Where the driver uses interlocked operations, such as
 `InterlockedIncrement`, let the text take a spin lock of its own round them: `lock spin interlocked`.
 
@@ -298,8 +298,8 @@ pub(crate) const W05: &str = "W05: the context that lost is used
 `FltSetStreamContext KEEP_IF_EXISTS` or `FltSetInstanceContext KEEP_IF_EXISTS` may fail since another context is set already. The callback
 then reads or writes the value of its own context, or hands that context on.
 
-The bug. Two operations race to set a context, and the one that loses goes on with its own. No other callback will ever find that
-one: what is written there is lost, and locks and counts that it holds guard nothing.
+The bug. Two operations race to set a context, and the one that loses continues with its own. No other callback will ever find that
+one: values written there are lost, and locks and counts that it holds guard nothing.
 
     filter a altitude 100
     pre read {
@@ -315,7 +315,7 @@ one: what is written there is lost, and locks and counts that it holds guard not
       return NO_CALLBACK
     }
 
-W05 names the set in line 4 and the write in line 9. To fix it, release the own context and go on with the other one:
+W05 names the set in line 4 and the write in line 9. To fix it, release the own context and continue with the other one:
 
     filter a altitude 100
     pre read {
@@ -373,8 +373,8 @@ goes another path.
     }
 
 W06 names the lock in line 2, the statement in line 8, which no path reaches, the callback in line 10, which no status asks for, and the
-routine in line 16. It doesn't name the test in line 4, since the callback writes `n0`, if only in line 8. To fix it, use what is
-declared, or remove it:
+routine in line 16. It doesn't name the test in line 4, since the callback writes `n0`, if only in line 8. To fix it, use the
+declarations, or remove them:
 
     filter a altitude 100
     pre read {
@@ -388,7 +388,7 @@ declared, or remove it:
       return NO_CALLBACK
     }
 
-What isn't named. A callback that another one asks for, though that one never starts itself. Remove the one that is named, and the next
+Not named. A callback that another one asks for, though that one never starts itself. Remove the one that is named, and the next
 report names the other.
 
 When it is wrong. A lock that only other code of the driver takes needn't be in the text. A test `n0 == 1` of a variable that nothing
@@ -450,7 +450,7 @@ must be released as ever:
 
 `FltCbdqInsertIo` gives an operation away as a completion does: others may complete it before the call returns.
 
-What isn't named. `FltAllocateContext`, which is given the filter and not the instance, and `FltCbdqRemoveNextIo`, which is given the
+Not named. `FltAllocateContext`, which is given the filter and not the instance, and `FltCbdqRemoveNextIo`, which is given the
 queue: keep the queue in memory that outlives the instance.
 
 When it is wrong. The rules don't forbid these calls: in the machine (docs/MACHINE.md) a filter is detached only once no activation of it is

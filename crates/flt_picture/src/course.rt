@@ -7,7 +7,7 @@ use flt_tree::{OperationVariable, Statement};
 use flt_world::{Stack, World};
 use std::alloc::{AllocError, Global};
 
-/// How many lines are kept that some entries name, at most.
+/// The greatest number of lines that are kept, of those that some entries name.
 const MOST_NAMED: usize = 40;
 
 /// A line of a text, from 1, and the number of its filter, from the highest altitude.
@@ -17,7 +17,7 @@ pub(crate) struct Named {
     pub(crate) line: usize,
 }
 
-/// How far a journal was run.
+/// The run of a journal up to an entry.
 #[derive(Drop)]
 pub(crate) struct Course<'b, 'a> {
     alloc: Global,
@@ -26,9 +26,9 @@ pub(crate) struct Course<'b, 'a> {
     world: World<'a>,
     /// The number of the next entry.
     next: usize,
-    /// The lines that were named where it went on last, each once.
+    /// The lines that the entries of the last `go_to` named, each once.
     named: Vec<Named>,
-    /// Whether more lines were.
+    /// Whether these named more lines.
     are_more: bool,
 }
 
@@ -76,7 +76,7 @@ impl<'b, 'a> Course<'b, 'a> {
         Ok(())
     }
 
-    /// The line of what comes next in an activation; none at the end of its body.
+    /// The line of the next statement in an activation; none at the end of its body.
     fn next_line(&mut self, activation: usize) -> Result<Option<usize>, AllocError> {
         Ok(match upcoming(&mut self.world, activation)? {
             Some(Upcoming::Statement(statement)) => Some(line_of(statement)),
@@ -97,7 +97,7 @@ impl<'b, 'a> Course<'b, 'a> {
         Ok(())
     }
 
-    /// An activation goes on by so many steps, of which the last is seen.
+    /// Makes so many steps of an activation, of which others see the last.
     fn go(&mut self, activation: usize, steps: u32, grant: bool) -> Result<(), AllocError> {
         let unseen = steps.saturating_sub(1);
         if steps > 0 && go_locally(&mut self.world, activation, unseen)? == unseen {
@@ -120,7 +120,7 @@ impl<'b, 'a> Course<'b, 'a> {
         }
     }
 
-    /// Goes on up to the entry of a number, which isn't made.
+    /// Makes the entries up to the one of a number, which isn't made.
     pub(crate) fn go_to(&mut self, end: usize) -> Result<(), AllocError> {
         self.named.clear();
         self.are_more = false;
@@ -135,7 +135,7 @@ impl<'b, 'a> Course<'b, 'a> {
 
     // ---- what is there
 
-    /// The lines of the statements that were seen where it went on last, each once, in the order in which they were first.
+    /// The lines of the statements that were seen in the last `go_to`, each once, in the order of their first times.
     pub(crate) fn named(&self) -> &[Named] {
         self.named.as_slice()
     }
@@ -164,7 +164,7 @@ impl<'b, 'a> Course<'b, 'a> {
         }
     }
 
-    /// The operation that the last entry is about, where it is about one.
+    /// The operation that the last entry is about, if it is about one.
     pub(crate) fn operation(&self) -> Option<usize> {
         match self.journal.entry(self.next.saturating_sub(1))? {
             JournalEntry::Move(step) => self.operation_by(step),
@@ -172,12 +172,12 @@ impl<'b, 'a> Course<'b, 'a> {
         }
     }
 
-    /// How many contexts there were.
+    /// The number of contexts so far.
     pub(crate) fn contexts(&self) -> usize {
         self.world.context_count()
     }
 
-    /// How many references a context has.
+    /// The number of references of a context.
     pub(crate) fn references(&self, context: usize) -> u64 {
         self.world.references(context)
     }
@@ -187,7 +187,7 @@ impl<'b, 'a> Course<'b, 'a> {
         self.world.is_linked(context)
     }
 
-    /// How many visits wait in queues and work items.
+    /// The number of visits that wait in queues and work items.
     pub(crate) fn waiting(&self) -> u64 {
         let mut waiting: u64 = 0;
         for visit in 0..self.world.visit_count() {

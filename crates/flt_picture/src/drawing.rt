@@ -1,9 +1,9 @@
-//! What is drawn so far: elements, one after the other.
+//! The drawing so far: elements, one after the other.
 
 use crate::element::{Area, Colour, Element, Look};
 use std::alloc::{AllocError, Global};
 
-/// What is drawn so far. What is drawn later covers what is there.
+/// The elements drawn so far. Later ones cover earlier ones.
 #[derive(Drop)]
 pub(crate) struct Drawing {
     alloc: Global,
@@ -18,19 +18,19 @@ impl Drawing {
         }
     }
 
-    /// A filled box.
+    /// Draws a filled box.
     pub(crate) fn fill(&mut self, area: Area, colour: Colour) -> Result<(), AllocError> {
         self.elements.push(Element::Fill { area, colour })?;
         Ok(())
     }
 
-    /// A line from one height to another.
+    /// Draws a line from one height to another.
     pub(crate) fn rule(&mut self, x: usize, top: usize, bottom: usize) -> Result<(), AllocError> {
         self.elements.push(Element::Rule { x, top, bottom })?;
         Ok(())
     }
 
-    /// Words from a place on, or round it where they stand inside a shape, with a hint if it isn't empty.
+    /// Draws words from a place on, or round it if they are inside a shape, with a hint if it isn't empty.
     pub(crate) fn hinted(
         &mut self,
         x: usize,
@@ -61,7 +61,7 @@ impl Drawing {
         self.hinted(x, y, look, words, hint)
     }
 
-    /// Words side by side, each from its own place on.
+    /// Draws words side by side, each from its own place on.
     pub(crate) fn heads(
         &mut self,
         places: &[usize],

@@ -1,6 +1,6 @@
-//! What a picture is made of. All lengths are in pixels, from the left and from the top.
+//! The elements of a picture. All lengths are in pixels, from the left and from the top.
 
-/// What a box is filled with.
+/// The colour that fills a box.
 #[derive(Clone, Copy)]
 pub(crate) enum Colour {
     Blue,
@@ -12,7 +12,7 @@ pub(crate) enum Colour {
     White,
 }
 
-/// What words look like.
+/// The look of words.
 #[derive(Clone, Copy)]
 pub(crate) enum Look {
     Plain,
@@ -25,7 +25,7 @@ pub(crate) enum Look {
     Title,
 }
 
-/// Where a box is, and how large.
+/// The place and the size of a box.
 #[derive(Clone, Copy)]
 pub(crate) struct Area {
     pub(crate) x: usize,
@@ -48,8 +48,7 @@ pub(crate) enum Element {
         top: usize,
         bottom: usize,
     },
-    /// Words from a place on, or round it where they stand inside a shape. The hint is shown while a pointer is over them; an empty one
-    /// isn't.
+    /// Words from a place on, or round it if they are inside a shape. The hint is shown while a pointer is over them, unless it is empty.
     Words {
         x: usize,
         y: usize,

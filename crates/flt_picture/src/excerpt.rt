@@ -1,16 +1,16 @@
-//! Which lines of a timeline are drawn: one for each row of a block, and one for what repeats it.
+//! The lines of a timeline that are drawn: one for each row of a block, and one for the rows that repeat it.
 
 use flt_timeline::{Fold, Row, Timeline};
 
-/// How many lines are drawn, at most; beside them a line stands in each place where some are left out.
+/// The greatest number of lines that are drawn; besides them, there is a line in each place where some are left out.
 const MOST_LINES: usize = 1_000;
 
-/// How many of these are the first ones, where the line that breaks something stands behind them.
+/// The number of these that are the first ones, if the line that breaks something isn't among the first `MOST_LINES`.
 const FIRST_LINES: usize = 500;
 
 const NOTHING: Row = Row { first: 0, count: 0 };
 
-/// Which lines are drawn: those before `first`, and those from `from` to before `end`. A line is told by its number, from 0.
+/// The lines that are drawn: those before `first`, and those from `from` to before `end`. A line is given by its number, from 0.
 #[derive(Clone, Copy)]
 pub(crate) struct Excerpt {
     first: usize,
@@ -19,7 +19,7 @@ pub(crate) struct Excerpt {
 }
 
 impl Excerpt {
-    /// So many lines, of which one breaks something. If it isn't among the first, it is the last that is drawn.
+    /// The excerpt of so many lines, of which `broken` breaks something. If it isn't among the first, it is the last that is drawn.
     pub(crate) fn of(lines: usize, broken: Option<usize>) -> Excerpt {
         match broken {
             Some(number) if number >= MOST_LINES => {
@@ -43,31 +43,31 @@ impl Excerpt {
     }
 }
 
-/// The last row of a block and of what repeats it.
+/// The last row of a block and of the rows that repeat it.
 pub(crate) fn last_in(timeline: &Timeline<'_>, fold: Fold) -> Row {
     let rows = fold.block.saturating_add(fold.repeated);
     row_of(timeline, fold.first.saturating_add(rows).saturating_sub(1))
 }
 
-/// Whether the run breaks something by the last row that repeats a block. That row has a line of its own.
+/// Whether the run breaks something by the last row that repeats a block. Such a row has a line of its own.
 pub(crate) fn ends_broken(timeline: &Timeline<'_>, fold: Fold) -> bool {
     fold.repeated > 0 && timeline.is_broken(last_in(timeline, fold))
 }
 
-/// How many rows are drawn as repetitions of a block, in one line.
+/// The number of rows that are drawn as repetitions of a block, in one line.
 pub(crate) fn repeated_in(timeline: &Timeline<'_>, fold: Fold) -> usize {
     fold.repeated
         .saturating_sub(usize::from(ends_broken(timeline, fold)))
 }
 
-/// How many lines a block and what repeats it have.
+/// The number of lines of a block and of the rows that repeat it.
 fn lines_in(timeline: &Timeline<'_>, fold: Fold) -> usize {
     let again = usize::from(repeated_in(timeline, fold) > 0);
     let broken = usize::from(ends_broken(timeline, fold));
     fold.block.saturating_add(again).saturating_add(broken)
 }
 
-/// How many lines the blocks of a timeline have.
+/// The number of lines of the blocks of a timeline.
 pub(crate) fn lines_of(timeline: &Timeline<'_>) -> usize {
     let mut lines: usize = 0;
     for fold in timeline.folds.as_slice() {
@@ -76,7 +76,7 @@ pub(crate) fn lines_of(timeline: &Timeline<'_>) -> usize {
     lines
 }
 
-/// Which of the lines of a block and of what repeats it breaks something, if one does.
+/// The number of the line of a block and of the rows that repeat it that breaks something, if one does.
 fn broken_in(timeline: &Timeline<'_>, fold: Fold) -> Option<usize> {
     for number in 0..fold.block {
         if timeline.is_broken(row_of(timeline, fold.first.saturating_add(number))) {
@@ -101,7 +101,7 @@ pub(crate) fn broken_line(timeline: &Timeline<'_>) -> Option<usize> {
     None
 }
 
-/// The row of a number; none of its entries where there is none.
+/// The row of a number; one without entries if there is none.
 pub(crate) fn row_of(timeline: &Timeline<'_>, number: usize) -> Row {
     match timeline.rows.get(number) {
         Some(row) => *row,

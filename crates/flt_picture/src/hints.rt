@@ -1,4 +1,4 @@
-//! What stands in the lines of a text that a row names, for a pointer over its words.
+//! The lines of a text that a row names, as a hint for a pointer over its words.
 
 use crate::course::Named;
 use crate::title::shown;
@@ -21,7 +21,7 @@ pub(crate) struct Sources<'a> {
     all: Vec<Source<'a>>,
 }
 
-/// The number of a tree's filter; past all filters where it has no altitude that one may have.
+/// The number of a tree's filter; past all filters if it has no altitude that one may have.
 fn number_of(stack: &Stack<'_>, tree: &Tree) -> usize {
     match u32::try_from(tree.filter.altitude) {
         Ok(altitude) => stack.number_of(altitude),
@@ -43,7 +43,7 @@ fn without_indent(line: &[u8]) -> &[u8] {
     &[]
 }
 
-/// A line behind its number.
+/// Adds a line after its number.
 fn put_line(out: &mut String, number: usize, line: &[u8]) -> Result<(), AllocError> {
     write!(out, "{number}: ")?;
     for byte in without_indent(line) {
@@ -73,7 +73,7 @@ impl<'a> Sources<'a> {
         Ok(Sources { all })
     }
 
-    /// A line; nothing where it isn't there.
+    /// A line; empty if it isn't there.
     fn line(&self, named: Named) -> &[u8] {
         for source in self.all.iter() {
             if source.filter == named.filter {
@@ -83,7 +83,7 @@ impl<'a> Sources<'a> {
         &[]
     }
 
-    /// These lines, each behind its number, and that there are more.
+    /// These lines, each after its number, and `...` if there are more.
     pub(crate) fn hint(
         &self,
         alloc: Global,

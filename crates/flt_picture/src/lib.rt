@@ -2,7 +2,7 @@
 //!
 //! A picture is a list of shapes and words (`element`), which `drawing` collects and `svg` writes. `course` runs the journal along, `hints`
 //! has the lines of texts that rows name, `excerpt` says which lines are drawn, `plan` counts lanes and letters, and `page` lays out the
-//! lines with what `title` and `words` say.
+//! lines with the words of `title` and `words`.
 #![tactic(auto)]
 
 mod course;

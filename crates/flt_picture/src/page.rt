@@ -20,10 +20,10 @@ use flt_tree::Tree;
 use flt_world::Stack;
 use std::alloc::{AllocError, Global};
 
-/// How high a line is.
+/// The height of a line.
 const LINE: usize = 22;
 
-/// What the colours say.
+/// The meanings of the colours.
 const KEY: [(Colour, &str); 5] = [
     (Colour::Blue, "a callback is running"),
     (Colour::Grey, "the filter manager is at work"),
@@ -41,11 +41,11 @@ const KEY: [(Colour, &str); 5] = [
     ),
 ];
 
-/// What the numbers of operations say where columns are shared.
+/// The meaning of the numbers of operations if columns are shared.
 const SHARED: &str =
-    "the number in a box is its operation's; above a column stands the first operation that has it";
+    "the number in a box is its operation's; above a column is the first operation that has it";
 
-/// What stands above the lanes.
+/// The words above the lanes.
 const HEADS: [&str; 5] = [
     "entries",
     "operations",
@@ -54,7 +54,7 @@ const HEADS: [&str; 5] = [
     "lines that ran, and how calls went",
 ];
 
-/// What is drawn so far.
+/// The picture so far.
 #[derive(Drop)]
 struct Sheet<'t, 'b, 'a> {
     alloc: Global,
@@ -65,11 +65,11 @@ struct Sheet<'t, 'b, 'a> {
     top: usize,
     /// The number of the next line of the timeline, drawn or not.
     number: usize,
-    /// How many lines are left out since the last one that is drawn.
+    /// The number of lines that are left out since the last one that is drawn.
     left_out: usize,
 }
 
-/// The number behind a row's last entry.
+/// The number after that of a row's last entry.
 fn end_of(row: Row) -> usize {
     row.first.saturating_add(row.count)
 }
@@ -80,7 +80,7 @@ impl Sheet<'_, '_, '_> {
         self.top.saturating_add(15)
     }
 
-    /// A box in the next line.
+    /// Draws a box in the next line.
     fn fill(&mut self, x: usize, width: usize, colour: Colour) -> Result<(), AllocError> {
         let area = Area {
             x,
@@ -91,7 +91,7 @@ impl Sheet<'_, '_, '_> {
         self.drawing.fill(area, colour)
     }
 
-    /// A number round a place.
+    /// Draws a number round a place.
     fn draw_number(
         &mut self,
         x: usize,
@@ -103,7 +103,7 @@ impl Sheet<'_, '_, '_> {
         self.drawing.words(x, y, look, words)
     }
 
-    /// A number in a box, in the lane with this left side.
+    /// Draws a number in a box, in the lane with this left side.
     fn draw_count(&mut self, lane: usize, colour: Colour, count: usize) -> Result<(), AllocError> {
         let left = lane.saturating_add(2);
         self.fill(left, LANE - 4, colour)?;
@@ -111,14 +111,14 @@ impl Sheet<'_, '_, '_> {
         self.draw_number(middle, self.base(), Look::Inside, count)
     }
 
-    /// Words in the next line, which is then done.
+    /// Draws words in the next line, which is then done.
     fn end_line(&mut self, left: usize, look: Look, words: String) -> Result<(), AllocError> {
         let base = self.base();
         self.top = self.top.saturating_add(LINE);
         self.drawing.words(left, base, look, words)
     }
 
-    /// A row's words with its lines as a hint, which end its line.
+    /// Draws a row's words with its lines as a hint, which end its line.
     fn end_row(&mut self, left: usize, look: Look, words: String) -> Result<(), AllocError> {
         let base = self.base();
         self.top = self.top.saturating_add(LINE);
@@ -133,7 +133,7 @@ impl Sheet<'_, '_, '_> {
 impl<'b, 'a> Plan<'b, 'a> {
     // ---- lanes
 
-    /// Who is on in a row, in a lane.
+    /// Draws in a lane whether a callback or the filter manager runs in a row.
     fn draw_turn(
         &self,
         sheet: &mut Sheet<'_, '_, '_>,
@@ -153,7 +153,7 @@ impl<'b, 'a> Plan<'b, 'a> {
         left.saturating_add(self.lane / 2)
     }
 
-    /// That the operations of some columns aren't done.
+    /// Draws a line in each column whose operation isn't done.
     fn draw_rules(&self, sheet: &mut Sheet<'_, '_, '_>, row: Row) -> Result<(), AllocError> {
         let top = sheet.top;
         for column in 0..self.columns {
@@ -165,7 +165,7 @@ impl<'b, 'a> Plan<'b, 'a> {
         Ok(())
     }
 
-    /// Who is on in a row about an operation, with its number where its column may be that of others too.
+    /// Draws the same for a row about an operation, with its number if its column may be that of others, too.
     fn draw_operation(
         &self,
         sheet: &mut Sheet<'_, '_, '_>,
@@ -184,7 +184,7 @@ impl<'b, 'a> Plan<'b, 'a> {
         Ok(())
     }
 
-    /// The lanes of the operations.
+    /// Draws the lanes of the operations.
     fn draw_operations(&self, sheet: &mut Sheet<'_, '_, '_>, row: Row) -> Result<(), AllocError> {
         self.draw_rules(sheet, row)?;
         match self.timeline.column(row) {
@@ -193,7 +193,7 @@ impl<'b, 'a> Plan<'b, 'a> {
         }
     }
 
-    /// How many visits wait.
+    /// Draws how many visits wait.
     fn draw_queue(&self, sheet: &mut Sheet<'_, '_, '_>) -> Result<(), AllocError> {
         let waiting = sheet.course.waiting();
         if waiting == 0 {
@@ -202,7 +202,7 @@ impl<'b, 'a> Plan<'b, 'a> {
         sheet.draw_count(self.queue(), Colour::Orange, waiting as usize)
     }
 
-    /// The references of a context.
+    /// Draws the references of a context.
     fn draw_context(&self, sheet: &mut Sheet<'_, '_, '_>, number: usize) -> Result<(), AllocError> {
         let references = sheet.course.references(number);
         if references == 0 {
@@ -216,7 +216,7 @@ impl<'b, 'a> Plan<'b, 'a> {
         sheet.draw_count(self.context(number), colour, references as usize)
     }
 
-    /// What is there when a row ends.
+    /// Draws the visits that wait and the contexts when a row ends.
     fn draw_state(&self, sheet: &mut Sheet<'_, '_, '_>) -> Result<(), AllocError> {
         self.draw_queue(sheet)?;
         for number in 0..self.contexts {
@@ -227,7 +227,7 @@ impl<'b, 'a> Plan<'b, 'a> {
 
     // ---- heads
 
-    /// The number of the first operation of a column, above it.
+    /// Draws the number of the first operation of a column, above it.
     fn draw_first(&self, sheet: &mut Sheet<'_, '_, '_>, column: usize) -> Result<(), AllocError> {
         let middle = self.middle(self.operation(column));
         match self.firsts.get(column) {
@@ -236,7 +236,7 @@ impl<'b, 'a> Plan<'b, 'a> {
         }
     }
 
-    /// The numbers of operations and contexts.
+    /// Draws the numbers of operations and contexts.
     fn draw_numbers(&self, sheet: &mut Sheet<'_, '_, '_>) -> Result<(), AllocError> {
         for column in 0..self.columns {
             self.draw_first(sheet, column)?;
@@ -262,7 +262,7 @@ impl<'b, 'a> Plan<'b, 'a> {
         self.draw_numbers(sheet)
     }
 
-    /// What the colours say, below the lines.
+    /// Draws the meanings of the colours, below the lines.
     fn draw_colours(&self, sheet: &mut Sheet<'_, '_, '_>) -> Result<(), AllocError> {
         for (colour, said) in &KEY {
             sheet.fill(LANES + 4, LANE - 8, *colour)?;
@@ -272,7 +272,7 @@ impl<'b, 'a> Plan<'b, 'a> {
         Ok(())
     }
 
-    /// What the colours say, and the numbers of operations where columns are shared.
+    /// Draws the meanings of the colours, and that of the numbers of operations if columns are shared.
     fn draw_key(&self, sheet: &mut Sheet<'_, '_, '_>) -> Result<(), AllocError> {
         sheet.top = sheet.top.saturating_add(LINE / 2);
         self.draw_colours(sheet)?;
@@ -285,7 +285,7 @@ impl<'b, 'a> Plan<'b, 'a> {
 
     // ---- lines
 
-    /// The line of some entries begins: the number of the first, and the one behind the last.
+    /// Begins the line of some entries, with the number of the first and the one after the last.
     fn begin_line(
         &self,
         sheet: &mut Sheet<'_, '_, '_>,
@@ -299,7 +299,7 @@ impl<'b, 'a> Plan<'b, 'a> {
         sheet.drawing.words(LANES - 15, base, Look::Before, words)
     }
 
-    /// The line of a row in which the run breaks something stands out.
+    /// Highlights the line of a row in which the run breaks something.
     fn draw_ground(&self, sheet: &mut Sheet<'_, '_, '_>, row: Row) -> Result<(), AllocError> {
         if !self.timeline.is_broken(row) {
             return Ok(());
@@ -313,7 +313,7 @@ impl<'b, 'a> Plan<'b, 'a> {
         sheet.drawing.fill(area, Colour::Pink)
     }
 
-    /// A row's words, which end its line.
+    /// Draws a row's words, which end its line.
     fn draw_words(&self, sheet: &mut Sheet<'_, '_, '_>, row: Row) -> Result<(), AllocError> {
         let words = row_words(self.alloc, self.timeline, self.verdict, row)?;
         let look = if self.timeline.is_broken(row) {
@@ -332,7 +332,7 @@ impl<'b, 'a> Plan<'b, 'a> {
         self.draw_words(sheet, row)
     }
 
-    /// So many rows that repeat a block, with what is there behind them.
+    /// Draws so many rows that repeat a block, with the visits that wait and the contexts after them.
     fn draw_repetition(
         &self,
         sheet: &mut Sheet<'_, '_, '_>,
@@ -347,7 +347,7 @@ impl<'b, 'a> Plan<'b, 'a> {
         sheet.end_line(self.words(), Look::Faint, words)
     }
 
-    /// A line in place of those that are left out, if some are.
+    /// Draws a line in place of those that are left out, if some are.
     fn draw_left_out(&self, sheet: &mut Sheet<'_, '_, '_>) -> Result<(), AllocError> {
         if sheet.left_out == 0 {
             return Ok(());
@@ -360,7 +360,7 @@ impl<'b, 'a> Plan<'b, 'a> {
         sheet.end_line(self.words(), Look::Plain, words)
     }
 
-    /// Whether the next line is drawn. What is left out before it is said first.
+    /// Whether the next line is drawn. If so, a line for those left out before it is drawn first.
     fn begins(&self, sheet: &mut Sheet<'_, '_, '_>) -> Result<bool, AllocError> {
         let number = sheet.number;
         sheet.number = number.saturating_add(1);
@@ -372,7 +372,7 @@ impl<'b, 'a> Plan<'b, 'a> {
         Ok(true)
     }
 
-    /// A row, where its line is drawn.
+    /// Draws a row, if its line is drawn.
     fn draw_next(&self, sheet: &mut Sheet<'_, '_, '_>, row: Row) -> Result<(), AllocError> {
         if self.begins(sheet)? {
             self.draw_row(sheet, row)?;
@@ -380,7 +380,7 @@ impl<'b, 'a> Plan<'b, 'a> {
         Ok(())
     }
 
-    /// A block, what repeats it, and the row of it by which the run breaks something.
+    /// Draws a block, the rows that repeat it, and the one of them by which the run breaks something.
     fn draw_fold(&self, sheet: &mut Sheet<'_, '_, '_>, fold: Fold) -> Result<(), AllocError> {
         for number in 0..fold.block {
             self.draw_next(sheet, self.row(fold.first.saturating_add(number)))?;
@@ -395,7 +395,7 @@ impl<'b, 'a> Plan<'b, 'a> {
         Ok(())
     }
 
-    /// The blocks, as far as they are drawn, and how much is left out behind them.
+    /// Draws the blocks, as far as they are drawn, and how many lines are left out after them.
     fn draw_folds(&self, sheet: &mut Sheet<'_, '_, '_>) -> Result<(), AllocError> {
         for fold in self.timeline.folds.as_slice() {
             self.draw_fold(sheet, *fold)?;
@@ -409,7 +409,7 @@ impl<'b, 'a> Plan<'b, 'a> {
         self.draw_key(sheet)
     }
 
-    /// How high the picture is.
+    /// The height of the picture.
     fn height(&self) -> usize {
         let key = KEY.len() + usize::from(self.is_shared);
         let lines = self.lines().saturating_add(key).saturating_add(4);
@@ -417,7 +417,7 @@ impl<'b, 'a> Plan<'b, 'a> {
     }
 }
 
-/// What is drawn of a journal by a plan.
+/// The drawing of a journal by a plan.
 fn drawn(
     plan: &Plan<'_, '_>,
     stack: &Stack<'_>,
@@ -438,14 +438,14 @@ fn drawn(
 }
 
 /// A journal as a picture, in SVG: the names of the filters and the verdict above the rows of its timeline, with lanes for operations, for
-/// how many visits wait in queues and work items when a row ends, and for the references that each context then has. The statements' lines
-/// that a row names are a hint over its words. Below it stands what the colours say. The filters, the journal and the verdict are those of
-/// the timeline, and the texts those of the trees, in their order. At most 1,000 lines are drawn, the one that breaks something among them,
-/// the first twelve contexts, and 40 lines of a text in a hint. Where lines are left out, a line says how many.
+/// the number of visits that wait in queues and work items when a row ends, and for the references that each context then has. The
+/// statements' lines that a row names are a hint over its words. The meanings of the colours are below the rows. The filters, the journal
+/// and the verdict are those of the timeline, and the texts those of the trees, in their order. At most 1,000 lines are drawn, the one that
+/// breaks something among them, the first twelve contexts, and 40 lines of a text in a hint. If lines are left out, a line says how many.
 ///
 /// # Errors
 ///
-/// Where a growth was refused, or a number or a count would reach 2^32.
+/// `AllocError` if a growth is refused, or a number or a count would reach 2^32.
 pub fn picture(
     alloc: Global,
     trees: &[Tree],

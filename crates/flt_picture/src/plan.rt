@@ -1,4 +1,4 @@
-//! What is counted before anything is drawn: lanes, lines and letters.
+//! The counts that are made before anything is drawn: of lanes, lines and letters.
 
 use crate::course::Course;
 use crate::excerpt::{Excerpt, broken_line, ends_broken, last_in, lines_of, row_of};
@@ -8,28 +8,28 @@ use flt_timeline::{Fold, Row, Timeline};
 use flt_world::Stack;
 use std::alloc::{AllocError, Global};
 
-/// How wide a lane is, at least.
+/// The least width of a lane.
 pub(crate) const LANE: usize = 24;
 
-/// Where the lanes begin.
+/// The left side of the lanes.
 pub(crate) const LANES: usize = 100;
 
-/// How many pixels a letter takes, at most.
+/// The greatest number of pixels that a letter takes.
 const LETTER: usize = 8;
 
-/// How many letters there is room for, at least.
+/// The least number of letters for which there is room.
 const LEAST_LETTERS: usize = 40;
 
-/// How many contexts have lanes, at most.
+/// The greatest number of contexts that have lanes.
 const MOST_CONTEXTS: usize = 12;
 
-/// Up to how many operations each has a column of its own.
+/// The greatest number of operations that have columns of their own.
 const OWN_COLUMNS: usize = 8;
 
-/// How many columns there are at most: with the one of the operations behind all others.
+/// The greatest number of columns: with the one after all others, for operations without their own.
 const COLUMNS: usize = OWN_COLUMNS + 1;
 
-/// What is drawn, and how many lanes there are.
+/// The contents of a picture, and the numbers of its lanes.
 #[derive(Clone, Copy)]
 pub(crate) struct Plan<'b, 'a> {
     pub(crate) alloc: Global,
@@ -41,16 +41,16 @@ pub(crate) struct Plan<'b, 'a> {
     pub(crate) firsts: [Option<usize>; 9],
     /// Whether a column may be that of several operations.
     pub(crate) is_shared: bool,
-    /// How wide the lane of an operation is.
+    /// The width of the lane of an operation.
     pub(crate) lane: usize,
     pub(crate) contexts: usize,
-    /// How many letters the words of a row have, at most.
+    /// The greatest number of letters of the words of a row.
     letters: usize,
-    /// How many letters the title has.
+    /// The number of letters of the title.
     title: usize,
 }
 
-/// How many columns the rows of a timeline have.
+/// The number of columns of the rows of a timeline.
 fn columns_of(timeline: &Timeline<'_>) -> usize {
     let mut columns: usize = 0;
     for row in timeline.rows.as_slice() {
@@ -65,7 +65,7 @@ fn is_arrival(entry: &JournalEntry) -> bool {
     matches!(entry, JournalEntry::Move(Move::Arrive { .. }))
 }
 
-/// How many operations arrive in a journal.
+/// The number of operations that arrive in a journal.
 fn operations_of(journal: &Journal) -> usize {
     let mut operations: usize = 0;
     for entry in journal.entries() {
@@ -84,7 +84,7 @@ fn begins(journal: &Journal, row: Row) -> bool {
     }
 }
 
-/// An operation is the first of a column, if none was before.
+/// Makes an operation the first of a column, if it has none yet.
 fn take_column(firsts: &mut [Option<usize>; 9], column: Option<usize>, operation: usize) {
     if let Some(column) = column {
         if let Some(first) = firsts.get_mut(column) {
@@ -108,7 +108,7 @@ fn firsts_of(journal: &Journal, timeline: &Timeline<'_>) -> [Option<usize>; 9] {
     firsts
 }
 
-/// How wide the lane of an operation is, so that the numbers of so many have room.
+/// The width of the lane of an operation, with room for the numbers of so many operations.
 fn lane_of(alloc: Global, operations: usize) -> Result<usize, AllocError> {
     let letters = number_words(alloc, operations.saturating_sub(1))?.len();
     let room = letters.saturating_mul(LETTER).saturating_add(LETTER);
@@ -117,7 +117,7 @@ fn lane_of(alloc: Global, operations: usize) -> Result<usize, AllocError> {
 
 // ---- letters
 
-/// How many letters the longest words of a block have, and those of the row by which the run breaks something behind it.
+/// The number of letters of the longest words of a block and of the row after it by which the run breaks something.
 fn letters_in(
     alloc: Global,
     timeline: &Timeline<'_>,
@@ -136,7 +136,7 @@ fn letters_in(
     Ok(letters)
 }
 
-/// How many letters the longest words of a timeline have.
+/// The number of letters of the longest words of a timeline.
 fn letters_of(
     alloc: Global,
     timeline: &Timeline<'_>,
@@ -151,13 +151,13 @@ fn letters_of(
 
 // ---- contexts
 
-/// How many contexts there are behind so many entries, up to what has lanes.
+/// The number of contexts after so many entries, up to the number that has lanes.
 fn contexts_behind(course: &mut Course<'_, '_>, entries: usize) -> Result<usize, AllocError> {
     course.go_to(entries)?;
     Ok(course.contexts().min(MOST_CONTEXTS))
 }
 
-/// How many contexts come in a journal, up to what has lanes.
+/// The number of contexts in a journal, up to the number that has lanes.
 fn contexts_of<'b, 'a>(
     alloc: Global,
     stack: &'b Stack<'a>,
@@ -170,7 +170,7 @@ fn contexts_of<'b, 'a>(
 }
 
 impl<'b, 'a> Plan<'b, 'a> {
-    /// What is drawn of a journal, below a title of so many letters.
+    /// The plan for a journal, below a title of so many letters.
     pub(crate) fn of(
         alloc: Global,
         stack: &Stack<'_>,
@@ -201,7 +201,7 @@ impl<'b, 'a> Plan<'b, 'a> {
         row_of(self.timeline, number)
     }
 
-    /// The left side of a lane. The first one is that of what concerns no operation.
+    /// The left side of a lane. The first one is for rows that concern no operation.
     pub(crate) fn left(&self, number: usize) -> usize {
         LANES.saturating_add(self.lane.saturating_mul(number))
     }
@@ -211,7 +211,7 @@ impl<'b, 'a> Plan<'b, 'a> {
         self.left(column.saturating_add(1))
     }
 
-    /// The left side of the lane of what waits.
+    /// The left side of the lane of the visits that wait.
     pub(crate) fn queue(&self) -> usize {
         self.operation(self.columns.max(3)).saturating_add(LANE)
     }
@@ -227,7 +227,7 @@ impl<'b, 'a> Plan<'b, 'a> {
         self.context(self.contexts.max(3)).saturating_add(LANE)
     }
 
-    /// How many lines are drawn: those of the timeline, and one in each place where some are left out.
+    /// The number of lines that are drawn: those of the timeline, and one in each place where some are left out.
     pub(crate) fn lines(&self) -> usize {
         let mut lines: usize = 0;
         let mut is_drawn = true;
@@ -241,13 +241,13 @@ impl<'b, 'a> Plan<'b, 'a> {
         lines
     }
 
-    /// How wide words of so many letters are from a place on, with what stays empty behind them.
+    /// The right side of words of so many letters from a place on, with the empty room after them.
     fn room(&self, left: usize, letters: usize) -> usize {
         let end = left.saturating_add(letters.saturating_mul(LETTER));
         end.saturating_add(LANE)
     }
 
-    /// How wide the picture is.
+    /// The width of the picture.
     pub(crate) fn width(&self) -> usize {
         let rows = self.room(self.words(), self.letters);
         rows.max(self.room(LANES - 65, self.title))

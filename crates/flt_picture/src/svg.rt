@@ -1,4 +1,4 @@
-//! Elements are written, as SVG.
+//! Elements, written as SVG.
 
 ghost use Rattle.std.specs.Prelude.{◌≡◌, IfOk, flat_map, string_bytes};
 ghost use Rattle.flt_picture.specs.Pictures as spec;
@@ -37,7 +37,7 @@ fn look_words(look: Look) -> &'static str
 
 // ---- words
 
-/// A letter, or its name where it would be markup.
+/// Writes a letter, or its name if it would be markup.
 fn put_letter(out: &mut String, letter: char) -> Result<(), AllocError>
     ensures { spec.Puts result (string_bytes out.old) (string_bytes out.new) (spec.escaped_letter letter) }
 {
@@ -67,7 +67,7 @@ fn put_title(out: &mut String, title: &str) -> Result<(), AllocError>
     out.push_str("</title>")
 }
 
-/// What is shown while a pointer is over words, if it is something.
+/// Writes the hint that is shown while a pointer is over words, unless it is empty.
 fn put_hint(out: &mut String, hint: &str) -> Result<(), AllocError>
     ensures { spec.Puts result (string_bytes out.old) (string_bytes out.new) (spec.hint_of hint.now) }
 {
@@ -79,7 +79,7 @@ fn put_hint(out: &mut String, hint: &str) -> Result<(), AllocError>
 
 // ---- elements
 
-/// An attribute that is a number, behind a blank.
+/// Writes an attribute that is a number, after a blank.
 #[tactic(auto, unfolding(crate::specs::Pictures::attribute))]
 fn put_attribute(out: &mut String, name: &str, number: usize) -> Result<(), AllocError>
     ensures { spec.Puts result (string_bytes out.old) (string_bytes out.new) (spec.attribute name.now number) }
@@ -87,7 +87,7 @@ fn put_attribute(out: &mut String, name: &str, number: usize) -> Result<(), Allo
     write!(out, " {name}=\"{number}\"")
 }
 
-/// An attribute that is a word, behind a blank.
+/// Writes an attribute that is a word, after a blank.
 #[tactic(auto, unfolding(crate::specs::Pictures::setting))]
 fn put_setting(out: &mut String, name: &str, word: &str) -> Result<(), AllocError>
     ensures { spec.Puts result (string_bytes out.old) (string_bytes out.new) (spec.setting name.now word.now) }
@@ -130,7 +130,7 @@ fn put_rule(out: &mut String, x: usize, top: usize, bottom: usize) -> Result<(),
     out.push_str("/>\n")
 }
 
-/// The beginning of words at a place.
+/// Writes the beginning of words at a place.
 #[tactic(auto, unfolding(crate::specs::Pictures::place))]
 fn put_place(out: &mut String, x: usize, y: usize, look: Look) -> Result<(), AllocError>
     ensures { spec.Puts result (string_bytes out.old) (string_bytes out.new) (spec.place x y look) }
@@ -187,7 +187,7 @@ fn put_elements(out: &mut String, elements: &[Element]) -> Result<(), AllocError
 
 // ---- the picture
 
-/// The beginning of a picture of some size.
+/// Writes the beginning of a picture of some size.
 fn put_size(out: &mut String, width: usize, height: usize) -> Result<(), AllocError>
     ensures { spec.Puts result (string_bytes out.old) (string_bytes out.new) (spec.sized width height) }
 {
@@ -200,7 +200,7 @@ fn put_size(out: &mut String, width: usize, height: usize) -> Result<(), AllocEr
     Ok(())
 }
 
-/// The beginning of a picture of some size: its title, a white ground, and the title in its first line.
+/// Writes the beginning of a picture of some size: its title, a white ground, and the title in its first line.
 #[tactic(auto, unfolding(crate::specs::Pictures::opening))]
 fn put_opening(out: &mut String, width: usize, height: usize, title: &str) -> Result<(), AllocError>
     ensures { spec.Puts result (string_bytes out.old) (string_bytes out.new) (spec.opening width height title.now) }

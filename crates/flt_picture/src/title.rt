@@ -1,4 +1,4 @@
-//! What stands above a picture: the filters by name, and the verdict as `replay` says it.
+//! The title above a picture: the filters by name, and the verdict as `replay` says it.
 
 ghost use Rattle.std.specs.Prelude.{◌≡◌, ◌<◌, IfOk, map, string_bytes};
 ghost use Rattle.flt_model.specs.Program.{filters_of};
@@ -25,7 +25,7 @@ fn violation_word(violation: Violation) -> &'static str
     }
 }
 
-/// What is broken, in words.
+/// The violation, in words.
 pub(crate) fn broken_words(violation: Violation) -> &'static str
     ensures { result.now ≡ spec.broken_words violation }
 {
@@ -54,7 +54,7 @@ fn put_verdict(out: &mut String, verdict: Verdict) -> Result<(), AllocError>
     }
 }
 
-/// A byte of a name; `?` for what isn't printed.
+/// A byte of a name; `?` for one that isn't printed.
 pub(crate) fn shown(byte: u8) -> u8
     ensures value { result ≡ spec.shown byte }
     ensures ascii { result < 128 }
@@ -71,7 +71,7 @@ fn put_name(out: &mut String, name: &[u8]) -> Result<(), AllocError>
     Ok(())
 }
 
-/// The names of filters, in the order of their texts.
+/// Writes the names of filters, in the order of their texts.
 fn put_names(out: &mut String, trees: &[Tree]) -> Result<(), AllocError>
     ensures { Puts result (string_bytes out.old) (string_bytes out.new) (spec.names (filters_of trees.now)) }
 {

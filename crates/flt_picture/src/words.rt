@@ -1,4 +1,4 @@
-//! What is said in a picture.
+//! The words in a picture.
 
 use crate::title::broken_words;
 use flt_model::Verdict;
@@ -6,7 +6,7 @@ use flt_timeline::{Row, Timeline};
 use std::alloc::{AllocError, Global};
 use std::fmt::Write;
 
-/// What a row's entries came to. Behind what the run breaks there stands its name.
+/// The outcome of a row's entries, followed by the name of the violation if the run breaks something there.
 pub(crate) fn row_words(
     alloc: Global,
     timeline: &Timeline<'_>,

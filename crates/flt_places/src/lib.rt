@@ -1,4 +1,4 @@
-//! Where things stand in a text: the lines and columns of its bytes, and its lines.
+//! Places in a text: the lines and columns of its bytes, and its lines.
 #![tactic(auto)]
 
 mod places;

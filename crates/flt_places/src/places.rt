@@ -1,4 +1,4 @@
-//! Where things stand in a text.
+//! Places in a text.
 
 ghost use Rattle.std.specs.Prelude.{◌≡◌, ◌<◌, ◌≤◌, ◌^◌, ◌+◌, ◌-◌, ◌∷◌, ℕ, true, false, drop, get_or, length, min, nat_le, IfOk};
 ghost use Rattle.std.specs.List.Sorted.{IsNonDecreasingBy, IsPartitionPoint};
@@ -9,21 +9,21 @@ use sqlite_items::Items;
 use std::alloc::{AllocError, Global};
 use std::marker::Model;
 
-/// Where something stands: its first byte, and how many bytes it has.
+/// The place of a part of a text: its first byte, and the number of its bytes.
 #[derive(Clone, Copy)]
 pub struct Site {
     pub place: Position,
     pub length: usize,
 }
 
-/// Where some bytes stand: the first of them, and one column behind the last.
+/// The place of some bytes: the first of them, and one column after the last.
 #[derive(Clone, Copy)]
 pub struct Region {
     pub first: Position,
     pub end: Position,
 }
 
-/// A text, and where its lines begin.
+/// A text, and the bytes with which its lines begin.
 #[derive(Drop)]
 pub struct Lines<'a> {
     text: &'a [u8],
@@ -43,7 +43,7 @@ impl<'a> Model for Lines<'a> {
     ghost invariant = { λ l. l.starts ≡ starts_from 0 l.text.now };
 }
 
-/// Where the lines of a text begin but the first.
+/// The bytes with which the lines of a text begin, except the first.
 fn starts_of(alloc: Global, text: &[u8]) -> Result<Items<usize>, AllocError>
     ensures { IfOk result (λ starts. starts ≡ spec.starts_from 0 text.now) }
 {
@@ -58,7 +58,7 @@ fn starts_of(alloc: Global, text: &[u8]) -> Result<Items<usize>, AllocError>
     Ok(starts)
 }
 
-/// How many of these bytes, which ascend, stand at most as far as another.
+/// The number of these bytes, which ascend, that are at most as far as another.
 fn count_until(starts: &[usize], at: usize) -> usize
     requires { IsNonDecreasingBy (λ (n : ℕ). n) starts.now }
     ensures bound { result ≤ length starts.now }
@@ -67,7 +67,7 @@ fn count_until(starts: &[usize], at: usize) -> usize
     starts.partition_point(|start| *start <= at)
 }
 
-/// Where the line begins before which so many others do, from 0; 0 where it isn't there.
+/// The byte with which a line begins, from 0, given the number of lines before it. 0 if there is no such line.
 #[tactic(auto, using(crate::proofs::Starts::first_or, crate::proofs::Starts::later_or))]
 fn start_behind(starts: &[usize], lines: usize) -> usize
     ensures { result ≡ get_or (0 ∷ starts.now) lines 0 }
@@ -78,7 +78,7 @@ fn start_behind(starts: &[usize], lines: usize) -> usize
     }
 }
 
-/// Where a byte stands, where lines begin at these bytes, which ascend, and the first at 0.
+/// The place of a byte, if lines begin at these bytes, which ascend, and the first at 0.
 #[tactic(auto, using(crate::proofs::Starts::by_point))]
 fn counted(starts: &[usize], at: usize) -> Position
     requires at { at < 2 ^ 63 }
@@ -93,7 +93,7 @@ fn counted(starts: &[usize], at: usize) -> Position
     }
 }
 
-/// What stands before the first line feed.
+/// The bytes before the first line feed.
 fn first_line(text: &[u8]) -> &[u8]
     ensures { result.now ≡ spec.first_line text.now }
 {
@@ -112,7 +112,7 @@ impl<'a> Lines<'a> {
     ///
     /// # Errors
     ///
-    /// Where a growth was refused.
+    /// `AllocError` if a growth is refused.
     pub fn of(alloc: Global, text: &'a [u8]) -> Result<Lines<'a>, AllocError>
         ensures { IfOk result (λ lines. lines ≡ text.now) }
     {
@@ -120,7 +120,7 @@ impl<'a> Lines<'a> {
         Ok(Lines { text, starts })
     }
 
-    /// Where a byte stands, which counts from 0; the end of the text for one that isn't there.
+    /// The place of a byte, counted from 0. It is the end of the text if there is no such byte.
     #[tactic(auto, using(crate::proofs::Starts::by_lines, crate::proofs::Starts::ascending))]
     pub fn place(&self, at: usize) -> Position
         ensures { result ≡ spec.place_in self.now at }
@@ -128,7 +128,7 @@ impl<'a> Lines<'a> {
         counted(self.starts.as_slice(), at.min(self.text.len()))
     }
 
-    /// One column behind the last of the bytes up to another.
+    /// One column after the last of the bytes up to another.
     #[tactic(auto, using(crate::proofs::Starts::by_lines, crate::proofs::Starts::ascending))]
     fn end(&self, end: usize) -> Position
         ensures { result ≡ spec.one_column_on (spec.place_in self.now (end - 1)) }
@@ -141,7 +141,7 @@ impl<'a> Lines<'a> {
         }
     }
 
-    /// Where a span stands: its first byte, and one column behind its last.
+    /// The place of a span: its first byte, and one column after its last.
     pub fn region(&self, span: Span) -> Region
         ensures { result ≡ spec.region_of self.now span }
     {
@@ -151,14 +151,14 @@ impl<'a> Lines<'a> {
         }
     }
 
-    /// A byte that stands so far behind another; what is further than that behind the end of the text isn't told from it.
+    /// The byte at a distance after another one, but at most one after the end of the text: all further ones have the same place.
     fn behind(&self, start: usize, from: usize) -> usize
         ensures { result ≡ min (start + from) (length self.now + 1) }
     {
         start.saturating_add(from).min(self.text.len() + 1)
     }
 
-    /// Where a part of a span stands: its bytes from one up to another, which count from the span's first.
+    /// The place of a part of a span: its bytes from one up to another, counted from the span's first.
     #[tactic(auto, using(crate::proofs::Starts::part_at))]
     pub fn part(&self, span: Span, from: usize, to: usize) -> Region
         ensures { result ≡ spec.part_of self.now span from to }
@@ -169,7 +169,7 @@ impl<'a> Lines<'a> {
         }
     }
 
-    /// Where a span stands.
+    /// The place of a span, and its length.
     pub fn site(&self, span: Span) -> Site
         ensures { result ≡ spec.site_of self.now span }
     {
@@ -179,7 +179,7 @@ impl<'a> Lines<'a> {
         }
     }
 
-    /// The bytes of a span; none where they aren't there.
+    /// The bytes of a span: none if they aren't there.
     pub fn bytes(&self, span: Span) -> &'a [u8]
         ensures { result.now ≡ spec.bytes_of self.now span }
     {
@@ -190,7 +190,7 @@ impl<'a> Lines<'a> {
         }
     }
 
-    /// The byte with which a line begins, from 0; the end of the text where the line isn't there.
+    /// The byte with which a line begins, from 0. It is the end of the text if there is no such line.
     #[tactic(auto, using(crate::proofs::Starts::begin_of_line))]
     fn start(&self, line: usize) -> usize
         ensures within { result ≤ length self.now }
@@ -203,7 +203,7 @@ impl<'a> Lines<'a> {
         start.unwrap_or(self.text.len())
     }
 
-    /// A line, from 1 (0 is taken for 1), without its line feed; nothing where it isn't there.
+    /// A line, from 1 (0 is taken for 1), without its line feed. It is empty if there is no such line.
     pub fn line(&self, number: usize) -> &'a [u8]
         ensures { result.now ≡ spec.line_of self.now number }
     {

@@ -1,4 +1,4 @@
-//! Which variables can still be read at each point, before they are written.
+//! The variables that can still be read at each point, before they are written.
 
 use flt_graph::{
     Action, ContextVariable, Instruction, Invocation, NumberVariable, OperationVariable,
@@ -161,7 +161,7 @@ impl Live {
 
 // ---- before an instruction
 
-/// Values of contexts count only where something reads them.
+/// The variables that are live before an action. Values of contexts count only if something reads them.
 fn before_action(action: Action, after: Live, values: bool) -> Live {
     match action {
         Action::SetNumber(variable, expression) => {
@@ -246,7 +246,7 @@ fn before(instruction: &Instruction, lives: &[Live], values: bool) -> Live {
 /// How often the points are gone through, at most: repeats nest four deep.
 const PASSES: usize = 12;
 
-/// What is live before a point.
+/// The variables that are live before a point.
 fn before_at(points: &[flt_graph::Point], lives: &[Live], point: usize, values: bool) -> Live {
     match points.get(point) {
         Some(own) => before(&own.instruction, lives, values),
@@ -254,7 +254,7 @@ fn before_at(points: &[flt_graph::Point], lives: &[Live], point: usize, values: 
     }
 }
 
-/// Goes through the points from the last. True where something was added.
+/// Goes through the points from the last, and returns whether something was added.
 fn pass(points: &[flt_graph::Point], lives: &mut [Live], values: bool) -> bool {
     let mut is_more = false;
     for point in (0..points.len()).rev() {
@@ -277,7 +277,7 @@ fn all_of(alloc: Global, count: usize, live: Live) -> Result<Vec<Live>, AllocErr
     Ok(lives)
 }
 
-/// What is live at each point.
+/// The variables that are live at each point.
 pub(crate) fn lives(
     alloc: Global,
     points: &[flt_graph::Point],

@@ -10,7 +10,7 @@ pub(crate) fn is_marked(marks: &[bool], point: usize) -> bool {
     }
 }
 
-/// The point behind one that neither asks nor calls.
+/// The point after one that neither asks nor calls.
 fn behind_straight(instruction: &Instruction, straight: &[bool], point: usize) -> Option<usize> {
     match instruction {
         Instruction::Act(

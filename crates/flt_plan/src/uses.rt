@@ -1,4 +1,4 @@
-//! What the calls of a filter link and queue, and whether values and numbers of files count.
+//! Whether the calls of a filter link contexts and queue operations, and whether values and numbers of files count.
 
 use crate::live::{Live, NONE_LIVE, lives};
 use flt_graph::{Action, Graph, Instruction};
@@ -35,7 +35,7 @@ fn reads_file(points: &[flt_graph::Point], lives: &[Live]) -> bool {
     false
 }
 
-/// What the calls of a filter link and queue.
+/// Whether the calls of a filter link contexts to streams and to the instance, and queue operations.
 #[derive(Clone, Copy)]
 pub(crate) struct Uses {
     pub(crate) streams: bool,

@@ -36,7 +36,7 @@ impl Deque {
         self.owner.stealer()
     }
 
-    /// Puts a ticket at the back, or gives it back where there is no memory for it.
+    /// Puts a ticket at the back, or returns it if memory is refused.
     pub(crate) fn push(&mut self, ticket: Ticket) -> Result<(), Ticket>
         ensures pushed { OnOk result (worker_view self.new.owner ≡ having_put ticket (worker_view self.old.owner)) }
         ensures back { IfErr result (λ t. t ≡ ticket) }

@@ -1,9 +1,9 @@
-//! What is known through a pass.
+//! Hands: the tickets that go through a pass.
 
 use crate::Ticket;
 use std::collections::LinkedList;
 
-/// What was put into one deque, or into the injector, and what was taken from it, through one pass.
+/// The tickets that were put into one deque, or into the injector, and those that were taken from it, through one pass.
 ///
 /// Contracts alone speak of hands; no value of this type is made.
 pub struct Hand {

@@ -1,4 +1,4 @@
-//! Tickets: what waits for a move, shared between the threads that name it and the threads that make it.
+//! Tickets: the subjects that wait for a move, shared between the threads that name them and the threads that make it.
 //!
 //! Each worker has a deque, first in, first out, and all share one injector. Callers put tickets into the injector; a worker pushes onto
 //! its own deque, which waits for nobody, and takes from it, then from the injector, then from the others' deques. Whatever the threads
@@ -21,5 +21,5 @@ pub use hand::Hand;
 pub use laws::none_taken_twice;
 pub use pool::Pool;
 pub use seats::{PutSeat, TakeSeat};
-/// What opening a pool answers where there is no memory.
+/// The answer of opening a pool if memory is refused.
 pub use std::alloc::AllocError as OutOfMemory;

@@ -1,4 +1,4 @@
-//! Opening a pool: its seats, and the ways between the deques.
+//! Opening a pool: its seats, and the paths between the deques.
 ghost use Rattle.std.specs.Prelude.{◌≡◌, ◌<◌, ◌+◌, ◌++◌, All, IfOk, OnOk, drop, length, map, take};
 ghost use Rattle.crossbeam_deque.specs.Handles.{stealer_deque, worker_deque, worker_view};
 ghost use Rattle.flt_pool.specs.Hands.{AreNewcomers, newcomer};
@@ -30,7 +30,7 @@ pub(crate) fn put_seats(
     Ok(seats)
 }
 
-/// A seat for each worker, with a way to each other worker's deque.
+/// A seat for each worker, with a path to each other worker's deque.
 #[tactic(auto, using(crate::proofs::Steps::admits))]
 pub(crate) fn take_seats(
     alloc: Global,
@@ -67,7 +67,7 @@ fn empty_deques(alloc: Global, count: usize) -> Result<(VecDeque<Deque>, Vec<Thi
     Ok((deques, thieves))
 }
 
-/// A way to each of these deques but the one at the place.
+/// A path to each of these deques but the one at the place.
 fn ways_past(alloc: Global, thieves: &[Thief], place: usize) -> Result<Vec<Way>, OutOfMemory>
     requires { place < length thieves.now }
     ensures deques { IfOk result (λ ways. reached ways.items
@@ -80,7 +80,7 @@ fn ways_past(alloc: Global, thieves: &[Thief], place: usize) -> Result<Vec<Way>,
     Ok(ways)
 }
 
-/// Adds a way to each of these deques.
+/// Adds a path to each of these deques.
 fn add_ways(ways: &mut Vec<Way>, thieves: &[Thief]) -> Result<(), OutOfMemory>
     ensures deques { OnOk result (reached ways.new.items ≡ reached ways.old.items ++ map stealer_deque thieves.now) }
     ensures hands { OnOk result (AreNewcomers (hands_of_ways ways.old.items) → AreNewcomers (hands_of_ways ways.new.items)) }

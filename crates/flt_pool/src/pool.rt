@@ -15,7 +15,7 @@ use std::sync::Wait;
 /// The injector, under the rule.
 pub(crate) type Inlet = Injector<Ticket, Global, Hand, Counted>;
 
-/// What a seat knows of the injector.
+/// A seat's pass for the injector.
 pub(crate) type InletPass = InjectorPass<Ticket, Hand>;
 
 /// Tickets that threads share: the injector, to which each seat of the pool has a right.
@@ -25,7 +25,7 @@ pub struct Pool {
 }
 
 impl Pool {
-    /// An empty pool, a seat for each caller and one for each worker. Each worker has a way to each other worker's deque.
+    /// An empty pool, a seat for each caller and one for each worker. Each worker has a path to each other worker's deque.
     pub fn open(
         alloc: Global,
         callers: usize,
@@ -45,7 +45,7 @@ impl Pool {
         Ok((pool, put_seats, take_seats))
     }
 
-    /// Puts a ticket into the injector. It comes back where there is no memory for it, or after nearly 2^62 tickets.
+    /// Puts a ticket into the injector. It comes back if memory is refused, or after nearly 2^62 tickets.
     pub fn put<R: Wait>(&self, rt: &R, seat: &mut PutSeat, ticket: Ticket) -> Result<(), Ticket>
         requires { IsPutSeatOf self.now seat.old }
         ensures seat { IsPutSeatOf self.now seat.new }
@@ -58,7 +58,7 @@ impl Pool {
 
     /// Takes a ticket. It looks at the seat's own deque, then at the injector, and then at the others' deques in the order of the workers,
     /// and takes the front ticket of the first one in which it finds any. This order is in no contract, and neither is that all of them
-    /// were empty, each at its moment, where it answers none: a seat knows nothing of what others put and took.
+    /// were empty, each at its moment, if it answers none: a seat knows nothing of the tickets that others put and took.
     pub fn take<R: Wait>(&self, rt: &R, seat: &mut TakeSeat) -> Option<Ticket>
         requires { IsTakeSeatOf self.now seat.old }
         ensures seat { IsTakeSeatOf self.now seat.new }

@@ -1,9 +1,9 @@
-//! The rule that a deque, or the injector, and the hands keep between any two steps, and what each kind of step tells its hand.
+//! The rule that a deque, or the injector, and the hands keep between any two steps, and the change of a hand by each kind of step.
 
 use crate::{Hand, Ticket};
 use crossbeam_deque::protocol::{Outcome, Protocol};
 
-/// Each ticket was taken as often as it was put, less what is left.
+/// Each ticket was taken as often as it was put, less how often it is left.
 pub(crate) struct Counted;
 
 impl Protocol<Ticket, Hand> for Counted {

@@ -15,8 +15,8 @@ pub struct PutSeat {
     pub(crate) pass: InletPass,
 }
 
-/// A worker's place: its own deque, a right to the injector of the pool that gave it, and a way to each other worker's deque. It may
-/// go to another thread.
+/// A worker's place: its own deque, a right to the injector of the pool that gave it, and a path to each other worker's deque. It may go to
+/// another thread.
 #[derive(Drop)]
 pub struct TakeSeat {
     pub(crate) deque: Deque,
@@ -25,8 +25,8 @@ pub struct TakeSeat {
 }
 
 impl TakeSeat {
-    /// Puts a ticket at the back of the seat's own deque. It waits for nobody. The seat stays one of its pool. The ticket comes back where there is no memory for it, which
-    /// the first 64 tickets of a seat don't need, or after 2^62 tickets.
+    /// Puts a ticket at the back of the seat's own deque. It waits for nobody. The seat stays one of its pool. The ticket comes back if
+    /// memory is refused, which the first 64 tickets of a seat don't need, or after 2^62 tickets.
     pub fn push(&mut self, ticket: Ticket) -> Result<(), Ticket>
         ensures pushed { OnOk result (hands self.new ≡ having_put ticket (own_hand self.old) ∷ other_hands self.old) }
         ensures back { IfErr result (λ t. t ≡ ticket) }
@@ -39,7 +39,7 @@ impl TakeSeat {
     }
 }
 
-/// A ticket from the first of these ways at whose end there is one.
+/// A ticket from the first of these paths whose deque has one.
 pub(crate) fn steal_any<R: Wait>(rt: &R, ways: &mut [Way]) -> Option<Ticket>
     ensures some { IfSome result (λ ticket. IsTakenOf ticket (hands_of_ways ways.old) (hands_of_ways ways.new)) }
     ensures none { IfNone result (hands_of_ways ways.new ≡ hands_of_ways ways.old) }

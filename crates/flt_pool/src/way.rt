@@ -1,4 +1,4 @@
-//! A way to another worker's deque.
+//! A path to another worker's deque.
 ghost use Rattle.std.specs.Prelude.{◌≡◌, IfSome, IfNone};
 ghost use Rattle.crossbeam_deque.specs.Handles.{view, IsPassOf, stealer_deque};
 ghost use Rattle.flt_pool.specs.Hands.{newcomer, having_taken};
@@ -12,7 +12,7 @@ use std::sync::Wait;
 /// A handle that steals from a deque under the rule.
 pub(crate) type Thief = Stealer<Ticket, Global, Hand, Counted>;
 
-/// A way to steal from one deque.
+/// A path by which a worker steals from one deque.
 #[derive(Drop)]
 pub(crate) struct Way {
     pub(crate) thief: Thief,
@@ -21,7 +21,7 @@ pub(crate) struct Way {
 }
 
 impl Way {
-    /// A way to a deque, by which nothing has gone.
+    /// A path to a deque, by which nothing has gone.
     #[tactic(auto, using(crate::proofs::Steps::admits))]
     pub(crate) fn new(thief: Thief) -> Way
         ensures hand { view result.pass ≡ newcomer }
@@ -31,7 +31,7 @@ impl Way {
         Way { thief, pass }
     }
 
-    /// The ticket at the front, if there is one. It tries again where another thread was faster.
+    /// The ticket at the front, if there is one. It tries again if another thread was faster.
     pub(crate) fn steal<R: Wait>(&mut self, rt: &R) -> Option<Ticket>
         ensures some { IfSome result (λ ticket. view self.new.pass ≡ having_taken ticket (view self.old.pass)) }
         ensures none { IfNone result (view self.new.pass ≡ view self.old.pass) }

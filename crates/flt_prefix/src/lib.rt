@@ -1,5 +1,5 @@
-//! Laws of where a text fails. With the tokens up to the one at fault nothing is spelled; without it, something is. Of what only the
-//! whole text shows, the first in the text is reported. And where tokens stand.
+//! Laws of where a text fails: with the tokens up to the one at fault nothing is spelled, and without it something is. Among the faults
+//! that only the whole text shows, the first in the text is reported. A further law is about the places of tokens.
 #![tactic(auto)]
 
 mod laws;

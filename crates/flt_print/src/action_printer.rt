@@ -112,7 +112,7 @@ fn test(out: &mut Vec<u8>, test: Test) -> Result<(), AllocError>
     }
 }
 
-/// What an `if` asks, behind it.
+/// The condition of an `if`, after that word.
 pub fn condition(out: &mut Vec<u8>, condition: &Condition) -> Result<(), AllocError>
     ensures { OnOk result (out.new.items ≡ out.old.items ++ spaced (spec.condition_words condition.now)) }
 {

@@ -15,7 +15,7 @@ use flt_syntax::Kind;
 use flt_tree::{ContextVariable, FallibleCall, Lock, PlainCall, Status};
 use std::alloc::AllocError;
 
-/// Nothing, or a word and the context behind it.
+/// Nothing, or a word and the context after it.
 fn optional(
     out: &mut Vec<u8>,
     word_before: Kind,
@@ -65,7 +65,7 @@ pub fn optional_status(out: &mut Vec<u8>, found: Option<Status>) -> Result<(), A
     }
 }
 
-/// A call that can fail, behind other words.
+/// A call that can fail, after other words.
 pub fn fallible_call(out: &mut Vec<u8>, call: &FallibleCall) -> Result<(), AllocError>
     ensures { OnOk result (out.new.items ≡ out.old.items ++ spaced (spec.fallible_words call.now)) }
 {

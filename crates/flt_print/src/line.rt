@@ -18,14 +18,14 @@ pub fn begin(out: &mut Vec<u8>, level: usize, word: Kind) -> Result<(), AllocErr
     out.extend_from_slice(vocabulary::spelling(word))
 }
 
-/// A word of the grammar behind others.
+/// A word of the grammar after others.
 pub fn word(out: &mut Vec<u8>, word: Kind) -> Result<(), AllocError>
     ensures { OnOk result (out.new.items ≡ out.old.items ++ 32 ∷ spelling word) }
 {
     name(out, vocabulary::spelling(word))
 }
 
-/// A name behind other words.
+/// A name after other words.
 pub fn name(out: &mut Vec<u8>, name: &[u8]) -> Result<(), AllocError>
     ensures { OnOk result (out.new.items ≡ out.old.items ++ 32 ∷ name.now) }
 {
@@ -53,7 +53,7 @@ fn digits(out: &mut Vec<u8>, n: u64) -> Result<(), AllocError>
     digit(out, (n % 10) as u8)
 }
 
-/// A number behind other words.
+/// A number after other words.
 pub fn number(out: &mut Vec<u8>, n: u64) -> Result<(), AllocError>
     ensures { OnOk result (out.new.items ≡ out.old.items ++ 32 ∷ decimal n) }
 {

@@ -69,7 +69,7 @@ fn body(
     Ok(())
 }
 
-/// The end of an `if` behind its first block, with a second block if that has statements.
+/// The end of an `if` after its first block, with a second block if that has statements.
 #[cycle(printer)]
 fn otherwise(
     out: &mut Vec<u8>,
@@ -128,7 +128,7 @@ fn statement(
     }
 }
 
-/// What a callback is registered for, at the beginning of its line.
+/// The head of a callback, at the beginning of its line.
 fn head(out: &mut Vec<u8>, head: &Head) -> Result<(), AllocError>
     ensures { OnOk result (out.new.items ≡ out.old.items ++ begun 0 (spec.head_words head.now)) }
 {
@@ -246,7 +246,7 @@ pub fn parses_again()
     reads_back_words();
 }
 
-/// What a text spells its canonical text spells too, apart from lines and columns, if that is not too long.
+/// If a text spells a filter, the filter's canonical text spells it too, apart from lines and columns, unless it is too long.
 #[tactic(auto, using(crate::proofs::Reprinted::prints_and_parses))]
 pub fn print_and_parse()
     ensures { PrintAndParse }

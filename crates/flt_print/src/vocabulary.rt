@@ -46,7 +46,7 @@ pub fn spelling(kind: Kind) -> &'static [u8]
     }
 }
 
-/// No word of the language stands for two kinds, and no kind has two words. It does nothing: its clause is the law.
+/// No word of the language stands for two kinds, and no kind has two words. It does nothing at run time: its clause is a law.
 pub fn each_word_is_one_kind()
     ensures { spec.EachWordIsOneKind }
 {}

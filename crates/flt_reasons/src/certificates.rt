@@ -1,4 +1,4 @@
-//! What is wrong in a line of a certificate.
+//! Finds the mistake in a line of a certificate.
 
 use crate::cursor::{Cursor, is_decimal, last_number};
 use crate::lines::{Line, Lines};
@@ -9,24 +9,24 @@ const CONTEXTS: [&str; 8] = ["c1", "c2", "c3", "c4", "c5", "c6", "c7", "arg"];
 
 const OPERATIONS: [&str; 5] = ["o0", "o1", "o2", "o3", "data"];
 
-/// How many callbacks there are at most.
+/// The greatest number of callbacks.
 const MAX_CALLBACKS: usize = 16;
 
-/// What the lines so far came to.
+/// The state of the reader after the lines so far.
 #[derive(Clone, Copy)]
 struct Standing {
     /// Whether points may be left out.
     is_thin: bool,
-    /// How many callbacks have begun.
+    /// The number of callbacks that have begun.
     callbacks: usize,
-    /// The least number that a further point of the last one has, and how many points it has.
+    /// The least number that a further point of the last one has, and the number of its points.
     next: usize,
     count: usize,
     is_over: bool,
 }
 
 impl Standing {
-    /// Behind one more line, which is well-formed.
+    /// Passes one more line, which is well-formed.
     fn pass(&mut self, line: &[u8]) {
         let word = Cursor { left: line }.word();
         if is_decimal(word) {
@@ -40,7 +40,7 @@ impl Standing {
         }
     }
 
-    /// What a line is behind a point that needn't be the last one given.
+    /// The subject of a line after a point, if points may be left out and that one isn't the last of its callback.
     fn behind_point(&self, line: &[u8]) -> Subject {
         let callback = self.callbacks.saturating_sub(1);
         let word = Cursor { left: line }.word();
@@ -52,7 +52,7 @@ impl Standing {
         }
     }
 
-    /// What the next line is.
+    /// The subject of the next line.
     fn subject(&self, line: &[u8]) -> Subject {
         if self.is_over {
             Subject::Behind
@@ -96,7 +96,7 @@ fn head(cursor: &mut Cursor<'_>, callback: usize) -> Result<(), Wanted> {
     line_end(cursor)
 }
 
-/// The first line of this callback, or the last line where there are all callbacks.
+/// The first line of this callback, or the last line if there are all callbacks.
 fn head_or_last(cursor: &mut Cursor<'_>, callback: usize) -> Result<(), Wanted> {
     if callback < MAX_CALLBACKS {
         head(cursor, callback)
@@ -105,7 +105,7 @@ fn head_or_last(cursor: &mut Cursor<'_>, callback: usize) -> Result<(), Wanted> 
     }
 }
 
-/// A line behind a point of this callback. Further points have these numbers at least and at most.
+/// A line after a point of this callback. The numbers of further points are between these two.
 fn among(
     cursor: &mut Cursor<'_>,
     callback: usize,
@@ -165,7 +165,7 @@ fn locks(cursor: &mut Cursor<'_>) -> Result<(), Wanted> {
     line_end(cursor)
 }
 
-/// What may be so at a point.
+/// The state of a point.
 fn state(cursor: &mut Cursor<'_>) -> Result<(), Wanted> {
     if cursor.byte(b'!') {
         return line_end(cursor);
@@ -194,7 +194,7 @@ fn first(cursor: &mut Cursor<'_>) -> Result<(), Wanted> {
     exact(cursor, "fltcert 1", Wanted::Format)
 }
 
-/// Reads a line, up to what is wrong in it.
+/// Reads a line, up to the mistake in it.
 fn read(cursor: &mut Cursor<'_>, subject: Subject) -> Result<(), Wanted> {
     match subject {
         Subject::First => first(cursor),
@@ -206,7 +206,7 @@ fn read(cursor: &mut Cursor<'_>, subject: Subject) -> Result<(), Wanted> {
     }
 }
 
-/// What is wrong in a line, by which line it is.
+/// The mistake in a line with this subject.
 fn trouble_in<'a>(line: Option<Line<'a>>, subject: Subject) -> Trouble<'a> {
     let mut cursor = Cursor {
         left: bytes_of(line),
@@ -215,7 +215,7 @@ fn trouble_in<'a>(line: Option<Line<'a>>, subject: Subject) -> Trouble<'a> {
     found(subject, line, cursor, read)
 }
 
-/// What is wrong in the first malformed line of a certificate, by its number, from 1.
+/// The mistake in the first malformed line of a certificate, given the line's number from 1.
 pub(crate) fn trouble<'a>(input: &'a [u8], line: usize) -> Trouble<'a> {
     let mut lines = Lines { left: input };
     if line <= 1 {

@@ -1,13 +1,13 @@
 //! A place in a line.
 
-/// What of a line is left to be read.
+/// The unread rest of a line.
 #[derive(Clone, Copy)]
 pub(crate) struct Cursor<'a> {
     pub(crate) left: &'a [u8],
 }
 
 impl<'a> Cursor<'a> {
-    /// Passes a byte, if it stands there.
+    /// Passes a byte, if it is the next one.
     pub(crate) fn byte(&mut self, byte: u8) -> bool {
         match self.left {
             [first, others @ ..] if *first == byte => {
@@ -18,7 +18,7 @@ impl<'a> Cursor<'a> {
         }
     }
 
-    /// Passes a digit from 1 up to another one, if it stands there.
+    /// Passes a digit from 1 up to another one, if one is next.
     pub(crate) fn digit(&mut self, greatest: u8) -> bool {
         match self.left {
             [first, others @ ..] if b'1' <= *first && *first <= greatest => {
@@ -29,7 +29,7 @@ impl<'a> Cursor<'a> {
         }
     }
 
-    /// What stands there up to the next blank.
+    /// The bytes up to the next blank.
     pub(crate) fn word(&self) -> &'a [u8] {
         let end = self
             .left
@@ -39,14 +39,14 @@ impl<'a> Cursor<'a> {
         &self.left[..end.min(self.left.len())]
     }
 
-    /// Passes what stands there up to the next blank.
+    /// Passes the bytes up to the next blank.
     pub(crate) fn pass_word(&mut self) {
         let length = self.word().len();
         self.left = &self.left[length.min(self.left.len())..];
     }
 }
 
-/// The last number in a line, 0 where there is none.
+/// The last number in a line, 0 if it has none.
 pub(crate) fn last_number(line: &[u8]) -> u64 {
     let mut number: u64 = 0;
     for byte in line {

@@ -1,4 +1,4 @@
-//! What is wrong in a line of a journal.
+//! Finds the mistake in a line of a journal.
 
 use crate::cursor::Cursor;
 use crate::lines::{Line, Lines};
@@ -7,10 +7,10 @@ use crate::trouble::{
 };
 use crate::wanted::Wanted;
 
-/// How many entries there are at most.
+/// The greatest number of entries.
 const MAX_ENTRIES: usize = 1_000_000;
 
-/// What stands behind an entry's word.
+/// A field after an entry's word.
 #[derive(Clone, Copy)]
 enum Field {
     Number,
@@ -30,7 +30,7 @@ const UNLINK: [Field; 2] = [Field::Number, Field::Key];
 
 const GO: [Field; 3] = [Field::Number, Field::Number, Field::Answer];
 
-/// What stands behind an entry's word; none if no entry begins with it.
+/// The fields after an entry's word. None if no entry begins with it.
 fn fields_of(word: &[u8]) -> Option<&'static [Field]> {
     match word {
         b"arrive" => Some(&ARRIVAL),
@@ -84,7 +84,7 @@ fn entry(cursor: &mut Cursor<'_>) -> Result<(), Wanted> {
     line_end(cursor)
 }
 
-/// Reads a line, up to what is wrong in it.
+/// Reads a line, up to the mistake in it.
 fn read(cursor: &mut Cursor<'_>, subject: Subject) -> Result<(), Wanted> {
     match subject {
         Subject::First => exact(cursor, "fltjournal 1", Wanted::FirstLine("fltjournal 1")),
@@ -94,7 +94,7 @@ fn read(cursor: &mut Cursor<'_>, subject: Subject) -> Result<(), Wanted> {
     }
 }
 
-/// What is wrong in a line, by which line it is.
+/// The mistake in a line with this subject.
 fn trouble_in<'a>(line: Option<Line<'a>>, subject: Subject) -> Trouble<'a> {
     let mut cursor = Cursor {
         left: bytes_of(line),
@@ -103,7 +103,7 @@ fn trouble_in<'a>(line: Option<Line<'a>>, subject: Subject) -> Trouble<'a> {
     found(subject, line, cursor, read)
 }
 
-/// Which line it is behind another one, by its number, from 1.
+/// The subject of a line after another one, by its number, from 1.
 fn subject(before: Option<Line<'_>>, line: usize) -> Subject {
     let entries = line.saturating_sub(2);
     match before {
@@ -113,7 +113,7 @@ fn subject(before: Option<Line<'_>>, line: usize) -> Subject {
     }
 }
 
-/// What is wrong in the first malformed line of a journal, by its number, from 1.
+/// The mistake in the first malformed line of a journal, given the line's number from 1.
 pub(crate) fn trouble<'a>(input: &'a [u8], line: usize) -> Trouble<'a> {
     let mut lines = Lines { left: input };
     if line <= 1 {

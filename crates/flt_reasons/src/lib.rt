@@ -1,5 +1,6 @@
-//! Why an input isn't read: what is wrong in the first malformed line of a certificate, of a journal or of a script. Which line that is comes
-//! from the readers of these three; the words about it come from small readers beside them. It exports `kind_of` and `describe`.
+//! Explains why an input can't be read: the mistake in the first malformed line of a certificate, of a journal or of a script. The number
+//! of that line comes from the readers of these three. The words about it come from small readers beside them. It exports `kind_of` and
+//! `describe`.
 #![tactic(auto)]
 
 mod certificates;

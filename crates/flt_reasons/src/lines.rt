@@ -1,16 +1,16 @@
 //! The lines of an input.
 
-/// A line, without what ends it.
+/// A line, without the bytes that end it.
 #[derive(Clone, Copy)]
 pub(crate) struct Line<'a> {
     pub(crate) bytes: &'a [u8],
     /// A line feed ends it.
     pub(crate) is_ended: bool,
-    /// A carriage return stands before that.
+    /// A carriage return is before that.
     pub(crate) has_return: bool,
 }
 
-/// The line that a line feed ends behind these bytes.
+/// The line of these bytes, after which a line feed is.
 fn ended(bytes: &[u8]) -> Line<'_> {
     match bytes.strip_suffix(b"\r") {
         Some(front) => Line {
@@ -26,7 +26,7 @@ fn ended(bytes: &[u8]) -> Line<'_> {
     }
 }
 
-/// What is left of an input.
+/// The unread rest of an input.
 #[derive(Drop)]
 pub(crate) struct Lines<'a> {
     pub(crate) left: &'a [u8],

@@ -1,17 +1,17 @@
-//! Which word is meant where another one stands.
+//! The word that is meant by a misspelt one.
 
 use flt_nearest::Nearest;
 use std::alloc::{AllocError, Global};
 
-/// How many letters a word has at most that is compared with others.
+/// The greatest number of letters of a word that is compared with others.
 const MAX_LETTERS: usize = 16;
 
-/// How many letters may differ: a third of them, and always one.
+/// The number of letters that may differ: a third of them, but always one.
 fn reach(a: &[u8], b: &[u8]) -> usize {
     (a.len().max(b.len()) / 3).max(1)
 }
 
-/// The word that is nearest to what stands there; none where none is near, or several are as near.
+/// The word that is nearest to the written one. None if no word is near, or several are as near.
 pub(crate) fn nearest_word<'a>(
     alloc: Global,
     written: &[u8],

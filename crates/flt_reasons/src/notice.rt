@@ -1,11 +1,11 @@
-//! What is said of an input that isn't the text of a filter.
+//! The report on an input that isn't the text of a filter.
 
 ghost use Rattle.std.specs.Prelude.{◌≡◌, IfOk, string_bytes};
 ghost use Rattle.flt_reasons.specs.Notice as spec;
 
 use std::alloc::{AllocError, Global};
 
-/// What an input is, where it isn't the text of a filter.
+/// The kind of an input that isn't the text of a filter.
 #[derive(Clone, Copy, PartialEq, Eq)]
 pub enum Kind {
     Certificate,
@@ -13,41 +13,41 @@ pub enum Kind {
     Script,
 }
 
-/// What is wrong in a line. Lines and columns count from 1.
+/// The mistake in a line. Lines and columns count from 1.
 #[derive(Drop)]
 pub struct Reason<'a> {
     /// The first malformed line of the certificate, journal or script. A missing line counts.
     pub line: usize,
-    /// The same line of the file that it stands in.
+    /// The same line in its file.
     pub file_line: usize,
-    /// Where in it.
+    /// Its column.
     pub column: usize,
-    /// What of the line is shown; nothing where it is missing.
+    /// The part of the line that is shown: empty if the line is missing.
     pub shown: &'a [u8],
-    /// What stands there; nothing at the end of the line.
+    /// The bytes found there: empty at the end of the line.
     pub found: &'a [u8],
-    /// What is wrong: words without an end of line, as all of these.
+    /// The mistake: words without an end of line, as in all of these.
     pub title: Vec<u8>,
-    /// What was expected there, and what is found.
+    /// The expected and the found words.
     pub note: Vec<u8>,
     /// Both, for other programs.
     pub message: Vec<u8>,
-    /// Which word is probably meant; or nothing.
+    /// The word that is probably meant, or nothing.
     pub meant: Vec<u8>,
-    /// How to mend it.
+    /// How to fix it.
     pub help: &'static str,
 }
 
-/// What is said of an input that isn't the text of a filter.
+/// The report on an input that isn't the text of a filter.
 #[derive(Drop)]
 pub enum Notice<'a> {
-    /// It is well-formed: how many callbacks, entries or commands it has.
+    /// It is well-formed. The number is that of its callbacks, entries or commands.
     Whole(Kind, usize),
     Malformed(Kind, Reason<'a>),
 }
 
 impl Notice<'_> {
-    /// 0 where nothing is wrong, else 2.
+    /// 0 if it is well-formed, else 2.
     pub fn status(&self) -> u8
         ensures { result ≡ spec.status_of self.now }
     {
@@ -57,11 +57,11 @@ impl Notice<'_> {
         }
     }
 
-    /// The last line of what is said: its first malformed line, as `check`, `replay` and `run` say it, or that nothing is found.
+    /// The last line of the report: the first malformed line, as `check`, `replay` and `run` print it, or that nothing is found.
     ///
     /// # Errors
     ///
-    /// Where a growth was refused.
+    /// `AllocError` if a growth is refused.
     pub fn closing(&self, alloc: Global) -> Result<String, AllocError>
         ensures { IfOk result (λ line. string_bytes line ≡ spec.closing self.now) }
     {
@@ -77,7 +77,7 @@ impl Notice<'_> {
 }
 
 impl Kind {
-    /// What it is called, as `rule` of what is told of it to other programs, too.
+    /// The name of the kind, which reports to other programs have as their `rule`, too.
     pub fn name(self) -> &'static str
         ensures { result.now ≡ spec.kind_name self }
     {

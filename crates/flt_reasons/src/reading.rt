@@ -1,4 +1,4 @@
-//! What is said of a certificate, of a journal or of a script.
+//! Makes the report on a certificate, a journal or a script.
 
 ghost use Rattle.std.specs.Prelude.{◌≡◌, IfOk, MatchResult, option_map};
 ghost use Rattle.flt_cert.specs.Spelling.{IsFaultOf};
@@ -56,7 +56,7 @@ fn begins_with(input: &[u8], word: &[u8]) -> bool
     input.starts_with(word) && ends_word(&input[word.len()..])
 }
 
-/// Whether what follows a word doesn't go on with it.
+/// Whether a word ends before these bytes.
 fn ends_word(behind: &[u8]) -> bool
     ensures { result ≡ spec.ends_word behind.now }
 {
@@ -76,8 +76,8 @@ fn begins_script(input: &[u8]) -> bool
         || begins_with(input, b"refuse")
 }
 
-/// What an input is taken for, where it isn't the text of a filter: it begins with the word that begins a certificate or a journal, or with that
-/// of a script's command.
+/// The kind of an input that isn't the text of a filter. The input begins with the word that begins a certificate or a journal, or with
+/// that of a script's command.
 pub fn kind_of(input: &[u8]) -> Option<Kind>
     ensures { result ≡ spec.kind_of input.now }
 {
@@ -93,7 +93,7 @@ pub fn kind_of(input: &[u8]) -> Option<Kind>
     None
 }
 
-/// How many callbacks a certificate has.
+/// The number of callbacks of a certificate.
 fn callbacks_in(alloc: Global, input: &[u8]) -> Result<usize, CertFault>
     ensures { MatchResult result (spec.IsCertificate input.now) (IsFaultOf input.now) }
 {
@@ -154,13 +154,12 @@ fn of_script<'a>(
     }
 }
 
-/// What is said of an input that is taken for a certificate, for a journal or for a script of a stack, where that is known: how many
-/// callbacks, entries or commands it has, or what is wrong in its first malformed line. It may stand in a file behind some lines of
-/// something else.
+/// The report on an input that is taken for a certificate, for a journal or for a script of a stack, if the stack is known: the number of
+/// its callbacks, entries or commands, or the mistake in its first malformed line. In its file it may come after some other lines.
 ///
 /// # Errors
 ///
-/// Where a growth was refused.
+/// `AllocError` if a growth is refused.
 pub fn describe<'a>(
     alloc: Global,
     kind: Kind,

@@ -1,4 +1,4 @@
-//! What is wrong in a line of a script.
+//! Finds the mistake in a line of a script.
 
 use crate::cursor::{Cursor, last_number};
 use crate::lines::Lines;
@@ -6,16 +6,16 @@ use crate::trouble::{Subject, Trouble, asked, bytes_of, found, line_end, number_
 use crate::wanted::Wanted;
 use flt_tree::Tree;
 
-/// How many files there are.
+/// The number of files.
 const FILES: u64 = 1024;
 
-/// How many operations a stack takes.
+/// The greatest number of operations of a stack.
 const OPERATIONS: u64 = 65_536;
 
-/// What decides which filters a line may detach.
+/// The part of the input that decides which filters a line may detach.
 #[derive(Clone, Copy)]
 struct Before<'a> {
-    /// The filters of the stack, where they are known.
+    /// The filters of the stack, if they are known.
     stack: Option<&'a [Tree]>,
     /// The whole script.
     input: &'a [u8],
@@ -45,7 +45,7 @@ impl Before<'_> {
     }
 }
 
-/// What arrives: an operation, its mode and its file.
+/// An arrival: an operation, its mode and its file.
 fn arrival(cursor: &mut Cursor<'_>) -> Result<(), Wanted> {
     let is_packet = matches!(cursor.word(), b"create" | b"cleanup");
     word(cursor, Wanted::Operation)?;
@@ -78,7 +78,7 @@ fn altitude(cursor: &mut Cursor<'_>, before: Before<'_>) -> Result<(), Wanted> {
     Err(wanted)
 }
 
-/// What stands behind a command's word.
+/// The operands after a command's word.
 fn operands(cursor: &mut Cursor<'_>, command: &[u8], before: Before<'_>) -> Result<(), Wanted> {
     asked(cursor.byte(b' '), Wanted::Blank)?;
     match command {
@@ -89,7 +89,7 @@ fn operands(cursor: &mut Cursor<'_>, command: &[u8], before: Before<'_>) -> Resu
     }
 }
 
-/// Reads a line, up to what is wrong in it.
+/// Reads a line, up to the mistake in it.
 fn read(cursor: &mut Cursor<'_>, before: Before<'_>) -> Result<(), Wanted> {
     let command = cursor.word();
     word(cursor, Wanted::Command)?;
@@ -97,7 +97,7 @@ fn read(cursor: &mut Cursor<'_>, before: Before<'_>) -> Result<(), Wanted> {
     line_end(cursor)
 }
 
-/// What is wrong in the first malformed line of a script, by its number, from 1, for a stack of these filters, where it is known.
+/// The mistake in the first malformed line of a script, given the line's number from 1, and the filters of the stack if they are known.
 pub(crate) fn trouble<'a>(stack: Option<&[Tree]>, input: &'a [u8], line: usize) -> Trouble<'a> {
     let before = Before { stack, input, line };
     let mut lines = Lines { left: input };

@@ -1,4 +1,4 @@
-//! What is wrong in a line, in words.
+//! The mistake in a line, in words.
 
 ghost use Rattle.std.specs.Prelude.{◌≡◌, IfOk};
 
@@ -8,13 +8,13 @@ use crate::trouble::{Subject, Trouble, bytes_of};
 use crate::wanted::Wanted;
 use std::alloc::{AllocError, Global};
 
-/// How many bytes of a line are shown at most: more than any line of a certificate or a journal has.
+/// The greatest number of bytes of a line that are shown: more than any line of a certificate or a journal has.
 const MAX_SHOWN: usize = 100;
 
-/// How to mend a carriage return within a line.
+/// How to fix a carriage return within a line.
 const RETURNS: &str = "lines end in a line feed alone: save the file without carriage returns";
 
-/// What is wrong with a line that ends as those of other systems do.
+/// The note on a line that ends as lines of other systems do.
 const ENDS_IN_RETURN: &str =
     "this line ends with a carriage return (CR LF); these files end lines with LF alone";
 
@@ -30,7 +30,7 @@ fn is_ended(trouble: &Trouble<'_>) -> bool {
     }
 }
 
-/// What stands in the place: what it takes to see what is wrong.
+/// The bytes at the place, as many as show the mistake.
 fn found<'a>(trouble: &Trouble<'a>) -> &'a [u8] {
     let left = trouble.left;
     let word = match left.iter().position(|byte| *byte == b' ') {
@@ -49,7 +49,7 @@ fn text(out: &mut Vec<u8>, text: &str) -> Result<(), AllocError> {
     out.extend_from_slice(text.as_bytes())
 }
 
-/// Bytes in marks. What isn't printed as it stands is a `?`.
+/// Bytes in marks. A byte that isn't printable ASCII is a `?`.
 fn quoted(out: &mut Vec<u8>, bytes: &[u8]) -> Result<(), AllocError> {
     text(out, "`")?;
     for byte in bytes {
@@ -59,7 +59,7 @@ fn quoted(out: &mut Vec<u8>, bytes: &[u8]) -> Result<(), AllocError> {
     text(out, "`")
 }
 
-/// What is found.
+/// The found bytes, in words.
 fn tell_found(
     out: &mut Vec<u8>,
     kind: Kind,
@@ -80,7 +80,7 @@ fn tell_found(
     }
 }
 
-/// What was expected, and what is found; or how the line ends.
+/// The expected and the found words, or how the line ends.
 fn note(
     alloc: Global,
     kind: Kind,
@@ -97,7 +97,7 @@ fn note(
     Ok(out)
 }
 
-/// What is wrong.
+/// The title of the mistake.
 fn title(alloc: Global, kind: Kind, trouble: &Trouble<'_>) -> Result<Vec<u8>, AllocError> {
     let name = kind.name();
     let words = match (trouble.line, trouble.subject) {
@@ -106,14 +106,14 @@ fn title(alloc: Global, kind: Kind, trouble: &Trouble<'_>) -> Result<Vec<u8>, Al
         (_, Subject::Callback(0)) => format!(in alloc; "the line of callback 0 is malformed")?,
         (_, Subject::Callback(callback)) => {
             let before = callback.saturating_sub(1);
-            format!(in alloc; "the line behind callback {before} is malformed")?
+            format!(in alloc; "the line after callback {before} is malformed")?
         }
         (_, Subject::Point(callback, point)) => {
             format!(in alloc; "the line of callback {callback} point {point} is malformed")?
         }
         (_, Subject::Among(callback, least, _)) => {
             let point = least.saturating_sub(1);
-            format!(in alloc; "the line behind callback {callback} point {point} is malformed")?
+            format!(in alloc; "the line after callback {callback} point {point} is malformed")?
         }
         (_, Subject::Entry(entry)) => format!(in alloc; "the line of entry {entry} is malformed")?,
         (_, Subject::Command(line)) => format!(in alloc; "line {line} of the {name} is malformed")?,
@@ -123,7 +123,7 @@ fn title(alloc: Global, kind: Kind, trouble: &Trouble<'_>) -> Result<Vec<u8>, Al
     Ok(words.into_bytes())
 }
 
-/// What is wrong, and behind it what was expected.
+/// The title, and after it the note.
 fn message(alloc: Global, title: &Vec<u8>, note: &Vec<u8>) -> Result<Vec<u8>, AllocError> {
     let mut out = Vec::from_slice(alloc, title.as_slice())?;
     text(&mut out, ": ")?;
@@ -131,7 +131,7 @@ fn message(alloc: Global, title: &Vec<u8>, note: &Vec<u8>) -> Result<Vec<u8>, Al
     Ok(out)
 }
 
-/// Which word is probably meant, if one is.
+/// The word that is probably meant, if one is.
 fn meant(alloc: Global, wanted: Wanted, found: &[u8]) -> Result<Vec<u8>, AllocError> {
     match nearest_word(alloc, found, wanted.words())? {
         Some(word) => Vec::from_slice(alloc, word),
@@ -146,7 +146,7 @@ fn help(trouble: &Trouble<'_>, found: &[u8]) -> &'static str {
     }
 }
 
-/// What is wrong in a line, in words, by the number of the line, and of those of its file before it.
+/// The mistake in a line, in words, given the number of the line and the number of lines of its file before the input.
 pub(crate) fn reason<'a>(
     alloc: Global,
     kind: Kind,

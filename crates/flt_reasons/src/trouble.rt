@@ -4,23 +4,23 @@ use crate::cursor::{Cursor, is_decimal, last_number};
 use crate::lines::Line;
 use crate::wanted::Wanted;
 
-/// Which line it is.
+/// The role of a line in its input.
 #[derive(Clone, Copy)]
 pub(crate) enum Subject {
     First,
-    /// That of a callback, by its number.
+    /// The first line of a callback, by its number.
     Callback(usize),
-    /// That of a point, by the numbers of its callback and its own.
+    /// A point, by the number of its callback and its own.
     Point(usize, usize),
-    /// One behind a point, where not all points are given, by the number of their callback, and the least and the greatest number that
-    /// a further point has.
+    /// A line after a point, in a certificate that may leave points out, by the number of their callback, and the least and the greatest
+    /// number that a further point has.
     Among(usize, usize, usize),
-    /// That of an entry, by its number.
+    /// An entry, by its number.
     Entry(usize),
-    /// That of a command, by the number of the line, from 1.
+    /// A command, by the number of its line, from 1.
     Command(usize),
     Last,
-    /// One behind the last.
+    /// A line after the last.
     Behind,
 }
 
@@ -28,19 +28,19 @@ pub(crate) enum Subject {
 #[derive(Clone, Copy)]
 pub(crate) struct Trouble<'a> {
     pub(crate) subject: Subject,
-    /// None where the input ends before it.
+    /// None if the input ends before it.
     pub(crate) line: Option<Line<'a>>,
-    /// What of the line stands there, and behind it.
+    /// The line from that place on.
     pub(crate) left: &'a [u8],
     pub(crate) wanted: Wanted,
 }
 
-/// What is wanted, if it isn't there.
+/// The error `wanted`, if it isn't there.
 pub(crate) fn asked(is_there: bool, wanted: Wanted) -> Result<(), Wanted> {
     if is_there { Ok(()) } else { Err(wanted) }
 }
 
-/// Nothing more stands in the line.
+/// The line has no more bytes.
 pub(crate) fn line_end(cursor: &Cursor<'_>) -> Result<(), Wanted> {
     asked(cursor.left.is_empty(), Wanted::LineEnd)
 }
@@ -65,7 +65,7 @@ pub(crate) fn number_below(
     Ok(())
 }
 
-/// The bytes of a line, none where it is missing.
+/// The bytes of a line: none if it is missing.
 pub(crate) fn bytes_of<'a>(line: Option<Line<'a>>) -> &'a [u8] {
     match line {
         Some(line) => line.bytes,
@@ -73,7 +73,7 @@ pub(crate) fn bytes_of<'a>(line: Option<Line<'a>>) -> &'a [u8] {
     }
 }
 
-/// A carriage return stands before the line feed.
+/// A carriage return is before the line feed.
 fn has_return(line: Option<Line<'_>>) -> bool {
     match line {
         Some(line) => line.has_return,
@@ -81,7 +81,7 @@ fn has_return(line: Option<Line<'_>>) -> bool {
     }
 }
 
-/// What is wanted in a line, by what the reading of it came to. Where all of it is there, it ends in something else than a line feed alone.
+/// The wanted thing in a line, by the result of reading it. If all of the line is read, it doesn't end in a line feed alone.
 fn wanted_by(line: Option<Line<'_>>, read: Result<(), Wanted>) -> Wanted {
     match read {
         Ok(()) if has_return(line) => Wanted::NoReturn,
@@ -90,7 +90,7 @@ fn wanted_by(line: Option<Line<'_>>, read: Result<(), Wanted>) -> Wanted {
     }
 }
 
-/// What is wrong in a line of which this is left, by what the reading of it came to.
+/// The mistake in a line, given its unread rest and the result of reading it.
 pub(crate) fn found<'a>(
     subject: Subject,
     line: Option<Line<'a>>,

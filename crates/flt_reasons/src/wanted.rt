@@ -1,8 +1,8 @@
-//! What is wanted in a place of a line.
+//! The things that are wanted at a place of a line.
 
 use std::fmt;
 
-/// What is wanted in a place of a line.
+/// A thing that is wanted at a place of a line.
 #[derive(Clone, Copy)]
 pub(crate) enum Wanted {
     // Of all.
@@ -48,7 +48,7 @@ pub(crate) enum Wanted {
     AnyNumber,
     // Of scripts.
     Command,
-    /// The mode of what comes in no other.
+    /// The mode of an operation that comes in no other.
     Packet,
     File,
     Serial,
@@ -110,7 +110,7 @@ impl Wanted {
         )
     }
 
-    /// The words that may stand there, where one of few is wanted.
+    /// The legal words, if one of few is wanted.
     pub(crate) fn words(self) -> &'static [&'static [u8]] {
         match self {
             Wanted::Entry => &ENTRIES,
@@ -124,12 +124,12 @@ impl Wanted {
         }
     }
 
-    /// How to mend what stands there instead.
+    /// How to fix a malformed place where this is wanted.
     pub(crate) fn help(self) -> &'static str {
         match self {
             Wanted::FirstLine(_) | Wanted::Format =>
                 "the first line says which format follows, and in which version",
-            Wanted::Blank => "one blank stands between fields",
+            Wanted::Blank => "one blank separates fields",
             Wanted::LineEnd => "nothing follows the last field of a line, not even a blank",
             Wanted::LineFeed => "each line ends in a line feed, the last one too",
             Wanted::NoReturn => "`sed -i 's/\\r$//' FILE` leaves LF alone at the end of each line",
@@ -139,15 +139,15 @@ impl Wanted {
             Wanted::Callback(0) =>
                 "the second line is `callback 0 POINTS`, and the lines of its points follow",
             Wanted::Callback(_) =>
-                "behind the points of a callback stands the next one, `callback NUMBER POINTS`, or `end`",
+                "the points of a callback are followed by the next callback, `callback NUMBER POINTS`, or `end`",
             Wanted::Number(_) | Wanted::Rising(_, _) =>
-                "callbacks and the points of each count from 0, without leading zeros; behind `fltcert 2` later points may be left out, and the others rise",
+                "callbacks and the points of each count from 0, without leading zeros; after `fltcert 2` later points may be left out, and the others rise",
             Wanted::PointOr(_) | Wanted::PointOrEnd =>
-                "behind a point stands one with a greater number, the next callback, `callback NUMBER POINTS`, or `end`",
+                "a point is followed by one with a greater number, the next callback, `callback NUMBER POINTS`, or `end`",
             Wanted::Count =>
-                "the line of a callback ends with how many points it has, 1 to 512; behind `fltcert 1` as many lines follow",
+                "the line of a callback ends with how many points it has, 1 to 512; after `fltcert 1` as many lines follow",
             Wanted::State | Wanted::Status(_) =>
-                "behind a point's number stands `!` where it isn't reached, else a digit for each variable: NULL 1, held 2 and stale 4, added",
+                "a point's number is followed by `!` if the point isn't reached, else by a digit for each variable: NULL 1, held 2 and stale 4, added",
             Wanted::Modes => "the third field is the modes: IRP 1 and fast I/O 2, added",
             Wanted::Draining =>
                 "the fourth field is draining: not draining 1 and draining 2, added",
@@ -157,7 +157,7 @@ impl Wanted {
                 "an entry begins with `arrive`, `pre`, `skip`, `lower`, `post`, `cancel`, `canceled`, `work`, `detach`, `drain`, `unlink`, `detached` or `go`",
             Wanted::Operation | Wanted::Mode => "what arrives: `arrive OPERATION MODE FILE`",
             Wanted::Key =>
-                "what is unlinked: `unlink ALTITUDE stream FILE` or `unlink ALTITUDE instance`",
+                "an unlinking: `unlink ALTITUDE stream FILE` or `unlink ALTITUDE instance`",
             Wanted::Answer => "what the system answered: `go ACTIVATION STEPS yes` or `no`",
             Wanted::AnyNumber => "a number is decimal, without leading zeros, and below 2^32",
             Wanted::Command =>
@@ -181,7 +181,7 @@ impl fmt::Display for Wanted {
             Wanted::Blank => write!(f, "a blank"),
             Wanted::LineEnd => write!(f, "the end of the line"),
             Wanted::LineFeed | Wanted::NoReturn => write!(f, "a line feed"),
-            Wanted::Nothing => write!(f, "nothing behind `end`"),
+            Wanted::Nothing => write!(f, "nothing after `end`"),
             Wanted::End => write!(f, "`end`"),
             Wanted::Callback(0) => write!(f, "`callback 0`"),
             Wanted::Callback(number) => write!(f, "`callback {number}` or `end`"),

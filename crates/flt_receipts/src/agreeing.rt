@@ -7,7 +7,7 @@ use crate::search::{are_so_many, is_held};
 use crate::sought::{Sought, is_arrival};
 use flt_model::{Journal, JournalEntry};
 
-/// Whether the receipts of a journal are those that the seats hold together, each once. It is fast where each seat's numbers rise.
+/// Whether the receipts of a journal are those that the seats hold together, each once. It is fast if each seat's numbers rise.
 pub fn agree<S: HoldsReceipts>(journal: &Journal, seats: &[S]) -> bool
     ensures { IsTrue result ↔ IsPermutation (receipts_in journal.now) (together (map S.held seats.now)) }
 {
@@ -17,7 +17,7 @@ pub fn agree<S: HoldsReceipts>(journal: &Journal, seats: &[S]) -> bool
     }
 }
 
-/// How many receipts the entries have, where the seats hold each of them; else none.
+/// How many receipts the entries have, if the seats hold each of them; else none.
 fn count_held<S: HoldsReceipts>(entries: &[JournalEntry], seats: &[S]) -> Option<usize>
     ensures count { IfSome result (λ count. count ≡ length (receipts_in entries.now)) }
     ensures held { IfSome result (λ _. All (Contains (together (map S.held seats.now))) (receipts_in entries.now)) }

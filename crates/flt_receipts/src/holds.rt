@@ -9,7 +9,7 @@ pub trait HoldsReceipts {
     // The receipts that it holds.
     ghost held: { Self → List Receipt };
 
-    /// The receipts. They are found fast where their numbers rise.
+    /// The receipts. They are found fast if their numbers rise.
     fn receipts(&self) -> &[Receipt]
         ensures { result.now ≡ held self.now };
 }

@@ -1,8 +1,8 @@
-//! Receipts: what callers of a stack keep of their arrivals and detaches, held against what its journal says.
+//! Receipts: the records that callers of a stack keep of their arrivals and detaches, and their comparison with its journal.
 //!
-//! A journal has one receipt for each entry that a caller made: the entry's number, what it says, and what the caller was answered.
-//! Where those of the journal are those of the seats together, each once, every such entry was asked for by one call of one caller, and
-//! answered so. Nothing here takes memory.
+//! A journal has one receipt for each entry that a caller made: the entry's number, its move, and the answer that the caller got. If those
+//! of the journal are those of the seats together, each once, then one call of one caller requested each such entry, and got this answer.
+//! Nothing here takes memory.
 #![tactic(auto)]
 
 mod agreeing;

@@ -6,7 +6,7 @@ use crate::holds::HoldsReceipts;
 use crate::receipt::Receipt;
 use crate::sought::Sought;
 
-/// Where a receipt with this number stands, if it is there and the numbers rise.
+/// The place of a receipt with this number, if it is there and the numbers rise.
 fn place_of(held: &[Receipt], number: usize) -> usize
     ensures { result ≤ length held.now }
 {
@@ -23,7 +23,7 @@ fn place_of(held: &[Receipt], number: usize) -> usize
     low
 }
 
-/// Whether what is sought stands at its place among receipts whose numbers rise.
+/// Whether the sought receipt is at its place among receipts whose numbers rise.
 fn is_at_its_place(held: &[Receipt], sought: &Sought) -> bool
     ensures { IsTrue result → Contains held.now (receipt sought.now.number sought.now.entry sought.now.answer) }
 {
@@ -31,7 +31,7 @@ fn is_at_its_place(held: &[Receipt], sought: &Sought) -> bool
     place < held.len() && sought.is(&held[place])
 }
 
-/// Whether what is sought is among some receipts, in whatever order.
+/// Whether the sought receipt is among some receipts, in whatever order.
 fn is_among(held: &[Receipt], sought: &Sought) -> bool
     ensures { IsTrue result ↔ Contains held.now (receipt sought.now.number sought.now.entry sought.now.answer) }
 {
@@ -43,7 +43,7 @@ fn is_among(held: &[Receipt], sought: &Sought) -> bool
     false
 }
 
-/// Whether a seat holds what is sought, at its place.
+/// Whether a seat holds the sought receipt, at its place.
 fn is_held_in_order<S: HoldsReceipts>(seats: &[S], sought: &Sought) -> bool
     ensures { IsTrue result → Contains (together (map S.held seats.now)) (receipt sought.now.number sought.now.entry sought.now.answer) }
 {
@@ -55,7 +55,7 @@ fn is_held_in_order<S: HoldsReceipts>(seats: &[S], sought: &Sought) -> bool
     false
 }
 
-/// Whether a seat holds what is sought, wherever.
+/// Whether a seat holds the sought receipt, at any place.
 fn is_held_anywhere<S: HoldsReceipts>(seats: &[S], sought: &Sought) -> bool
     ensures { IsTrue result ↔ Contains (together (map S.held seats.now)) (receipt sought.now.number sought.now.entry sought.now.answer) }
 {
@@ -67,7 +67,7 @@ fn is_held_anywhere<S: HoldsReceipts>(seats: &[S], sought: &Sought) -> bool
     false
 }
 
-/// Whether a seat holds what is sought. It looks at its place in each seat first, since receipts mostly stand in their order.
+/// Whether a seat holds the sought receipt. It looks at its place in each seat first, since receipts mostly are in their order.
 pub(crate) fn is_held<S: HoldsReceipts>(seats: &[S], sought: &Sought) -> bool
     ensures { IsTrue result ↔ Contains (together (map S.held seats.now)) (receipt sought.now.number sought.now.entry sought.now.answer) }
 {

@@ -6,7 +6,7 @@ ghost use Rattle.flt_receipts.specs.Receipts as spec;
 use crate::receipt::Receipt;
 use flt_model::{JournalEntry, Move};
 
-/// What is sought: a receipt as the journal gives it.
+/// The sought receipt, as the journal gives it.
 #[derive(Clone, Copy)]
 pub(crate) struct Sought {
     pub(crate) number: usize,

@@ -54,7 +54,7 @@ pub struct Spare<'a> {
     room: Option<Box<Going<'a>>>,
 }
 
-/// What a step writes to an activation.
+/// The effect of a step on an activation.
 #[derive(Clone, Copy)]
 pub enum Write {
     Nothing,
@@ -63,9 +63,9 @@ pub enum Write {
     Output(Option<ContextVariable>, Option<usize>),
     /// A visit and a context, as of an entry of a queue.
     Entry(RemovedVariable, ContextVariable, Option<usize>, Option<usize>),
-    /// The lock is taken.
+    /// Takes the lock.
     Lock(HeldLock),
-    /// The last entry of the lock is given up, of either kind.
+    /// Gives up the last entry of the lock, of either kind.
     Unlock(LockNumber),
 }
 
@@ -75,7 +75,7 @@ impl<'a> Spare<'a> {
         Spare { room: None }
     }
 
-    /// The memory at hand, or else some that is asked for.
+    /// The memory at hand, or else new memory.
     fn place(&mut self, alloc: Global, going: Going<'a>) -> Result<Box<Going<'a>>, AllocError>
         ensures { IfOk result (λ room. room.value ≡ going.entry) }
     {
@@ -89,7 +89,7 @@ impl<'a> Spare<'a> {
     }
 }
 
-/// Asks for memory again, where an activation that ended goes on.
+/// Allocates memory again for an activation that ended and now continues.
 #[cold]
 fn go_again<'a>(state: &mut State<'a>, alloc: Global) -> Result<(), AllocError>
     ensures same { OnOk result (activation_of state.new ≡ activation_of state.old) }
@@ -104,7 +104,8 @@ fn go_again<'a>(state: &mut State<'a>, alloc: Global) -> Result<(), AllocError>
 }
 
 impl<'a> Activation<'a> {
-    /// At entry all is 0 or NULL but the given operation and the given context. It fails where a number is 2^32 - 1 or greater.
+    /// An activation at its entry: all is 0 or NULL except the given operation and the given context. It fails if a number is 2^32 - 1 or
+    /// greater.
     pub fn starting(
         alloc: Global,
         spare: &mut Spare<'a>,
@@ -131,7 +132,7 @@ impl<'a> Activation<'a> {
         }
     }
 
-    /// The number of the context that a variable names; none where it is NULL.
+    /// The number of the context that a variable names, or none if it is NULL.
     pub fn context(&self, variable: ContextVariable) -> Option<usize>
         ensures { result ≡ spec.context_in self.now variable }
     {
@@ -141,7 +142,7 @@ impl<'a> Activation<'a> {
         }
     }
 
-    /// The number of the visit that a variable names; none where it is NULL.
+    /// The number of the visit that a variable names, or none if it is NULL.
     pub fn operation(&self, variable: OperationVariable) -> Option<usize>
         ensures { result ≡ spec.operation_in self.now variable }
     {
@@ -181,7 +182,7 @@ impl<'a> Activation<'a> {
         }
     }
 
-    /// Goes on with a block in place of the first statement.
+    /// Continues with a block in place of the first statement.
     pub fn go_on(&mut self, block: &'a [Statement], write: Write) -> Result<(), AllocError>
         ensures { OnOk result (self.new ≡ written write (record self.old { rest = block.now ++ others self.old.rest })) }
     {
@@ -217,7 +218,7 @@ impl<'a> Activation<'a> {
         }
     }
 
-    /// One step that nobody else sees. False where the next one is seen; the first statement is then gone.
+    /// Takes one step that nobody else sees. False if the next one is seen; the first statement is then gone.
     pub fn step_locally(&mut self, draining: bool) -> Result<bool, AllocError>
         ensures { IfOk result (λ stepped. local.local_step draining self.old self.old.rest ≡ (if stepped then Some self.new else None)) }
     {
@@ -227,7 +228,7 @@ impl<'a> Activation<'a> {
         }
     }
 
-    /// So many steps that nobody else sees. False where one of them is seen, or others see the end of the body.
+    /// Takes this many steps that nobody else sees. False if one of them is seen, or others see the end of the body.
     #[tactic(auto, using(crate::proofs::LocalLaws::none_of_ended))]
     pub fn step_locally_often(&mut self, draining: bool, steps: u32) -> Result<bool, AllocError>
         ensures { IfOk result (λ stepped. local_steps draining steps self.old ≡ (if stepped then Some self.new else None)) }
@@ -250,7 +251,7 @@ impl<'a> Activation<'a> {
         }
     }
 
-    /// It ends, and nothing remains. A lock that it holds stays held. Memory that it needs no longer is spare.
+    /// Ends the activation: nothing remains. A lock that it holds stays held. Memory that it no longer needs is spare.
     pub fn end(&mut self, spare: &mut Spare<'a>)
         ensures { self.new ≡ record self.old { rest = []; ended = true } }
     {

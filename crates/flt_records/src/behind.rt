@@ -1,5 +1,5 @@
-//! What is gone on with behind the two blocks in which a callback stands: sixteen bytes for what is left of a block. A `repeat`, of which
-//! there are fewer, stands there as an empty block, and in a list of its own.
+//! The continuation after the two innermost blocks of a callback: sixteen bytes for the rest of a block. A `repeat`, of which there are
+//! fewer, is an empty block there, and is in a list of its own.
 
 ghost use Rattle.std.specs.Prelude.{◌≡◌, ◌<◌, ◌++◌, ◌∷◌, [], length, OnOk, MatchOption};
 ghost use Rattle.flt_records.specs.Behind.{parts, TurnsBegun, TurnsLast};
@@ -13,19 +13,19 @@ use std::alloc::{AllocError, Global};
 #[derive(Drop)]
 struct Begun<'a> {
     span: &'a Span,
-    /// How many turns are left.
+    /// The number of turns left.
     turns: u64,
     body: &'a [Statement],
 }
 
-/// The innermost is the last.
+/// The rest of the outer blocks, and their `repeat`s. The innermost is the last.
 #[derive(Drop)]
 pub(crate) struct Behind<'a> {
     blocks: Vec<&'a [Statement]>,
     repeats: Vec<Begun<'a>>,
 }
 
-/// Takes a turn of the last of some `repeat`s, if one is left of it, and answers its body.
+/// Takes a turn of the last of some `repeat`s, if one is left, and returns its body.
 #[inline(always)]
 #[tactic(auto, unfolding(crate::specs::Behind::TurnsBegun))]
 fn turn_of<'a>(repeats: &mut Vec<Begun<'a>>) -> Option<&'a [Statement]>
@@ -40,7 +40,7 @@ fn turn_of<'a>(repeats: &mut Vec<Begun<'a>>) -> Option<&'a [Statement]>
     Some(begun.body)
 }
 
-/// Where there are any blocks, there are mostly several, so there is room for eight from the first on.
+/// Makes room for eight blocks at the first one, since most callbacks that have any have several.
 fn make_room<'a>(blocks: &mut Vec<&'a [Statement]>) -> Result<(), AllocError>
     ensures { OnOk result (blocks.new.items ≡ blocks.old.items) }
 {
@@ -77,7 +77,7 @@ impl<'a> Behind<'a> {
         }
     }
 
-    /// Takes a turn of the last one, where it is a `repeat` with a turn left, and answers its body.
+    /// Takes a turn of the last one, if it is a `repeat` with a turn left, and returns its body.
     #[inline(always)]
     pub(crate) fn turn(&mut self) -> Option<&'a [Statement]>
         ensures { MatchOption result (parts self.new ≡ parts self.old) (λ body. TurnsLast (parts self.old) body.now (parts self.new)) }
@@ -88,7 +88,7 @@ impl<'a> Behind<'a> {
         }
     }
 
-    /// What is left of a block will be gone on with before the others.
+    /// Adds the rest of a block, with which execution will continue before the others.
     #[tactic(auto, using(crate::proofs::Suspended::block_last))]
     pub(crate) fn push_block(&mut self, block: &'a [Statement]) -> Result<(), AllocError>
         requires { 0 < length block.now }
@@ -99,7 +99,7 @@ impl<'a> Behind<'a> {
         Ok(())
     }
 
-    /// A `repeat` will be gone on with before the others.
+    /// Adds a `repeat`, with which execution will continue before the others.
     #[tactic(auto, using(crate::proofs::Suspended::repeat_last))]
     pub(crate) fn push_repeat(
         &mut self,

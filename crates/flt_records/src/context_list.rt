@@ -1,5 +1,5 @@
-//! Contexts by number, in eight bytes each. Most have no value and no link: these stand in lists of their own, as long as the last context
-//! that ever had one asks for.
+//! Contexts by number, in eight bytes each. Most have no value and no link: values and links are in lists of their own, as long as the last
+//! context that ever had one requires.
 
 ghost use Rattle.std.specs.Prelude.{◌≡◌, ◌<◌, ◌≤◌, ◌++◌, ◌∷◌, List, [], ℕ, Option, Some, None, length, get_or, set, OnOk, OnErr};
 ghost use Rattle.std.specs.List.{list_any};
@@ -22,9 +22,9 @@ struct Allocated {
 #[derive(Drop)]
 pub(crate) struct ContextList {
     list: Vec<Allocated>,
-    /// The value of each; what is past the end is 0.
+    /// The value of each. Past the end, it is 0.
     values: Vec<u64>,
-    /// The link of each; what is past the end has none.
+    /// The link of each. Past the end, there is none.
     links: Vec<Option<Link>>,
 }
 
@@ -77,7 +77,7 @@ fn make_link(links: &mut Vec<Option<Link>>, context: usize) -> Result<(), AllocE
     Ok(())
 }
 
-/// A context has so many references from now on.
+/// Sets the number of a context's references.
 #[inline(always)]
 fn put_references(list: &mut Vec<Allocated>, context: usize, references: u32)
     ensures { list.new.items ≡ set list.old.items context (record (get_or list.old.items context no_one) { references = references }) }
@@ -117,7 +117,7 @@ impl ContextList {
         }
     }
 
-    /// How many there are.
+    /// The number of contexts.
     #[tactic(auto, using(crate::proofs::ContextLists::length_is))]
     pub(crate) fn len(&self) -> usize
         ensures { result ≡ length self.now }
@@ -125,7 +125,7 @@ impl ContextList {
         self.list.len()
     }
 
-    /// The filter that allocated a context; 0 where it isn't there.
+    /// The filter that allocated a context, or 0 if it isn't there.
     #[inline(always)]
     #[tactic(auto, using(crate::proofs::ContextLists::owner_is))]
     pub(crate) fn owner(&self, context: usize) -> usize
@@ -137,7 +137,7 @@ impl ContextList {
         }
     }
 
-    /// The references of a context; 0 where it is freed or not there.
+    /// The references of a context, or 0 if it is freed or not there.
     #[inline(always)]
     #[tactic(auto, using(crate::proofs::ContextLists::references_are))]
     pub(crate) fn references(&self, context: usize) -> u32
@@ -149,7 +149,7 @@ impl ContextList {
         }
     }
 
-    /// The value of a context; 0 where it isn't there.
+    /// The value of a context, or 0 if it isn't there.
     #[inline(always)]
     #[tactic(auto, using(crate::proofs::ContextLists::value_is))]
     pub(crate) fn value(&self, context: usize) -> u64
@@ -161,7 +161,7 @@ impl ContextList {
         }
     }
 
-    /// The link of a context; none where it isn't there.
+    /// The link of a context, or none if it isn't there.
     #[inline(always)]
     #[tactic(auto, using(crate::proofs::ContextLists::link_is))]
     pub(crate) fn link(&self, context: usize) -> Option<Link>
@@ -181,7 +181,7 @@ impl ContextList {
         is_any_linked_by(filter, self.links.as_slice())
     }
 
-    /// A new context, with the value 0, one reference and no link. It fails where the owner is 2^32 or greater.
+    /// Adds a new context, with the value 0, one reference and no link. It fails if the owner is 2^32 or greater.
     #[tactic(auto, using(crate::proofs::ContextLists::added))]
     pub(crate) fn add(&mut self, owner: usize) -> Result<(), AllocError>
         ensures ok { OnOk result (self.new ≡ self.old ++ record { owner = owner; references = 1; value = 0; link = None } ∷ []) }
@@ -195,7 +195,7 @@ impl ContextList {
         Ok(())
     }
 
-    /// A context has so many references from now on.
+    /// Sets the number of a context's references.
     #[inline(always)]
     #[tactic(auto, using(crate::proofs::ContextLists::referenced))]
     pub(crate) fn set_references(&mut self, context: usize, references: u32)
@@ -204,7 +204,7 @@ impl ContextList {
         put_references(&mut self.list, context, references);
     }
 
-    /// A context has this value from now on.
+    /// Sets a context's value.
     #[tactic(auto, using(crate::proofs::ContextLists::valued, crate::proofs::ContextLists::changed_past))]
     pub(crate) fn set_value(&mut self, context: usize, value: u64) -> Result<(), AllocError>
         ensures ok { OnOk result (self.new ≡ set self.old context (record (get_or self.old context spec.no_context) { value = value })) }
@@ -222,7 +222,7 @@ impl ContextList {
         Ok(())
     }
 
-    /// A context has this link from now on.
+    /// Sets a context's link.
     #[tactic(auto, using(crate::proofs::ContextLists::linked, crate::proofs::ContextLists::changed_past))]
     pub(crate) fn set_link(&mut self, context: usize, link: Link) -> Result<(), AllocError>
         ensures ok { OnOk result (self.new ≡ set self.old context (record (get_or self.old context spec.no_context) { link = Some link })) }
@@ -238,7 +238,7 @@ impl ContextList {
         Ok(())
     }
 
-    /// A context has no link from now on.
+    /// Clears a context's link.
     #[tactic(auto, using(crate::proofs::ContextLists::linked, crate::proofs::ContextLists::unlinked))]
     pub(crate) fn clear_link(&mut self, context: usize)
         ensures { self.new ≡ set self.old context (record (get_or self.old context spec.no_context) { link = None }) }

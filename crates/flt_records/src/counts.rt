@@ -1,4 +1,4 @@
-//! How often each number was counted, where numbers are given one after the other.
+//! The number of times that each number was counted, for numbers that are given in sequence.
 
 ghost use Rattle.std.specs.Prelude.{◌≡◌, ◌+◌, ℕ, ◌<◌, ◌≤◌, [], length, OnOk, OnErr};
 ghost use Rattle.flt_model.specs.Trace.{one_if};
@@ -7,10 +7,10 @@ ghost use Rattle.flt_records.specs.Counts as spec;
 use std::alloc::{AllocError, Global};
 use std::marker::Model;
 
-/// Counts by number. It takes as much memory as the greatest number asks for that was counted.
+/// Counts by number. It takes as much memory as the greatest number counted requires.
 #[derive(Drop)]
 pub struct Counts {
-    /// What is past the end counts 0.
+    /// The count of each number. Past the end, it is 0.
     times: Vec<u32>,
 }
 
@@ -34,7 +34,7 @@ impl Counts {
         }
     }
 
-    /// How often a number was counted.
+    /// The number of times that a number was counted.
     #[tactic(auto, unfolding(crate::specs::Counts::count))]
     pub fn count(&self, number: usize) -> u64
         ensures { result ≡ spec.count self.now number }
@@ -78,7 +78,7 @@ impl Counts {
         Ok(())
     }
 
-    /// Once more. It fails where a count would reach 2^32.
+    /// Adds one to the count of a number. It fails if a count would reach 2^32.
     #[inline(always)]
     #[tactic(auto, using(crate::proofs::Counting::raised, crate::proofs::Counting::past_the_end))]
     pub fn add(&mut self, number: usize) -> Result<(), AllocError>
@@ -95,7 +95,7 @@ impl Counts {
         Ok(())
     }
 
-    /// Once less, of what counts.
+    /// Takes one off the count of a number, which is at least 1.
     #[tactic(auto, using(crate::proofs::Counting::once_less, crate::proofs::Counting::past_the_end))]
     pub fn take(&mut self, number: usize)
         ensures { 0 < spec.count self.old number → (n : ℕ) → spec.count self.old n ≡ spec.count self.new n + one_if number n }
@@ -106,7 +106,7 @@ impl Counts {
         *place = place.saturating_sub(1);
     }
 
-    /// Once more, each of some numbers.
+    /// Adds one to the count of each of some numbers.
     pub fn add_each(&mut self, numbers: &[usize]) -> Result<(), AllocError>
         ensures { OnOk result ((n : ℕ) → spec.count self.new n ≡ spec.count self.old n + spec.occurs n numbers.now) }
     {
@@ -116,7 +116,7 @@ impl Counts {
         Ok(())
     }
 
-    /// Once less, each of some numbers, of what counts.
+    /// Takes one off the count of each of some numbers, if these counts suffice.
     pub fn take_each(&mut self, numbers: &[usize])
         ensures { ((n : ℕ) → spec.occurs n numbers.now ≤ spec.count self.old n) → (n : ℕ) →
             spec.count self.old n ≡ spec.count self.new n + spec.occurs n numbers.now }

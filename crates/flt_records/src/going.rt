@@ -1,4 +1,4 @@
-//! An activation that goes on: where it stands in its blocks, its variables and the locks that it holds.
+//! An activation in progress: its position in its blocks, its variables and the locks that it holds.
 
 ghost use Rattle.std.specs.Prelude.{◌≡◌, ◌++◌, ◌∷◌, true, false, [], replicate, IfOk, IfSome, OnOk, MatchOption};
 ghost use Rattle.flt_model.specs.LocalSteps.{turns_left};
@@ -48,7 +48,8 @@ impl<'a> Model for Going<'a> {
 }
 
 impl<'a> Going<'a> {
-    /// At entry all is 0 or NULL but the given operation and the given context. It fails where a number is 2^32 - 1 or greater.
+    /// An activation at its entry: all is 0 or NULL except the given operation and the given context. It fails if a number is 2^32 - 1 or
+    /// greater.
     pub(crate) fn starting(
         alloc: Global,
         body: &'a [Statement],
@@ -73,7 +74,7 @@ impl<'a> Going<'a> {
         }
     }
 
-    /// The variables, where none but these are in use and no locks.
+    /// The variables, if none but these are in use and no locks are held.
     pub(crate) fn few(&self) -> Option<Few>
         ensures { IfSome result (λ few. record self.now { rest = []; ended = true } ≡ ended_with few) }
     {
@@ -88,14 +89,14 @@ impl<'a> Going<'a> {
         self.kept.number(variable.place())
     }
 
-    /// The number of the context that a variable names; none where it is NULL.
+    /// The number of the context that a variable names, or none if it is NULL.
     pub(crate) fn context(&self, variable: ContextVariable) -> Option<usize>
         ensures { result ≡ spec.context_in self.now variable }
     {
         self.kept.context(variable.place())
     }
 
-    /// The number of the visit that a variable names; none where it is NULL.
+    /// The number of the visit that a variable names, or none if it is NULL.
     pub(crate) fn operation(&self, variable: OperationVariable) -> Option<usize>
         ensures { result ≡ spec.operation_in self.now variable }
     {
@@ -114,7 +115,7 @@ impl<'a> Going<'a> {
         self.kept.set_number(variable.place(), value)
     }
 
-    /// Sets a context variable, or makes it NULL. It fails where the number is 2^32 - 1 or greater, or where memory is refused.
+    /// Sets a context variable, or makes it NULL. It fails if the number is 2^32 - 1 or greater, or if memory is refused.
     pub(crate) fn set_context(
         &mut self,
         variable: ContextVariable,
@@ -125,7 +126,7 @@ impl<'a> Going<'a> {
         self.kept.set_context(variable.place(), context)
     }
 
-    /// Sets an operation variable, or makes it NULL. It fails where the number is 2^32 - 1 or greater, or where memory is refused.
+    /// Sets an operation variable, or makes it NULL. It fails if the number is 2^32 - 1 or greater, or if memory is refused.
     pub(crate) fn set_operation(
         &mut self,
         variable: OperationVariable,
@@ -136,7 +137,7 @@ impl<'a> Going<'a> {
         self.kept.set_operation(variable.place(), visit)
     }
 
-    /// Sets a variable that a call need not have. It fails where the number is 2^32 - 1 or greater, or where memory is refused.
+    /// Sets a variable that a call need not have. It fails if the number is 2^32 - 1 or greater, or if memory is refused.
     pub(crate) fn set_old(
         &mut self,
         variable: Option<ContextVariable>,
@@ -190,7 +191,7 @@ impl<'a> Going<'a> {
         Ok(())
     }
 
-    /// Goes on with a block in place of the first statement.
+    /// Continues with a block in place of the first statement.
     pub(crate) fn go_on(&mut self, block: &'a [Statement], write: Write) -> Result<(), AllocError>
         ensures { OnOk result (self.new ≡ written write (record self.old { rest = block.now ++ others self.old.rest })) }
     {
@@ -210,7 +211,7 @@ impl<'a> Going<'a> {
         self.rest.next(&mut self.kept)
     }
 
-    /// Takes out the first statement of the block at hand; none where nothing is left of it.
+    /// Takes out the first statement of the block at hand, or none if nothing is left of it.
     #[inline(always)]
     pub(crate) fn next_in_block(&mut self) -> Option<&'a Statement>
         ensures rest { MatchOption result (self.new ≡ self.old) (λ s. self.old.rest ≡ s.now ∷ self.new.rest) }
@@ -219,7 +220,7 @@ impl<'a> Going<'a> {
         self.rest.next_in_block()
     }
 
-    /// Begins another turn of a `repeat` whose body is through. False, and nothing is changed, where that doesn't come next.
+    /// Begins another turn of a `repeat` whose body is through. False, and nothing is changed, if that doesn't come next.
     #[inline(always)]
     pub(crate) fn turn_again(&mut self) -> bool
         ensures turned { result ≡ true → IsTurn self.old.rest self.new.rest }
@@ -238,7 +239,7 @@ impl<'a> Going<'a> {
         self.rest.first(&mut self.kept)
     }
 
-    /// Goes into a block, after which it goes on here.
+    /// Enters a block, after which execution continues here.
     #[inline(always)]
     pub(crate) fn enter(&mut self, block: &'a [Statement]) -> Result<(), AllocError>
         ensures { OnOk result (self.new ≡ record self.old { rest = block.now ++ self.old.rest }) }
@@ -246,7 +247,7 @@ impl<'a> Going<'a> {
         self.rest.enter(&mut self.kept, block)
     }
 
-    /// Goes through a turn of a `repeat`, if one is left.
+    /// Takes a turn of a `repeat`, if one is left.
     pub(crate) fn turn(
         &mut self,
         span: &'a Span,
@@ -266,7 +267,7 @@ impl<'a> Going<'a> {
         self.kept.has_ended()
     }
 
-    /// It ends, and nothing remains. A lock that it holds stays held.
+    /// Ends the activation: nothing remains. A lock that it holds stays held.
     pub(crate) fn end(&mut self)
         ensures { self.new ≡ record self.old { rest = []; ended = true } }
     {

@@ -1,4 +1,4 @@
-//! Who holds a lock of a filter. Taking it, giving it up and asking whether it is free need no walk over those that hold it.
+//! The holders of a lock of a filter. Taking it, giving it up and asking whether it is free need no walk over its holders.
 
 ghost use Rattle.std.specs.Prelude.{◌≡◌, ◌++◌, ◌∷◌, ◌==◌, ℕ, List, [], Option, false, true, not, filter, IfOk, OnOk, OnErr};
 ghost use Rattle.std.specs.List.{list_all};
@@ -17,13 +17,13 @@ use std::marker::Model;
 /// The holders of a lock, in the order in which they took it.
 #[derive(Drop)]
 pub struct Holders {
-    /// None where a holder gave the lock up.
+    /// None if the holder gave the lock up.
     slots: Vec<Option<Holder>>,
     /// The slot of each activation that holds the lock exclusively.
     exclusive: BTreeMap<usize, usize>,
     /// The slot of each activation that shares it.
     shared: BTreeMap<usize, usize>,
-    /// An activation took the lock twice in the same way, which no step does: the slots are walked from then on.
+    /// Whether an activation took the lock twice in the same mode, which no step does: the slots are walked from then on.
     is_walked: bool,
 }
 
@@ -53,7 +53,7 @@ impl Holders {
         }
     }
 
-    /// One more holder.
+    /// Adds a holder.
     pub fn push(&mut self, holder: Holder) -> Result<(), AllocError>
         ensures ok { OnOk result (self.new ≡ self.old ++ holder ∷ []) }
         ensures err { OnErr result (self.new ≡ self.old) }
@@ -66,7 +66,7 @@ impl Holders {
         Ok(())
     }
 
-    /// The activation is a holder no longer.
+    /// Removes an activation from the holders.
     pub fn remove(&mut self, activation: usize)
         ensures { self.new ≡ filter (λ (h : machine.Holder). not (h.activation == activation)) self.old }
     {
@@ -79,8 +79,8 @@ impl Holders {
         trim(&mut self.slots);
     }
 
-    /// Whether an activation may take the lock so, beside those that hold it: shared where nobody else holds it exclusively, exclusive
-    /// where nobody else holds it at all.
+    /// Whether an activation may take the lock with this access, beside those that hold it: shared if nobody else holds it exclusively,
+    /// exclusive if nobody else holds it at all.
     pub fn is_free_for(&self, activation: usize, access: Access) -> bool
         ensures { result ≡ spec.is_free_for activation access self.now }
     {
@@ -117,7 +117,7 @@ fn may_join(activation: usize, access: Access, slot: &Option<Holder>) -> bool
     }
 }
 
-/// The same of all slots.
+/// The same for all slots.
 fn may_join_all(activation: usize, access: Access, slots: &[Option<Holder>]) -> bool
     ensures { result ≡ list_all (may_join_slot activation access) slots.now }
 {
@@ -131,7 +131,7 @@ fn drop_all(slots: &mut Vec<Option<Holder>>, activation: usize)
     slots.retain(|slot| !is_slot_of(activation, slot));
 }
 
-/// Whether no activation has a place but this one.
+/// Whether no activation but this one has a place.
 fn has_no_other(places: &BTreeMap<usize, usize>, activation: usize) -> bool
     ensures { (access : Access) (slots : List (Option machine.Holder)) → ArePlaces access slots places.now.entries →
         result ≡ no_other access activation (left slots) }
@@ -143,7 +143,7 @@ fn has_no_other(places: &BTreeMap<usize, usize>, activation: usize) -> bool
     }
 }
 
-/// A slot and its place for one more of the holders that these places are of. True where the activation had a place before.
+/// Adds a slot for one more holder, and its place among these. True if the activation had a place before.
 fn add(
     slots: &mut Vec<Option<Holder>>,
     places: &mut BTreeMap<usize, usize>,

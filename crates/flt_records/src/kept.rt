@@ -1,5 +1,5 @@
-//! What an activation keeps beside the blocks in which it stands. Most use few variables, which stand in place; the others ask for
-//! memory of their own, once.
+//! The state that an activation keeps beside its innermost blocks. Most use few variables, which are in place; the others allocate memory
+//! of their own, once.
 
 ghost use Rattle.std.specs.Prelude.{◌≡◌, ◌<◌, ◌++◌, ◌∷◌, [], true, false, None, length, get_or, set, remove, replicate, IfOk, IfSome, OnOk, MatchOption};
 ghost use Rattle.flt_records.specs.Kept.{contents, contents_of, few_alone, few_contexts, few_operations, IsAll};
@@ -14,7 +14,7 @@ use flt_tree::{Span, Statement};
 use sqlite_items::Items;
 use std::alloc::{AllocError, Global};
 
-/// The variables that stand in place; the others are NULL or 0.
+/// The variables in place. The others are NULL or 0.
 #[derive(Drop)]
 pub(crate) struct Few {
     c0: Slot,
@@ -27,7 +27,7 @@ pub(crate) struct Few {
 /// All that an activation may keep.
 #[derive(Drop)]
 struct All<'a> {
-    /// What is gone on with behind two blocks.
+    /// The continuation after the two innermost blocks.
     after: Behind<'a>,
     numbers: [u64; 8],
     contexts: [Slot; 9],
@@ -50,7 +50,7 @@ pub(crate) struct Kept<'a> {
 }
 
 impl Few {
-    /// The same once more.
+    /// A copy.
     pub(crate) fn copied(&self) -> Few
         ensures { result ≡ self.now }
     {
@@ -86,7 +86,7 @@ impl Few {
         }
     }
 
-    /// Sets a context variable. False where it doesn't stand in place, and would not be NULL.
+    /// Sets a context variable. False if it isn't in place, and would not be NULL.
     fn put_context(&mut self, place: usize, context: Option<usize>) -> Result<bool, AllocError>
         requires { place < 9 }
         ensures put { IfOk result (λ put. put ≡ true → few_contexts self.new ≡ set (few_contexts self.old) place context) }
@@ -102,7 +102,7 @@ impl Few {
         Ok(true)
     }
 
-    /// Sets an operation variable. False where it doesn't stand in place, and would not be NULL.
+    /// Sets an operation variable. False if it isn't in place, and would not be NULL.
     fn put_operation(&mut self, place: usize, visit: Option<usize>) -> Result<bool, AllocError>
         requires { place < 5 }
         ensures put { IfOk result (λ put. put ≡ true → few_operations self.new ≡ set (few_operations self.old) place visit) }
@@ -117,7 +117,7 @@ impl Few {
         Ok(true)
     }
 
-    /// All that there is, where no more is used than these.
+    /// All that an activation keeps, if it uses only these variables.
     fn all<'a>(&self, alloc: Global) -> All<'a>
         ensures lists { (parts result.after ≡ []) × (result.locks ≡ []) }
         ensures variables { (result.numbers ≡ replicate 8 0) × ((result.contexts ≡ few_contexts self.now) × (result.operations ≡ few_operations self.now)) }
@@ -148,7 +148,7 @@ impl Few {
     }
 }
 
-/// Asks for memory, where there is none yet.
+/// Allocates memory, if there is none yet.
 #[cold]
 fn make(form: &mut Form<'_>, alloc: Global) -> Result<(), AllocError>
     ensures same { OnOk result (contents_of form.new ≡ contents_of form.old) }
@@ -163,7 +163,7 @@ fn make(form: &mut Form<'_>, alloc: Global) -> Result<(), AllocError>
     Ok(())
 }
 
-/// Sees to it that there is memory for all.
+/// Ensures that there is memory for all.
 #[inline(always)]
 fn see_to_all(form: &mut Form<'_>, alloc: Global) -> Result<(), AllocError>
     ensures same { OnOk result (contents_of form.new ≡ contents_of form.old) }
@@ -176,7 +176,7 @@ fn see_to_all(form: &mut Form<'_>, alloc: Global) -> Result<(), AllocError>
 }
 
 impl<'a> Kept<'a> {
-    /// All is 0 or NULL but the given operation and the given context. It fails where a number is 2^32 - 1 or greater.
+    /// The state at entry: all is 0 or NULL except the given operation and the given context. It fails if a number is 2^32 - 1 or greater.
     pub(crate) fn starting(
         alloc: Global,
         given: Option<usize>,
@@ -204,7 +204,7 @@ impl<'a> Kept<'a> {
         })
     }
 
-    /// Those of an activation that ended.
+    /// The state of an activation that ended.
     pub(crate) fn ended(alloc: Global, few: Few) -> Kept<'a>
         ensures { contents result ≡ few_alone true few }
     {
@@ -214,7 +214,7 @@ impl<'a> Kept<'a> {
         }
     }
 
-    /// The variables, where none but these are in use and no locks.
+    /// The variables, if none but these are in use and no locks are held.
     pub(crate) fn few(&self) -> Option<Few>
         ensures { IfSome result (λ few. contents self.now ≡ few_alone (contents self.now).ended few) }
     {
@@ -235,7 +235,7 @@ impl<'a> Kept<'a> {
         }
     }
 
-    /// The activation ends, and goes on with nothing.
+    /// Ends the activation, with which nothing continues.
     #[inline(always)]
     pub(crate) fn end(&mut self)
         ensures { contents self.new ≡ record (contents self.old) { after = []; ended = true } }
@@ -249,7 +249,7 @@ impl<'a> Kept<'a> {
         }
     }
 
-    /// What is gone on with is taken out.
+    /// Takes out the part with which execution continues.
     pub(crate) fn resume(&mut self) -> Option<Part<'a>>
         ensures { MatchOption result (((contents self.old).after ≡ []) × (contents self.new ≡ contents self.old))
             (λ part. ((contents self.old).after ≡ (contents self.new).after ++ part ∷ [])
@@ -261,8 +261,8 @@ impl<'a> Kept<'a> {
         }
     }
 
-    /// Takes a turn of the `repeat` that is gone on with next, and answers its body. None, and nothing is changed, where no `repeat` is
-    /// next, or none of its turns is left.
+    /// Takes a turn of the `repeat` with which execution continues, and returns its body. None, and nothing is changed, if no `repeat` is
+    /// next or none of its turns is left.
     #[inline(always)]
     pub(crate) fn turn_again(&mut self) -> Option<&'a [Statement]>
         ensures turned { MatchOption result (contents self.new ≡ contents self.old)
@@ -275,7 +275,7 @@ impl<'a> Kept<'a> {
         all.after.turn()
     }
 
-    /// What is left of a block will be gone on with before the others.
+    /// Adds the rest of a block, with which execution will continue before the others.
     pub(crate) fn suspend_block(&mut self, block: &'a [Statement]) -> Result<(), AllocError>
         requires { 0 < length block.now }
         ensures { OnOk result (contents self.new ≡ record (contents self.old) { after = (contents self.old).after ++ Block block.entry ∷ [] }) }
@@ -287,7 +287,7 @@ impl<'a> Kept<'a> {
         Ok(())
     }
 
-    /// A `repeat` will be gone on with before the others.
+    /// Adds a `repeat`, with which execution will continue before the others.
     pub(crate) fn suspend_repeat(
         &mut self,
         span: &'a Span,
@@ -330,7 +330,7 @@ impl<'a> Kept<'a> {
         Ok(())
     }
 
-    /// What the context variable at a place names.
+    /// The number of the context that the variable at a place names.
     #[inline(always)]
     pub(crate) fn context(&self, place: usize) -> Option<usize>
         requires { place < 9 }
@@ -345,7 +345,7 @@ impl<'a> Kept<'a> {
         }
     }
 
-    /// What the operation variable at a place names.
+    /// The number of the visit that the variable at a place names.
     #[inline(always)]
     pub(crate) fn operation(&self, place: usize) -> Option<usize>
         requires { place < 5 }
@@ -360,7 +360,7 @@ impl<'a> Kept<'a> {
         }
     }
 
-    /// Sets the context variable at a place. It fails where the number is 2^32 - 1 or greater, or where memory is refused.
+    /// Sets the context variable at a place. It fails if the number is 2^32 - 1 or greater, or if memory is refused.
     pub(crate) fn set_context(
         &mut self,
         place: usize,
@@ -382,7 +382,7 @@ impl<'a> Kept<'a> {
         Ok(())
     }
 
-    /// Sets the operation variable at a place. It fails where the number is 2^32 - 1 or greater, or where memory is refused.
+    /// Sets the operation variable at a place. It fails if the number is 2^32 - 1 or greater, or if memory is refused.
     pub(crate) fn set_operation(
         &mut self,
         place: usize,
@@ -415,7 +415,7 @@ impl<'a> Kept<'a> {
         }
     }
 
-    /// One lock more.
+    /// Adds a lock.
     pub(crate) fn push_lock(&mut self, held: HeldLock) -> Result<(), AllocError>
         ensures { OnOk result (contents self.new ≡ record (contents self.old) { locks = (contents self.old).locks ++ held ∷ [] }) }
     {
@@ -426,7 +426,7 @@ impl<'a> Kept<'a> {
         Ok(())
     }
 
-    /// The lock at a place is taken out.
+    /// Takes out the lock at a place.
     pub(crate) fn remove_lock(&mut self, place: usize)
         requires { place < length (contents self.old).locks }
         ensures { contents self.new ≡ record (contents self.old) { locks = remove (contents self.old).locks place } }

@@ -1,11 +1,11 @@
-//! What the monitor's world is kept in: a struct for each record of the machine, and the lists of them, with indices beside them
-//! that save searches.
+//! The data structures of the monitor's world: a struct for each record of the machine, and the lists of them, with indices that save
+//! searches.
 //!
 //! `parts` and `route` are the records. `activation`, `going`, `rest` and `lock_list` are one run of a callback, `behind` the blocks round
-//! it, `kept` and `slot` its variables, and `local` its steps that nobody else sees. `context_list` keeps contexts, and `linked` finds
-//! them by their links. `visit_list` has visits by operation, `holders` who holds a lock, and `waiting_list` queues and work items;
-//! `place_set` and `counts` are their indices, and `sparse_counts` counts what few count of. Contracts see each list as the machine's
-//! own, and mention no index.
+//! it, `kept` and `slot` its variables, and `local` its steps that nobody else sees. `context_list` keeps contexts, and `linked` finds them
+//! by their links. `visit_list` has visits by operation, `holders` the holders of a lock, and `waiting_list` queues and work items;
+//! `place_set` and `counts` are their indices, and `sparse_counts` counts numbers of which few count. Contracts see each list as the
+//! machine's own, and mention no index.
 #![tactic(auto)]
 
 mod activation;

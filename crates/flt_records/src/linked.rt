@@ -1,4 +1,4 @@
-//! Contexts, of which those of a link are found without a search.
+//! Contexts, indexed by their links.
 
 ghost use Rattle.std.specs.Prelude.{◌≡◌, ◌+◌, ◌-◌, if◌then◌else◌, List, get_or, set, length, position, None, Some, [], ◌∷◌, ◌++◌, OnOk};
 ghost use Rattle.std.specs.List.{list_any};
@@ -13,7 +13,7 @@ use flt_model::Key;
 use std::alloc::{AllocError, Global};
 use std::marker::Model;
 
-/// Contexts by number. Two may have one link here, though the machine links none where another is.
+/// Contexts by number. Two may have one link here, though the machine links none if another is.
 #[derive(Drop)]
 pub struct Contexts {
     list: ContextList,
@@ -55,14 +55,14 @@ impl Contexts {
         }
     }
 
-    /// How many contexts there have been; freed ones stay.
+    /// The number of contexts there have been. Freed ones stay.
     pub fn len(&self) -> usize
         ensures { result ≡ length self.now }
     {
         self.list.len()
     }
 
-    /// The filter that allocated a context; 0 where it isn't there.
+    /// The filter that allocated a context, or 0 if it isn't there.
     #[inline(always)]
     pub fn owner(&self, context: usize) -> usize
         ensures { result ≡ (get_or self.now context spec.no_context).owner }
@@ -70,7 +70,7 @@ impl Contexts {
         self.list.owner(context)
     }
 
-    /// The references of a context; 0 where it is freed or not there.
+    /// The references of a context, or 0 if it is freed or not there.
     #[inline(always)]
     pub fn references(&self, context: usize) -> u64
         ensures { result ≡ (get_or self.now context spec.no_context).references }
@@ -78,7 +78,7 @@ impl Contexts {
         u64::from(self.list.references(context))
     }
 
-    /// The value of a context, which a freed one keeps; 0 where it isn't there.
+    /// The value of a context, which a freed one keeps, or 0 if it isn't there.
     #[inline(always)]
     pub fn value(&self, context: usize) -> u64
         ensures { result ≡ (get_or self.now context spec.no_context).value }
@@ -86,7 +86,7 @@ impl Contexts {
         self.list.value(context)
     }
 
-    /// The link of a context; none where it isn't there.
+    /// The link of a context, or none if it isn't there.
     #[inline(always)]
     pub fn link(&self, context: usize) -> Option<Link>
         ensures { result ≡ (get_or self.now context spec.no_context).link }
@@ -113,14 +113,14 @@ impl Contexts {
 // ---- changes
 
 impl Contexts {
-    /// A new context, with the value 0 and one reference. It fails where the owner is 2^32 or greater.
+    /// Adds a new context, with the value 0 and one reference. It fails if the owner is 2^32 or greater.
     pub fn add(&mut self, owner: usize) -> Result<(), AllocError>
         ensures { OnOk result (self.new ≡ self.old ++ record { owner = owner; references = 1; value = 0; link = None } ∷ []) }
     {
         self.list.add(owner)
     }
 
-    /// A freed context keeps its value.
+    /// Sets a context's value. A freed context keeps its value.
     pub fn set_value(&mut self, context: usize, value: u64) -> Result<(), AllocError>
         ensures { OnOk result (self.new ≡ if spec.is_freed (get_or self.old context spec.no_context) then self.old
             else set self.old context (record (get_or self.old context spec.no_context) { value = value })) }
@@ -131,7 +131,7 @@ impl Contexts {
         Ok(())
     }
 
-    /// One reference more; a freed context stays as it is. It fails where they would reach 2^32.
+    /// Adds a reference. A freed context stays as it is. It fails if the references would reach 2^32.
     pub fn add_reference(&mut self, context: usize) -> Result<(), AllocError>
         ensures { OnOk result (self.new ≡ set self.old context
             (record (get_or self.old context spec.no_context) {
@@ -150,7 +150,7 @@ impl Contexts {
         Ok(())
     }
 
-    /// One reference less; a freed context stays as it is.
+    /// Drops a reference. A freed context stays as it is.
     pub fn drop_reference(&mut self, context: usize)
         ensures { self.new ≡ set self.old context
             (record (get_or self.old context spec.no_context) { references = (get_or self.old context spec.no_context).references - 1 }) }
@@ -160,7 +160,7 @@ impl Contexts {
             .set_references(context, references.saturating_sub(1));
     }
 
-    /// The context has no link from now on.
+    /// Clears the context's link.
     pub fn clear_link(&mut self, context: usize)
         ensures { self.new ≡ set self.old context (record (get_or self.old context spec.no_context) { link = None }) }
     {
@@ -170,7 +170,7 @@ impl Contexts {
         self.list.clear_link(context);
     }
 
-    /// The context has this link from now on.
+    /// Sets the context's link.
     #[tactic(auto, using(crate::proofs::ContextLists::relinked))]
     pub fn set_link(&mut self, context: usize, link: Link) -> Result<(), AllocError>
         ensures { OnOk result (self.new ≡ set self.old context (record (get_or self.old context spec.no_context) { link = Some link })) }

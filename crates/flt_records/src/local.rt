@@ -12,7 +12,7 @@ use flt_tree::{Action, Condition, OperationVariable, Statement, Test};
 use std::alloc::AllocError;
 
 impl<'a> Going<'a> {
-    /// Computes a number, or sets a variable to NULL. False where others see the action.
+    /// Computes a number, or sets a variable to NULL. False if others see the action.
     #[inline(always)]
     fn act(&mut self, action: Action) -> Result<bool, AllocError>
         ensures after { IfOk result (λ local. spec.after_action self.old action ≡ (if local then Some self.new else None)) }
@@ -38,7 +38,7 @@ impl<'a> Going<'a> {
         }
     }
 
-    /// What a test says of the activation's own variables and flag; none where it asks of the operation.
+    /// The result of a test of the activation's own variables and flag, or none if it tests the operation.
     #[inline(always)]
     fn test(&self, draining: bool, test: Test) -> Option<bool>
         ensures { result ≡ spec.holds_test draining self.now test }
@@ -68,7 +68,7 @@ impl<'a> Going<'a> {
         }
     }
 
-    /// The step of a statement of the text, which was the first one. False where others see it.
+    /// The step of a statement of the text, which was the first one. False if others see it.
     #[inline(always)]
     fn statement(&mut self, draining: bool, statement: &'a Statement) -> Result<bool, AllocError>
         ensures { IfOk result (λ local. spec.after_statement draining self.old self.old.rest (out-Statement statement.now) ≡
@@ -97,7 +97,7 @@ impl<'a> Going<'a> {
         }
     }
 
-    /// The step where the block at hand is through, and no `repeat` goes on with it: it stands in the block round it.
+    /// The step after the end of the block at hand, if no `repeat` continues with it: execution is in the block round it.
     #[tactic(auto, using(crate::proofs::LocalLaws::statement_same))]
     fn step_behind(&mut self, draining: bool) -> Result<bool, AllocError>
         ensures { IfOk result (λ local. spec.local_step draining self.old self.old.rest ≡ (if local then Some self.new else None)) }
@@ -112,7 +112,7 @@ impl<'a> Going<'a> {
         }
     }
 
-    /// The step where the block at hand is through: mostly another turn of a `repeat`.
+    /// The step after the end of the block at hand: mostly another turn of a `repeat`.
     #[inline(always)]
     #[tactic(auto, using(crate::proofs::Turning::turned_step))]
     fn step_on(&mut self, draining: bool) -> Result<bool, AllocError>
@@ -124,7 +124,7 @@ impl<'a> Going<'a> {
         self.step_behind(draining)
     }
 
-    /// One step, in place where the block at hand goes on or another turn begins.
+    /// One step, in place if the block at hand continues or another turn begins.
     #[inline(always)]
     #[tactic(auto, using(crate::proofs::LocalLaws::statement_same))]
     fn step(&mut self, draining: bool) -> Result<bool, AllocError>
@@ -136,14 +136,14 @@ impl<'a> Going<'a> {
         }
     }
 
-    /// One step that nobody else sees. False where the next one is seen; the first statement is then gone.
+    /// Takes one step that nobody else sees. False if the next one is seen; the first statement is then gone.
     pub(crate) fn step_locally(&mut self, draining: bool) -> Result<bool, AllocError>
         ensures { IfOk result (λ local. spec.local_step draining self.old self.old.rest ≡ (if local then Some self.new else None)) }
     {
         self.step(draining)
     }
 
-    /// So many steps that nobody else sees. False where one of them is seen, or others see the end of the body.
+    /// Takes this many steps that nobody else sees. False if one of them is seen, or others see the end of the body.
     pub(crate) fn step_locally_often(
         &mut self,
         draining: bool,

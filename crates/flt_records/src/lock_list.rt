@@ -6,14 +6,14 @@ ghost use Rattle.flt_rules.specs.Held as spec;
 use crate::going::Going;
 use flt_rules::{HeldLock, LockNumber};
 
-/// Whether a lock stands among some, held in either way.
+/// Whether a lock is among some, held with either access.
 pub fn holds_lock(lock: LockNumber, locks: &[HeldLock]) -> bool
     ensures { result ≡ spec.holds_lock lock locks.now }
 {
     locks.iter().any(|held| lock.is_same(held.lock))
 }
 
-/// Where the last entry of the lock stands.
+/// The place of the last entry of the lock.
 fn last_place(lock: LockNumber, locks: &[HeldLock]) -> Option<usize>
     ensures held { spec.holds_lock lock locks.now ≡ is_some result }
     ensures within { IfSome result (λ at. at < length locks.now) }

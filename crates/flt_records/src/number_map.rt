@@ -1,14 +1,14 @@
-//! For each number another number or none, where numbers are given one after the other.
+//! A map from each number to another number or none, for numbers that are given in sequence.
 
 ghost use Rattle.std.specs.Prelude.{◌≡◌, ◌==◌, ℕ, ◌<◌, if◌then◌else◌, Some, None, get_or, length, OnOk, OnErr};
 
 use std::alloc::{AllocError, Global};
 use std::marker::Model;
 
-/// By number. It takes as much memory as the greatest number asks for that was set.
+/// Targets by number. It takes as much memory as the greatest number set requires.
 #[derive(Drop)]
 pub(crate) struct NumberMap {
-    /// What is past the end has none.
+    /// The target of each number. Past the end, there is none.
     targets: Vec<Option<u32>>,
 }
 
@@ -29,7 +29,7 @@ impl NumberMap {
         }
     }
 
-    /// What a number has.
+    /// The target of a number.
     pub(crate) fn get(&self, number: usize) -> Option<usize>
         ensures { result ≡ get_or self.now number None }
     {
@@ -56,7 +56,7 @@ impl NumberMap {
         Ok(())
     }
 
-    /// A number has this from now on. It fails where that is 2^32 or greater.
+    /// Sets the target of a number. It fails if that is 2^32 or greater.
     #[tactic(auto, using(crate::proofs::NumberMaps::written, crate::proofs::NumberMaps::appended))]
     pub(crate) fn set(&mut self, number: usize, target: usize) -> Result<(), AllocError>
         ensures ok { OnOk result ((n : ℕ) → get_or self.new n None ≡ (if number == n then Some target else get_or self.old n None)) }

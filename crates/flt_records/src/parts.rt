@@ -1,4 +1,4 @@
-//! What activations share: operations, visits, contexts and what waits, one struct for each record of the machine.
+//! The state that activations share: operations, visits, contexts and waiting entries, with one struct for each record of the machine.
 
 ghost use Rattle.std.specs.Prelude.{◌≡◌, IfOk};
 
@@ -8,7 +8,7 @@ use flt_rules::{Access, FinalStatus, Mode, Operation, Place, Stage};
 use std::alloc::AllocError;
 use std::marker::Model;
 
-/// A number in four bytes. It fails where it is 2^32 or greater.
+/// A number in four bytes. It fails if it is 2^32 or greater.
 pub(crate) fn in_four_bytes(number: usize) -> Result<u32, AllocError>
     ensures { IfOk result (λ short. short ≡ number) }
 {
@@ -26,10 +26,10 @@ pub enum Presence {
     Detached,
 }
 
-/// Where an operation stands.
+/// The position of an operation.
 #[derive(Clone, Copy)]
 pub enum Position {
-    /// At a filter on its way down, or below the last one.
+    /// Going down: at a filter, or below the last one.
     Down(usize),
     Visiting,
     Up,
@@ -58,7 +58,7 @@ impl Model for Standing {
     ghost view = { λ s. presence_of s.presence };
 }
 
-/// What stands in a cancel-safe queue.
+/// An entry of a cancel-safe queue.
 #[derive(Drop)]
 pub struct Entry {
     pub visit: usize,
@@ -73,7 +73,7 @@ impl Model for Entry {
     ghost view = { λ e. record { visit = e.visit; context = e.context } };
 }
 
-/// What an operation is; it never changes.
+/// The fixed properties of an operation, which never change.
 #[derive(Drop)]
 pub struct Arrival {
     pub kind: Operation,
@@ -105,7 +105,7 @@ impl Model for Frame {
 }
 
 impl Frame {
-    /// It fails where the filter's number is 2^32 or greater, or the context's 2^32 - 1 or greater.
+    /// It fails if the filter's number is 2^32 or greater, or the context's 2^32 - 1 or greater.
     pub fn of(filter: usize, context: Option<usize>) -> Result<Frame, AllocError>
         ensures { IfOk result (λ f. f ≡ record { filter = filter; context = context }) }
     {
@@ -115,7 +115,7 @@ impl Frame {
         })
     }
 
-    /// The completion context; none where there is none.
+    /// The completion context, or none if it has none.
     pub fn context(&self) -> Option<usize>
         ensures { result ≡ self.now.context }
     {
@@ -167,7 +167,7 @@ impl Model for Visit {
 }
 
 impl Visit {
-    /// It fails where a number is 2^32 or greater.
+    /// It fails if a number is 2^32 or greater.
     pub fn of(
         operation: usize,
         filter: usize,
@@ -185,7 +185,7 @@ impl Visit {
     }
 }
 
-/// What a context is linked to, of a filter.
+/// The object to which a context of a filter is linked.
 #[derive(Clone, Copy)]
 pub struct Link {
     pub filter: usize,
@@ -219,7 +219,7 @@ impl Model for Item {
     ghost view = { λ i. record { filter = i.filter; routine = i.routine; visit = i.visit; context = i.context } };
 }
 
-/// An activation that holds a lock, and how.
+/// An activation that holds a lock, and its access.
 #[derive(Clone, Copy)]
 pub struct Holder {
     pub activation: usize,
@@ -236,7 +236,7 @@ impl Model for Holder {
     ghost inverse = { λ h. record { activation = h.activation; access = h.access } };
 }
 
-/// Whose callback an activation runs, and where; it never changes.
+/// The callback that an activation runs, by its filter and place; it never changes.
 #[derive(Drop)]
 pub struct Actor {
     pub filter: u32,
@@ -253,7 +253,7 @@ impl Model for Actor {
 }
 
 impl Actor {
-    /// It fails where the filter's number is 2^32 or greater.
+    /// It fails if the filter's number is 2^32 or greater.
     pub fn of(filter: usize, place: Place, draining: bool) -> Result<Actor, AllocError>
         ensures { IfOk result (λ a. a ≡ record { filter = filter; place = place; draining = draining }) }
     {

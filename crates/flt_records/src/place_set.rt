@@ -6,7 +6,7 @@ ghost use Rattle.flt_records.specs.Places.{has, is_place};
 use std::alloc::{AllocError, Global};
 use std::collections::BTreeSet;
 
-/// A place is a number, and two other numbers say of what it is.
+/// A place is a number, identified by two other numbers.
 #[derive(Drop)]
 pub(crate) struct Places {
     set: BTreeSet<(usize, usize, usize)>,

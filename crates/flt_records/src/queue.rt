@@ -15,13 +15,13 @@ use std::marker::Model;
 /// Entries in order.
 #[derive(Drop)]
 pub(crate) struct Queue {
-    /// By ticket, which counts the entries before it since the beginning. It is none where the entry was taken out.
+    /// By ticket, which counts the entries before it since the beginning. It is none if the entry was taken out.
     entries: Vec<Option<Entry>>,
-    /// The ticket of the first entry that is left, or the next one where none is.
+    /// The ticket of the first entry that is left, or the next one if none is.
     front: usize,
-    /// Of each visit, the ticket from which its entries are looked for.
+    /// For each visit, the ticket from which the search for its entries begins.
     starts: NumberMap,
-    /// Of each visit, how many entries it has.
+    /// For each visit, the number of its entries.
     counts: Counts,
 }
 
@@ -69,7 +69,7 @@ impl Queue {
         Ok(visits)
     }
 
-    /// One more entry at the end.
+    /// Adds an entry at the end.
     pub(crate) fn push(&mut self, entry: Entry) -> Result<(), AllocError>
         ensures ok { OnOk result (self.new ≡ self.old ++ entry ∷ []) }
         ensures err { OnErr result (self.new ≡ self.old) }
@@ -111,7 +111,7 @@ impl Queue {
     }
 }
 
-/// A visit that has no entry is looked for from a ticket on.
+/// Begins the search for the entries of a visit that has none at a ticket.
 fn begin(
     starts: &mut NumberMap,
     counts: &Counts,
@@ -143,7 +143,7 @@ fn list_visit(
     Ok(())
 }
 
-/// The first ticket from one on whose entry is left, or the next ticket where none is.
+/// The first ticket, from a given one, whose entry is left, or the next ticket if none is.
 #[tactic(auto, using(crate::proofs::Queues::Tickets::taken_on))]
 fn next_left(entries: &[Option<Entry>], from: usize) -> usize
     ensures within { from ≤ length entries.now → result ≤ length entries.now }
@@ -168,7 +168,7 @@ fn stands(entries: &[Option<Entry>], visit: usize, ticket: usize) -> bool
     }
 }
 
-/// The first ticket of a visit, where entries are counted and stand from their visits' starts on.
+/// The first ticket of a visit, if entries are counted and none comes before its visit's start.
 #[tactic(auto, using(crate::proofs::Queues::Tickets::not_counted, crate::proofs::Queues::Tickets::first_found, crate::proofs::Queues::Tickets::first_nowhere))]
 fn first_ticket(
     entries: &[Option<Entry>],
@@ -193,7 +193,7 @@ fn first_ticket(
     None
 }
 
-/// The least ticket of some visits, where entries are counted and stand from their visits' starts on.
+/// The least ticket of some visits, if entries are counted and none comes before its visit's start.
 fn least_ticket(
     entries: &[Option<Entry>],
     starts: &NumberMap,

@@ -1,4 +1,4 @@
-//! What remains of a callback while it runs: places in its blocks, so that no statement is copied.
+//! The rest of a callback while it runs: places in its blocks, so that no statement is copied.
 
 ghost use Rattle.std.specs.Prelude.{◌≡◌, true, false, List, [], ◌∷◌, ◌++◌, MatchOption, OnOk, IfOk};
 ghost use Rattle.flt_model.specs.LocalSteps.{turns_left};
@@ -10,12 +10,12 @@ use crate::kept::Kept;
 use flt_tree::{Span, Statement};
 use std::alloc::AllocError;
 
-/// What is gone on with where a block ends.
+/// The continuation at the end of a block.
 #[derive(Clone, Copy)]
 pub enum Part<'a> {
     /// The statements that are left of the block round it.
     Block(&'a [Statement]),
-    /// A `repeat`: where it stands, the turns that are left, and its body.
+    /// A `repeat`: its place, the turns that are left, and its body.
     Repeat(&'a Span, u64, &'a [Statement]),
 }
 
@@ -23,15 +23,15 @@ pub enum Part<'a> {
 #[derive(Clone, Copy)]
 pub enum Upcoming<'a> {
     Statement(&'a Statement),
-    /// Where it stands, the turns that are left, and its body.
+    /// Its place, the turns that are left, and its body.
     Repeat(&'a Span, u64, &'a [Statement]),
 }
 
-/// The two blocks in which a callback stands. What is round these is kept apart, since most callbacks stand in two at most.
+/// The two innermost blocks of a callback. The blocks round these are kept apart, since most callbacks are in two at most.
 #[derive(Drop)]
 pub(crate) struct Rest<'a> {
     block: &'a [Statement],
-    /// What is left of the block round it. It is empty where there is none, or a `repeat` goes on there.
+    /// The rest of the block round it. It is empty if there is none, or if a `repeat` continues there.
     outer: &'a [Statement],
 }
 
@@ -70,7 +70,7 @@ impl<'a> Rest<'a> {
         }
     }
 
-    /// Takes out the first statement of the block at hand; none where nothing is left of it.
+    /// Takes out the first statement of the block at hand, or none if nothing is left of it.
     #[inline(always)]
     pub(crate) fn next_in_block(&mut self) -> Option<&'a Statement>
         ensures { MatchOption result (self.new ≡ self.old)
@@ -83,7 +83,7 @@ impl<'a> Rest<'a> {
         Some(first)
     }
 
-    /// Begins another turn of a `repeat` whose body is through. False, and nothing is changed, where that doesn't come next.
+    /// Begins another turn of a `repeat` whose body is through. False, and nothing is changed, if that doesn't come next.
     #[inline(always)]
     pub(crate) fn turn_again(&mut self, kept: &mut Kept<'a>) -> bool
         ensures turned { result ≡ true → IsTurn (remains self.old (contents kept.old).after) (remains self.new (contents kept.new).after) }
@@ -129,7 +129,7 @@ impl<'a> Rest<'a> {
         }
     }
 
-    /// Goes into a block in place of the first statement, after which it goes on with the others.
+    /// Enters a block in place of the first statement, after which execution continues with the others.
     pub(crate) fn replace_first(
         &mut self,
         kept: &mut Kept<'a>,
@@ -142,7 +142,7 @@ impl<'a> Rest<'a> {
         self.enter(kept, block)
     }
 
-    /// Goes into a block, after which it goes on here.
+    /// Enters a block, after which execution continues here.
     #[inline(always)]
     pub(crate) fn enter(
         &mut self,
@@ -166,7 +166,7 @@ impl<'a> Rest<'a> {
         Ok(())
     }
 
-    /// Goes through a turn of a `repeat`, if one is left.
+    /// Takes a turn of a `repeat`, if one is left.
     #[tactic(auto, using(crate::proofs::Remaining::before_push, crate::proofs::Remaining::turn_left))]
     pub(crate) fn turn(
         &mut self,
@@ -192,7 +192,7 @@ impl<'a> Rest<'a> {
     }
 }
 
-/// Puts off what is left of a block.
+/// Puts off the rest of a block.
 #[tactic(auto, using(crate::proofs::Remaining::before_push))]
 fn suspend<'a>(kept: &mut Kept<'a>, here: &'a [Statement]) -> Result<(), AllocError>
     ensures rest { OnOk result (before [] (contents kept.new).after ≡ here.now ++ before [] (contents kept.old).after) }

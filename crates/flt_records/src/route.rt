@@ -8,7 +8,7 @@ ghost use Rattle.flt_model.specs.World as spec;
 use crate::parts::{Frame, Position, Route};
 
 impl Route {
-    /// The frame of the lowest filter is taken out, and its visit begins.
+    /// Takes out the frame of the lowest filter, and begins its visit.
     #[tactic(auto, using(crate::proofs::LastFrames::last_after, crate::proofs::LastFrames::without_after))]
     pub fn visit_last_frame(&mut self) -> Option<Frame>
         ensures { MatchOption result (moves.last_frame self.old.frames ≡ None)
@@ -23,7 +23,7 @@ impl Route {
         frame
     }
 
-    /// Where the first frame of a filter stands.
+    /// The place of the first frame of a filter.
     fn frame_place(&self, filter: usize) -> Option<usize>
         ensures { result ≡ position (moves.is_frame_of filter) self.now.frames }
     {
@@ -33,7 +33,7 @@ impl Route {
             .position(|frame| is_frame_of(filter, frame))
     }
 
-    /// The first frame of a filter is taken out.
+    /// Takes out the first frame of a filter.
     pub fn take_frame(&mut self, filter: usize) -> Option<Frame>
         ensures { MatchOption result (find (moves.is_frame_of filter) self.old.frames ≡ None)
             (λ f. (find (moves.is_frame_of filter) self.old.frames ≡ Some f)
@@ -56,7 +56,7 @@ impl Route {
     }
 }
 
-/// Gives the memory of frames back, where none is left.
+/// Gives the memory of frames back, if none is left.
 fn give_back(frames: &mut Vec<Frame>)
     ensures { frames.new.items ≡ frames.old.items }
 {
@@ -79,7 +79,7 @@ fn remove_at<T: Drop>(items: &mut Vec<T>, place: usize) -> T
     items.remove(place)
 }
 
-/// Takes out what stands at a place, if one is given.
+/// Takes out the item at a place, if one is given.
 #[tactic(auto, using(crate::proofs::FirstPlaces::found_there, crate::proofs::FirstPlaces::without, crate::proofs::FirstPlaces::none_found, crate::proofs::FirstPlaces::within))]
 fn take_out<T: Drop>(items: &mut Vec<T>, place: Option<usize>) -> Option<T>
     ensures { (test : T → Bool) → place ≡ position test items.old.items →

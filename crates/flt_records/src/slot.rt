@@ -1,4 +1,4 @@
-//! What a variable names, in four bytes: a number or NULL.
+//! The value of a variable in four bytes: a number or NULL.
 
 ghost use Rattle.std.specs.Prelude.{◌≡◌, None, OnOk, OnErr, IfOk};
 ghost use Rattle.flt_records.specs.Variables.{named_by};
@@ -23,7 +23,7 @@ impl Model for Slot {
     ghost view = { λ s. named_by s.code };
 }
 
-/// The code of what a variable will name. A number without one is too great for four bytes.
+/// The code of a value. A number without a code is too great for four bytes.
 fn code_of(number: Option<usize>) -> Result<u32, AllocError>
     ensures { IfOk result (λ code. named_by code ≡ number) }
 {
@@ -51,14 +51,14 @@ impl Slot {
         })
     }
 
-    /// One that names the same.
+    /// A copy.
     pub(crate) fn copied(&self) -> Slot
         ensures { result ≡ self.now }
     {
         Slot { code: self.code }
     }
 
-    /// What the variable names.
+    /// The value.
     pub(crate) fn get(&self) -> Option<usize>
         ensures { result ≡ self.now }
     {
@@ -68,7 +68,7 @@ impl Slot {
         }
     }
 
-    /// The variable names this from now on.
+    /// Sets the value.
     pub(crate) fn set(&mut self, number: Option<usize>) -> Result<(), AllocError>
         ensures ok { OnOk result (self.new ≡ number) }
         ensures err { OnErr result (self.new ≡ self.old) }

@@ -1,4 +1,4 @@
-//! How often each number was counted, where few of them count. Only what counts at least once is kept.
+//! The number of times that each number was counted, for numbers of which few count. Only those counted at least once are kept.
 
 ghost use Rattle.std.specs.Prelude.{◌≡◌, ◌+◌, ℕ, ◌<◌, [], min, OnOk, OnErr, IfOk, ◌↔◌, IsTrue};
 ghost use Rattle.flt_model.specs.Trace.{one_if};
@@ -38,7 +38,7 @@ impl SparseCounts {
         }
     }
 
-    /// How often a number was counted.
+    /// The number of times that a number was counted.
     #[tactic(auto, unfolding(crate::specs::Counts::count_in))]
     pub fn count(&self, number: usize) -> u64
         ensures { result ≡ spec.count_in self.now number }
@@ -49,7 +49,7 @@ impl SparseCounts {
         }
     }
 
-    /// Once more. The count is a number that no journal in memory reaches the end of.
+    /// Adds one to the count of a number. The count is a number that no journal in memory reaches the end of.
     #[tactic(auto, unfolding(crate::specs::Counts::count_in, flt_model::specs::Trace::one_if))]
     pub fn add(&mut self, number: usize) -> Result<(), AllocError>
         ensures ok { OnOk result ((n : ℕ) → spec.count_in self.new n ≡ spec.count_in self.old n + one_if number n) }
@@ -64,7 +64,7 @@ impl SparseCounts {
         }
     }
 
-    /// Once less, of what counts.
+    /// Takes one off the count of a number, which is at least 1.
     #[tactic(auto, unfolding(crate::specs::Counts::count_in, flt_model::specs::Trace::one_if))]
     pub fn take(&mut self, number: usize)
         ensures { 0 < spec.count_in self.old number → (n : ℕ) → spec.count_in self.old n ≡ spec.count_in self.new n + one_if number n }

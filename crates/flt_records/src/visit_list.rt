@@ -1,4 +1,4 @@
-//! Visits, of which those of an operation are found without a search.
+//! Visits, indexed by their operations.
 
 ghost use Rattle.std.specs.Prelude.{◌≡◌, ℕ, true, false, nat_eq, List, [], ◌∷◌, ◌++◌, length, set, OnOk, IfOk};
 ghost use Rattle.std.specs.List.{list_any};
@@ -17,11 +17,11 @@ use std::marker::Model;
 pub struct Visits {
     visits: Vec<Visit>,
     settled: Vec<bool>,
-    /// Of each visit, its operation's visit before it.
+    /// For each visit, its operation's visit before it.
     before: Vec<Slot>,
-    /// Of each operation, its last visit.
+    /// For each operation, its last visit.
     last: NumberMap,
-    /// Of each operation, how many of its visits aren't settled.
+    /// For each operation, the number of its visits that aren't settled.
     unsettled: Counts,
 }
 
@@ -52,7 +52,7 @@ impl Visits {
         }
     }
 
-    /// How many visits there have been.
+    /// The number of visits there have been.
     pub fn len(&self) -> usize
         ensures { result ≡ length self.now.0 }
     {
@@ -73,7 +73,7 @@ impl Visits {
         self.settled.as_slice()
     }
 
-    /// A new visit, which isn't settled.
+    /// Adds a new visit, which isn't settled.
     pub fn add(&mut self, visit: Visit) -> Result<(), AllocError>
         ensures { OnOk result (self.new ≡ (self.old.0 ++ visit ∷ [], self.old.1 ++ false ∷ [])) }
     {
@@ -98,7 +98,7 @@ impl Visits {
         }
     }
 
-    /// The filter's part in the operation is over.
+    /// Settles a visit: the filter's part in the operation is over.
     pub fn settle(&mut self, visit: usize)
         ensures { self.new ≡ (self.old.0, set self.old.1 visit true) }
     {

@@ -1,4 +1,4 @@
-//! What waits, in queues and in work items, with counts of its visits.
+//! Waiting entries, in queues and in work items, with counts of their visits.
 
 ghost use Rattle.std.specs.Prelude.{◌≡◌, ◌+◌, List, [], ◌∷◌, ◌++◌, length, get_or, set, sum_by, find, map, Some, None, OnOk, IfOk, MatchOption, ◌↔◌, IsTrue};
 ghost use Rattle.flt_model.specs.Violations.{in_queue, in_item};
@@ -17,7 +17,7 @@ pub struct Waiting {
     /// By filter.
     queues: Vec<Queue>,
     items: Vec<Option<Item>>,
-    /// How often each visit stands in an entry or in an item.
+    /// The number of entries and items with each visit.
     counts: Counts,
 }
 
@@ -46,14 +46,14 @@ impl Waiting {
         }
     }
 
-    /// How often a visit stands in an entry or in an item.
+    /// The number of entries and items with a visit.
     pub fn count(&self, visit: usize) -> u64
         ensures { result ≡ sum_by (in_queue visit) self.now.0 + sum_by (in_item visit) self.now.1 }
     {
         self.counts.count(visit)
     }
 
-    /// One more filter, with an empty queue.
+    /// Adds a filter, with an empty queue.
     #[tactic(auto, using(crate::proofs::Queues::CountWaiting::queue_added))]
     pub fn add_queue(&mut self, alloc: Global) -> Result<(), AllocError>
         ensures { OnOk result (self.new ≡ (self.old.0 ++ [] ∷ [], self.old.1)) }
@@ -89,7 +89,7 @@ impl Waiting {
         }
     }
 
-    /// One more entry at the end of a filter's queue.
+    /// Adds an entry at the end of a filter's queue.
     pub fn push(&mut self, filter: usize, entry: Entry) -> Result<(), AllocError>
         ensures { OnOk result (self.new ≡ (set self.old.0 filter (get_or self.old.0 filter [] ++ entry ∷ []), self.old.1)) }
     {
@@ -134,7 +134,7 @@ impl Waiting {
         None
     }
 
-    /// One more work item.
+    /// Adds a work item.
     #[tactic(auto, using(crate::proofs::Queues::CountWaiting::item_added))]
     pub fn add_item(&mut self, item: Item) -> Result<(), AllocError>
         ensures { OnOk result (self.new ≡ (self.old.0, self.old.1 ++ Some item ∷ [])) }

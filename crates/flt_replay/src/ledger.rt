@@ -1,5 +1,5 @@
-//! What the events so far say, in running counts: who holds what, what is freed and what is settled. So it is told of an event
-//! whether it breaks something without a look at the events before it.
+//! The events so far, as running counts: which activations hold an object, and which objects are freed or settled. They show whether an
+//! event breaks something without a look at the events before it.
 
 ghost use Rattle.std.specs.Prelude.{◌≡◌, ◌+◌, ℕ, ◌<◌, true, false, List, [], ◌∷◌, ◌++◌, length, nat_lt, ◌&&◌, if◌then◌else◌, Some, None, get_or, set, OnOk, IfOk, IfSome, ◌↔◌, IsTrue};
 ghost use Rattle.std.specs.List.{list_all};
@@ -35,15 +35,15 @@ use rows::Rows;
 #[derive(Drop)]
 pub(crate) struct Ledger {
     contexts: Holdings,
-    /// How often each activation holds each visit.
+    /// The number of times that each activation holds each visit.
     visits: Rows,
-    /// How often each context was freed.
+    /// The number of times that each context was freed.
     freed: Counts,
-    /// How often each visit was settled.
+    /// The number of times that each visit was settled.
     settled: Counts,
-    /// By activation, whether it goes on.
+    /// By activation, whether it continues.
     running: Vec<bool>,
-    /// How many of those that go on hold each visit.
+    /// The number of continuing activations that hold each visit.
     holders: Counts,
 }
 
@@ -62,7 +62,7 @@ impl Model for Ledger {
     } };
 }
 
-/// What the events of a step have kept so far.
+/// The rules that the events of a step have kept so far, and whether an activation ended.
 #[derive(Clone, Copy)]
 struct Kept {
     /// No activation ended that still held a context.
@@ -98,7 +98,7 @@ impl Kept {
     }
 }
 
-/// Lists a visit. Room is made first: `push` would hand the number back where memory is refused, and takes longer for that.
+/// Lists a visit. Room is made first: `push` would hand the number back if memory is refused, and takes longer for that.
 #[inline(always)]
 fn list_visit(touched: &mut Vec<usize>, visit: usize) -> Result<(), AllocError>
     ensures { OnOk result (touched.new.items ≡ touched.old.items ++ visit ∷ []) }
@@ -189,14 +189,14 @@ impl Ledger {
         }
     }
 
-    /// Whether the activation goes on and doesn't hold the visit.
+    /// Whether the activation continues and doesn't hold the visit.
     fn is_without(&self, activation: usize, visit: usize) -> bool
         ensures { result ≡ spec.is_without (get_or self.now.running activation false) (count_of self.now.visits activation visit) }
     {
         self.visits.count(activation, visit) == 0 && self.is_running(activation)
     }
 
-    /// An activation holds a visit once more.
+    /// Adds one to the count of a visit that an activation holds.
     #[tactic(auto, using(crate::proofs::Counting::Holders::gained_first, crate::proofs::Counting::Holders::gained_again))]
     fn gain_visit(&mut self, alloc: Global, a: usize, visit: usize) -> Result<(), AllocError>
         ensures visits { OnOk result ((b v : ℕ) →
@@ -212,7 +212,7 @@ impl Ledger {
         Ok(())
     }
 
-    /// An activation holds a visit once less.
+    /// Takes one off the count of a visit that an activation holds.
     #[tactic(auto, using(crate::proofs::Counting::Holders::lost_last, crate::proofs::Counting::Holders::lost_one, crate::proofs::Counting::Holders::some_holder))]
     fn lose_visit(&mut self, a: usize, visit: usize)
         ensures visits { 0 < count_of self.old.visits a visit → (b v : ℕ) →
@@ -226,7 +226,7 @@ impl Ledger {
         self.holders.take(visit);
     }
 
-    /// Takes in that an activation gained an object, and lists the visit that it may be.
+    /// Takes in that an activation gained an object, and lists the object if it is a visit.
     fn gain(
         &mut self,
         alloc: Global,
@@ -250,7 +250,7 @@ impl Ledger {
         }
     }
 
-    /// Takes in that an activation lost an object that it holds, and lists the visit that it may be.
+    /// Takes in that an activation lost an object that it holds, and lists the object if it is a visit.
     fn lose(&mut self, a: usize, object: Object, touched: &mut Vec<usize>) -> Result<(), AllocError>
         ensures { OnOk result ((t : List Event) → spec.Tells t self.old → spec.IsCounted self.old →
             0 < spec.held self.old a object → spec.Noted t (Lose a object) self.old self.new touched.old.items touched.new.items) }
@@ -287,7 +287,7 @@ impl Ledger {
         Ok(())
     }
 
-    /// What is kept where an activation ends.
+    /// Takes in the end of an activation: whether it holds no context.
     fn keep_at_end(&self, a: usize, kept: &mut Kept)
         ensures tight { (t : List Event) → spec.Tells t self.now → kept.new.tight ≡ (kept.old.tight && rules.leaks_nothing t (End a)) }
         ensures others { (kept.new.once ≡ kept.old.once) × (kept.new.ends ≡ true) }
@@ -296,7 +296,7 @@ impl Ledger {
         kept.ends = true;
     }
 
-    /// What is kept where a visit is settled.
+    /// Takes in the settling of a visit: whether it is the first.
     fn keep_at_settling(&self, visit: usize, kept: &mut Kept)
         ensures once { (t : List Event) → spec.Tells t self.now →
             kept.new.once ≡ (kept.old.once && rules.is_first_settling t (Settle visit)) }
@@ -305,7 +305,7 @@ impl Ledger {
         kept.once &= self.is_first_settling(visit);
     }
 
-    /// Takes in an event, lists the visit that it may name, and says what is kept with it; false where it touches something stale.
+    /// Takes in an event, lists the visit that it may name, and updates the rules kept. False if it touches something stale.
     fn take_event(
         &mut self,
         alloc: Global,
@@ -354,8 +354,8 @@ impl Ledger {
         }
     }
 
-    /// Takes in events, up to one that touches something stale, and lists the visits that they name. The answer is the least of
-    /// the first three violations that they break. It also says whether an activation ended.
+    /// Takes in events, up to one that touches something stale, and lists the visits that they name. Returns the least of the first three
+    /// violations that they break, and whether an activation ended.
     #[tactic(auto, using(crate::proofs::Counting::Taking::judged_all))]
     fn take_events(
         &mut self,
@@ -396,7 +396,7 @@ impl Ledger {
         }
     }
 
-    /// An activation goes on no more. The visits that it holds are listed.
+    /// Stops an activation, which no longer continues. The visits that it holds are listed.
     fn stop(&mut self, alloc: Global, a: usize, touched: &mut Vec<usize>) -> Result<(), AllocError>
         ensures { OnOk result (spec.Stopped a self.old self.new touched.old.items touched.new.items) }
     {
@@ -409,7 +409,7 @@ impl Ledger {
         Ok(())
     }
 
-    /// One activation more is there, and goes on.
+    /// Adds an activation, which continues.
     fn begin(&mut self, alloc: Global) -> Result<(), AllocError>
         ensures { OnOk result (spec.Started self.old self.new) }
     {
@@ -419,7 +419,7 @@ impl Ledger {
         Ok(())
     }
 
-    /// A step makes no more than one activation.
+    /// Adds the activation that a step made, if any. A step makes one at most.
     #[tactic(auto, using(crate::proofs::Counting::Following::joined_one, crate::proofs::Counting::Following::joined_none))]
     fn follow_new(&mut self, alloc: Global, world: &World<'_>) -> Result<(), AllocError>
         ensures { OnOk result (spec.Joined (length world.now.activations) self.old self.new) }
@@ -463,7 +463,7 @@ impl Ledger {
         Ok(())
     }
 
-    /// The same, where it is known whether any ends: mostly none does.
+    /// The same, if it is known whether any ends: mostly none does.
     fn follow_any_ends(
         &mut self,
         alloc: Global,
@@ -513,8 +513,8 @@ impl Ledger {
         }
     }
 
-    /// Takes in the events of a step, which led to the world. The answer is the least of the first four violations that they
-    /// break; after one the counts say nothing. The last argument lends memory, and what it holds doesn't matter.
+    /// Takes in the events of a step, which led to the world. Returns the least of the first four violations that they break; after one the
+    /// counts mean nothing. The last argument lends memory, and its contents don't matter.
     pub(crate) fn take(
         &mut self,
         alloc: Global,

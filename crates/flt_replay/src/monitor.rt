@@ -26,7 +26,7 @@ use flt_tree::{OperationVariable, Tree};
 use flt_world::{Stack, World};
 use std::alloc::{AllocError, Global};
 
-/// What comes of an entry.
+/// The outcome of an entry.
 #[derive(Clone, Copy)]
 pub(crate) enum Course {
     Reaches,
@@ -34,19 +34,19 @@ pub(crate) enum Course {
     Fails(Violation),
 }
 
-/// How far a journal has come.
+/// The state of the machine and the counts after some entries of a journal.
 #[derive(Drop)]
 pub(crate) struct Monitor<'a> {
     world: World<'a>,
     ledger: Ledger,
 }
 
-/// What a step is judged by; it is kept from step to step for its memory alone.
+/// The lists by which a step is judged; they are kept from step to step only for their memory.
 #[derive(Drop)]
 struct Room {
     /// The events of the step.
     events: Vec<Event>,
-    /// The visits that are looked at after it.
+    /// The visits that are checked after it.
     touched: Vec<usize>,
 }
 
@@ -61,7 +61,7 @@ impl<'a> Monitor<'a> {
         }
     }
 
-    /// What comes of a step that led to this world with these events, and of which the least broken rule is known.
+    /// The outcome of a step that led to this world with these events, given the least rule that it breaks.
     fn judged(
         &mut self,
         alloc: Global,
@@ -84,7 +84,7 @@ impl<'a> Monitor<'a> {
         }
     }
 
-    /// What comes of a move.
+    /// The outcome of a move.
     fn make(
         &mut self,
         alloc: Global,
@@ -102,7 +102,8 @@ impl<'a> Monitor<'a> {
         self.judged(alloc, room, None)
     }
 
-    /// Makes a step that others see, and says which of the last four violations is the least that it breaks; nothing where it isn't enabled.
+    /// Makes a step that others see. Returns the least of the last four violations that it breaks, if any; the outer `None` means that the
+    /// step isn't enabled.
     fn step_seen(
         &mut self,
         alloc: Global,
@@ -137,7 +138,7 @@ impl<'a> Monitor<'a> {
         Ok(Some(scene.broken_rule(room.events.as_slice())))
     }
 
-    /// What comes of a step that others see.
+    /// The outcome of a step that others see.
     fn go_seen(
         &mut self,
         alloc: Global,
@@ -165,7 +166,7 @@ impl<'a> Monitor<'a> {
         flt_steps::steps_unseen(&mut self.world, a, steps)
     }
 
-    /// The same, where mostly there are none.
+    /// The same, for mostly no steps.
     #[inline(always)]
     fn go_unseen(&mut self, a: usize, steps: u32) -> Result<bool, AllocError>
         ensures { IfOk result (λ unseen. (p : List Filter) (m : Moment) (xs : List Transition) → IsAt self.old m →
@@ -177,7 +178,7 @@ impl<'a> Monitor<'a> {
         self.go_locally(a, steps)
     }
 
-    /// What comes of so many steps of an activation, of which exactly the last is seen.
+    /// The outcome of this many steps of an activation, of which exactly the last is seen.
     fn go(
         &mut self,
         alloc: Global,
@@ -196,7 +197,7 @@ impl<'a> Monitor<'a> {
         self.go_seen(alloc, stack, a, grant, room)
     }
 
-    /// The least of the last four violations that so many steps of an activation break, of which exactly the last is seen.
+    /// The least of the last four violations that this many steps of an activation break, of which exactly the last is seen.
     fn go_rule(
         &mut self,
         alloc: Global,
@@ -237,7 +238,7 @@ impl<'a> Monitor<'a> {
         }
     }
 
-    /// What comes of an entry.
+    /// The outcome of an entry.
     #[inline(always)]
     fn entry(
         &mut self,
@@ -259,7 +260,7 @@ impl<'a> Monitor<'a> {
         }
     }
 
-    /// The verdict about a journal, entry by entry, before the first of which the monitor stands.
+    /// The verdict about a journal, entry by entry, by a monitor before its first entry.
     fn verdict(
         &mut self,
         alloc: Global,
@@ -282,7 +283,7 @@ impl<'a> Monitor<'a> {
 }
 
 impl<'a> Monitor<'a> {
-    /// Whether some entries are a run that breaks nothing, before the first of which the monitor stands. It then stands behind the last.
+    /// Whether some entries are a run that breaks nothing, by a monitor before the first of them. It is then after the last.
     fn runs(
         &mut self,
         alloc: Global,
@@ -305,8 +306,8 @@ impl<'a> Monitor<'a> {
         Ok(true)
     }
 
-    /// The least of the last four violations that the last of some entries breaks, before the first of which the monitor stands, where those
-    /// before it are a run that breaks nothing.
+    /// The least of the last four violations that the last of some entries breaks, by a monitor before the first of them, if those before
+    /// the last are a run that breaks nothing.
     fn last_rule(
         &mut self,
         alloc: Global,
@@ -346,7 +347,7 @@ fn opening<'a>(alloc: Global, stack: &Stack<'a>) -> Result<Monitor<'a>, AllocErr
     })
 }
 
-/// Room for the events of a step.
+/// Empty room for the events of a step.
 fn no_room(alloc: Global) -> Room {
     Room {
         events: Vec::new(alloc),
@@ -362,7 +363,7 @@ fn verdict_of(alloc: Global, trees: &[Tree], journal: &Journal) -> Result<Verdic
     verdict_on(alloc, &stack, journal)
 }
 
-/// What a journal is on some filters, in any order. Entries are numbered from 0. It fails where memory is refused, or where a number or
+/// The verdict about a journal on some filters, in any order. Entries are numbered from 0. It fails if memory is refused, or if a number or
 /// a count would reach 2^32.
 pub fn replay(alloc: Global, trees: &[Tree], journal: &Journal) -> Result<Verdict, AllocError>
     // It is the machine's verdict.
@@ -383,11 +384,11 @@ pub fn replay(alloc: Global, trees: &[Tree], journal: &Journal) -> Result<Verdic
     Ok(verdict)
 }
 
-/// The world at the end of a journal on a stack; none where its entries aren't a run that breaks nothing.
+/// The world at the end of a journal on a stack, or none if its entries aren't a run that breaks nothing.
 ///
 /// # Errors
 ///
-/// Where a growth was refused, or a number or a count would reach 2^32.
+/// `AllocError` if a growth is refused, or if a number or a count would reach 2^32.
 pub fn world_after<'a>(
     alloc: Global,
     stack: &Stack<'a>,
@@ -404,13 +405,13 @@ pub fn world_after<'a>(
     Ok(Some(world))
 }
 
-/// Which of the violations of statuses, levels, lock discipline and places the last entry of a journal breaks, the least of them, whatever else
-/// it breaks; none where it breaks none of them, or the entries before it aren't a run that breaks nothing. The verdict of `replay` tells
-/// the least of all violations alone.
+/// The least of the violations of statuses, levels, lock discipline and places that the last entry of a journal breaks, whatever else it
+/// breaks. None if it breaks none of them, or if the entries before it aren't a run that breaks nothing. The verdict of `replay` reports
+/// only the least of all violations.
 ///
 /// # Errors
 ///
-/// Where a growth was refused, or a number or a count would reach 2^32.
+/// `AllocError` if a growth is refused, or if a number or a count would reach 2^32.
 pub fn broken_rule_at_last(
     alloc: Global,
     trees: &[Tree],

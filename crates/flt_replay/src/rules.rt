@@ -1,4 +1,4 @@
-//! Which rules the events of a step break: of statuses, levels, lock discipline and places.
+//! The rules that the events of a step break: of statuses, levels, lock discipline and places.
 
 ghost use Rattle.std.specs.Prelude.{◌≡◌, ℕ, true, not, ◌&&◌, ◌||◌, List, find};
 ghost use Rattle.std.specs.List.{list_all};
@@ -45,12 +45,12 @@ fn is_latest(lock: LockNumber, locks: &[HeldLock]) -> bool
     }
 }
 
-/// What a step's events are judged by: the world after the step, which has all that rules read as it was before but the locks.
+/// The scene by which a step's events are judged: the world after the step, in which all that rules read is as before, except the locks.
 #[derive(Clone, Copy)]
 pub(crate) struct Scene<'b, 'a> {
     pub(crate) stack: &'b Stack<'a>,
     pub(crate) world: &'b World<'a>,
-    /// Whose step it was.
+    /// The activation whose step it was.
     pub(crate) activation: usize,
     /// Whether the activation held the visit that it was given, before the step.
     pub(crate) held: bool,
@@ -61,7 +61,7 @@ pub(crate) struct Scene<'b, 'a> {
 // ---- what is read as it was before the step
 
 impl<'b, 'a> Scene<'b, 'a> {
-    /// An activation that isn't there holds no locks.
+    /// The locks before the step. An activation that isn't there holds none.
     #[tactic(auto, using(crate::proofs::Judging::Scenes::found_set, crate::proofs::Judging::Scenes::missing_set))]
     fn locks(&self) -> &'b [HeldLock]
         ensures { result.now ≡ (activation_at (before self.now) self.now.activation).locks }
@@ -97,7 +97,7 @@ impl<'b, 'a> Scene<'b, 'a> {
 // ---- statuses
 
 impl<'b, 'a> Scene<'b, 'a> {
-    /// What a row says of the callback.
+    /// Whether a row's conditions on the callback hold.
     fn fits_callback(&self, row: StatusRow, visit: usize) -> bool
         ensures { result ≡ (places.fits_stage (actor_at (before self.now) self.now.activation).place row.stage
             && ((not row.needs_post || program.has_post
@@ -111,7 +111,7 @@ impl<'b, 'a> Scene<'b, 'a> {
             && (row.in_create || !place.is_pre_create())
     }
 
-    /// What a row says of the operation.
+    /// Whether a row's conditions on the operation hold.
     fn fits_operation(&self, row: StatusRow, visit: usize) -> bool
         ensures { result ≡ (statuses.is_possessed self.now.held row.data
             && (statuses.is_of_mode (arrival_of (before self.now).store visit).mode row.mode
@@ -151,7 +151,7 @@ impl<'b, 'a> Scene<'b, 'a> {
         }
     }
 
-    /// A status that is missing isn't legal.
+    /// Whether the status may be returned. A missing status isn't legal.
     fn may_return(&self, status: Option<Status>) -> bool
         ensures { (t : List Event) → self.now.held ≡ holds_given t (before self.now) self.now.activation →
             result ≡ statuses.may_return self.now.stack.now (before self.now) t self.now.activation status }
@@ -169,7 +169,8 @@ impl<'b, 'a> Scene<'b, 'a> {
         self.stack.are_paired(self.world.filter(self.activation))
     }
 
-    /// In the callback of a cancelled entry only COMPLETE is for the given operation; WITH_CALLBACK needs post callbacks.
+    /// Whether a status word is legal here: in the callback of a cancelled entry only COMPLETE is for the given operation, and
+    /// WITH_CALLBACK needs post callbacks.
     fn fits_word(&self, whose: Possessed, word: StatusWord) -> bool
         ensures { (t : List Event) → result ≡
             (statuses.fits_canceled self.now.stack.now (before self.now) t self.now.activation
@@ -229,7 +230,7 @@ impl<'b, 'a> Scene<'b, 'a> {
         }
     }
 
-    /// Only an I/O request packet may be queued or deferred.
+    /// Whether a call may be made for the given operation: only an I/O request packet may be queued or deferred.
     fn may_pend(&self, call: Call) -> bool
         ensures { (t : List Event) → result ≡ statuses.may_pend self.now.stack.now (before self.now) t self.now.activation call }
     {
@@ -252,7 +253,7 @@ impl<'b, 'a> Scene<'b, 'a> {
         !self.level().is_above(greatest)
     }
 
-    /// Each call where the table has it, and in a draining callback only what cleans up.
+    /// Whether a call is legal at this place: by the table, and in a draining callback only those that clean up.
     fn is_in_place(&self, legal: Places, call: Call) -> bool
         ensures { result ≡ (has_place legal (actor_at (before self.now) self.now.activation).place
             && (not (actor_at (before self.now) self.now.activation).draining || calls.is_legal_in_draining call)) }
@@ -264,7 +265,7 @@ impl<'b, 'a> Scene<'b, 'a> {
 
 // ---- all events of a step
 
-/// Which rules the events so far keep.
+/// The rules that the events so far keep.
 #[derive(Clone, Copy)]
 struct Kept {
     statuses: bool,
@@ -293,7 +294,7 @@ impl Kept {
 }
 
 impl<'b, 'a> Scene<'b, 'a> {
-    /// Which rules a call keeps beside those before it. Its row is looked up once.
+    /// Updates the rules kept by a call. Its row is looked up once.
     #[inline(always)]
     fn also_call(&self, call: Call, kept: &mut Kept)
         ensures statuses { (t : List Event) →
@@ -310,8 +311,8 @@ impl<'b, 'a> Scene<'b, 'a> {
         kept.places &= self.is_in_place(row.places, call);
     }
 
-    /// Which rules an event keeps beside those before it: the latest lock is released first, none is taken twice, and none is kept at the
-    /// end. Of most events no rule speaks.
+    /// Updates the rules kept by an event: the latest lock is released first, none is taken twice, and none is kept at the end. Most events
+    /// are subject to no rule.
     #[tactic(auto, using(crate::proofs::Judging::Rules::kept_still))]
     fn also(&self, event: Event, kept: &mut Kept)
         ensures statuses { (t : List Event) → self.now.held ≡ holds_given t (before self.now) self.now.activation →

@@ -1,11 +1,11 @@
-//! What the table of statuses asks of an operation.
+//! The conditions that the table of statuses puts on an operation.
 
 ghost use Rattle.std.specs.Prelude.{◌≡◌};
 ghost use Rattle.flt_model.specs.Statuses as spec;
 
 use flt_rules::{Mode, Possession};
 
-/// Whether an operation is held or given away, as a row asks.
+/// Whether an operation is held or given away, as a row requires.
 pub(crate) fn is_possessed(held: bool, possession: Possession) -> bool
     ensures { result ≡ spec.is_possessed held possession }
 {
@@ -15,7 +15,7 @@ pub(crate) fn is_possessed(held: bool, possession: Possession) -> bool
     }
 }
 
-/// Whether the mode is the one that a row asks for, if it asks for one.
+/// Whether the mode is the one that a row requires, if it requires one.
 pub(crate) fn is_of_mode(mode: Mode, wanted: Option<Mode>) -> bool
     ensures { result ≡ spec.is_of_mode mode wanted }
 {

@@ -1,4 +1,4 @@
-//! The signs by which a terminal draws what follows in a colour; none where there are no colours.
+//! The escape sequences that set how a terminal draws the text that follows; empty without colours.
 
 ghost use Rattle.std.specs.Prelude.{◌≡◌};
 ghost use Rattle.flt_reports.specs.Colours as spec;
@@ -31,7 +31,7 @@ pub(crate) fn bold(coloured: bool) -> &'static str
     if coloured { "\x1b[1m" } else { "" }
 }
 
-/// As the rest of the page is drawn.
+/// Ends a colour or bold type.
 #[tactic(auto, unfolding(crate::specs::Colours::plain))]
 pub(crate) fn plain(coloured: bool) -> &'static str
     ensures { result.now ≡ spec.plain coloured }

@@ -12,7 +12,7 @@ use flt_places::{Lines, Site};
 use flt_tree::Position;
 use std::alloc::{AllocError, Global};
 
-/// Where a text is refused.
+/// The place where a text is refused.
 fn place_of(spot: &Spot<'_>) -> Position
     ensures { result ≡ spec.place_of spot.now }
 {
@@ -22,7 +22,7 @@ fn place_of(spot: &Spot<'_>) -> Position
     }
 }
 
-/// Writes which word is probably meant, and ends the line.
+/// Writes the word that is probably meant, if there is one, and ends the line.
 fn tell_meant(page: &mut Page, meant: &[u8]) -> Result<(), AllocError>
     ensures { Writes result page.old page.new (spec.meant_told meant.now ++ 10 ∷ []) }
 {
@@ -33,7 +33,7 @@ fn tell_meant(page: &mut Page, meant: &[u8]) -> Result<(), AllocError>
     }
 }
 
-/// Draws the line with marks under what stands there, and behind them which word is probably meant.
+/// Draws the line with marks under the refused text, and after them the word that is probably meant.
 #[tactic(auto, unfolding(crate::specs::Fault::spot_drawn))]
 fn draw_spot(
     page: &mut Page,
@@ -53,7 +53,7 @@ fn draw_spot(
     tell_meant(page, meant)
 }
 
-/// The same; nothing where the text is too large.
+/// Draws the same for a whole text, and nothing if the text is too large.
 #[tactic(auto, unfolding(crate::specs::Fault::picture))]
 fn draw(
     alloc: Global,
@@ -74,7 +74,7 @@ fn draw(
     }
 }
 
-/// Writes what is wrong, where that is, what stands there, and how to fix it.
+/// Writes the fault, its place, the refused text, and how to fix it.
 #[tactic(auto, unfolding(crate::specs::Fault::fault_report))]
 fn report_spot(
     alloc: Global,
@@ -150,7 +150,7 @@ fn report_described(
     }
 }
 
-/// Where a text is refused, what stands there, what may stand there in its place, and how to fix it; nothing of a text that parses.
+/// The report of a text that is refused: the place, the text there, the legal alternatives, and how to fix it. Empty if the text parses.
 pub(crate) fn report_fault(
     alloc: Global,
     coloured: bool,

@@ -1,4 +1,4 @@
-//! The report of findings that are put together.
+//! The report of a finding and of the others of its group.
 
 ghost use Rattle.std.specs.Prelude.{◌≡◌, map, option_copied};
 ghost use Rattle.flt_details.specs.Closing.{rule_name};
@@ -20,7 +20,7 @@ use std::alloc::{AllocError, Global};
 
 // ---- what is wrong, and where
 
-/// `R01` to `R15`.
+/// The code of a rule, from `R01` to `R15`.
 #[tactic(auto, using(crate::proofs::Codes::named))]
 fn code(rule: Rule) -> &'static str
     ensures { result.now ≡ rule_name rule }
@@ -44,7 +44,7 @@ fn code(rule: Rule) -> &'static str
     }
 }
 
-/// Writes the head of a callback between marks.
+/// Writes the head of a callback in backquotes.
 #[tactic(auto, unfolding(crate::specs::Finding::head_told))]
 pub(crate) fn tell_callback(page: &mut Page, head: &[u8]) -> Result<(), AllocError>
     ensures { Writes result page.old page.new (spec.head_told head.now) }
@@ -60,7 +60,7 @@ pub(crate) fn tell_numbers(page: &mut Page, callback: usize, point: usize) -> Re
     page.numbers(&[" (callback ", " point ", ")\n"], &[callback, point])
 }
 
-/// Writes what is wrong, and where.
+/// Writes the title and the place of a finding.
 #[tactic(auto, unfolding(crate::specs::Finding::head_lines))]
 fn tell_head(
     page: &mut Page,
@@ -83,7 +83,7 @@ fn tell_head(
 
 // ---- the paths to it
 
-/// What is said of the paths to a finding.
+/// The notes on the paths to a finding.
 #[tactic(auto, unfolding(crate::specs::Finding::notes))]
 fn notes(answer: &Answer) -> &'static str
     ensures { result.now ≡ spec.notes answer.now }
@@ -99,7 +99,7 @@ fn notes(answer: &Answer) -> &'static str
     }
 }
 
-/// Writes the paths to a finding, and what is said of them.
+/// Writes the paths to a finding, and the notes on them.
 #[tactic(auto, unfolding(crate::specs::Finding::paths_told))]
 fn tell_ways(
     page: &mut Page,
@@ -116,7 +116,7 @@ fn tell_ways(
     page.texts(&[notes(&shown.answer)])
 }
 
-/// Writes what shows a finding, where that is known.
+/// Writes the lines and paths that show a finding, if they are known.
 #[tactic(auto, unfolding(crate::specs::Finding::shown_part))]
 fn tell_shown(
     alloc: Global,
@@ -139,7 +139,7 @@ fn tell_shown(
 
 // ---- the others of its group
 
-/// What stands before the number of a line: a comma where another one is before it.
+/// The text before the number of a line: a comma if another number is before it.
 #[tactic(auto, unfolding(crate::specs::Finding::before_line))]
 fn before_line(is_below: bool) -> &'static str
     ensures { result.now ≡ spec.before_line is_below }
@@ -151,7 +151,7 @@ fn before_line(is_below: bool) -> &'static str
     }
 }
 
-/// Writes the lines on which the others of a group stand, each once.
+/// Writes the line numbers of the others of a group, each once.
 #[tactic(auto, unfolding(crate::specs::Finding::others_told))]
 fn tell_others(page: &mut Page, others: &[Traced]) -> Result<(), AllocError>
     ensures { Writes result page.old page.new (spec.others_told others.now) }
@@ -171,7 +171,7 @@ fn tell_others(page: &mut Page, others: &[Traced]) -> Result<(), AllocError>
 
 // ---- how to fix it
 
-/// Writes lines behind a word that stands before the first of them alone.
+/// Writes lines, the first after a word and the others indented as far.
 fn tell_lines(page: &mut Page, word: &str, lines: &[&[u8]]) -> Result<(), AllocError>
     ensures { Writes result page.old page.new (headed word.now (map spec.shown_line (map (λ l. l.now) lines.now))) }
 {
@@ -184,7 +184,7 @@ fn tell_lines(page: &mut Page, word: &str, lines: &[&[u8]]) -> Result<(), AllocE
     Ok(())
 }
 
-/// Writes how to fix it: further lines stand under the first.
+/// Writes how to fix it, with further lines under the first.
 #[tactic(auto, unfolding(crate::specs::Finding::help_told))]
 pub(crate) fn tell_help(alloc: Global, page: &mut Page, help: &[u8]) -> Result<(), AllocError>
     ensures { Writes result page.old page.new (spec.help_told help.now) }
@@ -193,7 +193,7 @@ pub(crate) fn tell_help(alloc: Global, page: &mut Page, help: &[u8]) -> Result<(
     tell_lines(page, "   = help: ", lines.as_slice())
 }
 
-/// Writes what else is said of it, if there is more.
+/// Writes a note, if there is one.
 #[tactic(auto, unfolding(crate::specs::Finding::note_told))]
 pub(crate) fn tell_note(page: &mut Page, note: &[u8]) -> Result<(), AllocError>
     ensures { Writes result page.old page.new (spec.note_told note.now) }
@@ -207,7 +207,8 @@ pub(crate) fn tell_note(page: &mut Page, note: &[u8]) -> Result<(), AllocError>
 
 // ---- all of it
 
-/// Writes the report of a finding: what is wrong and where, what shows it, where the others of its group are, and how to fix it.
+/// Writes the report of a finding: its title and place, the lines and paths that show it, the lines of the others of its group, and how to
+/// fix it.
 #[tactic(auto, unfolding(crate::specs::Finding::finding_report))]
 pub(crate) fn report_finding(
     alloc: Global,

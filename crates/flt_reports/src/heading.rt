@@ -20,7 +20,7 @@ fn tell_code(page: &mut Page, code: Option<&str>) -> Result<(), AllocError>
     }
 }
 
-/// Writes a word for how serious it is, in a colour, and a code, if there is one.
+/// Writes a word for the severity, in a colour, and a code, if there is one.
 #[tactic(auto, unfolding(crate::specs::Heading::severity))]
 fn tell_severity(
     page: &mut Page,
@@ -47,7 +47,7 @@ fn tell_title(page: &mut Page, coloured: bool, title: &[u8], name: &str) -> Resu
     page.words(&[name.as_bytes()])
 }
 
-/// Writes what is wrong, and in which file. Where in it follows on the page.
+/// Writes the title of an error and the name of the file. The place in the file follows on the page.
 #[tactic(auto, unfolding(crate::specs::Heading::heading))]
 pub(crate) fn tell_heading(
     page: &mut Page,
@@ -62,7 +62,7 @@ pub(crate) fn tell_heading(
     tell_title(page, coloured, title, name)
 }
 
-/// Writes what a warning of a kind says, and in which file. Where in it follows on the page.
+/// Writes the title of a warning of a kind and the name of the file. The place in the file follows on the page.
 #[tactic(auto, unfolding(crate::specs::Heading::warning_heading))]
 pub(crate) fn tell_warning_heading(
     page: &mut Page,
@@ -77,7 +77,7 @@ pub(crate) fn tell_warning_heading(
     tell_title(page, coloured, title, name)
 }
 
-/// Writes a line and a column behind a file's name.
+/// Writes a line and a column after a file's name.
 #[tactic(auto, unfolding(crate::specs::Heading::at_place))]
 pub(crate) fn tell_place(page: &mut Page, place: Position) -> Result<(), AllocError>
     ensures { Writes result page.old page.new (spec.at_place place) }

@@ -1,4 +1,4 @@
-//! Lines behind a word that stands before the first of them alone.
+//! Lines of which the first comes after a word, and the others are indented as far.
 
 ghost use Rattle.flt_details.specs.Page.{Writes};
 ghost use Rattle.flt_reports.specs.Indents as spec;
@@ -6,7 +6,7 @@ ghost use Rattle.flt_reports.specs.Indents as spec;
 use flt_details::Page;
 use std::alloc::AllocError;
 
-/// Writes what stands before a line: a word, or as many blanks where another line is above.
+/// Writes the start of a line: a word, or as many blanks if another line is above.
 #[tactic(auto, unfolding(crate::specs::Indents::before))]
 pub(crate) fn begin(page: &mut Page, word: &str, is_below: bool) -> Result<(), AllocError>
     ensures { Writes result page.old page.new (spec.before is_below word.now) }

@@ -11,26 +11,26 @@ use flt_places::Site;
 use flt_tree::Position;
 use std::alloc::{AllocError, Global};
 
-/// A line in which something is wrong. Lines and columns count from 1.
+/// A line with an error. Lines and columns count from 1.
 #[derive(Clone, Copy)]
 pub struct MarkedLine<'a> {
-    /// That of the file.
+    /// The name of the file.
     pub name: &'a str,
     pub line: usize,
     pub column: usize,
-    /// What of the line is shown; nothing where it is missing.
+    /// The part of the line that is shown; empty if the line is missing.
     pub shown: &'a [u8],
-    /// How many bytes from the column on are marked.
+    /// How many bytes are marked, from the column on.
     pub marked: usize,
-    /// What is wrong.
+    /// The error, in words.
     pub message: &'a [u8],
-    /// Which word is probably meant; or nothing.
+    /// The word that is probably meant, or nothing.
     pub meant: &'a [u8],
-    /// How to fix it; or nothing.
+    /// How to fix it, or nothing.
     pub help: &'a str,
 }
 
-/// Where it is wrong.
+/// The place of the error.
 fn place_of(marked: &MarkedLine<'_>) -> Position
     ensures { result ≡ spec.place_of marked.now }
 {
@@ -40,7 +40,7 @@ fn place_of(marked: &MarkedLine<'_>) -> Position
     }
 }
 
-/// Writes which word is probably meant, and ends the line.
+/// Writes the word that is probably meant, if there is one, and ends the line.
 #[tactic(auto, unfolding(crate::specs::Line::meant))]
 fn tell_meant(page: &mut Page, meant: &[u8]) -> Result<(), AllocError>
     ensures { Writes result page.old page.new (spec.meant meant.now ++ 10 ∷ []) }
@@ -52,7 +52,7 @@ fn tell_meant(page: &mut Page, meant: &[u8]) -> Result<(), AllocError>
     }
 }
 
-/// Draws the line, and behind the marks which word is probably meant; nothing where nothing is shown.
+/// Draws the line, and after the marks the word that is probably meant; nothing if no part of the line is shown.
 #[tactic(auto, unfolding(crate::specs::Line::picture))]
 fn draw(page: &mut Page, coloured: bool, marked: &MarkedLine<'_>) -> Result<(), AllocError>
     ensures { Writes result page.old page.new (spec.picture coloured marked.now) }
@@ -91,12 +91,12 @@ fn tell(page: &mut Page, coloured: bool, marked: &MarkedLine<'_>) -> Result<(), 
     tell_help(page, marked.help)
 }
 
-/// What is reported of a line of a file that isn't the text of a filter: what is wrong and where, and how to fix it. Whole lines. With
-/// `coloured`, marks of a terminal colour them.
+/// The report of a line of a file that isn't the text of a filter: the error, its place, and how to fix it, in whole lines. With
+/// `coloured`, escape sequences of a terminal colour them.
 ///
 /// # Errors
 ///
-/// Where a growth was refused.
+/// If memory is refused.
 pub fn report_line(
     alloc: Global,
     coloured: bool,

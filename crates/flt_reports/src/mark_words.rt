@@ -1,4 +1,4 @@
-//! What the marks say that show a finding.
+//! The words of the marks that show a finding.
 
 ghost use Rattle.std.specs.Prelude.{◌≡◌, ◌++◌, option_copied};
 ghost use Rattle.flt_details.specs.Branches as branches;
@@ -13,19 +13,19 @@ use flt_rules::Rule;
 use flt_ways::{Step, Way};
 use std::alloc::AllocError;
 
-/// What a mark shows.
+/// The kind of a mark, by what it shows.
 #[derive(Clone, Copy)]
 pub(crate) enum Sign {
-    /// The step that made what is found.
+    /// The step that makes a fact of the finding.
     Origin(Fact, Step),
     Point,
-    /// Where paths meet with other locks.
+    /// The point where paths meet with different locks.
     Meeting,
 }
 
 // ---- where what is found comes from
 
-/// What a call does to what it gives away or releases.
+/// The word for what a call does to the subject that it gives away or releases.
 #[tactic(auto, unfolding(crate::specs::MarkWords::lost_by))]
 fn lost_by(call: Call, is_operation: bool) -> &'static str
     ensures { result.now ≡ spec.lost_by call is_operation }
@@ -39,7 +39,7 @@ fn lost_by(call: Call, is_operation: bool) -> &'static str
     }
 }
 
-/// The same of an instruction, if it is a call.
+/// The same for an instruction, if it is a call.
 #[tactic(auto, unfolding(crate::specs::MarkWords::lost_at))]
 fn lost_at(instruction: &Instruction, is_operation: bool) -> Option<&'static str>
     ensures { option_copied result ≡ spec.lost_at instruction.now is_operation }
@@ -50,7 +50,7 @@ fn lost_at(instruction: &Instruction, is_operation: bool) -> Option<&'static str
     }
 }
 
-/// What is done to a subject at a step that makes it stale; none where the step does something else to it.
+/// The word for what a step does to a subject that it makes stale; none if the step does something else to it.
 #[tactic(auto, unfolding(crate::specs::MarkWords::lost))]
 fn lost(scene: &Scene<'_>, callback: usize, fact: Fact, step: Step) -> Option<&'static str>
     ensures { option_copied result ≡ spec.lost scene.now.graph.now callback fact step }
@@ -63,7 +63,7 @@ fn lost(scene: &Scene<'_>, callback: usize, fact: Fact, step: Step) -> Option<&'
     lost_at(&scene.graph.instruction(callback, step.point), is_operation)
 }
 
-/// What becomes of a subject: on a path, or where none is known.
+/// The words for how a subject changes on a path, or might change if no path is known.
 #[tactic(auto, unfolding(crate::specs::MarkWords::becomes))]
 fn becomes(
     finding: &Finding,
@@ -84,7 +84,7 @@ fn becomes(
     }
 }
 
-/// How the call of an origin comes out, behind what stands before that.
+/// The outcome of an origin's call, after the words that introduce it.
 #[tactic(auto, unfolding(crate::specs::MarkWords::call_side))]
 fn call_side(scene: &Scene<'_>, callback: usize, step: Step) -> (&'static str, &'static str)
     ensures { result.0.now ++ result.1.now ≡ spec.call_side (branches.step_call_outcome scene.now.graph.now callback step) }
@@ -95,7 +95,7 @@ fn call_side(scene: &Scene<'_>, callback: usize, step: Step) -> (&'static str, &
     }
 }
 
-/// Writes where a subject becomes what it is: on a path what becomes of it, else what might become of it.
+/// Writes that a step changes a subject: how it does on a path, else how it might.
 #[tactic(auto, unfolding(crate::specs::MarkWords::made_here))]
 fn tell_made(
     page: &mut Page,
@@ -117,7 +117,7 @@ fn tell_made(
     page.texts(&[" here", before, outcome, "\n"])
 }
 
-/// Writes what the mark of an origin says.
+/// Writes the words of an origin's mark.
 #[tactic(auto, unfolding(crate::specs::MarkWords::origin_told))]
 fn tell_origin(
     page: &mut Page,
@@ -140,7 +140,7 @@ fn tell_origin(
 
 // ---- what is so at the point
 
-/// What stands before a mode.
+/// The article before a mode.
 #[tactic(auto, unfolding(crate::specs::MarkWords::article))]
 fn article(mode: &str) -> &str
     ensures { result.now ≡ spec.article mode.now }
@@ -148,7 +148,7 @@ fn article(mode: &str) -> &str
     if mode == "IRP" { "an " } else { "" }
 }
 
-/// Writes with which mode the operation might be there.
+/// Writes the mode that the operation might have at a point.
 fn tell_mode(page: &mut Page, mode: &str) -> Result<(), AllocError>
     ensures { Writes result page.old page.new (spec.mode_told mode.now) }
 {
@@ -156,7 +156,7 @@ fn tell_mode(page: &mut Page, mode: &str) -> Result<(), AllocError>
     page.texts(&[" the operation might be ", article, mode, " here\n"])
 }
 
-/// Writes what a subject is at a point. What a callback is entered with is only possible.
+/// Writes the state of a subject at a point. A state with which the callback is entered is only possible.
 #[tactic(auto, unfolding(crate::specs::MarkWords::state_told))]
 fn tell_state(
     page: &mut Page,
@@ -179,7 +179,7 @@ fn tell_state(
     }
 }
 
-/// Whether a state is said by this word.
+/// Whether a state has this word.
 #[tactic(auto, unfolding(crate::specs::MarkWords::is_word))]
 fn is_word(state: Option<&str>, word: &str) -> bool
     ensures { result ≡ spec.is_word (option_copied state.entry) word.now }
@@ -190,7 +190,7 @@ fn is_word(state: Option<&str>, word: &str) -> bool
     }
 }
 
-/// Writes what a lock is on one path where it joins another one.
+/// Writes whether a lock is held on one path where that joins another one.
 #[tactic(auto, unfolding(crate::specs::MarkWords::joining_told))]
 fn tell_joining(
     page: &mut Page,
@@ -212,7 +212,7 @@ fn tell_joining(
     }
 }
 
-/// Writes what a subject is at a point, where that is known.
+/// Writes the state of a subject at a point, if that is known.
 fn tell_maybe(
     page: &mut Page,
     subject: Subject,
@@ -227,7 +227,7 @@ fn tell_maybe(
     }
 }
 
-/// Writes what the mark of the finding's point says.
+/// Writes the words of the mark at the finding's point.
 #[tactic(auto, unfolding(crate::specs::MarkWords::point_told))]
 fn tell_point(
     page: &mut Page,
@@ -247,7 +247,7 @@ fn tell_point(
 
 // ---- all marks
 
-/// Writes what a mark says.
+/// Writes the words of a mark.
 #[tactic(auto, unfolding(crate::specs::MarkWords::mark_told))]
 pub(crate) fn tell_mark(
     page: &mut Page,

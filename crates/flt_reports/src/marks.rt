@@ -9,7 +9,7 @@ use flt_details::Page;
 use flt_places::Site;
 use std::alloc::AllocError;
 
-/// The lines that are drawn: whether in colours, the width of their numbers, and the last of them, 0 where none is.
+/// The lines that are drawn: whether in colours, the width of their numbers, and the number of the last one, 0 if there is none.
 #[derive(Clone, Copy)]
 pub(crate) struct Drawing {
     coloured: bool,
@@ -17,14 +17,14 @@ pub(crate) struct Drawing {
     last: usize,
 }
 
-/// What a mark is drawn with.
+/// The sign and the colour of a mark.
 #[derive(Clone, Copy)]
 pub(crate) enum Stroke {
-    /// `^` in red: what is wrong.
+    /// `^` in red: an error.
     Error,
-    /// `^` in yellow: what a warning is about.
+    /// `^` in yellow: the place of a warning.
     Warning,
-    /// `-` in blue: what else is shown.
+    /// `-` in blue: any other place that is shown.
     Aside,
 }
 
@@ -49,7 +49,7 @@ fn without_return(line: &[u8]) -> &[u8]
     }
 }
 
-/// How many signs mark a site: what of it stands on its first line.
+/// How many signs mark a site: one for each of its bytes on its first line, at least one.
 #[tactic(auto, unfolding(crate::specs::Marks::signs))]
 fn signs(line: &[u8], site: &Site) -> usize
     ensures { result ≡ spec.signs line.now site.now }
@@ -95,7 +95,7 @@ fn colour_of(coloured: bool, stroke: Stroke) -> &'static str
 }
 
 impl Drawing {
-    /// For lines up to this one.
+    /// A drawing for lines up to this number.
     pub(crate) fn new(coloured: bool, greatest: usize) -> Drawing
         ensures coloured { result.coloured ≡ coloured }
         ensures margin { result.margin ≡ spec.width greatest }
@@ -108,7 +108,7 @@ impl Drawing {
         }
     }
 
-    /// What stands between the last line and another one.
+    /// The text between the last line and another one.
     #[tactic(auto, unfolding(crate::specs::Marks::gap))]
     fn gap(self, number: usize) -> &'static str
         ensures { result.now ≡ spec.gap self.last number }
@@ -132,7 +132,7 @@ impl Drawing {
         page.line(&[line])
     }
 
-    /// Draws the line of a site, where it isn't the last that was drawn.
+    /// Draws the line of a site, if it isn't the last one drawn.
     #[tactic(auto, unfolding(crate::specs::Marks::line_once))]
     fn draw_once(self, page: &mut Page, line: &[u8], number: usize) -> Result<(), AllocError>
         ensures { Writes result page.old page.new (spec.line_once self.coloured self.margin self.last line.now number) }
@@ -162,7 +162,7 @@ impl Drawing {
         page.run(sign_of(stroke), signs(line, site), plain(self.coloured))
     }
 
-    /// Draws a site in its line with signs under it; the line only where it isn't the last that was drawn. What it says follows on the
+    /// Draws a site in its line with signs under it; the line only if it isn't the last one drawn. The words of the mark follow on the
     /// page.
     #[tactic(auto, unfolding(crate::specs::Marks::drawn))]
     pub(crate) fn draw(

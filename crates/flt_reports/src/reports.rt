@@ -19,12 +19,12 @@ use flt_syntax::Tree;
 use sqlite_items::Items;
 use std::alloc::{AllocError, Global};
 
-/// What is reported of a finding, and of those of the same origin.
+/// The report of a finding, and of those of the same origin.
 #[derive(Drop)]
 pub struct Report {
     /// The number of the finding among those of its text, from 0.
     pub finding: usize,
-    /// Whether each way to it that was found breaks another rule before.
+    /// Whether each path to it that was found breaks another rule before.
     pub is_behind: bool,
     /// Whole lines.
     pub lines: Vec<u8>,
@@ -110,13 +110,13 @@ fn report_groups(
     Ok(all)
 }
 
-/// The reports of the findings of a text that parses, in their order, those of one origin in one report: each with the lines that show
-/// it, a path that leads there, and how to fix it. Each finding has a report or is akin to one before it that has. With `coloured`, signs
-/// of a terminal colour them.
+/// The reports of the findings of a text that parses, in their order, those of one origin in one report: each with the lines that show it,
+/// a path that leads there, and how to fix it. Each finding has a report or is akin to one before it that has. With `coloured`, escape
+/// sequences of a terminal colour them.
 ///
 /// # Errors
 ///
-/// Where a growth was refused.
+/// If memory is refused.
 pub fn report_findings(
     alloc: Global,
     coloured: bool,
@@ -140,7 +140,7 @@ pub fn report_findings(
     Ok(reports)
 }
 
-/// Writes what a text promises of which nothing is found, and how to see the certificate.
+/// Writes the promise of a text without findings, and how to see its certificate.
 fn tell_nothing(page: &mut Page, name: &[u8]) -> Result<(), AllocError>
     ensures { Writes result page.old page.new (spec.nothing_report name.now) }
 {
@@ -152,11 +152,11 @@ fn tell_nothing(page: &mut Page, name: &[u8]) -> Result<(), AllocError>
     Ok(())
 }
 
-/// What is reported of a text of this name of which nothing is found, and what that promises; whole lines.
+/// The report of a text of this name that has no findings: what that promises, in whole lines.
 ///
 /// # Errors
 ///
-/// Where a growth was refused.
+/// If memory is refused.
 pub fn report_nothing(alloc: Global, name: &str) -> Result<Vec<u8>, AllocError>
     ensures { IfOk result (λ lines. lines.items ≡ spec.nothing_report name.now) }
 {
@@ -165,11 +165,11 @@ pub fn report_nothing(alloc: Global, name: &str) -> Result<Vec<u8>, AllocError>
     Ok(page.out)
 }
 
-/// What is reported of a text that doesn't parse: where and why, and how to fix it; nothing of one that parses. Whole lines.
+/// The report of a text that doesn't parse: where and why, and how to fix it, in whole lines. Empty if the text parses.
 ///
 /// # Errors
 ///
-/// Where a growth was refused.
+/// If memory is refused.
 pub fn report_unread(
     alloc: Global,
     coloured: bool,

@@ -1,4 +1,4 @@
-//! The lines of a text that show a finding, with marks: its point, where what is found comes from, and where paths meet.
+//! The lines of a text that show a finding, with marks: its point, its origin, and the point where paths meet.
 
 ghost use Rattle.std.specs.Prelude.{◌≡◌, option_copied, IfOk, OnOk};
 ghost use Rattle.flt_details.specs.Tracing.{other_way, way_of};
@@ -87,7 +87,7 @@ fn marks_of(
 
 // ---- how they are drawn
 
-/// What is drawn under a site.
+/// The stroke that is drawn under a site.
 #[tactic(auto, unfolding(crate::specs::Shown::stroke))]
 fn stroke(sign: Sign) -> Stroke
     ensures { result ≡ spec.stroke sign }
@@ -98,7 +98,7 @@ fn stroke(sign: Sign) -> Stroke
     }
 }
 
-/// Draws marks, in their order, with what they say.
+/// Draws marks, in their order, with their words.
 #[tactic(auto, unfolding(crate::specs::Shown::all_drawn))]
 fn draw_marks(
     page: &mut Page,
@@ -121,8 +121,7 @@ fn draw_marks(
     Ok(())
 }
 
-/// Draws the lines that show a finding, in their order in the text: on a path, or where no path is known its point and where what is
-/// found may come from.
+/// Draws the lines that show a finding, in their order in the text: on a path, or, if no path is known, its point and its possible origin.
 #[tactic(auto, unfolding(crate::specs::Shown::shown_lines))]
 pub(crate) fn draw_shown(
     alloc: Global,

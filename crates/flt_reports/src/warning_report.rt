@@ -39,7 +39,7 @@ fn tell_point(page: &mut Page, point: Option<Point>) -> Result<(), AllocError>
     }
 }
 
-/// Writes a warning's kind and title, the file, and where it is.
+/// Writes the kind and the title of a warning, its file and its place.
 #[tactic(auto, unfolding(crate::specs::WarningReport::head_lines))]
 fn tell_head_lines(
     page: &mut Page,
@@ -58,7 +58,7 @@ fn tell_head_lines(
 
 // ---- the places
 
-/// What of a region is on its first line.
+/// The part of a region that is on its first line.
 #[tactic(auto, unfolding(crate::specs::WarningReport::site_of))]
 fn site_of(lines: &Lines<'_>, region: Region) -> Site
     ensures { result ≡ spec.site_of lines.now region }
@@ -115,7 +115,7 @@ fn marks_of(
     Ok(marks)
 }
 
-/// What is drawn under a place.
+/// The stroke that is drawn under a place.
 #[tactic(auto, unfolding(crate::specs::WarningReport::stroke))]
 fn stroke(related: Option<usize>) -> Stroke
     ensures { result ≡ spec.stroke related }
@@ -126,7 +126,7 @@ fn stroke(related: Option<usize>) -> Stroke
     }
 }
 
-/// Writes what is said of a related place.
+/// Writes the words of a related place.
 fn tell_words(page: &mut Page, related: Option<&RelatedPlace>) -> Result<(), AllocError>
     ensures { Writes result page.old page.new (spec.words_of (option_copied related.entry)) }
 {
@@ -136,7 +136,7 @@ fn tell_words(page: &mut Page, related: Option<&RelatedPlace>) -> Result<(), All
     }
 }
 
-/// Writes what is behind a mark: nothing at the warning's own place.
+/// Writes the words after a mark: none at the warning's own place.
 #[tactic(auto, unfolding(crate::specs::WarningReport::mark_words))]
 fn tell_mark(
     page: &mut Page,
@@ -151,7 +151,7 @@ fn tell_mark(
     }
 }
 
-/// Draws marks, in their order, with what they say.
+/// Draws marks, in their order, with their words.
 #[tactic(auto, unfolding(crate::specs::WarningReport::all_drawn))]
 fn draw_marks(
     page: &mut Page,
@@ -209,12 +209,12 @@ fn tell(
     tell_note(page, detail.note.as_slice())
 }
 
-/// What is reported of a warning in a file of this name, which has these lines: what it says and where, the lines of its places, what to
-/// write, and what may come of it. Whole lines. With `coloured`, signs of a terminal colour them.
+/// The report of a warning in a file of this name, which has these lines: its title and place, the lines of its places, what to write, and
+/// what may result from it, in whole lines. With `coloured`, escape sequences of a terminal colour them.
 ///
 /// # Errors
 ///
-/// Where a growth was refused.
+/// If memory is refused.
 pub fn report_warning(
     alloc: Global,
     coloured: bool,

@@ -10,7 +10,7 @@ use flt_details::{Page, Scene, step_outcome, tell_branch};
 use flt_ways::{Step, Way};
 use std::alloc::AllocError;
 
-/// Writes the line of a statement, what it asks, and how that comes out.
+/// Writes the line number of a statement, its question, and the outcome.
 #[tactic(auto, unfolding(crate::specs::Ways::branch_line))]
 fn tell_step(
     page: &mut Page,
@@ -26,7 +26,7 @@ fn tell_step(
     page.bytes(b"\n")
 }
 
-/// Writes the branches among some steps, a line each, behind a word for them.
+/// Writes the branches among some steps, a line each, the first after a word for them.
 fn tell_steps(
     page: &mut Page,
     scene: &Scene<'_>,
@@ -48,7 +48,7 @@ fn tell_steps(
     Ok(())
 }
 
-/// Writes the branches of a path, a line each, behind a word for it; nothing where there is no path.
+/// Writes the branches of a path, a line each, the first after a word for it; nothing if there is no path.
 #[tactic(auto, unfolding(crate::specs::Ways::path_lines))]
 pub(crate) fn tell_way(
     page: &mut Page,

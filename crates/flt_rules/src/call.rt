@@ -3,14 +3,14 @@
 ghost use Rattle.std.specs.Prelude.{◌≡◌};
 ghost use Rattle.flt_rules.specs.Call as spec;
 
-/// What a context is set on.
+/// The object on which a context is set.
 #[derive(Clone, Copy)]
 pub enum Anchor {
     Stream,
     Instance,
 }
 
-/// What a set does where a context is there already.
+/// The effect of a set if a context is there already.
 #[derive(Clone, Copy)]
 pub enum Existing {
     Keep,
@@ -38,7 +38,7 @@ pub enum LockNumber {
     L7,
 }
 
-/// Which operation a call names: the one that the callback was given, or one that it removed from the queue.
+/// The operation that a call names: the one that the callback was given, or one that it removed from the queue.
 #[derive(Clone, Copy)]
 pub enum Possessed {
     Given,

@@ -1,4 +1,4 @@
-//! What a row of the call table is made of.
+//! The columns of the call table.
 
 ghost use Rattle.std.specs.Prelude.{◌≡◌};
 
@@ -17,19 +17,19 @@ pub enum Places {
     DeferredPost,
 }
 
-/// What a call asks of a variable before it is made.
+/// The state that a call requires of a variable before it is made.
 #[derive(Clone, Copy)]
 pub enum Need {
     Nothing,
     /// It is surely held.
     Held,
-    /// It is surely held, and goes to whom the call names.
+    /// It is surely held, and goes to the receiver that the call names.
     HandedOver,
     /// It receives what the call gives, so it must not be held.
     Output,
 }
 
-/// What a call asks of the lock that it names.
+/// The state that a call requires of the lock that it names.
 #[derive(Clone, Copy)]
 pub enum LockNeed {
     Nothing,
@@ -39,7 +39,7 @@ pub enum LockNeed {
     Latest,
 }
 
-/// What a call asks of its operands.
+/// The states that a call requires of its operands.
 #[derive(Clone, Copy)]
 pub struct Needs {
     /// Of the context that it works on or hands over.
@@ -55,7 +55,7 @@ pub struct Needs {
     pub lock: LockNeed,
 }
 
-/// What becomes of a variable.
+/// The effect of a call on a variable.
 #[derive(Clone, Copy)]
 pub enum Change {
     Stays,
@@ -65,7 +65,7 @@ pub enum Change {
     NullOrHeld,
 }
 
-/// What becomes of the lock list.
+/// The effect of a call on the lock list.
 #[derive(Clone, Copy)]
 pub enum LockChange {
     Stays,
@@ -75,7 +75,7 @@ pub enum LockChange {
     Released,
 }
 
-/// What becomes of the operands.
+/// The effects of a call on its operands.
 #[derive(Clone, Copy)]
 pub struct Effects {
     pub context: Change,
@@ -91,9 +91,9 @@ pub struct Row {
     pub greatest: Level,
     pub places: Places,
     pub needs: Needs,
-    /// What becomes of the operands where the call succeeds.
+    /// The effects on the operands if the call succeeds.
     pub on_ok: Effects,
-    /// The same where it fails; none for a call that always succeeds.
+    /// The same if it fails. None for a call that always succeeds.
     pub on_fail: Option<Effects>,
 }
 

@@ -38,7 +38,7 @@ impl Access {
         }
     }
 
-    /// Whether two activations may hold one lock so at the same time: only where both share it.
+    /// Whether two activations may hold one lock with these accesses at the same time: only if both share it.
     pub fn is_compatible(self, other: Access) -> bool
         ensures { result ≡ spec.are_compatible self other }
     {
@@ -46,7 +46,7 @@ impl Access {
     }
 }
 
-/// What stands in a place of a list that isn't filled. Nothing reads it.
+/// The entry at a place of a list that isn't filled. Nothing reads it.
 impl Default for HeldLock {
     fn default() -> HeldLock {
         HeldLock {
@@ -57,7 +57,7 @@ impl Default for HeldLock {
 }
 
 impl HeldLock {
-    /// Whether both are one lock, held in one way.
+    /// Whether both are one lock, held with the same access.
     pub fn is_same(self, other: HeldLock) -> bool
         ensures { result ≡ spec.same_held self other }
     {

@@ -21,14 +21,14 @@ pub enum Mode {
     Fast,
 }
 
-/// Whether a callback runs on the way down or on the way up.
+/// The stage of an operation: before it is passed down, or after it comes back.
 #[derive(Clone, Copy, PartialEq, Eq)]
 pub enum Stage {
     Pre,
     Post,
 }
 
-/// What kind of callback runs.
+/// The kind of callback that runs.
 #[derive(Clone, Copy)]
 pub enum Place {
     Pre(Operation),

@@ -29,7 +29,7 @@ pub enum StatusWord {
     MoreProcessingRequired,
 }
 
-/// What a returned status asks of the operation that the callback was given.
+/// The possession that a returned status requires of the operation that the callback was given.
 #[derive(Clone, Copy)]
 pub enum Possession {
     Held,
@@ -41,11 +41,11 @@ pub enum Possession {
 pub struct StatusRow {
     /// The stage of the callback that may return it.
     pub stage: Stage,
-    /// What must have become of the operation.
+    /// The possession that it requires of the operation.
     pub data: Possession,
     /// The only mode in which it is legal, if there is one.
     pub mode: Option<Mode>,
-    /// Whether it asks for a registered post callback of the operation.
+    /// Whether it requires a registered post callback of the operation.
     pub needs_post: bool,
     /// Whether it is legal for a create.
     pub in_create: bool,

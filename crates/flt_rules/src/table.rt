@@ -1,5 +1,5 @@
-//! The call table: for each call the greatest level, the legal places, what it needs of its operands, and
-//! what becomes of them.
+//! The call table: for each call the greatest level, the legal places, the states that it requires of its operands, and its effects on
+//! them.
 
 ghost use Rattle.std.specs.Prelude.{◌≡◌};
 ghost use Rattle.flt_rules.specs.Table as spec;
@@ -46,7 +46,7 @@ const GIVES_NULL_OR_HELD: Effects = Effects {
     lock: LockChange::Stays,
 };
 
-/// What becomes of the operation and the context that a call hands over, where it names them.
+/// The effects on the operation and the context that a call hands over, if it names them.
 const HANDED_OVER: Effects = Effects {
     context: Change::Stale,
     output: Change::Stays,
@@ -72,7 +72,7 @@ fn line(
     }
 }
 
-/// The places of a call on the stream or on the instance. A create has no stream on its way down.
+/// The places of a call on the stream or on the instance. The stream isn't there yet in the pre callback of a create.
 fn places_of(anchor: Anchor) -> Places
     ensures { result ≡ spec.places_of anchor }
 {
@@ -82,7 +82,7 @@ fn places_of(anchor: Anchor) -> Places
     }
 }
 
-/// What a call on the stream or on the instance asks of the operation, which names the stream.
+/// The state that a call on the stream or on the instance requires of the operation, which names the stream.
 fn operation_need(anchor: Anchor) -> Need
     ensures { result ≡ spec.operation_need anchor }
 {

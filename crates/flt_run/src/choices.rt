@@ -11,7 +11,7 @@ use flt_rules::Call;
 use std::alloc::Global;
 use std::collections::BTreeSet;
 
-/// The system's choices: whether it grants memory or a work item that is asked for.
+/// The system's choices: whether it grants memory or a work item that is requested.
 #[derive(Drop)]
 pub struct Choices {
     /// How many were committed. It stays at 2^64 - 1.
@@ -39,7 +39,7 @@ impl Choices {
         !self.refused.contains(&self.made)
     }
 
-    /// The step after an advance was made. It counts where it leaves a choice: memory or a work item that is asked for.
+    /// The step after an advance was made. It counts if it leaves a choice: it requests memory or a work item.
     pub fn count(&mut self, loaded: &Loaded, advanced: &Advanced)
         ensures { self.new ≡ spec.counted self.old (machine.leaves_choice_at (instruction_for loaded.now advanced.now)) }
     {
@@ -49,7 +49,7 @@ impl Choices {
     }
 }
 
-/// Whether the step at which it stands asks the system for memory or for a work item.
+/// Whether the step after the advance asks the system for memory or for a work item.
 fn leaves_choice(loaded: &Loaded, advanced: &Advanced) -> bool
     ensures { result ≡ machine.leaves_choice_at (instruction_for loaded.now advanced.now) }
 {

@@ -8,7 +8,7 @@ use std::alloc::{AllocError, AllocFailed};
 /// Why a turn was not taken.
 #[derive(Debug, Clone, Copy, PartialEq, Eq)]
 pub enum TurnFault {
-    /// The journal has 1,000,000 entries; or 65,536 operations have arrived, where one more would.
+    /// The journal has 1,000,000 entries; or 65,536 operations have arrived, and one more would.
     Full,
     /// A growth was refused.
     OutOfMemory,

@@ -18,10 +18,10 @@ use std::collections::VecDeque;
 /// How many subjects a turn names at most: an activation; and an operation, a work item or an entry.
 const MOST_NAMED: usize = 2;
 
-/// What a subject's turn came to.
+/// The result of a subject's turn.
 #[derive(Drop)]
 struct Turned {
-    /// What it names.
+    /// The subjects that it names.
     next: Vec<Subject>,
     /// Whether the subject goes to the end of the list.
     stays: bool,
@@ -40,7 +40,7 @@ impl Turned {
     }
 }
 
-/// The move that a subject asks for, enabled or not; none of an activation, which goes by steps. It is none of what callers ask for.
+/// The move that a subject asks for, enabled or not; none of an activation, which makes steps. It is never a move that callers make.
 pub fn asked_by(board: &Board, loaded: &Loaded, subject: Subject) -> Option<Move>
     requires own { IsOwn loaded.now board.now }
     ensures asks { Now loaded.now board.now (λ p m. spec.AsksFor p m.world subject result) }
@@ -56,7 +56,7 @@ pub fn asked_by(board: &Board, loaded: &Loaded, subject: Subject) -> Option<Move
     }
 }
 
-/// Whether a subject is a teardown that goes on: its filter is being detached.
+/// Whether a subject is a teardown that hasn't ended: its filter is being detached.
 pub fn is_teardown(board: &Board, loaded: &Loaded, subject: Subject) -> bool
     requires own { IsOwn loaded.now board.now }
     ensures { Now loaded.now board.now (λ p m. result ≡ spec.is_teardown p m.world subject) }
@@ -67,14 +67,14 @@ pub fn is_teardown(board: &Board, loaded: &Loaded, subject: Subject) -> bool
     }
 }
 
-/// Whether a subject goes to the end of the list after this move. `teardown` says whether it is a teardown that goes on.
+/// Whether a subject goes to the end of the list after this move. `teardown` says whether it is a teardown that hasn't ended.
 pub fn stays_after(teardown: bool, made: Move) -> bool
     ensures { result ≡ spec.stays_after teardown (Some made) }
 {
     teardown && !matches!(made, Move::Detached { .. })
 }
 
-/// Makes a subject's move, where it has one that is enabled.
+/// Makes a subject's move, if it has one that is enabled.
 fn move_on(
     heap: &mut Heap,
     board: &mut Board,
@@ -195,11 +195,11 @@ fn put_behind(subjects: &mut VecDeque<Subject>, first: Subject, turned: Turned)
     }
 }
 
-/// The first subject of a list has its turn. An operation, a work item or an entry makes its move, where it has one that is enabled; an
-/// activation makes its local steps and the step after them. Then the subject goes. It comes to the end of the list instead where it is
-/// an activation that is blocked, or a teardown that has begun; a teardown goes once it has ended its filter. What the move or the step gives a ticket
-/// comes to the end first, which is an activation and an operation, a work item or an entry at most. It answers false where there is no
-/// subject. What is loaded must be the board's own.
+/// The first subject of a list has its turn. An operation, a work item or an entry makes its move, if it has one that is enabled; an
+/// activation makes its local steps and the step after them. Then the subject leaves the list. It goes to the end of the list instead if it
+/// is an activation that is blocked, or a teardown that has begun; a teardown leaves once it has ended its filter. The subjects to which
+/// the move or the step gives a ticket come to the end first: at most an activation, and an operation, a work item or an entry. It answers
+/// false if the list is empty. The loaded filters must be the board's own.
 pub fn turn(
     heap: &mut Heap,
     board: &mut Board,

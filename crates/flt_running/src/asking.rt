@@ -1,5 +1,5 @@
-//! What a caller's call does while it holds the lock. The tickets are put first, so that a call that is refused adds nothing; a worker
-//! that takes one can make no move before the lock is free.
+//! The part of a caller's call that holds the lock. It puts the tickets first, so that a call that is refused adds nothing; a worker that
+//! takes one can make no move before the lock is free.
 ghost use Rattle.std.specs.Prelude.{◌≡◌, ◌≢◌, ◌≤◌, ◌⊎◌, ◌↔◌, ◌+◌, ◌<◌, ◌++◌, ◌∷◌, [], false, true, List, length, is_some, Err, IfErr, IfOk, IfSome, None, OnErr, OnOk, Some};
 ghost use Rattle.std.specs.BTreeSet.{insert_key};
 ghost use Rattle.std.specs.Ordering.{nat_cmp};
@@ -165,7 +165,7 @@ fn put_one<R: Wait>(
     }
 }
 
-/// Puts tickets where any worker finds them, in their order. Where one is refused, those before it stay.
+/// Puts tickets where any worker finds them, in their order. If one is refused, those before it stay.
 fn put_all<R: Wait>(
     rt: &R,
     exchange: &Exchange,

@@ -1,8 +1,8 @@
-//! The running stack: loaded filters, one board of them behind a lock, and callers and workers round it.
+//! The running stack: loaded filters, a board of them guarded by a lock, and the callers and workers that share it.
 //!
-//! A caller lets operations arrive, cancels them and begins teardowns; each goes through a seat of its own, which keeps the receipts of
-//! what succeeded. A worker has a seat too. Whenever the lock is free the board's journal is a run of the machine on the loaded filters
-//! that breaks nothing, and so is the journal that the end hands out.
+//! A caller lets operations arrive, cancels them and begins teardowns; each goes through a seat of its own, which keeps the receipts of the
+//! calls that succeeded. A worker has a seat too. Whenever the lock is free the board's journal is a run of the machine on the loaded
+//! filters that breaks nothing. The journal that the end returns is one too.
 #![tactic(auto)]
 
 mod asking;
@@ -24,5 +24,5 @@ pub use flt_pool::Gate;
 pub use flt_run::TurnFault;
 pub use seats::{CallerSeat, WorkerSeat};
 pub use stack::{Blanks, Stack};
-/// What opening a stack answers where there is no memory.
+/// The answer of opening a stack if memory is refused.
 pub use std::alloc::AllocError as OutOfMemory;

@@ -10,7 +10,7 @@ ghost use Rattle.flt_running.specs.Requests.{IsWithout};
 use crate::word::has_bit;
 use flt_workers::{Exchange, WorkerPlace};
 
-/// The requests of one word that are still to be tried. They stay here where a cancel is refused.
+/// The requests of one word that are still to be tried. They stay here if a cancel is refused.
 #[derive(Clone, Copy)]
 pub(crate) struct Requests {
     pub(crate) word: usize,

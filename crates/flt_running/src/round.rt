@@ -1,9 +1,9 @@
-//! How a worker that is alone goes round among tickets of which none moves anything.
+//! The rounds of a worker that is alone, among tickets of which none moves anything.
 ghost use Rattle.std.specs.Prelude.{◌≤◌, ◌<◌, ◌↔◌, IsTrue};
 
-/// Which turns of a worker can be passed over. A ticket that stays goes to the back of the worker's deque. Where each of its tickets had its
-/// turn, all stay, and none moved anything, the next round finds all as it was, and so does each one after it: the worker is alone, so
-/// nobody else makes a move, and what callers add lies elsewhere. Such a round leaves the tickets in their order.
+/// Which turns of a worker can be passed over. A ticket that stays goes to the back of the worker's deque. If each of its tickets had its
+/// turn, all stay, and none moved anything, then the next round finds all as it was, like each one after it: the worker is alone, so nobody
+/// else makes a move, and callers add their tickets elsewhere. Such a round leaves the tickets in their order.
 #[derive(Drop)]
 pub(crate) struct Round {
     /// Whether the worker has its deque for itself.
@@ -15,7 +15,7 @@ pub(crate) struct Round {
 }
 
 impl Round {
-    /// That of a worker before its first turn.
+    /// The `Round` of a worker before its first turn.
     pub(crate) fn new(alone: bool) -> Round {
         Round {
             alone,
@@ -45,8 +45,8 @@ impl Round {
         self.alone && self.still != 0
     }
 
-    /// The journal has this many entries beside the arrivals, which move no ticket that stays. If these are others than before, each ticket
-    /// is to have a turn once more.
+    /// The journal has this many entries beside the arrivals, which move no ticket that stays. If their number has changed, each ticket
+    /// gets a turn again.
     pub(crate) fn begin(&mut self, entries: usize) {
         if entries != self.entries {
             self.entries = entries;
@@ -54,7 +54,7 @@ impl Round {
         }
     }
 
-    /// How many turns of so many that are left can be passed over: whole rounds, where the deque has `held` tickets.
+    /// How many turns of so many that are left can be passed over: whole rounds, if the deque has `held` tickets.
     pub(crate) fn passes(&self, held: u64, left: u32) -> u32
         ensures { result ≤ left }
     {

@@ -10,8 +10,8 @@ use flt_receipts::HoldsReceipts;
 use flt_workers::{CallerPlace, WorkerPlace};
 use std::sync::ledger::Share;
 
-/// A caller's seat: its place at the exchange of the stack that gave it, the receipts of its arrivals and detaches, with its share of
-/// the callers' entries, and its share of what was refused for want of room. It may go to another thread.
+/// A caller's seat: its place at the exchange of the stack that gave it, the receipts of its arrivals and detaches, with its share of the
+/// callers' entries, and its share of the ledger of refusals for lack of room. It may go to another thread.
 #[derive(Drop)]
 pub struct CallerSeat<N: StackName> {
     pub(crate) place: CallerPlace,
@@ -29,8 +29,8 @@ impl<N: StackName> HoldsReceipts for CallerSeat<N> {
     }
 }
 
-/// A worker's seat: its place at the exchange of the stack that gave it, its share of the other entries and of what was refused for want
-/// of room, and what its work left over. It may go to another thread.
+/// A worker's seat: its place at the exchange of the stack that gave it, its shares of the ledgers of the other entries and of refusals for
+/// lack of room, and the leftovers of its work. It may go to another thread.
 #[derive(Drop)]
 pub struct WorkerSeat<N: StackName> {
     pub(crate) place: WorkerPlace,
@@ -45,8 +45,8 @@ pub struct WorkerSeat<N: StackName> {
 }
 
 impl<N: StackName> WorkerSeat<N> {
-    /// Whether the ticket that had its turn last stays, and nothing was moved. Where that isn't so behind a call of `work`, the call found no
-    /// ticket that waits for others. What the seat counts of this no clause of `work` says.
+    /// Whether the ticket that had its turn last stays, and nothing was moved. If it is false after a call of `work`, the call found no
+    /// ticket that waits for others. No clause of `work` says how the seat counts this.
     pub fn is_still(&self) -> bool
         ensures { IsTrue result ↔ 0 < self.now.round.still }
     {

@@ -1,4 +1,4 @@
-//! That threads may share what a stack has. These functions do nothing: their clauses are what the bounds say.
+//! Laws: threads may share the parts of a stack. These functions do nothing at run time: their clauses state what the bounds require.
 
 ghost use denote.Param.Send.{IsSend, IsSync};
 ghost use Rattle.flt_stack.specs.contracts.loaded.Loaded as loaded;
@@ -17,7 +17,7 @@ pub fn sent<T: Send>()
     ensures { IsSend T.row }
 {}
 
-/// Threads may share what is loaded.
+/// Threads may share the loaded filters.
 pub fn loaded_is_shared()
     ensures { IsSync loaded.the_row }
 {

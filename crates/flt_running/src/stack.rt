@@ -1,4 +1,4 @@
-//! The stack, and what its callers ask of it.
+//! The stack, and the calls on it.
 ghost use Rattle.std.specs.Prelude.{◌≡◌, ◌≢◌, ◌↔◌, ◌⊎◌, ◌+◌, ◌<◌, ◌≤◌, ◌++◌, ◌∷◌, [], ℕ, true, false, All, Err, IfErr, IfOk, IsPermutation, IsTrue, List, MatchResult, OnErr, OnOk, length, map, sum_by};
 ghost use Rattle.flt_cancel.specs.Serials.{IsPresent};
 ghost use Rattle.flt_cancel.specs.Steps.{IsNext, words_after};
@@ -47,7 +47,7 @@ pub(crate) struct Spare<N: StackName> {
     pub(crate) ghost fulls_none: { fulls.amount ≡ 0 },
 }
 
-/// The blanks of a stack's three ledgers: that of the callers' entries, that of the others, and that of what is refused for want of room.
+/// The blanks of a stack's three ledgers: of the callers' entries, of the others, and of refusals for lack of room.
 #[derive(Drop)]
 pub struct Blanks {
     pub callers: Blank,
@@ -55,13 +55,13 @@ pub struct Blanks {
     pub fulls: Blank,
 }
 
-/// A stack: the loaded filters, a board of them behind a lock, and the exchange where callers and workers meet. Threads share it.
+/// A stack: the loaded filters, a board of them guarded by a lock, and the exchange where callers and workers meet. Threads share it.
 #[derive(Drop)]
 pub struct Stack<N: StackName> {
     pub(crate) loaded: Loaded,
     pub(crate) exchange: Exchange,
     pub(crate) locked: Mutex<Locked<N>>,
-    /// Nobody takes this lock. It stands here so that threads may share the stack.
+    /// Nobody takes this lock. It exists so that threads may share the stack.
     pub(crate) spare: Mutex<Spare<N>>,
     pub(crate) ghost named: { loaded ≡ N.trees },
 }
@@ -148,7 +148,7 @@ impl<N: StackName> Stack<N> {
         }
     }
 
-    /// What a board is lent.
+    /// The loaded filters that a board is lent.
     pub(crate) fn machine(&self) -> &flt_machine::Loaded
         ensures { AreLoaded N.trees result.now }
     {
@@ -161,8 +161,8 @@ impl<N: StackName> Stack<N> {
     ///
     /// # Errors
     ///
-    /// There are 1,000,000 entries or 65,536 operations, or a growth was refused. Where one was refused after the ticket had been put, this
-    /// stays until a worker takes it, and no move comes of it.
+    /// There are 1,000,000 entries or 65,536 operations, or a growth was refused. If that was after the ticket had been put, the ticket
+    /// stays until a worker takes it, and leads to no move.
     pub fn arrive<R: Wait>(
         &self,
         rt: &R,
@@ -207,8 +207,8 @@ impl<N: StackName> Stack<N> {
     ///
     /// # Errors
     ///
-    /// The first of these: no filter has the altitude; its teardown has begun before; there are 1,000,000 entries; a growth was refused.
-    /// Where one was refused after tickets had been put, these stay until a worker takes them, and no move comes of them.
+    /// The first of these: no filter has the altitude; its teardown has begun before; there are 1,000,000 entries; a growth was refused. If
+    /// that was after tickets had been put, these stay until a worker takes them, and lead to no move.
     pub fn detach<R: Wait>(
         &self,
         rt: &R,
@@ -246,8 +246,8 @@ impl<N: StackName> Stack<N> {
         )
     }
 
-    /// Asks for the cancel of an operation, by its serial number, whether it has arrived or not. It waits for nobody, takes no memory and
-    /// is never refused. The operation is cancelled once a worker collects what was asked for, if it can be then.
+    /// Requests that an operation be cancelled, by its serial number, whether it has arrived or not. It waits for nobody, takes no memory
+    /// and is never refused. The operation is cancelled once a worker collects the request, if it can be then.
     pub fn cancel(&self, seat: &mut CallerSeat<N>, serial: u32)
         requires serial { serial < 65536 }
         requires seat { IsCallerOf self.now.exchange seat.old.place }
@@ -270,8 +270,8 @@ impl<N: StackName> Stack<N> {
 
     // ---- the end
 
-    /// Ends the stack, and hands out its journal. Where all seats come back that `open` gave, the journal has as many entries of callers,
-    /// and of others, as their shares say together. Where one of the seats was refused something for want of room, the journal is full.
+    /// Ends the stack, and returns its journal. If all seats come back that `open` gave, the journal has as many entries of callers, and of
+    /// others, as their shares say together. If a call of one of the seats was refused for lack of room, the journal is full.
     ///
     /// # Errors
     ///

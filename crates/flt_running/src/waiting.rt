@@ -1,4 +1,4 @@
-//! What a worker still has to push.
+//! The tickets that a worker must still push.
 ghost use Rattle.std.specs.Prelude.{◌≡◌, ◌++◌, ◌∷◌, [], Err, IfErr, IfOk, OnErr, OnOk};
 ghost use Rattle.flt_run.specs.declared.fault.TurnFault.TheVariants as fault;
 ghost use Rattle.flt_running.specs.Left.{AreUnpushed};
@@ -12,11 +12,11 @@ use flt_run::TurnFault;
 use flt_workers::{Ticket, WorkerPlace};
 use std::alloc::{AllocError, Global};
 
-/// Tickets that wait to be pushed: what a move gave a ticket, and then the move's own ticket, where it goes to the back. They stay here
-/// where a push is refused, so that none is lost.
+/// Tickets that wait to be pushed: those that a move gave, and then the move's own ticket, if it goes to the back. They stay here if a push
+/// is refused, so that none is lost.
 #[derive(Drop)]
 pub(crate) struct Waiting {
-    /// What the move gave a ticket.
+    /// The tickets that the move gave.
     named: Vec<Ticket>,
     /// How many of these are pushed.
     pushed: usize,
@@ -53,14 +53,14 @@ impl Waiting {
         self.held
     }
 
-    /// A ticket was taken: from the own deque, where one lay there.
+    /// A ticket was taken: from the own deque, if one lay there.
     pub(crate) fn take(&mut self)
         ensures { spec.tickets self.new ≡ spec.tickets self.old }
     {
         self.held = self.held.saturating_sub(1);
     }
 
-    /// Ends a ticket's turn: pushes what it gave a ticket, and the ticket itself, where it stays. Where the turn was refused, the ticket
+    /// Ends a ticket's turn: pushes the tickets that it gave, and the ticket itself, if it stays. If the turn was refused, the ticket
     /// waits, and the fault is handed on. It answers whether the turn made an entry.
     pub(crate) fn finish_turn(
         &mut self,
@@ -91,7 +91,7 @@ impl Waiting {
         }
     }
 
-    /// A ticket waits, where none did.
+    /// A ticket waits, if none did before.
     fn keep(&mut self, ticket: Ticket)
         requires { spec.tickets self.old ≡ [] }
         ensures { spec.tickets self.new ≡ ticket ∷ [] }
@@ -99,7 +99,7 @@ impl Waiting {
         self.own = Some(ticket);
     }
 
-    /// Pushes what a turn gave a ticket, and the turn's own ticket, where it stays. It answers whether the turn made an entry.
+    /// Pushes the tickets that a turn gave, and the turn's own ticket, if it stays. It answers whether the turn made an entry.
     pub(crate) fn settle(
         &mut self,
         place: &mut WorkerPlace,
@@ -124,7 +124,7 @@ impl Waiting {
         Ok(made)
     }
 
-    /// Pushes what waits, in its order, until one is refused.
+    /// Pushes the waiting tickets, in their order, until one is refused.
     pub(crate) fn push_all(&mut self, place: &mut WorkerPlace) -> Result<(), OutOfMemory>
         ensures pushed { put_own place.new ++ spec.tickets self.new ≡ put_own place.old ++ spec.tickets self.old }
         ensures all { OnOk result (spec.tickets self.new ≡ []) }
@@ -137,7 +137,7 @@ impl Waiting {
         self.push_own(place)
     }
 
-    /// Pushes what the move gave a ticket, in its order, until one is refused.
+    /// Pushes the tickets that the move gave, in their order, until one is refused.
     fn push_named(&mut self, place: &mut WorkerPlace) -> Result<(), OutOfMemory>
         ensures pushed { put_own place.new ++ spec.tickets self.new ≡ put_own place.old ++ spec.tickets self.old }
         ensures all { OnOk result (spec.tickets self.new ≡ spec.listed self.new.own) }
@@ -157,7 +157,7 @@ impl Waiting {
         Ok(())
     }
 
-    /// Pushes the move's own ticket, where it waits. All others are pushed.
+    /// Pushes the move's own ticket, if it waits. All others are pushed.
     fn push_own(&mut self, place: &mut WorkerPlace) -> Result<(), OutOfMemory>
         requires { spec.tickets self.old ≡ spec.listed self.old.own }
         ensures pushed { put_own place.new ++ spec.tickets self.new ≡ put_own place.old ++ spec.tickets self.old }

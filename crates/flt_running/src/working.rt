@@ -1,4 +1,4 @@
-//! What a worker does: it takes a ticket and makes its move, over and over.
+//! The work of a worker: it takes a ticket and makes its move, over and over.
 ghost use Rattle.std.specs.Prelude.{◌≡◌, ◌≢◌, ◌⊎◌, ◌+◌, ◌*◌, ◌<◌, ◌≤◌, ◌++◌, ◌∷◌, [], IfErr, IfOk, IfSome, Err, None, OnErr, OnOk};
 ghost use Rattle.flt_cancel.specs.Serials.{serials};
 ghost use Rattle.flt_core.specs.Turning.{grows};
@@ -35,7 +35,7 @@ const MAX_TICKETS: u32 = 1_000_000;
 /// more.
 const MAX_LOOKS: u32 = 2_000_001;
 
-/// What a look came to.
+/// The result of a look.
 #[derive(Clone, Copy)]
 struct Looked {
     /// How many entries were made.
@@ -54,14 +54,13 @@ fn is_still(outcome: &Result<Turned, TurnFault>) -> bool {
 
 impl<N: StackName> Stack<N> {
     /// Works until one look at all deques finds no ticket, or 1,000,000 tickets were taken, and answers how many entries it added. The
-    /// worker of number 0 also collects what was asked to be cancelled: before its first ticket, and again where it finds none. What an
-    /// earlier call left over comes first. The gate is called before each change, with no lock held. Where there is one worker, and each
-    /// ticket of its deque had a turn that moved nothing, further rounds of them are counted as if they were taken, and aren't.
+    /// worker of number 0 also collects the requests to cancel: before its first ticket, and again when it finds none. The leftovers of an
+    /// earlier call come first. The gate is called before each change, with no lock held. If there is one worker, and each ticket of its
+    /// deque had a turn that moved nothing, further rounds of them are counted as if they were taken, and aren't.
     ///
     /// # Errors
     ///
-    /// There are 1,000,000 entries, or a growth was refused. The entries that were made before stay, and what is left over stays in the
-    /// seat.
+    /// There are 1,000,000 entries, or a growth was refused. The entries that were made before stay, and the leftovers stay in the seat.
     pub fn work<R: Wait, G: Gate>(
         &self,
         rt: &R,
@@ -108,7 +107,7 @@ impl<N: StackName> Stack<N> {
         board.journal().len().saturating_sub(board.operations())
     }
 
-    /// Serves a ticket, or else what was asked to be cancelled. It answers none where it finds neither.
+    /// Serves a ticket, or else the requests to cancel. It answers none if it finds neither.
     fn look<R: Wait, G: Gate>(
         &self,
         rt: &R,
@@ -148,7 +147,7 @@ impl<N: StackName> Stack<N> {
 
     // ---- tickets
 
-    /// A ticket's turn. It answers whether an entry was made. The ticket stays in the seat where the turn is refused.
+    /// A ticket's turn. It answers whether an entry was made. The ticket stays in the seat if the turn is refused.
     fn serve<R: Wait, G: Gate>(
         &self,
         rt: &R,
@@ -270,15 +269,15 @@ impl<N: StackName> Stack<N> {
             .go_on(alloc, machine, mine, fulls, &advanced)
     }
 
-    /// An activation as it stands on the board; none where it has ended.
+    /// An activation as it is on the board; none if it has ended.
     fn checkout<R: Wait>(&self, rt: &R, activation: u32) -> Option<Frame> {
         self.locked.lock(rt).core.board().checkout(activation)
     }
 
     // ---- requests
 
-    /// Cancels what was asked to be cancelled, in the order of the serial numbers, where it can be. It answers how many entries were made.
-    /// Only the worker of number 0 does so, and it looks only at the words of groups that have a mark.
+    /// Cancels the requested operations that can be cancelled, in the order of the serial numbers. It answers how many entries were made.
+    /// Only the worker of number 0 calls it, and it looks only at the words of groups that have a mark.
     fn collect<R: Wait, G: Gate>(
         &self,
         rt: &R,
@@ -310,8 +309,8 @@ impl<N: StackName> Stack<N> {
         Ok(made + more)
     }
 
-    /// Takes all marks, collects the words of the groups that had one, and cancels what each asks for, where it can be. It answers how many
-    /// entries were made. Where it is refused something it sets the marks again, since words are left that weren't looked at.
+    /// Takes all marks, collects the words of the groups that had one, and cancels the operations that can be cancelled. It answers how
+    /// many entries were made. If it is refused something it sets the marks again, since some words weren't looked at.
     fn sweep_marked<R: Wait, G: Gate>(
         &self,
         rt: &R,
@@ -365,8 +364,8 @@ impl<N: StackName> Stack<N> {
         }
     }
 
-    /// Collects the words of these groups, one bit each, in their order, and cancels what each asks for, where it can be. It answers how many
-    /// entries were made.
+    /// Collects the words of these groups, one bit each, in their order, and cancels the operations that can be cancelled. It answers how
+    /// many entries were made.
     fn sweep<R: Wait, G: Gate>(
         &self,
         rt: &R,
@@ -405,7 +404,8 @@ impl<N: StackName> Stack<N> {
         Ok(made)
     }
 
-    /// Collects the words of a group in their order, and cancels what each asks for, where it can be. It answers how many entries were made.
+    /// Collects the words of a group in their order, and cancels the operations that can be cancelled. It answers how many entries were
+    /// made.
     fn sweep_group<R: Wait, G: Gate>(
         &self,
         rt: &R,
@@ -445,7 +445,7 @@ impl<N: StackName> Stack<N> {
         Ok(made)
     }
 
-    /// Cancels what the seat's requests ask for, where it can be. It answers how many entries were made.
+    /// Cancels the operations of the seat's requests that can be cancelled. It answers how many entries were made.
     fn cancel_all<R: Wait, G: Gate>(
         &self,
         rt: &R,
@@ -480,7 +480,7 @@ impl<N: StackName> Stack<N> {
         Ok(made)
     }
 
-    /// Cancels the operation that a bit of the seat's requests stands for, where it can be. It answers whether an entry was made.
+    /// Cancels the operation that a bit of the seat's requests stands for, if it can be cancelled. It answers whether an entry was made.
     fn cancel_one<R: Wait, G: Gate>(
         &self,
         rt: &R,
@@ -521,7 +521,7 @@ impl<N: StackName> Stack<N> {
         Ok(seat.waiting.settle(&mut seat.place, turned, None)?)
     }
 
-    /// Cancels an operation, where it can be.
+    /// Cancels an operation, if it can be cancelled.
     fn try_cancel<R: Wait, G: Gate>(
         &self,
         rt: &R,

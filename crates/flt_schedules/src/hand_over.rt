@@ -39,7 +39,7 @@ fn is_handed_by_status(from: Place, status: Option<Status>, place: Place) -> boo
     }
 }
 
-/// Whether what is done at a point of a callback hands a context to the callback of a number.
+/// Whether an instruction of a callback hands a context to the callback of a number.
 fn is_handed_by(from: Place, instruction: &Instruction, number: usize, place: Place) -> bool
     ensures { result ≡ spec.is_handed_by from instruction.now number place }
 {

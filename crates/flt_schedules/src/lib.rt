@@ -1,9 +1,10 @@
 //! Schedules: for each finding of `explain`, the run of the machine that breaks something because of it.
 //!
-//! `violations` has what a broken rule leads to, and `hand_over` finds out whether a callback is ever handed a context. `outlook` says what
-//! no run reaches, since nothing starts its callback or nothing sets a context that is got before (`unset`); `reach` finds what may be so
-//! at each point of a text (`possible`), and looks that nothing leads out of it. `schedules` looks for runs with `flt_search`, of several
-//! filters at once and of the findings' filter alone, or says why there is none. `meeting` says which filters meet.
+//! `violations` has the violations to which a broken rule leads, and `hand_over` finds out whether a callback is ever handed a context.
+//! `outlook` knows which findings no run reaches, since nothing starts their callback or nothing sets a context that is got before
+//! (`unset`); `reach` finds the possible states of a variable at each point of a text (`possible`), and checks that nothing leads out of
+//! them. `schedules` looks for runs with `flt_search`, of several filters at once and of the findings' filter alone, or says why there is
+//! none. `meeting` says which filters meet.
 #![tactic(auto)]
 
 mod hand_over;

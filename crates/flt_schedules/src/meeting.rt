@@ -1,4 +1,4 @@
-//! Which filters meet: on one operation both have a callback.
+//! Which filters meet: those that have a callback of the same operation.
 
 ghost use Rattle.std.specs.Prelude.{◌≡◌};
 ghost use Rattle.flt_schedules.specs.Meeting as spec;
@@ -39,7 +39,7 @@ fn meet(one: &Filter, other: &Filter) -> bool
         || meet_on(one, other, Operation::Cleanup)
 }
 
-/// Whether the filter of a number meets one of some filters.
+/// Whether a filter meets one of some others.
 fn meets_some(one: &Filter, others: &[Tree]) -> bool
     ensures { result ≡ spec.meets_some one.now others.now }
 {

@@ -1,4 +1,4 @@
-//! What runs can reach of a filter's text: what is found where no run comes needs no search.
+//! The reach of runs in a filter's text: a finding that no run reaches needs no search.
 
 ghost use Rattle.std.specs.Prelude.{◌≡◌, IfOk, IfSome, OnOk, IsTrue};
 ghost use Rattle.flt_graph.specs.declared.graph.Graph.{Graph};
@@ -29,7 +29,7 @@ const VARIABLES: [ContextVariable; 9] = [
     ContextVariable::Arg,
 ];
 
-/// What may be so of a variable at each point, where nothing sets contexts on some anchors.
+/// The possible states of a variable at each point, if nothing sets contexts on some anchors.
 #[derive(Drop)]
 pub(crate) struct Surveyed {
     unset: Unset,
@@ -56,7 +56,7 @@ impl<'g> Model for Outlook<'g> {
     ghost invariant = { λ o. All (IsSurveyed o.graph.now) o.surveyed };
 }
 
-/// Whether all that may be so of a variable is as a rule asks.
+/// Whether all possible states of a variable are those that a rule demands.
 fn are_fine(rule: Rule, set: Possible) -> bool
     ensures { result ≡ spec.are_fine rule set }
 {
@@ -67,7 +67,7 @@ fn are_fine(rule: Rule, set: Possible) -> bool
     }
 }
 
-/// Whether nothing that may be so is what is found.
+/// Whether a finding of this rule and subject holds in no possible state.
 fn is_fine_for(rule: Rule, subject: Subject, set: Possible) -> bool
     ensures { result ≡ spec.is_fine_for rule subject set }
 {
@@ -88,7 +88,7 @@ fn followed(subject: Subject) -> ContextVariable
 }
 
 impl Surveyed {
-    /// What may be so of a variable where nothing sets contexts on some anchors, if nothing leads out of what is found of it.
+    /// The possible states of a variable if nothing sets contexts on some anchors; none if something leads out of those that are found.
     fn of(
         alloc: Global,
         graph: &Graph,
@@ -122,7 +122,7 @@ impl Surveyed {
         self.variable.place() == followed(finding.subject).place()
     }
 
-    /// Whether nothing that may be so is what is found.
+    /// Whether a finding holds in no possible state.
     fn excludes(&self, finding: &Finding) -> bool
         ensures { result ≡ spec.is_fine_for finding.now.rule finding.now.subject (spec.at self.now.rows finding.now.callback finding.now.point) }
     {
@@ -151,7 +151,7 @@ impl Surveyed {
     }
 }
 
-/// Adds what may be so of a variable where nothing sets contexts on some anchors.
+/// Adds the possible states of a variable if nothing sets contexts on some anchors.
 fn add_survey(
     alloc: Global,
     graph: &Graph,
@@ -172,7 +172,7 @@ fn add_survey(
     }
 }
 
-/// The same of each variable.
+/// The same for each variable.
 fn add_surveys(
     alloc: Global,
     graph: &Graph,
@@ -206,8 +206,8 @@ fn add_some(
     Ok(())
 }
 
-/// What may be so of each variable: as it is, without contexts of the instance, without those of streams, and without both, where nothing sets
-/// them.
+/// The possible states of each variable: in the text as it is, without contexts of the instance, without those of streams, and without
+/// both, if nothing sets them.
 fn surveys(alloc: Global, graph: &Graph) -> Result<Items<Surveyed>, AllocError>
     ensures { IfOk result (All (spec.IsSurveyed graph.now)) }
 {
@@ -223,11 +223,11 @@ fn surveys(alloc: Global, graph: &Graph) -> Result<Items<Surveyed>, AllocError>
 }
 
 impl<'g> Outlook<'g> {
-    /// What runs can reach of a filter's text.
+    /// The reach of runs in a filter's text.
     ///
     /// # Errors
     ///
-    /// Where a growth was refused.
+    /// If memory is refused.
     pub fn of(alloc: Global, graph: &'g Graph) -> Result<Outlook<'g>, AllocError>
         ensures { IfOk result (λ o. o ≡ graph.now) }
     {
@@ -242,14 +242,14 @@ impl<'g> Outlook<'g> {
         self.graph
     }
 
-    /// The anchors for whose contexts some callback asks, and on which none sets one.
+    /// The anchors whose context some callback asks for, and on which none sets one.
     pub fn unset(&self) -> Unset
         ensures { AreUnset self.now result }
     {
         Unset::of(self.graph)
     }
 
-    /// The anchors that hinder a finding: calls ask for contexts on them, nothing sets any, and so what is found isn't reached.
+    /// The anchors that keep a finding from being reached: calls ask for contexts on them, and nothing sets any.
     pub(crate) fn unset_for(&self, finding: &Finding) -> Option<Unset>
         ensures { IfSome result (spec.IsNeverGot self.now finding.now) }
     {

@@ -1,4 +1,4 @@
-//! What may be so of one variable of contexts, and what an instruction makes of that.
+//! The possible states of one variable of contexts, and how an instruction changes them.
 
 ghost use Rattle.std.specs.Prelude.{◌≡◌, true, false, Some};
 ghost use Rattle.flt_explain.specs.About.{is_context};
@@ -9,7 +9,7 @@ use crate::hand_over::is_argument;
 use flt_graph::{Action, ContextVariable, Instruction, Invocation, Place, Test};
 use flt_rules::{Change, Effects, row};
 
-/// Whether the variable may be NULL, held, or released or handed over. Where none of it may be, the place isn't reached.
+/// Whether the variable may be NULL, held, or released or handed over. If none of these is possible, the place isn't reached.
 #[derive(Clone, Copy)]
 pub(crate) struct Possible {
     pub(crate) null: bool,
@@ -28,7 +28,7 @@ fn is_named(named: Option<ContextVariable>, variable: ContextVariable) -> bool
 }
 
 impl Possible {
-    /// Nothing may be so.
+    /// No state is possible.
     pub(crate) fn nothing() -> Possible
         ensures { result ≡ spec.nothing }
     {
@@ -58,7 +58,7 @@ impl Possible {
         }
     }
 
-    /// What may be so of a variable where a callback at this place is entered.
+    /// The possible states of a variable when a callback at this place is entered.
     pub(crate) fn entered(place: Place, variable: ContextVariable) -> Possible
         ensures { result ≡ spec.entered place variable }
     {
@@ -77,14 +77,14 @@ impl Possible {
         self.null || self.held || self.stale
     }
 
-    /// Whether all that may be so by this may be so by the other.
+    /// Whether each state that is possible here is possible in the other.
     pub(crate) fn is_within(self, other: Possible) -> bool
         ensures { result ≡ spec.is_within self other }
     {
         (!self.null || other.null) && (!self.held || other.held) && (!self.stale || other.stale)
     }
 
-    /// What may be so by one of both.
+    /// The states that are possible in one of both.
     pub(crate) fn or(self, other: Possible) -> Possible {
         Possible {
             null: self.null || other.null,
@@ -111,7 +111,7 @@ impl Possible {
         }
     }
 
-    /// The same where the variable is the one that is named.
+    /// The same if the variable is the one that is named.
     fn changed_if(self, is_own: bool, change: Change) -> Possible
         ensures { result ≡ spec.changed_if is_own change self }
     {
@@ -155,7 +155,7 @@ impl Possible {
         }
     }
 
-    /// What is left where a test of NULL comes out so.
+    /// The states that are left if a test of NULL has this outcome.
     fn where_found(self, is_own: bool, outcome: bool) -> Possible
         ensures { result ≡ spec.where_found is_own outcome self }
     {
@@ -185,7 +185,7 @@ impl Possible {
         }
     }
 
-    /// What may be so of a variable behind an instruction, by its outcome.
+    /// The possible states of a variable after an instruction, by its outcome.
     pub(crate) fn after(
         self,
         instruction: &Instruction,

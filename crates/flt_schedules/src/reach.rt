@@ -1,5 +1,5 @@
-//! What runs can reach in a filter's text, as far as one variable says it. What may be so of the variable at each point is found first,
-//! callback by callback; then it is looked whether anything leads out of that. No clause speaks of how it is found.
+//! The reach of runs in a filter's text, as far as one variable determines it. The possible states of the variable at each point are found
+//! first, callback by callback; then it is checked that nothing leads out of them. No clause is about how they are found.
 
 ghost use Rattle.std.specs.Prelude.{◌≡◌, ◌<◌, ℕ, true, [], IsTrue, slice_index_or};
 ghost use Rattle.flt_graph.specs.Graph.{place_at, points_at};
@@ -15,7 +15,7 @@ use flt_triggers::{is_started_alone, is_started_by};
 use sqlite_items::Items;
 use std::alloc::{AllocError, Global};
 
-/// Where an instruction leads by an outcome, if it goes on.
+/// The point to which an instruction leads by an outcome, if it continues.
 fn successor(instruction: &Instruction, outcome: bool) -> Option<usize>
     ensures { result ≡ successor_of instruction.now outcome }
 {
@@ -34,14 +34,14 @@ fn successor(instruction: &Instruction, outcome: bool) -> Option<usize>
     }
 }
 
-/// What may be so at a point of a callback.
+/// The possible states at a point of a callback.
 fn in_row(row: &[Possible], point: usize) -> Possible
     ensures { result ≡ slice_index_or row.now point nothing }
 {
     row.get(point).copied().unwrap_or(Possible::nothing())
 }
 
-/// What may be so at the points of a callback.
+/// The possible states at the points of a callback.
 fn row_of(rows: &[Items<Possible>], callback: usize) -> &[Possible]
     ensures { result.now ≡ slice_index_or rows.now callback [] }
 {
@@ -57,7 +57,7 @@ pub(crate) fn at(rows: &[Items<Possible>], callback: usize, point: usize) -> Pos
     in_row(row_of(rows, callback), point)
 }
 
-/// A filter's points, the variable that is followed, and what isn't set.
+/// A filter's points, the variable that is followed, and the anchors on which nothing sets contexts.
 #[derive(Clone, Copy)]
 pub(crate) struct Survey<'g> {
     pub(crate) graph: &'g Graph,
@@ -68,19 +68,19 @@ pub(crate) struct Survey<'g> {
 // ---- what may be so
 
 impl Survey<'_> {
-    /// What may be so where a callback is entered.
+    /// The possible states when a callback is entered.
     fn entered(&self, callback: usize) -> Possible {
         Possible::entered(self.graph.place(callback), self.variable)
     }
 
-    /// Whether an instruction may come out so.
+    /// Whether an instruction may have this outcome.
     fn may_come_out(&self, instruction: &Instruction, outcome: bool) -> bool
         ensures { result ≡ spec.may_come_out self.now.unset instruction.now outcome }
     {
         !(outcome && self.unset.is_barren(instruction))
     }
 
-    /// Adds what a point leaves by an outcome where that leads, and says whether it is new there.
+    /// Adds the states that a point leaves by an outcome to those of the point to which that leads, and says whether they are new there.
     fn lead(
         &self,
         row: &mut Items<Possible>,
@@ -104,7 +104,7 @@ impl Survey<'_> {
         true
     }
 
-    /// Goes once over the points of a callback, and says whether anything new may be so at one.
+    /// Goes once over the points of a callback, and says whether a state is new at one.
     fn pass(&self, row: &mut Items<Possible>, callback: usize) -> bool {
         let mut is_new = false;
         for point in 0..row.len() {
@@ -116,7 +116,7 @@ impl Survey<'_> {
         is_new
     }
 
-    /// What may be so at the points of a callback that is entered.
+    /// The possible states at the points of a callback that is entered.
     fn row(&self, alloc: Global, callback: usize) -> Result<Items<Possible>, AllocError> {
         let points = self.graph.points(callback);
         let mut row = Items::new(alloc);
@@ -162,7 +162,7 @@ impl Survey<'_> {
         false
     }
 
-    /// Goes once over the callbacks: those that are started from now on are entered. Says whether there is one.
+    /// Goes once over the callbacks, and enters those that are started from now on. Says whether there is one.
     fn enter(&self, alloc: Global, rows: &mut Items<Items<Possible>>) -> Result<bool, AllocError> {
         let mut is_new = false;
         for number in 0..rows.len() {
@@ -178,7 +178,7 @@ impl Survey<'_> {
         Ok(is_new)
     }
 
-    /// What may be so at each point.
+    /// The possible states at each point.
     pub(crate) fn rows(&self, alloc: Global) -> Result<Items<Items<Possible>>, AllocError> {
         let callbacks = self.graph.callbacks();
         let mut rows = Items::new(alloc);
@@ -197,7 +197,7 @@ impl Survey<'_> {
 // ---- whether anything leads out of it
 
 impl Survey<'_> {
-    /// Whether what a point leaves by an outcome may be so where that leads.
+    /// Whether an outcome of a point leads to possible states alone.
     fn leads_on(
         &self,
         rows: &[Items<Possible>],
@@ -220,14 +220,14 @@ impl Survey<'_> {
         }
     }
 
-    /// Whether a callback may be entered.
+    /// Whether a callback is entered in possible states.
     fn is_entered(&self, rows: &[Items<Possible>], number: usize) -> bool
         ensures { IsTrue result → spec.IsEntered self.now.graph.now self.now.unset self.now.variable rows.now number }
     {
         Possible::entered(self.graph.place(number), self.variable).is_within(at(rows, number, 0))
     }
 
-    /// Whether each callback that a point starts may be entered.
+    /// Whether each callback that a point starts is entered in possible states.
     fn starts_on(&self, rows: &[Items<Possible>], callback: usize, point: usize) -> bool
         ensures { IsTrue result → spec.StartsOn self.now.graph.now self.now.unset self.now.variable rows.now callback point }
     {
@@ -239,7 +239,7 @@ impl Survey<'_> {
         true
     }
 
-    /// Whether all that may come of a point may be so.
+    /// Whether nothing leads out of the possible states at a point.
     fn goes_on(&self, rows: &[Items<Possible>], callback: usize, point: usize) -> bool
         ensures { IsTrue result → spec.GoesOn self.now.graph.now self.now.unset self.now.variable rows.now callback point }
     {
@@ -249,7 +249,7 @@ impl Survey<'_> {
                 && self.starts_on(rows, callback, point))
     }
 
-    /// Whether each point of a callback goes on within what may be so.
+    /// Whether nothing leads out of the possible states at each point of a callback.
     fn all_go_on(&self, rows: &[Items<Possible>], callback: usize) -> bool
         ensures { IsTrue result →
             spec.GoOnBefore self.now.graph.now self.now.unset self.now.variable rows.now callback (points_at self.now.graph.now callback) }
@@ -262,7 +262,7 @@ impl Survey<'_> {
         true
     }
 
-    /// Whether the system starts no callback of a number, or it may be entered.
+    /// Whether the system doesn't start the callback of a number, or it is entered in possible states.
     fn enters(&self, rows: &[Items<Possible>], callback: usize) -> bool
         ensures { IsTrue result → is_started_alone_at (place_at self.now.graph.now callback) ≡ true →
             spec.IsEntered self.now.graph.now self.now.unset self.now.variable rows.now callback }
@@ -270,14 +270,14 @@ impl Survey<'_> {
         !is_started_alone(self.graph.place(callback)) || self.is_entered(rows, callback)
     }
 
-    /// Whether nothing leads out of what may be so in a callback.
+    /// Whether nothing leads out of the possible states of a callback, and the system enters it in those alone.
     fn holds_in(&self, rows: &[Items<Possible>], callback: usize) -> bool
         ensures { IsTrue result → spec.HoldsIn self.now.graph.now self.now.unset self.now.variable rows.now callback }
     {
         self.enters(rows, callback) && self.all_go_on(rows, callback)
     }
 
-    /// Whether a callback may be entered, if a point of another starts it.
+    /// Whether a callback is entered in possible states, if a point of another starts it.
     fn starts_one(
         &self,
         rows: &[Items<Possible>],
@@ -293,7 +293,7 @@ impl Survey<'_> {
             || self.is_entered(rows, number)
     }
 
-    /// Whether nothing leads out of what may be so.
+    /// Whether nothing leads out of the possible states.
     pub(crate) fn holds(&self, rows: &[Items<Possible>]) -> bool
         ensures { IsTrue result → spec.Holds self.now.graph.now self.now.unset self.now.variable rows.now }
     {

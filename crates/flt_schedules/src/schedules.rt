@@ -40,7 +40,7 @@ pub struct Suspects<'g> {
     pub found: &'g [Suspect],
 }
 
-/// What comes of a finding in runs of some filters.
+/// The outcome of a finding in runs of some filters.
 #[derive(Drop)]
 pub enum Schedule {
     /// This run breaks what the finding's rule prevents.
@@ -49,15 +49,16 @@ pub enum Schedule {
     NotWithin,
     /// No run was found before there were too many states.
     Cut,
-    /// No run can: `arg` is held where it mustn't be, and nothing hands a context there.
+    /// There can be no run: `arg` is held where it mustn't be, and nothing hands a context there.
     NeverHanded,
-    /// No run can: nothing starts the finding's callback.
+    /// There can be no run: nothing starts the finding's callback.
     NeverStarted,
-    /// No run can: what is found isn't reached unless a call gets a context on one of these anchors, and no callback of the filter sets one.
+    /// There can be no run: the finding isn't reached unless a call gets a context on one of these anchors, and no callback of the filter
+    /// sets one.
     NeverGot(Unset),
 }
 
-/// What comes of a finding in runs of several filters.
+/// The outcome of a finding in runs of several filters.
 #[derive(Drop)]
 pub enum Scheduled {
     /// In runs of all filters.
@@ -66,14 +67,14 @@ pub enum Scheduled {
     Alone(Schedule),
 }
 
-/// What comes of a finding, by its number among those of its text.
+/// The outcome of a finding, by its number among those of its text.
 #[derive(Drop)]
 pub struct Outcome {
     pub number: usize,
     pub scheduled: Scheduled,
 }
 
-/// The callbacks of the filter of a number; none where it isn't there.
+/// The callbacks of the filter of a number; none if there is no such filter.
 fn callbacks_of(trees: &[Tree], number: usize) -> &[Callback]
     ensures { result.now ≡ spec.callbacks_of trees.now number }
 {
@@ -100,7 +101,7 @@ fn never_starts(started: Option<&Started>, finding: &Finding) -> bool
     }
 }
 
-/// Why no run can, where that is known without a search.
+/// Why there can be no run, if that is known without a search.
 fn known_for(
     outlook: &Outlook<'_>,
     started: Option<&Started>,
@@ -127,7 +128,7 @@ fn is_run(answer: Option<&Answer>) -> bool {
     matches!(answer, Some(Answer::Breaks(_)))
 }
 
-/// What is to be broken for a finding: nothing, where that is known without a search, or where this answer is a run.
+/// The violations to look for: none if a finding's outcome is known without a search, or if this answer is a run.
 fn wanted_for(
     outlook: &Outlook<'_>,
     started: Option<&Started>,
@@ -143,7 +144,7 @@ fn wanted_for(
     }
 }
 
-/// What is looked for of a finding of the filter of a number, where this is answered already.
+/// The goal for a finding of the filter of a number, given an earlier answer.
 fn goal_for(
     outlook: &Outlook<'_>,
     started: Option<&Started>,
@@ -163,7 +164,7 @@ fn goal_for(
     }
 }
 
-/// What is looked for of some findings of the filter of a number, where these are answers already.
+/// The goals for some findings of the filter of a number, given earlier answers.
 fn goals_for(
     alloc: Global,
     outlook: &Outlook<'_>,
@@ -184,7 +185,7 @@ fn goals_for(
 
 // ---- the searches
 
-/// What runs of some filters have of some findings of the filter of a number, where these are answers already.
+/// The answers of a search in runs of some filters for some findings of the filter of a number, given earlier answers.
 fn searched<W: SearchWatch>(
     alloc: Global,
     trees: &[Tree],
@@ -208,7 +209,7 @@ fn searched<W: SearchWatch>(
     search(alloc, trees, goals.as_slice(), Bounds { states }, watched)
 }
 
-/// The filter of a number alone; none where it isn't there.
+/// The filter of a number alone; none if there is no such filter.
 pub fn only(trees: &[Tree], number: usize) -> &[Tree]
     ensures { result.now ≡ spec.only trees.now number }
 {
@@ -219,14 +220,14 @@ pub fn only(trees: &[Tree], number: usize) -> &[Tree]
     }
 }
 
-/// Whether runs of all filters are worth a look: the one of a number meets another one, and all can be there at once.
+/// Whether runs of all filters are worth a search: the filter of a number meets another one, and all can be in one stack.
 fn may_meet(trees: &[Tree], number: usize) -> bool
     ensures { IsTrue result → spec.MayMeet trees.now number }
 {
     trees.len() <= MAX_FILTERS && meets_others(trees, number) && first_repeated(trees).is_none()
 }
 
-/// What runs of all filters have; nothing, where the findings' filter doesn't meet another one.
+/// The answers of a search in runs of all filters; none if the findings' filter doesn't meet another one.
 fn searched_together<W: SearchWatch>(
     alloc: Global,
     trees: &[Tree],
@@ -252,8 +253,8 @@ fn searched_together<W: SearchWatch>(
     )
 }
 
-/// What runs of the findings' filter alone have, of what is no run among these answers of runs of all filters: with half of so many states, or
-/// with all of them where there are no such answers.
+/// The answers of a search in runs of the findings' filter alone, for the findings without a run among these answers of runs of all
+/// filters: with half of so many states, or with all of them if there are no such answers.
 fn searched_alone<W: SearchWatch>(
     alloc: Global,
     trees: &[Tree],
@@ -276,7 +277,7 @@ fn searched_alone<W: SearchWatch>(
 
 // ---- what comes of them
 
-/// What comes of a finding, by its answer.
+/// The outcome of a finding, by its answer.
 fn schedule_for(
     alloc: Global,
     outlook: &Outlook<'_>,
@@ -297,7 +298,7 @@ fn schedule_for(
     }
 }
 
-/// What comes of a finding, by the answers of both searches.
+/// The outcome of a finding, by the answers of both searches.
 fn scheduled_for(
     alloc: Global,
     _trees: &[Tree],
@@ -324,7 +325,7 @@ fn scheduled_for(
     }
 }
 
-/// What comes of each finding, by the answers of both searches.
+/// The outcome of each finding, by the answers of both searches.
 fn outcomes_by(
     alloc: Global,
     trees: &[Tree],
@@ -357,15 +358,15 @@ fn outcomes_by(
     Ok(all)
 }
 
-/// What comes of each of some findings of one filter in runs of some filters, in any order, all of which are there. Where the findings' filter
-/// meets another one on an operation, runs of all filters are looked for first, with half of the bound; what they don't break is looked
-/// for in runs of the filter alone. Each of these is one search for all findings, as `flt_search::search` says; both together go on from
-/// at most so many states, and `watch` is told how far they have come, of each 10,000 states. A run that breaks something where a finding is
-/// comes before one that breaks it elsewhere in the callback; no clause speaks of that.
+/// The outcome of each of some findings of one filter in runs of all these filters, which may be in any order. If the findings' filter
+/// meets another one on an operation, runs of all filters are looked for first, with half of the bound; for the findings without such a
+/// run, runs of the filter alone are looked for. Each of these is one search for all findings, as `flt_search::search` says; both together
+/// continue from at most so many states, and `watch` hears of each 10,000 of them. A run that breaks something where a finding is comes
+/// before one that breaks it elsewhere in the callback; no clause is about that.
 ///
 /// # Errors
 ///
-/// Where a growth was refused, or a number or a count would reach 2^32.
+/// If memory is refused, or a number or a count would reach 2^32.
 pub fn outcomes_among<W: SearchWatch>(
     alloc: Global,
     trees: &[Tree],

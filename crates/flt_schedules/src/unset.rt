@@ -34,7 +34,7 @@ fn is_setting(anchor: Anchor, call: Call) -> bool
     }
 }
 
-/// Whether a call succeeds only where a context is linked to an anchor.
+/// Whether a call succeeds only if a context is linked to an anchor.
 fn is_asking(anchor: Anchor, call: Call) -> bool
     ensures { result ≡ spec.is_asking anchor call }
 {
@@ -104,7 +104,7 @@ fn is_unset(graph: &Graph, anchor: Anchor) -> bool
 }
 
 impl Unset {
-    /// None.
+    /// No anchors.
     pub(crate) fn none() -> Unset
         ensures value { result ≡ spec.nothing_unset }
         ensures unset { (g : Graph) → spec.AreUnset g result }
@@ -115,7 +115,7 @@ impl Unset {
         }
     }
 
-    /// Those of a filter that some callback asks for.
+    /// The anchors whose context some callback of a filter asks for, and on which none sets one.
     pub(crate) fn of(graph: &Graph) -> Unset
         ensures { spec.AreUnset graph.now result }
     {
@@ -125,7 +125,7 @@ impl Unset {
         }
     }
 
-    /// The instance alone, if it is one.
+    /// The instance alone, if it is one of them.
     pub(crate) fn of_instance(self) -> Unset
         ensures { (g : Graph) → spec.AreUnset g self → spec.AreUnset g result }
     {
@@ -135,7 +135,7 @@ impl Unset {
         }
     }
 
-    /// Streams alone, if they are one.
+    /// Streams alone, if they are one of them.
     pub(crate) fn of_streams(self) -> Unset
         ensures { (g : Graph) → spec.AreUnset g self → spec.AreUnset g result }
     {
@@ -145,14 +145,14 @@ impl Unset {
         }
     }
 
-    /// Whether there is one.
+    /// Whether there is an anchor.
     pub(crate) fn is_some(self) -> bool
         ensures { result ≡ (self.stream || self.instance) }
     {
         self.stream || self.instance
     }
 
-    /// Whether an instruction is a call that never succeeds where these aren't set.
+    /// Whether an instruction is a call that never succeeds if nothing sets contexts on these.
     pub(crate) fn is_barren(self, instruction: &Instruction) -> bool
         ensures { result ≡ spec.is_barren self instruction.now }
     {

@@ -1,4 +1,4 @@
-//! What a broken rule leads to.
+//! The violations to which a broken rule leads.
 
 ghost use Rattle.std.specs.Prelude.{◌≡◌};
 ghost use Rattle.flt_schedules.specs.Violations as spec;
@@ -6,8 +6,8 @@ ghost use Rattle.flt_schedules.specs.Violations as spec;
 use flt_model::Violation;
 use flt_rules::Rule;
 
-/// What a run can break where a callback breaks a rule: the violations that the rule prevents. A certificate that doesn't cover (R14)
-/// is no fault of the callback, and leads to none.
+/// The violations that a run can have if a callback breaks a rule: those that the rule prevents. A certificate that doesn't cover (R14) is
+/// no fault of the callback, and leads to none.
 pub fn violations_of(rule: Rule) -> &'static [Violation]
     ensures { result.now ≡ spec.violations_of rule }
 {

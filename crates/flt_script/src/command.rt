@@ -2,7 +2,7 @@
 
 use flt_rules::{Mode, Operation};
 
-/// What one line of a script asks of the stack.
+/// A command to the stack, one line of a script.
 #[derive(Clone, Copy, PartialEq, Eq)]
 pub enum Command {
     /// An operation on a file comes in at the top of the stack.

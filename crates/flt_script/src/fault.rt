@@ -8,7 +8,7 @@ use thiserror::Error;
 
 #[derive(Debug, Drop, Error)]
 pub enum ScriptFault {
-    /// The first line that isn't as asked, counted from 1.
+    /// The first malformed line, counted from 1.
     #[error("script line {0}")]
     Line(usize),
     #[error("out of memory")]

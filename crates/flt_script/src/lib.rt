@@ -1,4 +1,4 @@
-//! Scripts: what is asked of a stack of filters, one command a line, and how they are read from their text.
+//! Scripts: commands to a stack of filters, one a line, and how they are read from their text.
 #![tactic(auto)]
 
 mod command;

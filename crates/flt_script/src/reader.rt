@@ -35,7 +35,7 @@ fn command_of(made: Move) -> Option<Command>
     }
 }
 
-/// The command whose line comes next, whether or not it may stand there.
+/// The command whose line comes next, whether or not it is legal there.
 fn command_at(text: &mut &[u8]) -> Option<Command>
     ensures spelled { IfSome result (λ command. text.old.now ≡ spec.command_line command ++ text.new.now) }
     ensures read { (command : Command) → IsTrue (spec.is_command command) → (behind : Text) →
@@ -52,7 +52,7 @@ fn command_at(text: &mut &[u8]) -> Option<Command>
     command_of(read_move(text, *first).ok()?)
 }
 
-/// The command whose line comes next, if it may stand behind those before it.
+/// The command whose line comes next, if it is legal after those before it.
 fn next_command(stack: Option<&[Tree]>, before: &[Command], text: &mut &[u8]) -> Option<Command>
     ensures spelled { IfSome result (λ command. text.old.now ≡ spec.command_line command ++ text.new.now) }
     ensures follows { IfSome result (λ command. IsTrue (spec.may_follow (option_map (λ trees. filters_of trees.now) stack.entry) before.now command)) }
@@ -67,7 +67,7 @@ fn next_command(stack: Option<&[Tree]>, before: &[Command], text: &mut &[u8]) ->
     }
 }
 
-/// The script that the text spells, all of it, for a stack of these filters, where it is known.
+/// The script that the text spells, all of it, for a stack of these filters, if it is known.
 pub fn read(alloc: Global, stack: Option<&[Tree]>, text: &[u8]) -> Result<Script, ScriptFault>
     // What is read is spelled so.
     ensures spelled { IfOk result (λ script. text.now ≡ spec.spelling script) }

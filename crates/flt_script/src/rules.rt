@@ -1,4 +1,4 @@
-//! Which commands may stand in a script, and where.
+//! Which commands are legal in a script, and where.
 
 ghost use Rattle.std.specs.Prelude.{◌≡◌, ◌==◌, option_map};
 ghost use Rattle.std.specs.List.{list_any};
@@ -60,7 +60,7 @@ fn is_detached(commands: &[Command], altitude: u32) -> bool
     commands.iter().any(|command| detaches(command, altitude))
 }
 
-/// Whether the command, behind others, detaches no filter but one of the stack, and that for the first time.
+/// Whether the command, after others, detaches no filter but one of the stack, and that for the first time.
 fn detaches_legally(stack: Option<&[Tree]>, before: &[Command], command: Command) -> bool
     ensures { result ≡ spec.detaches_legally (option_map (λ trees. filters_of trees.now) stack.entry) before.now command }
 {
@@ -72,7 +72,7 @@ fn detaches_legally(stack: Option<&[Tree]>, before: &[Command], command: Command
     }
 }
 
-/// Whether the command may stand behind others, on a stack of these filters, where it is known.
+/// Whether the command is legal after others, on a stack of these filters, if it is known.
 pub(crate) fn may_follow(stack: Option<&[Tree]>, before: &[Command], command: Command) -> bool
     ensures { result ≡ spec.may_follow (option_map (λ trees. filters_of trees.now) stack.entry) before.now command }
 {

@@ -8,7 +8,7 @@ use crate::command::Command;
 use sqlite_items::Items;
 use std::marker::Model;
 
-/// What is asked of a stack, command by command. Each command's numbers and mode are within their bounds.
+/// The commands to a stack, in order. Each command's numbers and mode are within their bounds.
 #[derive(Drop)]
 pub struct Script {
     commands: Items<Command>,

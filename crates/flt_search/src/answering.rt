@@ -10,7 +10,7 @@ use flt_model::JournalEntry;
 use flt_tree::Tree;
 use std::alloc::{AllocError, Global};
 
-/// What a search came to.
+/// The answer of a search for a goal.
 #[derive(Drop)]
 pub enum Answer {
     /// This run breaks something that is looked for.
@@ -21,7 +21,7 @@ pub enum Answer {
     Cut,
 }
 
-/// What is proposed as an answer: the number of a run for each goal, if there is one.
+/// The proposed answers: the number of a run for each goal, if there is one.
 #[derive(Clone, Copy)]
 pub(crate) struct Proposals<'s> {
     pub(crate) runs: &'s [Vec<JournalEntry>],
@@ -30,7 +30,7 @@ pub(crate) struct Proposals<'s> {
     pub(crate) is_cut: bool,
 }
 
-/// Judges each run that is proposed: none where the monitor doesn't agree.
+/// Judges each run that is proposed: none if the monitor doesn't agree.
 fn judge_all(
     alloc: Global,
     trees: &[Tree],
@@ -46,7 +46,7 @@ fn judge_all(
     Ok(runs)
 }
 
-/// A run on some filters as the answer of a goal, if it breaks what that wants.
+/// A run on some filters as the answer of a goal, if it breaks a violation that the goal wants.
 fn breaks(
     alloc: Global,
     _trees: &[Tree],

@@ -1,4 +1,4 @@
-//! What is looked for.
+//! The goals of a search, and its bounds.
 
 use flt_model::Violation;
 
@@ -18,6 +18,6 @@ pub struct Goal<'w> {
 /// How far a search goes.
 #[derive(Clone, Copy)]
 pub struct Bounds {
-    /// How many states are gone on from in all.
+    /// How many states are continued from in all.
     pub states: u32,
 }

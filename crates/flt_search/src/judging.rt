@@ -1,4 +1,4 @@
-//! What a journal is worth: the monitor judges it.
+//! Journals as the monitor judges them.
 
 ghost use Rattle.std.specs.Prelude.{◌≡◌, ◌↔◌, IfOk, IfSome, IsTrue, Contains};
 ghost use Rattle.flt_world.specs.Filters.{filters_of};
@@ -51,7 +51,7 @@ pub(crate) fn is_wanted(wanted: &[Violation], violation: Violation) -> bool
 ///
 /// # Errors
 ///
-/// Where a growth was refused.
+/// `AllocError` if a growth is refused.
 pub fn journal_of(alloc: Global, entries: &[JournalEntry]) -> Result<Journal, AllocError>
     ensures { IfOk result (λ j. j ≡ entries.now) }
 {
@@ -68,7 +68,7 @@ impl Broken {
     ///
     /// # Errors
     ///
-    /// Where a growth was refused.
+    /// `AllocError` if a growth is refused.
     pub fn copy(&self, alloc: Global) -> Result<Broken, AllocError>
         ensures { IfOk result (λ b. b ≡ self.now) }
     {
@@ -80,7 +80,7 @@ impl Broken {
     }
 }
 
-/// Replays some entries; none where they don't break anything by the last one.
+/// Replays some entries; none if they don't break anything by the last one.
 pub(crate) fn judge(
     alloc: Global,
     trees: &[Tree],

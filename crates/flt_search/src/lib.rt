@@ -1,9 +1,9 @@
-//! One search for all findings of some filters: for each a run of the machine that breaks what its rule prevents.
+//! One search for all findings of some filters: for each a run of the machine with a violation that its rule prevents.
 //!
-//! `search` goes through the rounds of `flt_explore`, and picks what each has found of each goal (`searching`). Whatever it picks is replayed:
-//! only what the monitor judges to break something by its last entry is a run (`judging`), entries that a run doesn't need are left out
-//! (`shortening`), and each goal is answered by a copy of a run that breaks what it wants (`answering`). That is proved; that a run is found
-//! where there is one isn't.
+//! `search` goes through the rounds of `flt_explore`, and picks a run that each has found for each goal (`searching`). Each pick is
+//! replayed: it is a run only if the monitor judges it to break something by its last entry (`judging`), entries that a run doesn't need
+//! are left out (`shortening`), and each goal is answered by a copy of a run that breaks one of its violations (`answering`). This is
+//! proved. No clause says that a run is found if one exists.
 #![tactic(auto)]
 
 mod answering;

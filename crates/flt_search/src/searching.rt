@@ -25,7 +25,7 @@ const MAX_JUDGED: usize = 400_000;
 
 const MAX_SHORTENED: usize = 100_000;
 
-/// What is known of a break that was found.
+/// The judgement on a break that was found.
 #[derive(Clone, Copy)]
 enum Judged {
     NotYet,
@@ -35,7 +35,7 @@ enum Judged {
     Run(usize),
 }
 
-/// What is found so far of a goal.
+/// The runs that are found so far for a goal.
 #[derive(Clone, Copy)]
 struct Hit {
     /// The run that is answered.
@@ -44,7 +44,7 @@ struct Hit {
     spare: Option<usize>,
 }
 
-/// The runs that were judged, and what is left of the bounds on judging.
+/// The runs that were judged, and the rest of the bounds on judging and on shortening.
 #[derive(Drop)]
 struct Runs {
     runs: Vec<Vec<JournalEntry>>,
@@ -86,7 +86,7 @@ impl Runs {
 
 // ---- what a round has found
 
-/// What a round has found.
+/// The findings of a round.
 #[derive(Drop)]
 struct Harvest<'p, 's> {
     search: &'s Search<'p>,
@@ -102,7 +102,7 @@ impl<'p, 's> Harvest<'p, 's> {
         Ok(Harvest { search, judged })
     }
 
-    /// The shortest break of what a goal wants.
+    /// The shortest break of a violation that a goal wants.
     fn shortest(&self, wanted: &[Violation], firsts: Firsts) -> Option<usize> {
         let mut best: Option<usize> = None;
         let mut length = usize::MAX;
@@ -153,7 +153,7 @@ impl<'p, 's> Harvest<'p, 's> {
         }
     }
 
-    /// What the round has found of a goal at its point.
+    /// The round's run for a goal at its point.
     fn at_point(
         &mut self,
         alloc: Global,
@@ -170,7 +170,7 @@ impl<'p, 's> Harvest<'p, 's> {
         }
     }
 
-    /// What it has found of a goal elsewhere in the callback.
+    /// The hit of a goal with the round's run elsewhere in the callback.
     fn elsewhere(
         &mut self,
         alloc: Global,
@@ -196,7 +196,7 @@ impl<'p, 's> Harvest<'p, 's> {
         }
     }
 
-    /// What is known of a goal behind the round.
+    /// The hit of a goal after the round.
     fn hit(
         &mut self,
         alloc: Global,
@@ -216,7 +216,7 @@ impl<'p, 's> Harvest<'p, 's> {
 
 // ---- all rounds
 
-/// Where a goal is; none where that isn't there.
+/// The place of a goal; none if it doesn't exist.
 fn stand_of(plan: &Plan, goal: &Goal<'_>) -> Option<Stand> {
     let place = plan.place_of(goal.filter)?;
     if place >= MAX_FILTERS {
@@ -229,7 +229,7 @@ fn stand_of(plan: &Plan, goal: &Goal<'_>) -> Option<Stand> {
     })
 }
 
-/// What a goal looks for.
+/// The violations that a goal looks for.
 fn wanted_by(goal: &Goal<'_>) -> Violations {
     let mut wanted = Violations::NOTHING;
     for violation in goal.wanted {
@@ -238,7 +238,7 @@ fn wanted_by(goal: &Goal<'_>) -> Violations {
     wanted
 }
 
-/// What is still looked for.
+/// The targets that are still looked for.
 fn targets_of(
     alloc: Global,
     plan: &Plan,
@@ -261,7 +261,7 @@ fn targets_of(
     Ok(targets)
 }
 
-/// What is known behind a round.
+/// Updates the hits of all goals after a round.
 fn hits_behind(
     alloc: Global,
     trees: &[Tree],
@@ -282,7 +282,7 @@ fn hits_behind(
     Ok(())
 }
 
-/// All that is known.
+/// The state of a search: its runs, its hits and its bounds.
 #[derive(Drop)]
 struct State {
     runs: Runs,
@@ -306,7 +306,7 @@ fn are_hit(goals: &[Goal<'_>], hits: &[Hit]) -> bool {
     true
 }
 
-/// Takes over what a round has found.
+/// Takes over the findings of a round.
 fn take_over(
     alloc: Global,
     trees: &[Tree],
@@ -404,16 +404,16 @@ fn chosen_of(alloc: Global, hits: &[Hit]) -> Result<Vec<Option<usize>>, AllocErr
     Ok(chosen)
 }
 
-/// Seeks for each goal a journal that breaks something of what it wants. The filters may be in any order. One search serves all goals: it
-/// goes breadth first through small worlds, in rounds of growing bounds, of which the last have three operations, two switches between
-/// activations that could go on, a cancelled operation and a filter that is detached, and one has 1,100 operations one after the other. So
-/// many states are gone on from in all, with five times as many moves and a hundred times as many local steps. Of a goal at a point a run
-/// is answered that breaks something there, where a round finds one, else one that breaks it elsewhere in the callback; no clause speaks of
-/// that, nor says that a run is found where there is one. `watched` counts the states, and tells its watcher of them.
+/// Seeks for each goal a journal that breaks one of its violations. The filters may be in any order. One search serves all goals: it goes
+/// breadth first through small worlds, in rounds of growing bounds, of which the last have three operations, two switches between
+/// activations that could continue, a cancelled operation and a filter that is detached, and one has 1,100 operations one after the other.
+/// The bounds say how many states are continued from in all, with five times as many moves and a hundred times as many local steps. For a
+/// goal at a point, the answer is a run that breaks something there, if a round finds one, else one that breaks it elsewhere in the
+/// callback. No clause says this, nor that a run is found if one exists. `watched` counts the states, and reports them to its watcher.
 ///
 /// # Errors
 ///
-/// Where a growth was refused, or a number or a count would reach 2^32.
+/// `AllocError` if a growth is refused, or if a number or a count would reach 2^32.
 pub fn search<W: SearchWatch>(
     alloc: Global,
     trees: &[Tree],

@@ -73,7 +73,7 @@ fn still_breaks(
     }
 }
 
-/// The entries without that of a number, where they break the same; none otherwise.
+/// The entries without that of a number, if they break the same; none otherwise.
 fn shortened(
     alloc: Global,
     trees: &[Tree],
@@ -89,7 +89,7 @@ fn shortened(
     }
 }
 
-/// Leaves out what isn't needed, from the last entry back, where several operations or activations came.
+/// Leaves out entries that aren't needed, from the last one back, if there are several operations or activations.
 pub(crate) fn shorten(
     alloc: Global,
     trees: &[Tree],

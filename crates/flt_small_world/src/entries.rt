@@ -43,7 +43,7 @@ impl Entries {
         self.used
     }
 
-    /// False where there is no room.
+    /// Adds an entry at the end. False if it has no room.
     pub(crate) fn push(&mut self, entry: Entry) -> bool {
         if self.used < MAX_ENTRIES {
             self.entries[self.used] = entry;

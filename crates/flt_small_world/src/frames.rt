@@ -41,7 +41,7 @@ impl Frames {
         }
     }
 
-    /// False where there is no room.
+    /// Adds a frame at the end. False if it has no room.
     pub(crate) fn push(&mut self, frame: Frame) -> bool {
         if self.used < MAX_FRAMES {
             self.frames[self.used] = frame;

@@ -1,9 +1,9 @@
 //! A small world: a bounded copy of the machine for the search for runs.
 //!
-//! A `World` is a copyable value with few places for what exists (`world`). Activations make the steps that others see (`step`,
-//! `settle`), the system makes its moves, several in a row where nobody sees what is between (`moves`), and what nothing reaches any more
-//! is taken out (`sweep`). What doesn't fit isn't followed. A step says what it breaks. No clause ties any of this to the machine: what the
-//! search finds by it is replayed.
+//! A `World` is a copyable value with few places for objects (`world`). Activations make the steps that others see (`step`, `settle`), the
+//! system makes its moves, several in a row if nobody sees the worlds between (`moves`), and objects that nothing reaches any more are
+//! taken out (`sweep`). A step that needs more places isn't followed. A step says what it breaks. No clause ties any of this to the
+//! machine: the runs that the search finds by it are replayed.
 #![tactic(auto)]
 
 mod entries;

@@ -1,4 +1,4 @@
-//! The moves of the system, several in a row where nobody sees what is between.
+//! The moves of the system, several in a row if nobody sees the worlds between.
 
 use crate::frames::Frame;
 use crate::step::Course;
@@ -46,11 +46,11 @@ impl Made {
     }
 }
 
-/// What may be done next.
+/// The next move or step.
 #[derive(Clone, Copy)]
 pub enum Next {
     Arrive(Operation, Mode, u32),
-    /// The operation goes on to its next callback.
+    /// The operation continues to its next callback.
     Onwards(u8),
     Cancel(u8),
     Canceled(u8, u8),
@@ -70,7 +70,7 @@ impl World {
         }
     }
 
-    /// A callback starts, and makes its local steps. None where there is no room.
+    /// Starts a callback, which makes its local steps. None if no place is free or its local steps are too many.
     fn start(&mut self, plan: &Plan, start: Start, left: &mut u32) -> Option<u8> {
         let place = self.free_activation()?;
         let activation = Activation::starting(start, self.started, self.is_packet(start.visit));
@@ -135,7 +135,7 @@ impl World {
 
 // ---- an operation goes on
 
-/// What comes of going on by one entry.
+/// The result of continuing by one entry.
 #[derive(Clone, Copy)]
 enum Onward {
     Again,
@@ -228,7 +228,7 @@ impl World {
         }
     }
 
-    /// An operation goes on to its next callback, which starts. None where there is none, or no room.
+    /// Continues an operation to its next callback, which starts. None if it has no next callback, or no room is left.
     fn onwards(&mut self, plan: &Plan, place: u8, made: &mut Made, left: &mut u32) -> Option<u8> {
         for _ in 0..MAX_ENTRIES {
             match self.go_onward(plan, place, made, left) {
@@ -373,7 +373,7 @@ impl World {
         });
     }
 
-    /// Makes a move of the system. None where it isn't enabled or there is no room; else the activation that it starts, if it does.
+    /// Makes a move of the system. None if it isn't enabled or there is no room; else the activation that it starts, if it does.
     pub fn make_move(
         &mut self,
         plan: &Plan,

@@ -1,4 +1,4 @@
-//! How operations go on, and how activations end.
+//! How operations continue, and how activations end.
 
 use crate::frames::Frame;
 use crate::world::{NO_VISIT, Visit, Whereabouts, World};
@@ -123,7 +123,7 @@ impl World {
         }
     }
 
-    /// False where there is no room for the frame.
+    /// Adds a frame to an operation. False if it has no room.
     fn push_frame(&mut self, operation: u8, frame: Frame) -> bool {
         match self.operations.get_mut(usize::from(operation)) {
             Some(operation) => operation.frames.push(frame),
@@ -154,7 +154,7 @@ impl World {
         }
     }
 
-    /// The visit of a place is over. It breaks V4 where somebody has it still.
+    /// The visit of a place is over. It breaks V4 if somebody has it still.
     fn settle(&mut self, place: u8) {
         if self.owners(place) > 0 {
             self.broken.add(Violation::V4);
@@ -167,7 +167,7 @@ impl World {
         }
     }
 
-    /// What a status makes of a visit that is there.
+    /// The effect of a status on a visit that is there.
     fn answer(
         &mut self,
         plan: &Plan,

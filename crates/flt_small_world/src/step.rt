@@ -1,4 +1,4 @@
-//! The steps that others see, and what each of them breaks.
+//! The steps that others see, and the violations of each.
 
 use crate::entries::Entry;
 use crate::world::{Anchored, Context, Item, MAX_ACTIVATIONS, MAX_VISITS, NO_CONTEXT, World};
@@ -14,7 +14,7 @@ use flt_rules::{
 };
 use flt_tree::Atom;
 
-/// What comes of a step or a move.
+/// The result of a step or a move.
 #[derive(Clone, Copy)]
 pub enum Course {
     /// It is made.
@@ -23,7 +23,7 @@ pub enum Course {
     Breaks(Violation),
     /// It isn't enabled.
     Stuck,
-    /// There is no room for what it makes.
+    /// There is no room for its effect.
     Full,
 }
 
@@ -39,7 +39,7 @@ enum Ending {
 // ---- variables
 
 impl World {
-    /// The context that an activation holds by a variable. It breaks V1 where it holds none.
+    /// The context that an activation holds by a variable. It breaks V1 if it holds none.
     fn used_context(&mut self, a: u8, variable: ContextVariable) -> Option<u8> {
         let activation = self.activation(a);
         if let Named::At(place) = activation.context(variable) {
@@ -51,7 +51,7 @@ impl World {
         None
     }
 
-    /// The visit that an activation holds by a variable. It breaks V1 where it holds none.
+    /// The visit that an activation holds by a variable. It breaks V1 if it holds none.
     pub(crate) fn used_visit(&mut self, a: u8, variable: OperationVariable) -> Option<u8> {
         let activation = self.activation(a);
         if let Named::At(place) = activation.operation(variable) {
@@ -67,7 +67,7 @@ impl World {
         self.used_context(a, variable?)
     }
 
-    /// What a call hands over that may name a context.
+    /// The context that a call hands over, if it has that operand; none if that isn't held.
     pub(crate) fn handed(
         &mut self,
         a: u8,
@@ -177,7 +177,7 @@ impl World {
 // ---- contexts
 
 impl World {
-    /// The link that a call works on. It breaks V1 where that is of an operation that isn't held.
+    /// The link that a call works on. It breaks V1 if that is of an operation that isn't held.
     fn link_of(&mut self, a: u8, anchor: Anchor) -> Option<Anchored> {
         match anchor {
             Anchor::Instance => Some(Anchored::Instance),
@@ -321,7 +321,7 @@ impl World {
 // ---- locks
 
 impl World {
-    /// Whether others hold a lock in a way that refuses it.
+    /// Whether others hold a lock so that it is refused.
     fn is_refused(&self, a: u8, lock: LockNumber, access: Access) -> bool {
         let filter = self.activation(a).filter;
         for place in 0..MAX_ACTIVATIONS {
@@ -434,7 +434,7 @@ impl World {
         Ending::Granted
     }
 
-    /// False where there is no room.
+    /// Queues a work item. False if no place is free.
     fn push_item(
         &mut self,
         a: u8,
@@ -630,7 +630,7 @@ impl World {
         Course::Goes
     }
 
-    /// An activation makes its next step that others see, and then its local steps. Nothing is kept of what is broken.
+    /// An activation makes its next step that others see, and then its local steps, unless that step breaks something.
     pub fn step(&mut self, plan: &Plan, a: u8, grant: bool, left: &mut u32) -> Course {
         let activation = self.activation(a);
         if !activation.is_on {
@@ -680,7 +680,7 @@ fn is_choice(instruction: &Instruction) -> bool {
 }
 
 impl World {
-    /// Whether anything but an activation reaches what its variable names.
+    /// Whether anything but an activation reaches the context that its variable names.
     fn is_shared(&self, a: u8, variable: ContextVariable) -> bool {
         let Named::At(context) = self.activation(a).context(variable) else {
             return false;

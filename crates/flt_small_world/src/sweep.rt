@@ -1,4 +1,4 @@
-//! What nothing reaches any more is taken out of a world.
+//! Takes objects that nothing reaches any more out of a world.
 
 use crate::world::{
     Anchored, MAX_ACTIVATIONS, MAX_CONTEXTS, MAX_FILTERS, MAX_OPERATIONS, MAX_VISITS, NO_CONTEXT,
@@ -53,7 +53,7 @@ impl World {
         named
     }
 
-    /// What an activation holds and doesn't name later, leaks.
+    /// The contexts that an activation holds and doesn't name later leak.
     fn leak(&mut self, plan: &Plan, a: u8) {
         if !self.activation(a).is_on || !self.activation(a).holds_contexts() {
             return;
@@ -121,7 +121,7 @@ impl World {
         reached
     }
 
-    /// A context is freed: what named it names nothing.
+    /// Frees a context: each variable that named it names nothing.
     fn free(&mut self, place: u8) {
         if let Some(context) = self.contexts.get_mut(usize::from(place)) {
             *context = NO_CONTEXT;
@@ -160,7 +160,7 @@ impl World {
         false
     }
 
-    /// Whether nothing more comes of an operation.
+    /// Whether nothing more happens to an operation.
     fn is_over(&self, plan: &Plan, place: u8) -> bool {
         let operation = self.operation(place);
         if operation.frames.len() > 0 || self.has_visit(place) {
@@ -183,7 +183,7 @@ impl World {
         }
     }
 
-    /// Takes out what nothing reaches.
+    /// Takes out all that nothing reaches.
     pub fn sweep(&mut self, plan: &Plan) {
         for place in 0..MAX_ACTIVATIONS {
             self.leak(plan, place);

@@ -1,5 +1,6 @@
-//! A small world: what exists at one moment, in places of which there are few. It is a copyable value, apart from the monitor's world:
-//! nothing that is over is in it, and what doesn't fit isn't followed. Numbers of a journal stand beside what they name.
+//! A small world: the objects that exist at one moment, in a few places. It is a copyable value, apart from the monitor's world: it has
+//! nothing that is over, and a step that needs more places isn't followed. Operations, activations and work items have their numbers in the
+//! journal.
 
 use crate::entries::{Entries, MAX_ENTRIES};
 use crate::frames::Frames;
@@ -57,7 +58,7 @@ pub struct Visit {
     pub is_draining: bool,
 }
 
-/// What a context is linked to.
+/// The link of a context.
 #[derive(Clone, Copy, PartialEq, Eq)]
 pub enum Anchored {
     Nowhere,
@@ -160,7 +161,7 @@ pub const OPENING: World = World {
 // ---- reading
 
 impl World {
-    /// The activation at a place; the first one behind the last place.
+    /// The activation at a place; past the last place, the first activation.
     pub fn activation(&self, place: u8) -> &Activation {
         match self.activations.get(usize::from(place)) {
             Some(activation) => activation,
@@ -168,7 +169,7 @@ impl World {
         }
     }
 
-    /// The operation at a place; one that isn't there behind the last place.
+    /// The operation at a place; past the last place, one that doesn't exist.
     pub fn operation(&self, place: u8) -> Passage {
         match self.operations.get(usize::from(place)) {
             Some(operation) => *operation,
@@ -176,7 +177,7 @@ impl World {
         }
     }
 
-    /// The visit at a place; one that isn't there behind the last place.
+    /// The visit at a place; past the last place, one that doesn't exist.
     pub fn visit(&self, place: u8) -> Visit {
         match self.visits.get(usize::from(place)) {
             Some(visit) => *visit,
@@ -184,7 +185,7 @@ impl World {
         }
     }
 
-    /// The context at a place; one that isn't there behind the last place.
+    /// The context at a place; past the last place, one that doesn't exist.
     pub fn context(&self, place: u8) -> Context {
         match self.contexts.get(usize::from(place)) {
             Some(context) => *context,
@@ -192,7 +193,7 @@ impl World {
         }
     }
 
-    /// The work item at a place; one that isn't there behind the last place.
+    /// The work item at a place; past the last place, one that doesn't exist.
     pub fn item(&self, place: u8) -> Item {
         match self.items.get(usize::from(place)) {
             Some(item) => *item,
@@ -213,7 +214,7 @@ impl World {
         self.is_detaching.iter().any(|detaching| *detaching)
     }
 
-    /// The context of a filter that is linked so.
+    /// The context of a filter that has this link.
     pub(crate) fn linked(&self, filter: u8, link: Anchored) -> Option<u8> {
         for place in 0..MAX_CONTEXTS {
             let context = self.context(place);
@@ -276,7 +277,7 @@ impl World {
         self.activation(a).turns.last_left()
     }
 
-    /// So many turns are left of it.
+    /// Sets how many turns are left of it.
     pub fn set_turns_left(&mut self, a: u8, left: u64) {
         if let Some(activation) = self.activations.get_mut(usize::from(a)) {
             activation.turns.set_last_left(left);

@@ -22,7 +22,7 @@ use flt_graph::{
 };
 use flt_model::{first_faults_are_told, locks_stay_exclusive};
 
-/// No run of accepted filters breaks anything: for all filters and all lists of transitions, where each filter is accepted, `breaks` finds
+/// No run of accepted filters breaks anything: for all filters and all lists of transitions, if each filter is accepted, `breaks` finds
 /// nothing. It does nothing: its clause is the law.
 pub fn accepted_runs_break_nothing()
     ensures { AcceptedRunsBreakNothing }
@@ -52,8 +52,8 @@ pub fn unloading_leaks_nothing()
 
 /// Accepted filters that take their locks in an order come to rest. At each moment of a run of theirs: as long as a callback runs, one that
 /// runs can make a step, so nothing deadlocks; all that run can be brought to their ends by their own steps; each filter can be unloaded;
-/// and where no two have one altitude, each operation can be completed, and all can come to rest at one moment, with nothing left. Filters
-/// are so exactly where they are in the order of their altitudes, in which the machine takes them. It does nothing: its clauses are the law.
+/// and if no two have one altitude, each operation can be completed, and all can come to rest at one moment, with nothing left. Filters are
+/// orderly exactly if they are when sorted by altitude, as the machine takes them. It does nothing: its clauses are the law.
 pub fn orderly_filters_come_to_rest()
     ensures moving { NoDeadlock }
     ensures ending { CallbacksCanEnd }

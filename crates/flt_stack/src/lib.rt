@@ -1,5 +1,5 @@
-//! The stack: filters are loaded where certificates cover them, and what is loaded is what a board runs on. A board on it breaks nothing,
-//! and can come to rest where all filters take their locks in an order.
+//! The stack: filters are loaded if certificates cover them, and a board runs the loaded ones. Such a board breaks nothing, and can come to
+//! rest if all filters take their locks in an order.
 #![tactic(auto)]
 
 mod fault;

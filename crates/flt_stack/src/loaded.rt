@@ -1,4 +1,4 @@
-//! What is loaded: filters, each accepted, from the highest altitude to the lowest, and the same as a machine runs them.
+//! The loaded filters, each accepted, from the highest altitude to the lowest, and the same as a machine runs them.
 
 ghost use Rattle.std.specs.Prelude.{◌≡◌, ◌↔◌, ℕ, IsTrue, List, None};
 ghost use Rattle.flt_frame.specs.Loading.{AreLoaded};
@@ -58,7 +58,7 @@ impl Loaded {
         self.trees.as_slice()
     }
 
-    /// The same filters as a board runs them: what each of its calls is lent.
+    /// The same filters as a board runs them, for lending to each of its calls.
     pub fn machine(&self) -> &flt_machine::Loaded
         ensures { AreLoaded self.now result.now }
     {
@@ -72,7 +72,7 @@ impl Loaded {
         self.ordered
     }
 
-    /// No run of the machine on what is loaded breaks anything. It does nothing: its clause is the law.
+    /// No run of the machine on the loaded filters breaks anything. It does nothing: its clause is the law.
     pub fn breaks_nothing(&self)
         ensures { (transitions : List Transition) → breaks self.now transitions ≡ None }
     {
@@ -80,8 +80,8 @@ impl Loaded {
         accepted_runs_break_nothing();
     }
 
-    /// A board on what is loaded has broken nothing, whatever was asked of it. `Board::new(loaded.machine())` makes such a board, and each
-    /// call of a board leaves it one. It does nothing: its clauses are the law.
+    /// A board on the loaded filters has broken nothing, whichever calls were made on it. `Board::new(loaded.machine())` makes such a
+    /// board, and each call of a board leaves it one. It does nothing: its clauses are the law.
     pub fn boards_break_nothing(&self, board: &Board)
         // It is a board of these filters.
         requires own { IsBoard self.now board.now }
@@ -94,8 +94,8 @@ impl Loaded {
         self.breaks_nothing();
         legal_journals_are_clean_runs();
     }
-    /// An unload that has ended on a board has left nothing behind, whatever was asked of the board since. It does nothing: its clause is
-    /// the law.
+    /// An unload that has ended on a board has left nothing of the filter, whichever calls were made on the board since. It does nothing:
+    /// its clause is the law.
     pub fn boards_leak_nothing(&self, board: &Board)
         // It is a board of these filters.
         requires own { IsBoard self.now board.now }
@@ -107,8 +107,8 @@ impl Loaded {
         unloading_leaks_nothing();
     }
 
-    /// Where the filters take their locks in an order, a board on them never deadlocks, each filter can be unloaded there, and all can come
-    /// to rest. "Can" says that transitions lead there, not that they are made. It does nothing: its clauses are the law.
+    /// If the filters take their locks in an order, a board on them never deadlocks, each filter can be unloaded there, and all can come to
+    /// rest. "Can" says that transitions lead there, not that they are made. It does nothing: its clauses are the law.
     pub fn boards_can_come_to_rest(&self, board: &Board)
         // It is a board of these filters.
         requires own { IsBoard self.now board.now }

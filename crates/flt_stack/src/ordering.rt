@@ -1,5 +1,5 @@
-//! Whether locks are taken in an order, by any certificate that covers. If one shows an order, the least one does: it says no more of what
-//! is reached and held. A greater one may show a circle where the least one shows an order.
+//! Whether locks are taken in an order, by any certificate that covers. If one shows an order, the least one does: it has no more reached
+//! points and held locks. A greater one may show a circle although the least one shows an order.
 
 ghost use Rattle.std.specs.Prelude.{◌≡◌, ◌<◌, ◌↔◌, IsTrue, IfOk};
 ghost use Rattle.flt_analyse.specs.Least.{NoneCovers};
@@ -50,8 +50,8 @@ fn shows_order(graph: &Graph, cert: &Cert) -> bool
     }
 }
 
-/// Whether locks are taken in an order by some certificate that covers; the given one does. Where it shows a circle or is a thin one, the
-/// least one is made and asked.
+/// Whether locks are taken in an order by some certificate that covers; the given one does. If it shows a circle or is a thin one, the
+/// least one is made and decides.
 pub(crate) fn is_ordered(alloc: Global, graph: &Graph, cert: &Cert) -> Result<bool, AllocError>
     requires covers { CertCovers graph.now cert.now }
     requires certificate { IsTrue (is_cert cert.now) }

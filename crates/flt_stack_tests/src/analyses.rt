@@ -1,4 +1,4 @@
-//! The analyses of several texts on several threads, against what is worked out by hand.
+//! The analyses of several texts on several threads, against results worked out by hand.
 ghost use Rattle.std.specs.Prelude.{◌≤◌};
 
 use flt_analyse::{Start, analyse_all};
@@ -26,7 +26,7 @@ const SMALLEST_CERTIFICATE: &str = "fltcert 1\ncallback 0 2\n0 111111111 11112 3
 const STREAM_CONTEXT_CERTIFICATE: &str =
     "fltcert 1\ncallback 0 9\n0 111111111 11112 3 1 -\n1 111111111 11112 3 1 -\n2 211111111 11112 3 1 -\n3 231111111 11112 3 1 -\n4 221111111 11112 3 1 -\n5 351111111 11112 3 1 -\n6 251111111 11112 3 1 -\n7 551111111 11112 3 1 -\n8 !\nend\n";
 
-/// What is expected of a text: its least certificate, or the callback, point, line and rule of its first fault.
+/// The expected result for a text: its least certificate, or the callback, point, line and rule of its first fault.
 #[derive(Drop)]
 enum Expected {
     Certificate(&'static str),
@@ -45,7 +45,7 @@ impl Start for Begun {
     }
 }
 
-/// Whether an answer is what is expected.
+/// Whether an answer is the expected one.
 fn is_expected(
     alloc: Global,
     answer: &Result<FullCert, Refusal>,
@@ -85,7 +85,7 @@ fn graphs_of(alloc: Global, texts: &[&str]) -> Result<Vec<Graph>, Fail> {
     Ok(graphs)
 }
 
-/// Whether answers are those that are expected, at the same places.
+/// Whether answers are the expected ones, at the same places.
 fn are_expected(
     alloc: Global,
     answers: &[Result<FullCert, Refusal>],
@@ -104,7 +104,7 @@ fn are_expected(
     Ok(answers.len() == expected.len())
 }
 
-/// Whether so many workers answer what is expected, and each analysis was announced.
+/// Whether this many workers have the expected answers, and each analysis was announced.
 fn answer_so<R: Threads + Sync>(
     rt: &R,
     alloc: Global,
@@ -132,7 +132,7 @@ static EXPECTED: [Expected; 3] = [
     Expected::Certificate(STREAM_CONTEXT_CERTIFICATE),
 ];
 
-/// Three graphs, and none, by 1, 2, 3 and 16 workers: each answer stands at its graph's place.
+/// Three graphs, and none, by 1, 2, 3 and 16 workers: each answer is at its graph's place.
 #[test]
 fn answers_stand_at_the_places_of_their_graphs(rt: HostRuntime) -> Result<(), Fail> {
     let graphs = graphs_of(rt.alloc(), &TEXTS)?;
@@ -143,7 +143,7 @@ fn answers_stand_at_the_places_of_their_graphs(rt: HostRuntime) -> Result<(), Fa
     Ok(())
 }
 
-/// Place 0 waits until place 1 has begun, 1,000,000 turns at most.
+/// A meeting: place 0 waits until place 1 has begun, 1,000,000 turns at most.
 #[derive(Drop)]
 struct Meeting {
     second_began: AtomicBool,

@@ -9,7 +9,7 @@ use std::test::*;
 use std::thread;
 use std::thread::Threads;
 
-/// Whether what a caller asks for is what a worker collects.
+/// Whether a worker collects exactly the cancels that a caller requests.
 fn are_collected(pads: &Pads, caller: &mut Seat, worker: &mut Seat) -> bool
     requires caller { IsSeatOf pads.now caller.old }
     requires worker { IsSeatOf pads.now worker.old }
@@ -51,17 +51,17 @@ fn collects_again_what_is_asked_again(rt: HostRuntime) -> Result<(), Fail> {
     Ok(())
 }
 
-/// The words of the serials below 800, which eight threads ask for, 100 each.
+/// The number of words of the serials below 800, which eight threads request, 100 each.
 const ASKED_WORDS: usize = 13;
 
-/// What was collected: the bits of each word, and how many there were in all.
+/// The bits of each word that were collected, and their number in all.
 #[derive(Drop)]
 struct Gathered {
     words: [u64; ASKED_WORDS],
     count: u64,
 }
 
-/// Every eighth serial below 800, from this one on.
+/// Requests every eighth serial below 800, from this one on.
 fn ask_hundred(pads: &Pads, seat: &mut Seat, first: u32)
     requires first { first < 8 }
     requires seat { IsSeatOf pads.now seat.old }
@@ -72,7 +72,7 @@ fn ask_hundred(pads: &Pads, seat: &mut Seat, first: u32)
     }
 }
 
-/// Goes over the words so many times.
+/// Goes over the words this many times.
 fn gather(pads: &Pads, seat: &mut Seat, rounds: u32) -> Gathered
     requires { IsSeatOf pads.now seat.old }
     ensures { IsSeatOf pads.now seat.new }
@@ -98,7 +98,7 @@ fn gather_once(pads: &Pads, seat: &mut Seat, gathered: &mut Gathered)
     }
 }
 
-/// The first eight to come ask, and the others collect.
+/// Takes part in the test: the first eight to come request serials, and the others collect.
 fn take_part(pads: &Pads, comers: &AtomicU64, mut seat: Seat) -> Gathered
     requires { IsSeatOf pads.now seat }
 {

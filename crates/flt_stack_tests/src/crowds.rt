@@ -24,30 +24,30 @@ use std::test::Fail;
 use std::thread;
 use std::thread::{Threads, join};
 
-/// What callers and workers do, each in a thread of its own.
+/// The plan of callers and workers, each in a thread of its own.
 #[derive(Clone, Copy)]
 struct Plan {
     callers: usize,
     workers: usize,
-    /// How many reads each caller lets arrive.
+    /// The number of reads that each caller lets arrive.
     reads: u32,
-    /// Whether each caller asks for a cancel after each read.
+    /// Whether each caller requests a cancel after each read.
     cancels: bool,
     /// Whether the first two workers wait for one another, once all callers have gone.
     meets: bool,
-    /// Where it isn't 0, what each caller asks for and where workers pause comes of it.
+    /// If it isn't 0, the calls of each caller and the pauses of workers are derived from it.
     seed: u64,
     /// The altitudes of the filters that are detached then, each by a caller of its own.
     detaches: &'static [u32],
 }
 
-/// How far the threads have come.
+/// The progress of the threads.
 #[derive(Drop)]
 struct Course {
     plan: Plan,
     came: AtomicU64,
     gone: AtomicU64,
-    /// How many reads were to arrive, and how many filters to be detached.
+    /// The number of reads that were to arrive, and the number of filters that were to be detached.
     arrivals: AtomicU64,
     detaches: AtomicU64,
     first_of_one: AtomicBool,
@@ -80,7 +80,7 @@ impl Course {
         self.have_callers_gone() && (passed || !self.plan.meets)
     }
 
-    /// Waits until all callers have gone, where workers are to meet.
+    /// Waits until all callers have gone, if workers will meet.
     fn wait_for_callers(&self) {
         for _ in 0..1_000_000 {
             if self.have_callers_gone() || !self.plan.meets {
@@ -90,7 +90,7 @@ impl Course {
         }
     }
 
-    /// Waits until a worker has come there, 1,000,000 turns at most.
+    /// Waits until a worker has come to this point, 1,000,000 turns at most.
     fn wait_for(&self, there: &AtomicBool) {
         for _ in 0..1_000_000 {
             if there.load(Ordering::SeqCst) {
@@ -102,7 +102,7 @@ impl Course {
     }
 }
 
-/// Lets the others go on for a while, mostly not at all, and sometimes for long.
+/// Lets the others run for a while, mostly not at all, and sometimes for long.
 fn pause(seed: u64, worker: usize) {
     let rounds = match Dice::of(seed, worker as u64).roll(16) {
         0 => 50,
@@ -114,8 +114,8 @@ fn pause(seed: u64, worker: usize) {
     }
 }
 
-/// Where a worker passes. Of two that meet each waits in its first change: worker 0 until worker 1 is in its own, and worker 1 until
-/// worker 0 comes to its second.
+/// The gate that a worker passes. Of two that meet, each waits in its first change: worker 0 until worker 1 is in its own, and worker 1
+/// until worker 0 comes to its second.
 #[derive(Drop)]
 struct Side<'a> {
     course: &'a Course,
@@ -146,8 +146,8 @@ impl<'a> Gate for Side<'a> {
 
 // ---- what one thread does
 
-/// The serial number whose cancel a caller asks for after its read `k`. All are odd. Where 100 reads arrive by each of eight callers, those
-/// that a caller asks for after its last five have arrived by then.
+/// The serial number that a caller cancels after its read `k`. All are odd. If each of eight callers lets 100 reads arrive, the ones that a
+/// caller cancels after its last five reads have arrived by then.
 fn asked(k: u32, caller: u32) -> u32
     requires { caller < 8 }
     ensures { result < 65536 }
@@ -174,7 +174,7 @@ fn call<N: StackName, R: Wait>(
     }
 }
 
-/// A read is to arrive.
+/// Lets a read arrive, and counts it.
 fn let_arrive<N: StackName, R: Wait>(
     rt: &R,
     alloc: Global,
@@ -189,7 +189,7 @@ fn let_arrive<N: StackName, R: Wait>(
     let _ = stack.arrive(rt, alloc, seat, Operation::Read, Mode::Irp, 0);
 }
 
-/// A filter is to be detached.
+/// Detaches a filter, and counts it.
 fn let_detach<N: StackName, R: Wait>(
     rt: &R,
     alloc: Global,
@@ -205,7 +205,7 @@ fn let_detach<N: StackName, R: Wait>(
     let _ = stack.detach(rt, alloc, seat, altitude);
 }
 
-/// A call at random: three of four let a read arrive, and the others ask for the cancel of a read with an odd number.
+/// Makes a call at random: three of four let a read arrive, and the others cancel a read with an odd number.
 fn call_once<N: StackName, R: Wait>(
     rt: &R,
     alloc: Global,
@@ -224,7 +224,7 @@ fn call_once<N: StackName, R: Wait>(
     }
 }
 
-/// Calls at random. A caller detaches a filter in their midst, if one is its own, and ends with the cancel of the read with the number 1.
+/// Makes calls at random. A caller detaches a filter in their midst, if one is its own, and at the end cancels the read with the number 1.
 fn call_at_random<N: StackName, R: Wait>(
     rt: &R,
     alloc: Global,
@@ -249,7 +249,7 @@ fn call_at_random<N: StackName, R: Wait>(
     stack.cancel(seat, 1);
 }
 
-/// A caller calls, and goes.
+/// The thread of a caller, which makes its calls and goes.
 fn take_part<N: StackName, R: Wait>(
     rt: &R,
     alloc: Global,
@@ -269,8 +269,8 @@ fn take_part<N: StackName, R: Wait>(
     seat
 }
 
-/// Works until a call that began once all callers had gone has added nothing: then no ticket is left that any worker could serve. A worker
-/// that is to meet another one starts once they have gone, and works until it has passed.
+/// Works until a call that began after all callers had gone has added nothing: then no ticket is left that any worker could serve. A worker
+/// that will meet another one starts once they have gone, and works until it has passed.
 fn work_on<N: StackName, R: Wait>(
     rt: &R,
     alloc: Global,
@@ -348,7 +348,7 @@ fn seats_of<S>(alloc: Global, seats: Result<Vec<S>, AllocError>) -> Vec<S> {
     }
 }
 
-/// What becomes of a plan on a stack of these filters.
+/// The result of a plan on a stack of these filters.
 fn crowd<N: StackName + Send + Sync, R: Threads + Wait + Sync>(
     rt: &R,
     alloc: Global,
@@ -394,7 +394,7 @@ fn crowd<N: StackName + Send + Sync, R: Threads + Wait + Sync>(
     if all_back { Ok(ended) } else { Err(AllocError) }
 }
 
-/// What becomes of a plan on a stack of these filters.
+/// The result of a plan on a stack of these filters.
 fn follow<R: Threads + Wait + Sync>(
     rt: &R,
     alloc: Global,
@@ -419,7 +419,7 @@ fn follow<R: Threads + Wait + Sync>(
 
 // ---- tests
 
-/// Whether so many operations arrived and were lowered in a legal run, which the callers' receipts tell.
+/// Whether this many operations arrived and were lowered in a legal run, which agrees with the callers' receipts.
 fn are_lowered(alloc: Global, filters: &[Filter], ended: &Ended, count: u32) -> Result<bool, Fail> {
     let tally = tally_of(&ended.journal);
     Ok(
@@ -430,7 +430,7 @@ fn are_lowered(alloc: Global, filters: &[Filter], ended: &Ended, count: u32) -> 
     )
 }
 
-/// Two reads have arrived, and two workers are at work at once.
+/// Two reads have arrived, and two workers work at once.
 #[test]
 fn two_workers_at_once(rt: HostRuntime) -> Result<(), Fail> {
     let course = Course::new(Plan {
@@ -488,8 +488,8 @@ fn are_cancelled(alloc: Global, ended: &Ended) -> Result<bool, Fail> {
     )
 }
 
-/// Eight callers let 100 reads each arrive, which a filter keeps in its queue, and ask for 100 cancels each. The last five of each have
-/// arrived when they are asked for, and no serial number is cancelled that wasn't asked for.
+/// Eight callers let 100 reads each arrive, which a filter keeps in its queue, and request 100 cancels each. The last five of each have
+/// arrived when their cancels are requested, and no other serial number is cancelled.
 #[test]
 fn eight_callers_beside_four_workers(rt: HostRuntime) -> Result<(), Fail> {
     let course = Course::new(Plan {
@@ -508,14 +508,14 @@ fn eight_callers_beside_four_workers(rt: HostRuntime) -> Result<(), Fail> {
     Ok(())
 }
 
-/// Filters, and which of them are detached.
+/// Filters, and the altitudes of those that are detached.
 #[derive(Clone, Copy)]
 struct Driven {
     filters: &'static [Filter],
     detaches: &'static [u32],
 }
 
-/// How many stacks are driven at random.
+/// The number of stacks that are driven at random.
 const STACKS: usize = 5;
 
 static DRIVEN: [Driven; STACKS] = [
@@ -542,7 +542,7 @@ static DRIVEN: [Driven; STACKS] = [
     },
 ];
 
-/// A plan of a seed. The first has as many callers and workers as there may be.
+/// The plan of a seed. The first has as many callers and workers as there may be.
 fn drawn(seed: u64, detaches: &'static [u32]) -> Plan
     ensures callers { (1 ≤ result.callers) × (result.callers ≤ 16) }
     ensures workers { (1 ≤ result.workers) × (result.workers ≤ 16) }
@@ -564,8 +564,8 @@ fn drawn(seed: u64, detaches: &'static [u32]) -> Plan
     }
 }
 
-/// Whether a journal has what callers asked for, and nothing else: all reads arrived, each filter was detached that was to be, and only
-/// reads with odd numbers were cancelled, one of them at least where they wait for it.
+/// Whether a journal has the callers' requests, and nothing else: all reads arrived, each requested filter was detached, and only reads
+/// with odd numbers were cancelled, at least one of them if no filter is detached.
 fn is_as_asked(course: &Course, tally: Tally) -> bool {
     let waits = course.plan.detaches.is_empty();
     u64::from(tally.arrived) == course.arrivals.load(Ordering::SeqCst)
@@ -574,7 +574,7 @@ fn is_as_asked(course: &Course, tally: Tally) -> bool {
         && (tally.cancelled > 0 || !waits)
 }
 
-/// Whether a crowd at random has made a legal run of what its callers asked for, which their receipts tell.
+/// Whether a crowd at random has made a legal run of its callers' requests, which agrees with their receipts.
 fn goes_at_random<R: Threads + Wait + Sync>(
     rt: &R,
     alloc: Global,
@@ -589,7 +589,7 @@ fn goes_at_random<R: Threads + Wait + Sync>(
     Ok(legal? && fine)
 }
 
-/// The first seed of a crowd that has not, of as many seeds.
+/// The first seed for which that fails, of this many.
 fn wrong_seed<R: Threads + Wait + Sync>(
     rt: &R,
     alloc: Global,
@@ -606,8 +606,8 @@ fn wrong_seed<R: Threads + Wait + Sync>(
     Ok(None)
 }
 
-/// Ten crowds of up to 16 callers and 16 workers, whose calls and pauses come of their seeds. How the threads meet is the system's choice;
-/// what is asked of the journals holds of each way to do so.
+/// Ten crowds of up to 16 callers and 16 workers, whose calls and pauses are derived from their seeds. The system chooses how the threads
+/// meet; the assertions about the journals hold for each choice.
 #[test]
 fn crowds_at_random_do_what_they_are_asked(rt: HostRuntime) -> Result<(), Fail> {
     assert!(rt; wrong_seed(&rt, rt.alloc(), &DRIVEN, 10)?.is_none());

@@ -17,7 +17,7 @@ impl Dice {
         dice
     }
 
-    /// A number below the number of sides, or 0 where there is none.
+    /// A number below the number of sides, or 0 if there are none.
     pub(crate) fn roll(&mut self, sides: u32) -> u32
         ensures { 0 < sides → result < sides }
     {

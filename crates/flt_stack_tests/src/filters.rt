@@ -12,14 +12,14 @@ pub(crate) struct Filter {
     certificate: &'static str,
 }
 
-/// Of one callback, which returns a status.
+/// The certificate of one callback, which returns a status.
 const ONE_STATUS: &str = "fltcert 1\ncallback 0 2\n0 111111111 11112 3 1 -\n1 !\nend\n";
 
-/// Of a callback that returns a status, and one on the way back, which releases what it is handed.
+/// The certificate of a callback that returns a status, and of a post callback that releases its context.
 const WITH_POST: &str =
     "fltcert 1\ncallback 0 2\n0 111111111 11112 3 1 -\n1 !\ncallback 1 4\n0 111111113 11112 3 3 -\n1 111111112 11112 3 3 -\n2 111111115 11112 3 3 -\n3 !\nend\n";
 
-/// Passes reads on, and looks at them on their way back.
+/// Passes reads on, and looks at them as they come back up.
 pub(crate) const HIGH: Filter = Filter {
     text: "filter high altitude 200\npre read {\nreturn WITH_CALLBACK\n}\npost read {\nif arg != NULL {\nFltReleaseContext arg\n}\nreturn FINISHED_PROCESSING\n}\n",
     certificate: WITH_POST,
@@ -61,13 +61,13 @@ pub(crate) const ALLOCATES_TWICE: Filter = Filter {
     certificate: "fltcert 1\ncallback 0 7\n0 111111111 11112 3 1 -\n1 211111111 11112 3 1 -\n2 511111111 11112 3 1 -\n3 311111111 11112 3 1 -\n4 211111111 11112 3 1 -\n5 511111111 11112 3 1 -\n6 !\nend\n",
 };
 
-/// Gives each stream that is read a context, and the read too. It is drained where it is detached before the read is back.
+/// Gives each stream that is read a context, and the read too. It is drained if it is detached before the read is back.
 pub(crate) const DRAINED: Filter = Filter {
     text: "filter high altitude 200\npre read {\nif FltAllocateContext c0 {\nif FltSetStreamContext KEEP_IF_EXISTS c0 {\n}\nreturn WITH_CALLBACK context c0\n}\nreturn NO_CALLBACK\n}\npost read {\nif arg != NULL {\nFltReleaseContext arg\n}\nreturn FINISHED_PROCESSING\n}\n",
     certificate: "fltcert 1\ncallback 0 5\n0 111111111 11112 3 1 -\n1 211111111 11112 3 1 -\n2 211111111 11112 3 1 -\n3 111111111 11112 3 1 -\n4 !\ncallback 1 4\n0 111111113 11112 3 3 -\n1 111111112 11112 3 3 -\n2 111111115 11112 3 3 -\n3 !\nend\n",
 };
 
-/// Lets reads go on by a deferred work item.
+/// Lets reads continue by a deferred work item.
 pub(crate) const DEFERS: Filter = Filter {
     text: "filter d altitude 300\npre read {\nif irp data {\nif FltQueueDeferredIoWorkItem data later {\nreturn PENDING\n}\n}\nreturn NO_CALLBACK\n}\ndeferred_pre later {\nif arg != NULL {\nFltReleaseContext arg\n}\nFltCompletePendedPreOperation data NO_CALLBACK\n}\n",
     certificate: "fltcert 1\ncallback 0 5\n0 111111111 11112 3 1 -\n1 111111111 11112 1 1 -\n2 111111111 11114 1 1 -\n3 111111111 11112 3 1 -\n4 !\ncallback 1 4\n0 111111113 11112 1 1 -\n1 111111112 11112 1 1 -\n2 111111115 11112 1 1 -\n3 111111115 11114 1 1 -\nend\n",

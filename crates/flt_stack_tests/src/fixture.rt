@@ -14,7 +14,7 @@ use std::marker::Brand;
 use std::sync::Wait;
 use std::sync::ledger::Blank;
 
-/// What the caller asks for, or that the worker works.
+/// A request of the caller, or the work of the worker.
 #[derive(Clone, Copy)]
 pub(crate) enum Step {
     /// A read of file 0 arrives.
@@ -25,12 +25,12 @@ pub(crate) enum Step {
     Work,
 }
 
-/// What a step answers.
+/// The answer to a step.
 #[derive(Clone, Copy, PartialEq)]
 pub(crate) enum Answer {
     Serial(u32),
     Done,
-    /// So many entries were added.
+    /// This many entries were added.
     Added(u64),
     NoSuch,
     Already,
@@ -39,14 +39,14 @@ pub(crate) enum Answer {
     Refused,
 }
 
-/// A journal, and whether the callers' receipts are those that it has.
+/// A journal, and whether it agrees with the callers' receipts.
 #[derive(Drop)]
 pub(crate) struct Ended {
     pub(crate) journal: Journal,
     pub(crate) agrees: bool,
 }
 
-/// What steps come to.
+/// The results of steps.
 #[derive(Drop)]
 pub(crate) struct Told {
     pub(crate) answers: Vec<Answer>,
@@ -55,7 +55,7 @@ pub(crate) struct Told {
     pub(crate) ended: Ended,
 }
 
-/// Lets every worker pass.
+/// A gate that lets every worker pass.
 #[derive(Drop)]
 struct Open;
 
@@ -75,7 +75,7 @@ struct Fixture<N: StackName> {
     ghost of_worker: { IsWorkerOf stack.exchange worker.place },
 }
 
-/// What an arrival answers, where memory isn't refused.
+/// The answer to an arrival, unless memory is refused.
 fn arrived(answer: Result<u32, ArriveFault>) -> Result<Answer, AllocError> {
     match answer {
         Ok(serial) => Ok(Answer::Serial(serial)),
@@ -84,7 +84,7 @@ fn arrived(answer: Result<u32, ArriveFault>) -> Result<Answer, AllocError> {
     }
 }
 
-/// What a detach answers, where memory isn't refused.
+/// The answer to a detach, unless memory is refused.
 fn detached(answer: Result<(), DetachFault>) -> Result<Answer, AllocError> {
     match answer {
         Ok(()) => Ok(Answer::Done),
@@ -95,7 +95,7 @@ fn detached(answer: Result<(), DetachFault>) -> Result<Answer, AllocError> {
     }
 }
 
-/// What work answers, where memory isn't refused.
+/// The answer to work, unless memory is refused.
 fn worked(answer: Result<u64, TurnFault>) -> Result<Answer, AllocError> {
     match answer {
         Ok(made) => Ok(Answer::Added(made)),
@@ -181,7 +181,7 @@ impl<N: StackName> Fixture<N> {
         worked(self.stack.work(rt, alloc, &mut self.worker, &mut Open))
     }
 
-    /// Takes a step, and once more where memory was refused.
+    /// Takes a step, and takes it once more if memory was refused.
     fn step_or_again<R: Wait>(&mut self, rt: &R, alloc: Global, step: Step) -> Answer {
         if let Ok(answer) = self.step(rt, alloc, step) {
             return answer;
@@ -193,7 +193,7 @@ impl<N: StackName> Fixture<N> {
         }
     }
 
-    /// The seats go back where they came from, for which no memory is needed.
+    /// Ends the stack. The seats go back to where they came from, for which no memory is needed.
     fn end(self) -> Ended {
         let Fixture {
             stack,
@@ -227,7 +227,7 @@ pub(crate) fn finished<N: StackName>(
     }
 }
 
-/// What steps come to on a stack of these filters.
+/// The results of steps on a stack of these filters.
 fn taken<N: StackName, R: Wait>(
     rt: &R,
     alloc: Global,
@@ -253,7 +253,7 @@ fn taken<N: StackName, R: Wait>(
     })
 }
 
-/// What steps come to on a stack of these filters, by one caller and one worker. A step that is refused memory is taken once more.
+/// The results of steps on a stack of these filters, by one caller and one worker. A step that is refused memory is taken once more.
 pub(crate) fn take_steps<R: Wait>(
     rt: &R,
     alloc: Global,

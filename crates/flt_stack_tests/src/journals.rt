@@ -1,4 +1,4 @@
-//! What is looked at of journals.
+//! The properties of journals that tests check.
 
 use crate::filters::{Filter, trees};
 use flt_model::{Journal, JournalEntry, Move, Verdict, read};
@@ -32,13 +32,13 @@ pub(crate) fn is_legal(alloc: Global, filters: &[Filter], journal: &Journal) -> 
     Ok(matches!(verdict, Verdict::Legal))
 }
 
-/// How many entries of some kinds a journal has.
+/// The number of a journal's entries of some kinds.
 #[derive(Clone, Copy)]
 pub(crate) struct Tally {
     pub(crate) arrived: u32,
     pub(crate) lowered: u32,
     pub(crate) cancelled: u32,
-    /// Filters that came to be detached.
+    /// Filters that were detached.
     pub(crate) detached: u32,
     /// Whether each serial number that was cancelled is odd.
     pub(crate) all_odd: bool,

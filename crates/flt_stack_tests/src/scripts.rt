@@ -1,4 +1,4 @@
-//! Scripts by one caller and one worker. What is expected follows by hand from what the machine does and from which ticket comes next.
+//! Scripts by one caller and one worker. The expected results follow by hand from the machine's rules and from the order of tickets.
 
 use crate::filters::{
     ALLOCATES_TWICE, DEFERS, DENIES, DRAINED, Filter, HIGH, LOW, PASSES, PASSES_ALONE, PENDS,
@@ -10,7 +10,7 @@ use std::alloc::{AllocError, Global};
 use std::sync::Wait;
 use std::test::Fail;
 
-/// Some filters, steps, what each answers, and the entries of the journal at the end.
+/// Some filters, steps, the answer to each, and the entries of the journal at the end.
 #[derive(Clone, Copy)]
 struct Case {
     filters: &'static [Filter],
@@ -161,8 +161,8 @@ static CASES: [Case; 12] = [
 #[derive(Clone, Copy)]
 struct Refused {
     case: Case,
-    /// Whether two tickets wait at once. A move that is refused memory keeps its ticket, which comes behind the others then, so that
-    /// entries may come in another order.
+    /// Whether two tickets wait at once. A move that is refused memory keeps its ticket, which then comes after the others, so that entries
+    /// may come in another order.
     has_others: bool,
 }
 
@@ -261,7 +261,7 @@ fn has_ended_so(alloc: Global, case: &Case, told: &Told) -> Result<bool, Fail> {
     )
 }
 
-/// Whether a case's steps answer so, and end with its journal.
+/// Whether a case's steps have its answers, and end with its journal.
 fn goes_so<R: Wait>(rt: &R, alloc: Global, case: &Case) -> Result<bool, Fail> {
     let told = take_steps(rt, alloc, loaded(alloc, case.filters)?, case.steps)?;
     let answers_so = told.answers.as_slice() == case.answers;
@@ -270,7 +270,7 @@ fn goes_so<R: Wait>(rt: &R, alloc: Global, case: &Case) -> Result<bool, Fail> {
     Ok(ended_so? && answers_so)
 }
 
-/// The first of these cases whose steps answer otherwise, or end otherwise.
+/// The first of these cases whose steps have other answers, or another end.
 fn wrong_case<R: Wait>(rt: &R, alloc: Global, cases: &[Case]) -> Result<Option<usize>, Fail> {
     for (row, case) in cases.iter().enumerate() {
         if !goes_so(rt, alloc, case)? {
@@ -286,7 +286,7 @@ fn scripts_give_these_answers_and_journals(rt: HostRuntime) -> Result<(), Fail> 
     Ok(())
 }
 
-/// What a case's steps come to. A stack that can't be opened is opened once more.
+/// The results of a case's steps. A stack that can't be opened is opened once more.
 fn taken_again<R: Wait>(rt: &R, alloc: Global, case: &Case) -> Result<Told, Fail> {
     if let Ok(told) = take_steps(rt, alloc, loaded(alloc, case.filters)?, case.steps) {
         return Ok(told);
@@ -306,12 +306,12 @@ fn has_ended_likewise(alloc: Global, case: &Case, told: &Told) -> Result<bool, F
     )
 }
 
-/// Whether each step went when it was taken again, where it was.
+/// Whether no step was refused memory twice.
 fn all_went(answers: &[Answer]) -> bool {
     !answers.iter().any(|answer| *answer == Answer::Refused)
 }
 
-/// Whether steps end with the case's journal, or with one of another order where memory was refused; and answer so where it wasn't.
+/// Whether steps end with the case's journal, or with one of another order if memory was refused, and have its answers if it wasn't.
 fn has_gone_so(alloc: Global, row: &Refused, told: &Told) -> Result<bool, Fail> {
     if !all_went(told.answers.as_slice()) {
         return Ok(false);
@@ -325,7 +325,7 @@ fn has_gone_so(alloc: Global, row: &Refused, told: &Told) -> Result<bool, Fail> 
     )
 }
 
-/// Whether a row's steps go so. That memory was refused is carried out.
+/// Whether a row's steps succeed. If they do, but memory was refused, the result is `AllocError`.
 fn goes_so_again<R: Wait>(rt: &R, alloc: Global, row: &Refused) -> Result<bool, Fail> {
     let told = taken_again(rt, alloc, &row.case)?;
     let refused = told.refused;
@@ -338,7 +338,7 @@ fn goes_so_again<R: Wait>(rt: &R, alloc: Global, row: &Refused) -> Result<bool, 
     Ok(fine)
 }
 
-/// The first row whose steps don't go so.
+/// The first row whose steps don't succeed.
 fn wrong_row<R: Wait>(rt: &R, alloc: Global, rows: &[Refused]) -> Result<Option<usize>, Fail> {
     for (number, row) in rows.iter().enumerate() {
         if !goes_so_again(rt, alloc, row)? {
@@ -348,7 +348,7 @@ fn wrong_row<R: Wait>(rt: &R, alloc: Global, rows: &[Refused]) -> Result<Option<
     Ok(None)
 }
 
-/// `tools/refuse-allocations.sh tests flt_stack_tests memory` refuses each request for memory in turn. A call that was refused one has
+/// `tools/refuse-allocations.sh tests flt_stack_tests memory` refuses each request for memory in turn. A call that was refused memory has
 /// changed nothing, and is made once more.
 #[test]
 fn calls_made_again_give_these_journals_within_memory(rt: HostRuntime) -> Result<(), Fail> {
@@ -356,7 +356,7 @@ fn calls_made_again_give_these_journals_within_memory(rt: HostRuntime) -> Result
     Ok(())
 }
 
-/// So many steps in which a read arrives.
+/// This many steps in which a read arrives.
 fn arrivals(alloc: Global, count: usize) -> Result<Vec<Step>, Fail> {
     let mut steps = Vec::with_capacity(alloc, count)?;
     for _ in 0..count {

@@ -1,4 +1,4 @@
-//! Tickets that one thread puts and takes, in order; and tickets that three workers take.
+//! Tickets that one thread puts and takes, in order, and tickets that three workers take.
 ghost use Rattle.std.specs.Prelude.{◌≡◌, All};
 ghost use Rattle.flt_pool.specs.Seats.{IsPutSeatOf, IsTakeSeatOf};
 
@@ -15,7 +15,7 @@ const ENTRY: Ticket = Ticket::Entry {
     serial: 7,
 };
 
-/// What a worker takes whose own deque, the injector and another worker's deque have two tickets each.
+/// The tickets that a worker takes if its own deque, the injector and another worker's deque have two each.
 static TAKEN: [Ticket; 6] = [
     Ticket::Activation(2),
     Ticket::Operation(2),
@@ -25,14 +25,14 @@ static TAKEN: [Ticket; 6] = [
     Ticket::Detach(100),
 ];
 
-/// Two tickets go into the injector. Whether they do.
+/// Puts two tickets into the injector. Returns whether both go in.
 fn put_two<R: Wait>(rt: &R, pool: &Pool, caller: &mut PutSeat) -> bool
     requires { IsPutSeatOf pool.now caller.old }
 {
     pool.put(rt, caller, Ticket::Operation(1)).is_ok() && pool.put(rt, caller, ENTRY).is_ok()
 }
 
-/// Two tickets go into a worker's own deque. Whether they do.
+/// Puts two tickets into a worker's own deque. Returns whether both go in.
 fn push_two(pool: &Pool, worker: &mut TakeSeat, first: Ticket, second: Ticket) -> bool
     requires { IsTakeSeatOf pool.now worker.old }
     ensures { IsTakeSeatOf pool.now worker.new }
@@ -53,8 +53,8 @@ fn takes<R: Wait>(rt: &R, pool: &Pool, worker: &mut TakeSeat, tickets: &[Ticket]
     pool.take(rt, worker).is_none()
 }
 
-/// Each kind of ticket goes in and comes out: of the own deque first, then of the injector, then of the other worker's deque, and of
-/// each in the order in which it went in.
+/// Each kind of ticket goes in and comes out: from the worker's own deque first, then from the injector, then from the other worker's
+/// deque, and from each in the order in which it went in.
 #[test]
 fn takes_the_own_deque_then_the_injector_then_steals(rt: HostRuntime) -> Result<(), Fail> {
     let (pool, mut callers, mut workers) = Pool::open(rt.alloc(), 1, 2)?;
@@ -82,17 +82,17 @@ fn takes_the_own_deque_then_the_injector_then_steals(rt: HostRuntime) -> Result<
     Ok(())
 }
 
-/// The words of the operations below 2,000.
+/// The number of words of the operations below 2,000.
 const WORDS: usize = 32;
 
-/// What was taken: a bit for each operation, and how many tickets there were in all.
+/// The tickets taken: a bit for each operation, and their number in all.
 #[derive(Drop)]
 struct Taken {
     words: [u64; WORDS],
     count: u64,
 }
 
-/// Puts the operations from 0 to 1,399 into the injector. It answers how many were given back.
+/// Puts the operations from 0 to 1,399 into the injector. Returns how many were given back.
 fn put_most<R: Wait>(rt: &R, pool: &Pool, seat: &mut PutSeat) -> u32
     requires { IsPutSeatOf pool.now seat.old }
     ensures { IsPutSeatOf pool.now seat.new }
@@ -106,7 +106,7 @@ fn put_most<R: Wait>(rt: &R, pool: &Pool, seat: &mut PutSeat) -> u32
     refused
 }
 
-/// Pushes the operations from 1,400 to 1,999 onto the seat's own deque. It answers how many were given back.
+/// Pushes the operations from 1,400 to 1,999 onto the seat's own deque. Returns how many were given back.
 fn push_rest(pool: &Pool, seat: &mut TakeSeat) -> u32
     requires { IsTakeSeatOf pool.now seat.old }
     ensures { IsTakeSeatOf pool.now seat.new }
@@ -120,7 +120,7 @@ fn push_rest(pool: &Pool, seat: &mut TakeSeat) -> u32
     refused
 }
 
-/// Takes so many times.
+/// Takes this many times.
 fn take_often<R: Wait>(rt: &R, pool: &Pool, seat: &mut TakeSeat, rounds: u32) -> Taken
     requires { IsTakeSeatOf pool.now seat.old }
     ensures { IsTakeSeatOf pool.now seat.new }

@@ -1,4 +1,4 @@
-//! What statements ask for, marked. What comes of it is tested; no clause speaks of it here.
+//! Marks the callbacks that statements ask for. The result is tested later; no clause speaks of it here.
 
 use crate::callbacks::{canceled_number, has_post, post_number, routine_of};
 use crate::within::asks_for_post;
@@ -83,7 +83,7 @@ fn mark_by_statement(
     }
 }
 
-/// Marks all that the statements of a callback at a place ask for.
+/// Marks all callbacks that the statements of a callback at a place ask for.
 #[cycle(marking)]
 pub(crate) fn mark_by_body(
     callbacks: &[Callback],

@@ -1,4 +1,4 @@
-//! The callbacks of a filter by number, as what asks for them names them. A number past all stands for one that isn't there.
+//! The numbers of a filter's callbacks, by operation or by name. A number past all stands for one that isn't there.
 
 ghost use Rattle.std.specs.Prelude.{◌≡◌, ◌≤◌, length};
 ghost use Rattle.flt_starts.specs.Closed as spec;

@@ -1,5 +1,5 @@
-//! Which callbacks of a filter may start: a set that nothing leads out of, gone to from the pre callbacks by what statements ask for, and
-//! then tested. It exports `Started`, which rules out the others by the law of `flt_starts`.
+//! The callbacks of a filter that may start: a set that nothing leads out of, reached from the pre callbacks by the requests of statements,
+//! and then tested. It exports `Started`, which rules out the others by the law of `flt_starts`.
 #![tactic(auto)]
 
 mod asked;

@@ -31,7 +31,7 @@ impl Model for Started {
     ghost view = { λ s. s.marks };
 }
 
-/// No callback is marked but the pre callbacks.
+/// Marks of the pre callbacks alone.
 fn entered(alloc: Global, callbacks: &[Callback]) -> Result<Items<bool>, AllocError> {
     let mut marks = Items::new(alloc);
     for _callback in callbacks {
@@ -43,7 +43,7 @@ fn entered(alloc: Global, callbacks: &[Callback]) -> Result<Items<bool>, AllocEr
     Ok(marks)
 }
 
-/// Marks what the marked callbacks ask for.
+/// Marks the callbacks that the marked ones ask for.
 fn mark_more(callbacks: &[Callback], marks: &mut Items<bool>) {
     for number in 0..callbacks.len() {
         if is_marked(marks.as_slice(), number) {
@@ -92,7 +92,7 @@ fn is_kept(callbacks: &[Callback], marks: &[bool], number: usize) -> bool
     }
 }
 
-/// Whether this holds of each callback.
+/// Whether all that any marked callback asks for is marked.
 fn are_kept(callbacks: &[Callback], marks: &[bool]) -> bool
     ensures { IsTrue result → (k : ℕ) → spec.is_kept callbacks.now marks.now k ≡ true }
 {
@@ -112,11 +112,11 @@ fn are_closed(callbacks: &[Callback], marks: &[bool]) -> bool
 }
 
 impl Started {
-    /// The callbacks of a filter that may start. There is no such set only where the search for it ended too early, which it doesn't.
+    /// The callbacks of a filter that may start; none only if the search for them ended too early, which it doesn't.
     ///
     /// # Errors
     ///
-    /// Where a growth was refused.
+    /// `AllocError` if a growth is refused.
     pub fn of(alloc: Global, callbacks: &[Callback]) -> Result<Option<Started>, AllocError>
         ensures { IfOk result (λ found. IfSome found (λ s. IsClosed callbacks.now (spec.is_marked s))) }
     {
@@ -131,7 +131,7 @@ impl Started {
         }
     }
 
-    /// Whether the callback of a number, from 0, stands outside: no run of any filters starts it.
+    /// Whether the callback of a number, from 0, is outside the set: no run of any filters starts it.
     pub fn rules_out(&self, number: usize) -> bool
         ensures value { result ≡ not (spec.is_marked self.now number) }
         ensures law { (cs : List Callback) → IsClosed cs (spec.is_marked self.now) → IsTrue result → NeverStarts cs number }

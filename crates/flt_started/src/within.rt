@@ -1,4 +1,4 @@
-//! Whether all that statements ask for may start.
+//! Whether all callbacks that statements ask for may start.
 
 ghost use Rattle.std.specs.Prelude.{◌≡◌, false, get_or};
 ghost use Rattle.flt_starts.specs.Closed as spec;

@@ -12,8 +12,8 @@ ghost use Rattle.flt_tree.specs.declared.filter.Filter.{Filter};
 
 use flt_costs::steps_spend;
 
-/// No run, whatever it breaks and whatever other filters take part, starts a callback of a filter outside a closed set of its
-/// callbacks. It does nothing: its clauses are the law, said of what starts and of what never does.
+/// No run, whatever it breaks and whatever other filters take part, starts a callback of a filter outside a closed set of its callbacks. It
+/// does nothing: its clauses are the law, for the callbacks that start and for those that never do.
 pub fn unasked_callbacks_never_start()
     ensures law { (p : List Filter) (f : ℕ) (may_start : ℕ → Bool) (xs : List Transition) (m : Moment) (x : Transition) (s : Step) (k : ℕ) →
         IsClosed (callbacks_at p f) may_start → run p xs ≡ Some m → next p m x ≡ Some s →
@@ -21,7 +21,7 @@ pub fn unasked_callbacks_never_start()
     ensures never { (cs : List Callback) (may_start : ℕ → Bool) (k : ℕ) → IsClosed cs may_start → may_start k ≡ false → NeverStarts cs k }
 {}
 
-/// A transition starts what `starts_callback` says: there is one activation more, and all of that callback is still to come. Where it says
+/// A transition starts what `starts_callback` says: there is one activation more, and all of that callback is still to come. If it says
 /// that none starts, there are as many as there were. It does nothing: its clauses are the law.
 pub fn starts_are_told()
     ensures one { (p : List Filter) (m : Moment) (x : Transition) (s : Step) (c : Callee) → next p m x ≡ Some s →

@@ -22,8 +22,7 @@ use flt_tree::{Action, Condition, FallibleCall, PlainCall, Routine, Statement, T
 use flt_world::{Stack, World};
 use std::alloc::AllocError;
 
-/// What a step is made from: its activation, the choice that it leaves to the system, and whether the activation holds the visit
-/// that it was given.
+/// The input of a step: its activation, the system's choice, and whether the activation holds the visit that it was given.
 #[derive(Clone, Copy)]
 pub struct Setup {
     pub activation: usize,
@@ -53,7 +52,7 @@ fn leaves_choice(condition: &Condition) -> bool
 
 // ---- the first statement
 
-/// Whether the first statement can go on with this choice.
+/// Whether the first statement can be done with this choice.
 fn may_go(world: &World<'_>, a: usize, grant: bool, statement: &Statement) -> bool
     ensures { result ≡ steps.may_go world.now a grant (out-Statement statement.now) }
 {
@@ -69,7 +68,7 @@ fn may_go(world: &World<'_>, a: usize, grant: bool, statement: &Statement) -> bo
     }
 }
 
-/// False where nobody else sees the action.
+/// The step of an action. False if nobody else sees it.
 fn act_step(
     world: &mut World<'_>,
     a: usize,
@@ -163,7 +162,7 @@ fn fallible_step<'a>(
     }
 }
 
-/// False where nobody else sees the test.
+/// The step of a test. False if nobody else sees it.
 fn test_step<'a>(
     world: &mut World<'a>,
     a: usize,
@@ -206,7 +205,7 @@ fn if_step<'a>(
     }
 }
 
-/// False where nobody else sees the statement.
+/// The step of a statement. False if nobody else sees it.
 fn statement_step<'a>(
     world: &mut World<'a>,
     stack: &Stack<'a>,
@@ -240,7 +239,7 @@ fn statement_step<'a>(
     }
 }
 
-/// False where the choice isn't there, or others hold a lock in a way that refuses it.
+/// The step of the first statement. False if it hasn't this choice, or if others hold a lock so that it is refused.
 fn first_step<'a>(
     world: &mut World<'a>,
     stack: &Stack<'a>,
@@ -273,7 +272,7 @@ fn first<'a>(world: &mut World<'a>, a: usize) -> Result<Option<Upcoming<'a>>, Al
     }
 }
 
-/// By the first statement, or at the end of the body where there is none.
+/// The step of the first statement, or of the end of the body if none remains.
 fn list_step<'a>(
     world: &mut World<'a>,
     stack: &Stack<'a>,
@@ -298,7 +297,7 @@ fn list_step<'a>(
     }
 }
 
-/// A step that others see, with its events. False where the next one isn't seen, or isn't enabled.
+/// A step that others see, with its events. False if the next one isn't seen, or isn't enabled.
 pub fn step_seen<'a>(
     world: &mut World<'a>,
     stack: &Stack<'a>,
@@ -315,7 +314,7 @@ pub fn step_seen<'a>(
     list_step(world, stack, setup, first, events)
 }
 
-/// A step that nobody else sees. False where the next one is seen, or isn't enabled; the first statement is then gone.
+/// A step that nobody else sees. False if the next one is seen, or isn't enabled; the first statement is then gone.
 pub fn step_unseen(world: &mut World<'_>, a: usize) -> Result<bool, AllocError>
     ensures { IfOk result (λ enabled. (p : List Filter) → (t : List Event) →
         ComesOf (steps.local p t world.old a) enabled world.new [] []) }
@@ -330,7 +329,7 @@ pub fn step_unseen(world: &mut World<'_>, a: usize) -> Result<bool, AllocError>
     }
 }
 
-/// So many steps that nobody else sees, in place. False where one of them is seen, or isn't enabled.
+/// Makes this many steps that nobody else sees, in place. False if one of them is seen, or isn't enabled.
 #[tactic(auto, using(crate::proofs::Together::ended_unseen))]
 pub fn steps_unseen(world: &mut World<'_>, a: usize, steps: u32) -> Result<bool, AllocError>
     ensures { IfOk result (λ all. unseen steps world.old a ≡ (if all then Some world.new else None)) }

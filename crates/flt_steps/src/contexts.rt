@@ -1,5 +1,5 @@
-//! The calls on contexts, and what each does where it is used wrongly: a variable that is NULL where an object is needed leaves
-//! all as it is, and a call that can fail then fails.
+//! The calls on contexts, and the effect of each if it is used wrongly: a variable that is NULL where an object is needed leaves all as it
+//! is, and a call that can fail then fails.
 
 ghost use Rattle.std.specs.Prelude.{◌≡◌, ◌∷◌, ◌++◌, None, OnOk};
 ghost use Rattle.flt_model.specs.Calls as calls;
@@ -36,7 +36,7 @@ pub(crate) struct Setting {
 
 // ---- links
 
-/// The link that a call works on; none where it is on the stream of `data`, which is NULL.
+/// The link that a call works on; none if it is on the stream of `data`, which is NULL.
 fn link_of(world: &World<'_>, a: usize, on: Anchor) -> Option<Link>
     ensures { result ≡ calls.link_of world.now.store (spec.actor_at world.now a).filter on
         (variables.operation_in (spec.activation_at world.now a) Data) }
@@ -130,7 +130,7 @@ pub(crate) fn allocate<'a>(
     }
 }
 
-/// The context is given, with one reference more; none where nothing is there.
+/// The context is given, with one reference more; none if nothing is there.
 fn got<'a>(
     world: &mut World<'a>,
     a: usize,
@@ -153,7 +153,7 @@ fn got<'a>(
     }
 }
 
-/// Nothing is given where `data` was needed and is NULL.
+/// Nothing is given if `data` was needed and is NULL.
 fn get_by<'a>(
     world: &mut World<'a>,
     a: usize,
@@ -191,7 +191,7 @@ pub(crate) fn get<'a>(
     get_by(world, a, d, to, link, events)
 }
 
-/// A context that is there stays, and is given where a variable receives it.
+/// A context that is there stays, and is given if a variable receives it.
 fn kept<'a>(
     world: &mut World<'a>,
     a: usize,
@@ -215,7 +215,7 @@ fn kept<'a>(
     }
 }
 
-/// The context is linked where the link is free, or by what is wanted where it isn't.
+/// The context is linked if the link is free; otherwise the call keeps or replaces the context that is there.
 fn set_there<'a>(
     world: &mut World<'a>,
     a: usize,
@@ -245,14 +245,14 @@ fn set_there<'a>(
     }
 }
 
-/// It fails where the filter is being detached, and where the context is linked or freed.
+/// It fails if the filter is being detached, or if the context is linked or freed.
 fn cannot_set(world: &World<'_>, a: usize, x: usize) -> bool
     ensures { result ≡ calls.cannot_set world.now a x }
 {
     !world.is_attached(world.filter(a)) || world.is_linked(x) || world.is_freed(x)
 }
 
-/// Nothing is set where the context or `data` is NULL.
+/// Nothing is set if the context or `data` is NULL.
 fn set_by<'a>(
     world: &mut World<'a>,
     a: usize,
@@ -278,7 +278,7 @@ fn set_by<'a>(
     }
 }
 
-/// The context, and the operation where the call is on its stream.
+/// The context, and the operation if the call is on its stream.
 fn need_to_set(
     world: &World<'_>,
     a: usize,
@@ -341,7 +341,7 @@ fn unlinked<'a>(
     }
 }
 
-/// Nothing is deleted where `data` was needed and is NULL.
+/// Nothing is deleted if `data` was needed and is NULL.
 fn delete_by<'a>(
     world: &mut World<'a>,
     a: usize,
@@ -379,7 +379,7 @@ pub(crate) fn delete_at<'a>(
     delete_by(world, a, old, to, link, events)
 }
 
-/// Unlinked where it is linked; the link's reference is dropped.
+/// Unlinked if it is linked; the link's reference is dropped.
 fn deleted(
     world: &mut World<'_>,
     a: usize,
@@ -411,7 +411,7 @@ pub(crate) fn delete(
     deleted(world, a, x, events)
 }
 
-/// One reference more, and the second variable names the context too.
+/// Adds a reference, and the second variable names the context too.
 fn referenced(
     world: &mut World<'_>,
     a: usize,

@@ -7,7 +7,7 @@ use flt_model::{Event, Object};
 use flt_world::push_event;
 use std::alloc::AllocError;
 
-/// What a context variable names, as an object.
+/// The context that a variable names, as an object.
 pub(crate) fn context(variable: Option<usize>) -> Option<Object>
     ensures { result ≡ spec.context variable }
 {
@@ -17,7 +17,7 @@ pub(crate) fn context(variable: Option<usize>) -> Option<Object>
     }
 }
 
-/// What an operation variable names, as an object.
+/// The visit that an operation variable names, as an object.
 pub(crate) fn operation(variable: Option<usize>) -> Option<Object>
     ensures { result ≡ spec.operation variable }
 {
@@ -84,14 +84,14 @@ pub(crate) fn need_one(
     }
 }
 
-/// What a call names: an operation, and a context that the call need not have.
+/// The operands of a call: an operation, and a context that the call need not have.
 #[derive(Clone, Copy)]
 pub(crate) struct Named {
     pub(crate) visit: Option<usize>,
     pub(crate) context: Option<Option<usize>>,
 }
 
-/// Both are used, or reported where they are NULL.
+/// Both are used, or reported if they are NULL.
 pub(crate) fn need_named(a: usize, named: Named, events: &mut Vec<Event>) -> Result<(), AllocError>
     ensures { OnOk result (events.new.items ≡ events.old.items
         ++ (spec.uses a (spec.operation named.visit ∷ spec.optional named.context)

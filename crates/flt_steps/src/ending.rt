@@ -47,8 +47,8 @@ fn end_activation(world: &mut World<'_>, a: usize)
     }
 }
 
-/// A status is given, or is missing where one is wanted. Here and below, what the definition doesn't read of the filters
-/// and of the trace is `[]` in a clause.
+/// A status is given, or is missing if one is needed. Here and below, a clause has `[]` for filters or a trace that the definition doesn't
+/// read.
 fn give_status(
     world: &World<'_>,
     a: usize,
@@ -78,7 +78,7 @@ fn use_context(
     }
 }
 
-/// What is reported of a status, whatever it settles.
+/// The events of a status, whatever it settles.
 fn tell_status(
     world: &World<'_>,
     a: usize,
@@ -92,7 +92,7 @@ fn tell_status(
     use_context(world, a, status, events)
 }
 
-/// The visit is lost where it is held, and is settled either way; a frame takes the context over.
+/// The visit is lost if it is held, and settled in both cases; a frame takes the context over.
 fn give_visit_back(
     world: &World<'_>,
     a: usize,
@@ -147,7 +147,7 @@ fn answered<'a>(
     ends(world, a, events)
 }
 
-/// Only a callback that answers for its operation settles a visit, held or not; what others return settles nothing.
+/// Only a callback that answers for its operation settles a visit, held or not; the statuses of others settle nothing.
 pub(crate) fn end<'a>(
     world: &mut World<'a>,
     stack: &Stack<'a>,

@@ -1,4 +1,4 @@
-//! The locks of a filter: what is held already isn't taken again, and what isn't held isn't released.
+//! The locks of a filter: a lock that is held already isn't taken again, and one that isn't held isn't released.
 
 ghost use Rattle.std.specs.Prelude.{◌≡◌, [], OnOk};
 ghost use Rattle.flt_model.specs.Calls as calls;
@@ -13,7 +13,7 @@ use flt_rules::{Access, Call, HeldLock, LockKind, LockNumber};
 use flt_world::{World, push_event};
 use std::alloc::AllocError;
 
-/// Whether an activation may take a lock so, beside the others that hold it.
+/// Whether an activation may take a lock with this access, beside the others that hold it.
 pub(crate) fn may_take(world: &World<'_>, a: usize, lock: LockNumber, access: Access) -> bool
     ensures { result ≡ steps.may_take world.now a lock access }
 {

@@ -1,4 +1,4 @@
-//! The cancel-safe queue, and work items: what is handed over is no longer held, whether it was held or not.
+//! The cancel-safe queue, and work items: a visit or context that is handed over is no longer held, whether it was held or not.
 
 ghost use Rattle.std.specs.Prelude.{◌≡◌, ◌∷◌, ◌++◌, OnOk};
 ghost use Rattle.flt_model.specs.Calls as calls;
@@ -33,7 +33,7 @@ fn need_optional(
     }
 }
 
-/// What a call hands over that names this variable.
+/// The operation and the context that a call with this variable hands over.
 fn handed(world: &World<'_>, a: usize, c: Option<ContextVariable>) -> Named
     ensures visit { result.visit ≡ variables.operation_in (spec.activation_at world.now a) Data }
     ensures context { result.context ≡ variables.named_in (spec.activation_at world.now a) c }
@@ -70,7 +70,7 @@ fn enqueued<'a>(
     }
 }
 
-/// Nothing is queued where the operation or the named context is NULL.
+/// Nothing is queued if the operation or the named context is NULL.
 fn insert_by<'a>(
     world: &mut World<'a>,
     a: usize,
@@ -107,7 +107,7 @@ pub(crate) fn insert<'a>(
     insert_by(world, a, handed, to, events)
 }
 
-/// The variables name what stood in front, which is out of the queue already.
+/// The variables name the visit and the context of the first entry, which is out of the queue already.
 fn give_entry<'a>(
     world: &mut World<'a>,
     a: usize,
@@ -175,7 +175,7 @@ fn deferred<'a>(
     lose_context(a, context, events)
 }
 
-/// Nothing is queued where the operation or the named context is NULL, or the system refuses.
+/// Nothing is queued if the operation or the named context is NULL, or the system refuses.
 fn defer_by<'a>(
     world: &mut World<'a>,
     a: usize,
@@ -242,7 +242,7 @@ fn queued<'a>(
     lose_context(a, context, events)
 }
 
-/// Nothing is queued where the named context is NULL, or the system refuses.
+/// Nothing is queued if the named context is NULL, or the system refuses.
 fn queue_by<'a>(
     world: &mut World<'a>,
     a: usize,

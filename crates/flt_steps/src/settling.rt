@@ -1,4 +1,4 @@
-//! What becomes of an operation when a filter's part in it is over.
+//! Where an operation is led when a filter's part in it is over.
 
 ghost use Rattle.std.specs.Prelude.{◌≡◌, ◌+◌, ◌∷◌, ◌++◌, OnOk, IfOk};
 ghost use Rattle.flt_model.specs.Calls as calls;
@@ -52,7 +52,7 @@ fn is_returned(answer: Answer) -> bool
     matches!(answer, Answer::Returned(_))
 }
 
-/// Before the filters below. What isn't a status of its own there goes on as NO_CALLBACK.
+/// Before the filters below. A status without a meaning of its own there is taken as NO_CALLBACK.
 fn way_before(has_post: bool, returned: bool, status: Option<Status>) -> Way
     ensures { way_meant result ≡ spec.way_before has_post returned status }
 {
@@ -153,7 +153,7 @@ pub(crate) fn makes_frame(world: &World<'_>, visit: usize, way: Way) -> bool
     asks_for_frame(way) && is_led(world, visit)
 }
 
-/// The operation goes on, where the visit still moves it.
+/// Leads the operation, if the visit still moves it.
 fn lead(
     world: &mut World<'_>,
     visit: usize,
@@ -224,7 +224,7 @@ fn completed<'a>(
     settled_by(world, visit, context, way)
 }
 
-/// Nothing is completed where the operation or the named context is NULL.
+/// Nothing is completed if the operation or the named context is NULL.
 fn complete_by<'a>(
     world: &mut World<'a>,
     stack: &Stack<'a>,
@@ -296,7 +296,7 @@ fn complete_post_by<'a>(
     }
 }
 
-/// The given operation goes on up.
+/// The given operation continues upwards.
 pub(crate) fn complete_post<'a>(
     world: &mut World<'a>,
     stack: &Stack<'a>,

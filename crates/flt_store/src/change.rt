@@ -1,12 +1,12 @@
-//! Changes of what activations share, one for each thing that a call or a move of the machine does to it.
+//! Changes of the store, one for each effect of a call or a move of the machine.
 
 use flt_model::Key;
 use flt_ops::Way;
 use flt_rules::{Access, LockNumber, Mode, Operation};
 use flt_tree::ContextVariable;
 
-/// A change of what activations share. Filters, visits, contexts, items and activations are named by their numbers, operations by
-/// their serial numbers, all from 0.
+/// A change of the store. Filters, visits, contexts, items and activations are named by their numbers, operations by their serial numbers,
+/// all from 0.
 #[derive(Clone, Copy)]
 pub enum Change {
     Nothing,
@@ -17,10 +17,10 @@ pub enum Change {
     DropReference(usize),
     /// The context has this value. A freed one keeps its own.
     Write(usize, u64),
-    /// The context is linked, of the filter, there; over the one that is linked there now, whose reference goes to the variable, or
-    /// is dropped where there is none.
+    /// The context is linked for the filter at the key, in place of the one that is linked there now, whose reference goes to the variable,
+    /// or is dropped if no variable is given.
     Link(usize, usize, Key, Option<usize>, Option<ContextVariable>),
-    /// The context's link goes; its reference goes to the variable, or is dropped where there is none.
+    /// The context's link is removed; its reference goes to the variable, or is dropped if no variable is given.
     Unlink(usize, Option<ContextVariable>),
     // ---- locks
     /// The activation holds the filter's lock, so.
@@ -43,13 +43,13 @@ pub enum Change {
     Settle(usize, Option<usize>, Way),
     /// An operation on a file arrives.
     Arrive(Operation, Mode, u32),
-    /// The operation is in a new visit of the filter on its way down.
+    /// The operation, going down, is in a new visit of the filter.
     StartPre(u32, usize),
     /// The operation passes the filter.
     Skip(u32, usize),
     /// The operation is carried out below the last filter.
     Lower(u32),
-    /// The operation is in a new visit of the filter on its way up; its last frame goes, which is of the filter, with this context.
+    /// The operation, going up, is in a new visit of the filter; its last frame is removed, which is of the filter, with this context.
     StartPost(u32, usize, Option<usize>),
     /// The operation has a new draining visit of the filter; its first frame of the filter goes, with this context.
     StartDraining(u32, usize, Option<usize>),

@@ -1,4 +1,4 @@
-//! Who holds a filter's locks.
+//! The holders of a filter's locks.
 
 ghost use Rattle.std.specs.Prelude.{◌≡◌, ◌≢◌, [], ◌∷◌, ◌++◌, not, ◌==◌, filter, replicate, set, get_or, OnOk, OnErr};
 ghost use Rattle.std.specs.List.{list_all};
@@ -29,11 +29,11 @@ impl Model for Holder {
     ghost inverse = { λ h. record { activation = h.activation; access = h.access } };
 }
 
-/// The holders of a lock, in the order in which they took it. One is found by its activation, and whether a lock may be taken is told by
-/// counts. Only where an activation once took the lock while it held it, which no callback's step does, are the holders walked.
+/// The holders of a lock, in the order in which they took it. One is found by its activation, and counts decide whether a lock may be
+/// taken. The holders are searched only if an activation once took the lock while it held it, which no callback's step does.
 #[derive(Drop)]
 pub(crate) struct Holders {
-    /// In the order in which they took it. Who gave it back leaves an empty place until nobody holds the lock.
+    /// In the order in which they took it. A holder that gave it back leaves an empty place until nobody holds the lock.
     places: Vec<Option<Holder>>,
     noted: Places,
     count: usize,
@@ -68,7 +68,7 @@ impl Holders {
         }
     }
 
-    /// One more holder.
+    /// Adds a holder.
     pub(crate) fn push(&mut self, heap: &mut Heap, holder: Holder) -> Result<(), AllocError>
         ensures ok { OnOk result (self.new ≡ self.old ++ holder ∷ []) }
         ensures refused { OnErr result (self.new ≡ self.old) }
@@ -112,8 +112,8 @@ impl Holders {
         }
     }
 
-    /// Whether an activation may take the lock so, beside those that hold it: shared where nobody else holds it exclusively, exclusive
-    /// where nobody else holds it at all.
+    /// Whether an activation may take the lock with this access, beside those that hold it: shared if nobody else holds it exclusively,
+    /// exclusive if nobody else holds it at all.
     pub(crate) fn is_free_for(&self, activation: usize, access: Access) -> bool
         ensures { result ≡ spec.is_free_for activation access self.now }
     {
@@ -134,14 +134,14 @@ impl Holders {
     }
 }
 
-/// Who stands at the places, without an activation.
+/// Keeps the holders at the places, without an activation.
 fn keep_others(places: &mut Vec<Option<Holder>>, activation: usize)
     ensures { places.new.items ≡ filter (λ o. not (is_of activation o)) places.old.items }
 {
     places.retain(|held| !is_held_by(activation, held));
 }
 
-/// Whether all that stand at the places let an activation take the lock so.
+/// Whether all holders at the places let an activation take the lock with this access.
 fn let_all(places: &[Option<Holder>], activation: usize, access: Access) -> bool
     ensures { result ≡ list_all (is_free activation access) places.now }
 {
@@ -167,7 +167,7 @@ fn is_held_by(activation: usize, held: &Option<Holder>) -> bool
     }
 }
 
-/// Whether an activation may take the lock so beside who stands at a place.
+/// Whether an activation may take the lock with this access beside the holder at a place.
 fn may_join(activation: usize, access: Access, held: &Option<Holder>) -> bool
     ensures { result ≡ is_free activation access held.now }
 {

@@ -8,7 +8,7 @@ use counted_heap::Heap;
 use std::alloc::AllocError;
 use std::marker::Model;
 
-/// A queued work item: the filter, its routine by the number of the callback, and what it hands over.
+/// A queued work item: the filter, its routine by the number of the callback, and the visit and context that it hands over.
 #[derive(Clone, Copy)]
 pub struct Item {
     pub filter: usize,
@@ -82,7 +82,7 @@ impl WorkItems {
         }
     }
 
-    /// Whether an item of the filter waits. That of a filter without a count is looked for.
+    /// Whether an item of the filter waits. If the filter has no count, the items are searched.
     pub(crate) fn has_of(&self, filter: usize) -> bool
         ensures { result ≡ list_any (is_item_of filter) self.now }
     {
@@ -92,7 +92,7 @@ impl WorkItems {
         }
     }
 
-    /// One more item.
+    /// Adds an item.
     pub(crate) fn push(&mut self, heap: &mut Heap, item: Item) -> Result<(), AllocError>
         ensures ok { OnOk result (self.new ≡ self.old ++ Some item ∷ []) }
         ensures refused { OnErr result (self.new ≡ self.old) }

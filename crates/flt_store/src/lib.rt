@@ -1,7 +1,7 @@
-//! What activations share: filters, queues, lock holders, operations, contexts and work items.
+//! The store, which activations share: filters, queues, lock holders, operations, contexts and work items.
 //!
-//! `Store` reads what is there, in the machine's own words, and makes changes one at a time. A change needs memory in one place at
-//! most, before anything is changed, so that a refusal leaves all as it was.
+//! `Store` reads these, in the machine's own terms, and makes changes one at a time. A change needs memory in one place at most, before
+//! anything is changed, so that a refusal leaves all as it was.
 #![tactic(auto)]
 
 mod change;
@@ -17,5 +17,5 @@ pub use flt_cbdq::Entry;
 pub use flt_ops::{Frame, Outcome, Position, Visit, Way};
 pub use items::Item;
 pub use store::Store;
-/// What a change answers that was refused memory.
+/// The answer of a change that was refused memory.
 pub use std::alloc::AllocError as OutOfMemory;

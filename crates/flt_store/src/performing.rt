@@ -18,7 +18,7 @@ use flt_tree::ContextVariable;
 use std::alloc::AllocError;
 
 impl Store {
-    /// Makes a change. Where memory is refused nothing is changed.
+    /// Makes a change. If memory is refused nothing is changed.
     pub fn perform(&mut self, heap: &mut Heap, change: Change) -> Result<(), AllocError>
         requires { IsPossible self.old change }
         ensures ok { OnOk result (self.new ≡ after_change self.old change) }

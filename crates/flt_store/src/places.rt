@@ -1,4 +1,4 @@
-//! Where activations stand among the holders of a lock.
+//! The places of activations among the holders of a lock.
 
 ghost use Rattle.std.specs.Prelude.{◌≡◌, ◌≢◌, ℕ, [], OnOk, OnErr, Some, None};
 ghost use Rattle.flt_store.specs.Holding.{place_in};

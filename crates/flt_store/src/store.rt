@@ -1,4 +1,4 @@
-//! The store, and what is there.
+//! The store, and reads of it.
 
 ghost use Rattle.std.specs.Prelude.{◌≡◌, ◌≢◌, ℕ, ◌<◌, ◌≤◌, ◌&&◌, ◌||◌, ◌==◌, not, set, true, false, [], ◌∷◌, drop, find, position, is_some, length, get_or, option_map, replicate, Some, None, OnOk, OnErr, IfOk, IfSome, IfNone, MatchOption, if◌then◌else◌};
 ghost use Rattle.std.specs.List.{list_any};
@@ -25,7 +25,7 @@ use flt_rules::{Access, LockNumber};
 use std::alloc::AllocError;
 use std::marker::Model;
 
-/// What activations share. Presences, queues and lock holders are by filter; contracts see it as the machine's own store.
+/// The state that activations share. Presences, queues and lock holders are by filter; contracts see it as the machine's own store.
 #[derive(Drop)]
 pub struct Store {
     pub(crate) presences: Vec<Instance>,
@@ -181,7 +181,7 @@ impl Store {
         }
     }
 
-    /// The value of a context, which a freed one keeps; 0 where it isn't there.
+    /// The value of a context, which a freed one keeps; 0 if it isn't there.
     pub fn value(&self, context: usize) -> u64
         ensures { result ≡ (spec.context_at self.now context).value }
     {
@@ -195,7 +195,7 @@ impl Store {
         self.contexts.is_linked(context)
     }
 
-    /// A context isn't linked where the filter isn't attached, or where the context is linked or freed.
+    /// A context isn't linked if the filter isn't attached, or if the context is linked or freed.
     pub fn cannot_set(&self, filter: usize, context: usize) -> bool
         ensures { result ≡ (not (spec.is_attached (spec.presence_at self.now filter))
             || (is_some (spec.context_at self.now context).link || spec.is_freed (spec.context_at self.now context))) }
@@ -205,7 +205,7 @@ impl Store {
 
     // ---- locks
 
-    /// Whether an activation may take a lock of a filter so, beside the others that hold it.
+    /// Whether an activation may take a lock of a filter with this access, beside the others that hold it.
     pub fn may_take(
         &self,
         filter: usize,
@@ -231,8 +231,8 @@ impl Store {
         self.queues.entry(filter, 0).copied()
     }
 
-    /// The first entry of an operation in a filter's queue. It takes a walk along the queue only where an entry's visit isn't there,
-    /// which counts as one of the first operation and stands in no list of visits.
+    /// The first entry of an operation in a filter's queue. It walks along the queue only if an entry's visit doesn't exist, which counts
+    /// as one of the first operation and is in no list of visits.
     pub fn first_entry(&self, filter: usize, serial: u32) -> Option<Entry>
         ensures { option_map entry_of result ≡ find (moves.is_entry_of self.now serial) (spec.queue_at self.now filter) }
     {
@@ -256,7 +256,7 @@ impl Store {
         None
     }
 
-    /// Of each operation, by its serial number, whether an entry of it stands in a filter's queue. It takes as many steps as there are
+    /// For each operation, by its serial number, whether a filter's queue has an entry of it. It takes as many steps as there are
     /// operations and entries.
     pub fn waiting(&self, heap: &mut Heap, filter: usize) -> Result<Vec<bool>, AllocError>
         ensures length { IfOk result (λ marks. length marks.items ≡ length self.now.arrivals) }
@@ -299,14 +299,14 @@ impl Store {
         self.operations.len()
     }
 
-    /// What an operation is. One that isn't there reads file 0 by an I/O request packet.
+    /// The kind, mode and file of an operation. One that isn't there reads file 0 by an I/O request packet.
     pub fn arrival(&self, serial: u32) -> Arrival
         ensures { result ≡ spec.arrival_at self.now serial }
     {
         self.operations.arrival(serial)
     }
 
-    /// Where an operation stands. One that isn't there is up.
+    /// The position of an operation. One that isn't there is up.
     pub fn position(&self, serial: u32) -> Position
         ensures { position_of result ≡ (spec.route_at self.now serial).position }
     {
@@ -350,7 +350,7 @@ impl Store {
         self.operations.is_spent_after(serial, visit)
     }
 
-    /// The filter that an operation is at on its way down.
+    /// The filter that an operation is at while it goes down.
     pub fn filter_at(&self, serial: u32) -> Option<usize>
         ensures { result ≡ operating.filter_in (length self.now.presences) (spec.route_at self.now serial).position }
     {
@@ -364,7 +364,7 @@ impl Store {
         self.operations.is_past_filters(serial)
     }
 
-    /// The frame whose post callback is next, of an operation on its way up.
+    /// The frame whose post callback is next, of an operation that goes up.
     pub fn frame_at(&self, serial: u32) -> Option<Frame>
         ensures { result ≡ operating.frame_in (spec.route_at self.now serial).frames (spec.route_at self.now serial).position }
     {
@@ -399,7 +399,7 @@ impl Store {
         self.operations.visit(visit)
     }
 
-    /// What the operation of a visit is.
+    /// The kind, mode and file of a visit's operation.
     pub fn arrival_of(&self, visit: usize) -> Arrival
         ensures { result ≡ spec.arrival_of self.now visit }
     {
@@ -413,7 +413,7 @@ impl Store {
         self.operations.is_led(visit)
     }
 
-    /// Whether settling a visit so makes a frame, which takes the completion context over.
+    /// Whether settling a visit by this `Way` makes a frame, which takes the completion context over.
     pub fn makes_frame(&self, visit: usize, way: Way) -> bool
         ensures { result ≡ settling.makes_frame self.now visit (way_of way) }
     {

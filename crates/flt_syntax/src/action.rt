@@ -116,7 +116,7 @@ fn word_statement(
     Ok(())
 }
 
-/// A statement without blocks. It goes onto the stack from where it is made, since a statement is large.
+/// A statement without blocks. It is put onto the stack where it is made, since a statement is large.
 #[tactic(auto, unfolding(crate::specs::Action::simple_statement))]
 pub fn simple_statement(
     scope: &Scope<'_>,

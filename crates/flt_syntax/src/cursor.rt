@@ -67,7 +67,7 @@ impl<'a> Tokens<'a> {
         ParseError::Syntax(fault(kind, self.position()))
     }
 
-    /// Why no production reads the next token.
+    /// The error if no production reads the next token.
     #[cold]
     #[tactic(auto, unfolding(crate::specs::Cursor::refusal))]
     pub fn refuse(&self) -> ParseError
@@ -80,7 +80,7 @@ impl<'a> Tokens<'a> {
         }
     }
 
-    /// Why the next token is no name of the kind that is asked.
+    /// The error if the next token is no name of the wanted kind.
     #[cold]
     #[tactic(auto, unfolding(crate::specs::Cursor::unknown))]
     pub fn unknown(&self) -> ParseError
@@ -93,7 +93,7 @@ impl<'a> Tokens<'a> {
         }
     }
 
-    /// Why no block is read here, where none may stand.
+    /// The error if a block is read where none is legal.
     #[tactic(auto, unfolding(crate::specs::Cursor::too_deep))]
     pub fn too_deep(&self) -> ParseError
         ensures { result ≡ ParseError.Syntax (spec.too_deep self.now.rest.now) }
@@ -212,7 +212,7 @@ pub fn is_word(kind: Kind) -> bool
     !is_symbol(kind) && !is_other(kind)
 }
 
-/// The last of a token and those behind it.
+/// The last of a token and those after it.
 #[inline(always)]
 #[tactic(auto, using(crate::proofs::Spans::last_at))]
 fn last<'a>(first: &'a Token, rest: &'a [Token]) -> &'a Token
@@ -224,7 +224,7 @@ fn last<'a>(first: &'a Token, rest: &'a [Token]) -> &'a Token
     }
 }
 
-/// Where the tokens stand that were read: `from` were left before, and `to` are left now.
+/// The span of the tokens that were read: `from` were left before, and `to` are left now.
 #[inline(always)]
 #[tactic(auto, unfolding(crate::specs::Cursor::span))]
 pub fn span(from: &[Token], to: &[Token]) -> Span

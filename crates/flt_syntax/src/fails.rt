@@ -6,8 +6,8 @@ ghost use Rattle.flt_syntax.specs.declared.fault.SyntaxFault.{SyntaxFault};
 ghost use Rattle.flt_tree.specs.Names.{Text};
 ghost use Rattle.std.specs.Prelude.{◌≡◌, ◌↔◌, Err};
 
-/// A text that spells a filter fails nowhere; nor do tokens from left to right, where they spell one within the limits. A text that
-/// spells none fails, at one place and with one kind. It does nothing: its clauses are the law.
+/// A text that spells a filter fails nowhere. Nor do tokens from left to right, if they spell one within the limits. A text that spells
+/// none fails, at one place and with one kind. It does nothing at run time: its clauses are a law.
 #[tactic(auto, using(crate::proofs::Laws::spelled_fails_nowhere, crate::proofs::Laws::read_fails_nowhere, crate::proofs::Laws::fails_at_most_once))]
 pub fn fails_exactly_where_nothing_is_spelled()
     ensures nowhere { SpelledFailsNowhere }
@@ -16,7 +16,8 @@ pub fn fails_exactly_where_nothing_is_spelled()
     ensures once { FailsAtMostOnce }
 {}
 
-/// A text fails where the reading definition says so, and with the kind that it says. It does nothing: its clause is the law.
+/// A text fails where the reading definition reports a fault, and with the kind that it reports. It does nothing at run time: its clause is
+/// a law.
 #[tactic(auto, using(crate::proofs::Laws::told))]
 pub fn the_fault_is_the_one_told()
     ensures { (text : Text) (f : SyntaxFault) → (filter_of text ≡ Err f) ↔ Fails text f }

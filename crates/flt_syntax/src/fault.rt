@@ -3,7 +3,7 @@
 use std::alloc::AllocError;
 use thiserror::Error;
 
-/// What is wrong.
+/// The kind of a fault.
 #[derive(Clone, Copy, Debug, Error)]
 pub enum FaultKind {
     /// A byte with which no token begins.
@@ -12,7 +12,7 @@ pub enum FaultKind {
     /// A run of letters, digits and `_` that is no word or number, or is too long or too great.
     #[error("E02")]
     E02,
-    /// Another token than the grammar asks.
+    /// Another token than the grammar requires.
     #[error("E03")]
     E03,
     /// An unknown name.
@@ -27,7 +27,7 @@ pub enum FaultKind {
     /// A queue without a `canceled` callback, or a post callback without its pre callback.
     #[error("E07")]
     E07,
-    /// A variable that stands twice in one call.
+    /// A variable that appears twice in one call.
     #[error("E08")]
     E08,
 }

@@ -63,7 +63,7 @@ fn lock_kind(tokens: &mut Tokens<'_>) -> Result<LockKind, ParseError>
     }
 }
 
-/// A lock, behind its first word and the locks that were found.
+/// A lock, after its first word and the locks that were found.
 #[tactic(auto, using(crate::proofs::Numbers::lock_is_there), unfolding(crate::specs::File::lock, crate::specs::Scope::spelled))]
 fn lock<'a>(
     alloc: Global,
@@ -113,7 +113,7 @@ fn locks<'a>(
     Err(tokens.refuse())
 }
 
-/// Where `queue` stands, if it does.
+/// The place of `queue`, if it is there.
 #[tactic(auto, unfolding(crate::specs::File::queue))]
 fn queue(tokens: &mut Tokens<'_>) -> Option<Position>
     ensures { spec.queue tokens.old.rest.now ≡ Ok (result, tokens.new.rest.now) }
@@ -126,7 +126,7 @@ fn queue(tokens: &mut Tokens<'_>) -> Option<Position>
     }
 }
 
-/// A callback behind those that were found.
+/// A callback after those that were found.
 #[tactic(auto, unfolding(crate::specs::File::callback))]
 fn callback<'a>(
     alloc: Global,
@@ -260,7 +260,7 @@ pub fn spells_at_most_one()
     ensures { SpellsAtMostOne }
 {}
 
-/// What a text spells is well-formed.
+/// A filter that a text spells is well-formed.
 #[tactic(auto, using(crate::proofs::FineFiles::is_well_formed))]
 pub fn spelled_is_well_formed()
     ensures { SpelledIsWellFormed }

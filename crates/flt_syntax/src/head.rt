@@ -1,4 +1,4 @@
-//! Reads what stands before a callback's body.
+//! Reads the head of a callback, before its body.
 
 ghost use Rattle.flt_syntax.specs.Cursor.{Reads};
 ghost use Rattle.flt_syntax.specs.Head as spec;
@@ -95,7 +95,7 @@ fn new_event(tokens: &mut Tokens<'_>, found: &[Callback]) -> Result<Head, ParseE
     Ok(head)
 }
 
-/// The name of a routine, behind its head word.
+/// The name of a routine, after its head word.
 #[tactic(auto, using(crate::proofs::Numbers::routine_is_there), unfolding(crate::specs::Head::new_routine, crate::specs::Scope::spelled))]
 fn new_routine<'a>(
     alloc: Global,
@@ -182,7 +182,7 @@ fn begins_head(kind: Kind) -> bool
     )
 }
 
-/// Why no head is read here, where there are callbacks enough.
+/// The error if another head is read and there are as many callbacks as a text may have.
 #[tactic(auto, unfolding(crate::specs::Head::crowded))]
 fn crowded(tokens: &mut Tokens<'_>, found: &[Callback]) -> ParseError
     ensures { result ≡ ParseError.Syntax (spec.crowded found.now tokens.old.rest.now) }
@@ -200,7 +200,7 @@ fn crowded(tokens: &mut Tokens<'_>, found: &[Callback]) -> ParseError
     }
 }
 
-/// A head behind the callbacks that were found.
+/// A head after the callbacks that were found.
 #[tactic(auto, unfolding(crate::specs::Head::head))]
 pub fn head<'a>(
     alloc: Global,

@@ -17,7 +17,7 @@ use std::alloc::{AllocError, Global};
 
 const MAX_WORD: usize = 64;
 
-/// Which bytes stand in words: letters, digits and `_`.
+/// The bytes that occur in words: letters, digits and `_`.
 const WORD_BYTES: [bool; 256] = [
     false, false, false, false, false, false, false, false, false, false, false, false, false,
     false, false, false, false, false, false, false, false, false, false, false, false, false,
@@ -40,7 +40,7 @@ const WORD_BYTES: [bool; 256] = [
     false, false, false, false, false, false, false, false, false, false,
 ];
 
-/// Where reading stands in a text: the number of the line, how many bytes were left at its start, and how many the text has.
+/// The line that is being read: its number, how many bytes were left at its start, and how many the text has.
 #[derive(Clone, Copy)]
 struct Line {
     number: usize,
@@ -78,7 +78,7 @@ fn place(line: usize, from: usize, left: usize) -> Position
     }
 }
 
-/// Where a text ends: behind its last byte, or at `end` where that is a line feed.
+/// The end of a text: after its last byte, or at `end` if that byte is a line feed.
 fn end_of(line: usize, from: usize, end: Position) -> Position
     requires { from < 2 ^ 32 }
     ensures { result ≡ spec.end_of line from end }
@@ -210,7 +210,7 @@ fn is_fault(kind: Kind) -> bool
     matches!(kind, Kind::Stray | Kind::Malformed)
 }
 
-/// One more token, at the front of `z`, for which there is room. Its length comes back, or 0 where it is none. Each kind of token is
+/// Adds one more token, at the front of `z`, for which there is room. The result is its length, or 0 if it is none. Each kind of token is
 /// added where it is found: a token that is handed on is copied with its padding.
 #[inline(always)]
 fn add(found: &mut Vec<Token>, line: Line, z: &[u8], kind: Kind, value: u64, len: usize) -> usize
@@ -242,7 +242,7 @@ fn symbol(found: &mut Vec<Token>, line: Line, z: &[u8], symbol: Kind) -> usize
     add(found, line, z, symbol, 0, 1)
 }
 
-/// What `=` or `!` begins: a pair with the `=` behind it, or something of its own.
+/// The token that `=` or `!` begins: a pair with the `=` after it, or the byte alone.
 #[inline(always)]
 #[tactic(auto, unfolding(crate::specs::Lex::pair_or))]
 fn pair_or(found: &mut Vec<Token>, line: Line, z: &[u8], pair: Kind, alone: Kind) -> usize
@@ -286,7 +286,7 @@ fn run(found: &mut Vec<Token>, line: Line, z: &[u8]) -> usize
     add(found, line, z, kind_of(run), 0, end)
 }
 
-/// The variable at the front of a text, if it has two bytes and no more of a word stands behind it.
+/// The variable at the front of a text, if it has two bytes and the word ends after it.
 #[inline(always)]
 fn variable_at(z: &[u8]) -> Option<Kind>
     ensures { IfSome result (λ kind. (spec.run z.now ≡ (spec.word kind, 2)) × (2 ≤ length z.now)) }
@@ -297,7 +297,7 @@ fn variable_at(z: &[u8]) -> Option<Kind>
     }
 }
 
-/// The same of what begins as a variable does, which needs no table.
+/// The same for a word that begins as a variable does: a variable needs no table.
 #[inline(always)]
 fn variable_or_run(found: &mut Vec<Token>, line: Line, z: &[u8]) -> usize
     requires room { vec_len found.old < vec_capacity found.old }
@@ -339,7 +339,7 @@ fn token(found: &mut Vec<Token>, line: Line, z: &[u8]) -> usize
     }
 }
 
-/// What follows the spaces at the front of a text.
+/// The rest of a text after the spaces at its front.
 #[inline(always)]
 fn after_spaces(mut rest: &[u8]) -> &[u8]
     ensures { result.now ≡ spec.after_spaces rest.entry.now }
@@ -350,7 +350,7 @@ fn after_spaces(mut rest: &[u8]) -> &[u8]
     rest
 }
 
-/// What follows a comment: its line feed, or nothing at the end of the text.
+/// The rest of a text after a comment: from its line feed on, or nothing at the end of the text.
 fn after_comment(mut rest: &[u8]) -> &[u8]
     ensures { result.now ≡ spec.after_comment rest.entry.now }
 {
@@ -422,7 +422,7 @@ pub fn tokens(alloc: Global, text: &[u8]) -> Result<Items<Token>, AllocError>
     Ok(Items::from_vec(found))
 }
 
-/// A text of words with blanks and line feeds between them is read back word by word. It does nothing: its clause is the law.
+/// A text of words with blanks and line feeds between them is read back word by word. It does nothing at run time: its clause is a law.
 #[tactic(auto, using(crate::proofs::Lexed::reads_back))]
 pub fn reads_back_words()
     ensures { ReadsBackWords }

@@ -125,7 +125,7 @@ pub fn atom(tokens: &mut Tokens<'_>) -> Result<Atom, ParseError>
     }
 }
 
-/// The same where other words may stand too.
+/// The same where other words are legal, too.
 #[tactic(auto, unfolding(crate::specs::Operand::leading_atom))]
 pub fn leading_atom(tokens: &mut Tokens<'_>) -> Result<Atom, ParseError>
     ensures { Reads (spec.leading_atom tokens.old.rest.now) result tokens.new.rest.now }

@@ -1,4 +1,4 @@
-//! What a text declares before its callbacks.
+//! The declarations of a text before its callbacks.
 
 ghost use Rattle.flt_tree.specs.Names.{lock_names};
 ghost use Rattle.std.specs.Prelude.{◌≡◌};
@@ -6,7 +6,7 @@ ghost use Rattle.std.specs.Prelude.{◌≡◌};
 use crate::names::Names;
 use flt_tree::Lock;
 
-/// What the calls of a text may name.
+/// The declarations that the calls of a text may name.
 #[derive(Drop)]
 pub struct Scope<'a> {
     pub text: &'a [u8],

@@ -51,7 +51,7 @@ impl ContextEnd {
     }
 }
 
-/// What a call does with the queue.
+/// The use that a call makes of the queue.
 #[derive(Clone, Copy)]
 pub enum QueueCall {
     /// "data" [ "context" C ]
@@ -60,7 +60,7 @@ pub enum QueueCall {
     RemoveNext,
 }
 
-/// What a call does with a lock.
+/// The use that a call makes of a lock.
 #[derive(Clone, Copy)]
 pub enum LockCall {
     Acquire(LockKind),
@@ -127,7 +127,7 @@ pub enum PlainShape {
     CompletePost,
 }
 
-/// The shape that the word of a call that can fail says.
+/// The shape of a call that can fail, by its word.
 #[inline(always)]
 pub fn fallible_shape_of(kind: Kind) -> Option<FallibleShape>
     ensures { result ≡ spec.fallible_shape_of kind }
@@ -150,7 +150,7 @@ pub fn fallible_shape_of(kind: Kind) -> Option<FallibleShape>
     }
 }
 
-/// The shape that the word of a call that always succeeds says.
+/// The shape of a call that always succeeds, by its word.
 #[inline(always)]
 pub fn plain_shape_of(kind: Kind) -> Option<PlainShape>
     ensures { result ≡ spec.plain_shape_of kind }

@@ -1,5 +1,5 @@
-//! Reads statements and blocks. The statements of the blocks that are being read stand on a stack, from which each block takes its
-//! own at its end: one in another block in as much memory as they need, that of a callback as they stand there.
+//! Reads statements and blocks. The statements of unfinished blocks are on a stack, from which each block takes its own at its end: a
+//! nested block as a copy of exactly their size, that of a callback as the stack itself.
 
 ghost use Rattle.flt_syntax.specs.Cursor.{Reads, ReadsOnto, onto};
 ghost use Rattle.flt_syntax.specs.Scope.{scope_of};
@@ -20,7 +20,8 @@ use std::mem::replace;
 
 const MAX_TURNS: u64 = 1000;
 
-/// The statements from a place on, which leave the stack. All of it is handed over as it is, and one with as much room takes its place.
+/// The statements from a place on, which leave the stack. If that is all of them, the stack itself is handed over, and an empty one with as
+/// much room takes its place.
 fn taken_from(
     alloc: Global,
     stack: &mut Vec<Statement>,
@@ -88,7 +89,7 @@ fn choice(
     Ok(())
 }
 
-/// `repeats` counts how many may still stand in one another.
+/// `repeats` counts how many may still be nested.
 #[tactic(auto, unfolding(crate::specs::Statement::repetition))]
 #[cycle(parser)]
 fn repetition(

@@ -1,4 +1,4 @@
-//! What a token is, and where it stands.
+//! Tokens, and their places.
 
 use flt_tree::Position;
 

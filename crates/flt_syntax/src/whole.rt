@@ -1,4 +1,4 @@
-//! What is tested once a text is read: that the callbacks are there that others, the queue and work items need.
+//! The tests of a text once it is read: the callbacks that others, the queue and work items need must be there.
 
 ghost use Rattle.flt_syntax.specs.Whole as spec;
 ghost use Rattle.flt_tree.specs.Declarations as declared;
@@ -48,7 +48,7 @@ fn unless(found: bool, at: Position) -> Option<Position>
     if found { None } else { Some(at) }
 }
 
-/// Where the call names a routine that isn't there.
+/// The place in a call of the name of a routine that isn't there.
 fn missing_in(callbacks: &[Callback], from: &Head, call: &FallibleCall) -> Option<Position>
     ensures { result ≡ spec.missing_in callbacks.now from.now call.now }
 {
@@ -65,7 +65,7 @@ fn missing_in(callbacks: &[Callback], from: &Head, call: &FallibleCall) -> Optio
     }
 }
 
-/// Where the first routine stands in a body that isn't there.
+/// The place in a body of the first name of a routine that isn't there.
 #[cycle(missing)]
 fn missing(callbacks: &[Callback], from: &Head, body: &[Statement]) -> Option<Position>
     ensures { result ≡ spec.missing callbacks.now from.now body.now }

@@ -173,7 +173,7 @@ const CALLS_R: [(&[u8], Kind); 3] = [
     (b"FltReleasePushLock", Kind::ReleasePushLock),
 ];
 
-/// The words that begin with `Flt` and a letter, in the order of `keywords`; all that begin with `F` where few calls or none have that letter.
+/// The words that begin with `Flt` and a letter, in the order of `keywords`. All that begin with `F` if few calls or none have that letter.
 #[inline(always)]
 fn calls_from(letter: u8) -> &'static [(&'static [u8], Kind)]
     ensures { (rest : Text) → lookup (map (λ e. (e.0.now, e.1)) result.now) (70 ∷ 108 ∷ 116 ∷ letter ∷ rest)
@@ -187,7 +187,7 @@ fn calls_from(letter: u8) -> &'static [(&'static [u8], Kind)]
     }
 }
 
-/// The words that begin with a byte, in the order of `keywords`; all of them where none begins so.
+/// The words that begin with a byte, in the order of `keywords`. All of them if none begins with it.
 #[inline(always)]
 fn words_beginning(first: u8) -> &'static [(&'static [u8], Kind)]
     ensures { (rest : Text) → lookup (map (λ e. (e.0.now, e.1)) result.now) (first ∷ rest) ≡ lookup vocabulary (first ∷ rest) }

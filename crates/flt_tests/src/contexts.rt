@@ -9,10 +9,10 @@ use std::alloc::{AllocError, Global};
 use std::process::Abort;
 use std::test::Fail;
 
-/// The filters that there are; the calls also name the one behind them.
+/// The number of filters. The calls also name the one after them.
 const FILTERS: usize = 2;
 
-/// The most contexts that a script of calls makes; the calls also name one behind them.
+/// The most contexts that a script of calls makes. The calls also name one after them.
 const MOST_CONTEXTS: usize = 5;
 
 /// Streams 0 and 1024 share a list.
@@ -23,7 +23,7 @@ const TARGETS: [Target; 4] = [
     Target::Stream(1024),
 ];
 
-/// Whether one reference more can be counted.
+/// Whether one more reference can be counted.
 fn has_room(contexts: &Contexts, context: usize) -> bool
     ensures { result ≡ true → (context_at contexts.now context).references < 2 ^ 64 - 1 }
 {
@@ -33,7 +33,7 @@ fn has_room(contexts: &Contexts, context: usize) -> bool
     }
 }
 
-/// Each call that counts a reference more, behind the test of its condition.
+/// Calls that count one more reference, each after the test of its condition.
 fn reference(contexts: &mut Contexts, context: usize) {
     if has_room(contexts, context) {
         contexts.reference(context);
@@ -218,7 +218,7 @@ impl Rows {
         None
     }
 
-    /// What `references` answers: nothing once the context is freed.
+    /// The answer of `references`: none once the context is freed.
     fn references(&self, context: usize) -> Option<u64> {
         match self.at(context).references {
             0 => None,
@@ -275,7 +275,7 @@ impl Dice {
     }
 }
 
-/// One call of both programs that links, and whether they answered the same.
+/// Makes one call of both programs that links. Returns whether their answers are the same.
 fn link(
     heap: &mut Heap,
     contexts: &mut Contexts,
@@ -292,7 +292,7 @@ fn link(
     )
 }
 
-/// One call of both programs, and whether they answered the same.
+/// Makes one call of both programs. Returns whether their answers are the same.
 fn step(
     heap: &mut Heap,
     contexts: &mut Contexts,
@@ -363,7 +363,7 @@ fn first_unlike(
     Ok(None)
 }
 
-/// The same of two programs that begin anew.
+/// The same for two new programs.
 fn script_differs(alloc: Global, dice: &mut Dice) -> Result<Option<usize>, AllocError> {
     let heap = &mut Heap::new(alloc);
     let mut contexts = Contexts::new(heap, FILTERS)?;
@@ -405,8 +405,8 @@ const FREED: SetAnswer = SetAnswer::Done(Some(Unlinked {
 
 type Setting = (bool, bool, bool, SetAnswer, Option<u64>, Option<u64>);
 
-/// Context 1 is set where context 0 is linked. First whether it is to be kept, whether the caller wants the old one, and whether the
-/// link's is its only reference; then the answer, and the references of both afterwards.
+/// Context 1 is set while context 0 is linked. In each row are first whether that is kept, whether the caller wants the old one, and
+/// whether the link's is its only reference; then the answer, and the references of both afterwards.
 const SETTINGS: [Setting; 8] = [
     (true, false, false, KEPT, Some(2), Some(1)),
     (true, true, false, KEPT, Some(3), Some(1)),
@@ -418,7 +418,7 @@ const SETTINGS: [Setting; 8] = [
     (false, true, true, REPLACED, Some(1), Some(2)),
 ];
 
-/// A call, with what it should answer.
+/// A call, with its expected answer.
 #[derive(Clone, Copy)]
 enum Call {
     Get(Key, Option<usize>),
@@ -435,7 +435,7 @@ enum Call {
     LinkedAt(Key, Option<usize>),
 }
 
-/// Makes a call, and says whether it answers what it should.
+/// Makes a call, and returns whether its answer is the expected one.
 fn answers(heap: &mut Heap, contexts: &mut Contexts, call: Call) -> Result<bool, AllocError> {
     match call {
         Call::Get(key, wanted) => Ok(get(contexts, key) == wanted),
@@ -464,7 +464,7 @@ fn answers(heap: &mut Heap, contexts: &mut Contexts, call: Call) -> Result<bool,
     }
 }
 
-/// The first of these calls that doesn't answer what it should.
+/// The first of these calls that has another answer.
 fn first_wrong(
     heap: &mut Heap,
     contexts: &mut Contexts,
@@ -478,14 +478,14 @@ fn first_wrong(
     Ok(None)
 }
 
-/// The same on the contexts of so many filters.
+/// The same on the contexts of this many filters.
 fn wrong_call(alloc: Global, filters: usize, calls: &[Call]) -> Result<Option<usize>, AllocError> {
     let heap = &mut Heap::new(alloc);
     let mut contexts = Contexts::new(heap, filters)?;
     first_wrong(heap, &mut contexts, calls)
 }
 
-/// Whether context 1 is set over context 0 as the row says.
+/// Whether context 1 is set over context 0 as in the row.
 fn is_set(alloc: Global, key: Key, setting: Setting) -> Result<bool, AllocError> {
     let (keep, want_old, released, answer, first, second) = setting;
     let calls = [
@@ -509,7 +509,7 @@ fn is_set(alloc: Global, key: Key, setting: Setting) -> Result<bool, AllocError>
     Ok(wrong_call(alloc, FILTERS, &calls)?.is_none())
 }
 
-/// The first row that isn't so, whichever object it is for.
+/// The first row for which that fails, for any kind of object.
 fn wrong_setting(alloc: Global, rows: &[Setting]) -> Result<Option<usize>, AllocError> {
     for (row, setting) in rows.iter().enumerate() {
         for target in TARGETS {
@@ -538,8 +538,8 @@ const INSTANCE: Key = Key {
     target: Target::Instance,
 };
 
-/// Two operations on one stream look for a context, allocate one each, and set it: the second gets that of the first. What is linked goes
-/// at the filter's teardown, the instance's context first. A freed context stays as it was.
+/// Two operations on one stream look for a context, allocate one each, and set it: the second gets that of the first. Linked contexts go at
+/// the filter's teardown, the instance's first. A freed context stays as it was.
 const SHARED: [Call; 26] = [
     Call::Get(STREAM, None),
     Call::Get(STREAM, None),

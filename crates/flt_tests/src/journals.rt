@@ -1,5 +1,5 @@
-//! Streams of journals that fail at each of their calls. Texts that are no journals stand in `examples/cases/journals.cases`, and others
-//! with their verdicts in `examples/verdicts/`.
+//! Streams of journals that fail at each of their calls. Texts that are no journals are in `examples/cases/journals.cases`, and others in
+//! `examples/verdicts/` with their verdicts.
 
 use flt_model::{
     Journal, JournalFault, ReadFault, Reading, Sink, Source, WriteFault, Writing, read, write,
@@ -108,7 +108,7 @@ fn read_text(alloc: Global, text: &[u8]) -> Result<Journal, JournalFault> {
     read(alloc, &mut Given::new(text, None))
 }
 
-/// Whether reading stops at the first malformed byte: a failure behind it doesn't come.
+/// Whether reading stops at the first malformed byte: a failure after it doesn't occur.
 fn stops_at_a_wrong_byte(alloc: Global) -> bool {
     let mut reader = Given::new(b"fltjournal 1\npre 0x", Some(19));
     matches!(read(alloc, &mut reader), Err(JournalFault::Line(2)))
@@ -116,7 +116,7 @@ fn stops_at_a_wrong_byte(alloc: Global) -> bool {
         && reader.failures == 0
 }
 
-/// Whether a failure of the reader at this call is told, and no failure where it isn't called so often.
+/// Whether a failure of the reader at this call is reported, and no failure if there are fewer calls.
 fn read_is_told(alloc: Global, text: &[u8], call: u64, fails: bool) -> bool {
     let mut reader = Given::new(text, Some(call));
     match read(alloc, &mut reader) {
@@ -126,7 +126,7 @@ fn read_is_told(alloc: Global, text: &[u8], call: u64, fails: bool) -> bool {
     }
 }
 
-/// The first call at which a reader fails in vain. A journal of n bytes takes n reads, and one that finds the end.
+/// The first call at which a failure of a reader isn't reported. A journal of n bytes takes n reads, and one that finds the end.
 fn wrong_read(alloc: Global, text: &[u8]) -> Option<u64> {
     let last = text.len() as u64;
     for call in 0..last + 2 {
@@ -137,14 +137,14 @@ fn wrong_read(alloc: Global, text: &[u8]) -> Option<u64> {
     None
 }
 
-/// Whether a failure of the writer at this call is told, and no failure where it isn't called so often.
+/// Whether a failure of the writer at this call is reported, and no failure if there are fewer calls.
 fn write_is_told(alloc: Global, journal: &Journal, call: u64, fails: bool) -> bool {
     let mut out = Kept::new(alloc, Some(call));
     let failures = if fails { 1 } else { 0 };
     write(journal, &mut out).is_err() == fails && out.failures == failures
 }
 
-/// The first call at which a writer fails in vain. A journal of n bytes takes n writes of a byte.
+/// The first call at which a failure of a writer isn't reported. A journal of n bytes takes n writes of a byte.
 fn wrong_write(alloc: Global, text: &[u8]) -> Result<Option<u64>, JournalFault> {
     let journal = read_text(alloc, text)?;
     let last = text.len() as u64;
@@ -156,7 +156,7 @@ fn wrong_write(alloc: Global, text: &[u8]) -> Result<Option<u64>, JournalFault> 
     Ok(None)
 }
 
-/// Whether a journal that is read from a reader of std goes as it was to a writer of std.
+/// Whether a journal that is read from a reader of std is written unchanged to a writer of std.
 fn goes_through_std(alloc: Global, text: &[u8]) -> Result<bool, JournalFault> {
     let journal = read(alloc, &mut Reading::new(text))?;
     let mut out = Writing::new(Vec::new(alloc));

@@ -1,4 +1,4 @@
-//! The layout of texts with comments and blank lines: what is laid out how, and that a layout is its own.
+//! The layout of texts with comments and blank lines. The layout of a layout is itself.
 
 use flt_layout::{FormatError, format, lay_out};
 use std::alloc::{AllocError, Global};
@@ -45,7 +45,7 @@ fn is_laid_out(alloc: Global, text: &[u8], layout: &[u8]) -> Result<bool, AllocE
     Ok(lay_out(alloc, text)?.as_slice() == layout)
 }
 
-/// The first text that hasn't its layout, or whose layout hasn't itself.
+/// The first text that has another layout than this, or whose layout doesn't have itself as layout.
 fn wrong_layout(alloc: Global, rows: &[(&[u8], &[u8])]) -> Result<Option<usize>, AllocError> {
     for (row, (text, layout)) in rows.iter().enumerate() {
         if !is_laid_out(alloc, text, layout)? || !is_laid_out(alloc, layout, layout)? {

@@ -1,5 +1,5 @@
-//! Tests of the crates that read, write, keep and search, of what no run of the program shows: calls beside a plain program, streams that
-//! fail, and what a watcher is told. They stand apart from those crates, so that no crate with code is proved twice.
+//! Tests of the crates that read, write, keep and search, for behaviour that no run of the program shows: calls beside a plain program,
+//! streams that fail, and reports to a watcher. They are apart from those crates, so that no crate with code is proved twice.
 #![tactic(auto)]
 
 #[cfg(test)]

@@ -1,4 +1,4 @@
-//! What is loaded of texts with a certificate each, and why others aren't.
+//! The results of loading texts, each with a certificate: which are loaded, and why others aren't.
 
 use flt_cert::CertFault;
 use flt_stack::{LoadFault, load};
@@ -58,14 +58,14 @@ const APART_GREATER_CERTIFICATE: &[u8] =
 /// A file: its text, and its certificate.
 type File<'a> = (&'a [u8], &'a [u8]);
 
-/// What is answered: in a word, the number of the file, and where in it: the line and the column, the line, or the point and its line.
+/// An answer: a word, the number of the file, and the place in it: the line and the column, the line, or the point and its line.
 type Answer = (&'static str, usize, usize, usize);
 
 const LOADED: Answer = ("ok", 0, 0, 0);
 
 const COUNT: Answer = ("count", 0, 0, 0);
 
-/// Files, and what is answered of them. The faults come in their order: a file's text before its certificate, an earlier file's before a later
+/// Files, and the answers for them. The faults come in their order: a file's text before its certificate, an earlier file's before a later
 /// one's, and equal altitudes last.
 const CASES: [(&[File<'static>], Answer); 13] = [
     (&[], COUNT),
@@ -142,7 +142,7 @@ static ORDERS: [(&[File<'static>], bool); 8] = [
     (&[(IN_ORDER, LOCKS_THIN), (CROSSED, LOCKS_THIN)], false),
 ];
 
-/// What is answered of a fault.
+/// The answer for a fault.
 fn answer_of(fault: LoadFault) -> Result<Answer, AllocError> {
     match fault {
         LoadFault::Count => Ok(COUNT),
@@ -160,7 +160,7 @@ fn answer_of(fault: LoadFault) -> Result<Answer, AllocError> {
     }
 }
 
-/// What is answered of files.
+/// The answer for files.
 fn answer(alloc: Global, files: &[File]) -> Result<Answer, AllocError> {
     match load(alloc, files) {
         Ok(_) => Ok(LOADED),
@@ -168,7 +168,7 @@ fn answer(alloc: Global, files: &[File]) -> Result<Answer, AllocError> {
     }
 }
 
-/// The first of these cases of which something else is answered.
+/// The first of these cases that has another answer.
 fn wrong_case(alloc: Global, cases: &[(&[File], Answer)]) -> Result<Option<usize>, AllocError> {
     for (row, (files, wanted)) in cases.iter().enumerate() {
         if answer(alloc, files)? != *wanted {
@@ -178,7 +178,7 @@ fn wrong_case(alloc: Global, cases: &[(&[File], Answer)]) -> Result<Option<usize
     Ok(None)
 }
 
-/// Texts of so many filters, each with an altitude of its own.
+/// The texts of this many filters, each with an altitude of its own.
 fn texts(alloc: Global, count: usize) -> Result<Vec<String>, AllocError> {
     let mut texts = Vec::with_capacity(alloc, count)?;
     for number in 0..count {
@@ -190,7 +190,7 @@ fn texts(alloc: Global, count: usize) -> Result<Vec<String>, AllocError> {
     Ok(texts)
 }
 
-/// What is answered of these texts, each with its certificate.
+/// The answer for these texts, each with its certificate.
 fn answer_of_texts(alloc: Global, texts: &[String]) -> Result<Answer, AllocError> {
     let mut files = Vec::with_capacity(alloc, texts.len())?;
     for text in texts {
@@ -199,7 +199,7 @@ fn answer_of_texts(alloc: Global, texts: &[String]) -> Result<Answer, AllocError
     answer(alloc, files.as_slice())
 }
 
-/// What is answered of so many filters.
+/// The answer for this many filters.
 fn answer_of_many(alloc: Global, count: usize) -> Result<Answer, AllocError> {
     let texts = texts(alloc, count)?;
     answer_of_texts(alloc, texts.as_slice())
@@ -225,7 +225,7 @@ fn loads_within_memory(rt: HostRuntime) -> Result<(), Fail> {
     Ok(())
 }
 
-/// Whether the filters of files take their locks in an order; none where they aren't loaded.
+/// Whether the filters of files take their locks in an order, or none if they aren't loaded.
 fn is_ordered(alloc: Global, files: &[File]) -> Result<Option<bool>, AllocError> {
     match load(alloc, files) {
         Ok(loaded) => Ok(Some(loaded.is_ordered())),
@@ -236,7 +236,7 @@ fn is_ordered(alloc: Global, files: &[File]) -> Result<Option<bool>, AllocError>
     }
 }
 
-/// The first of these cases of which something else is answered.
+/// The first of these cases that has another answer.
 fn wrong_order(alloc: Global, cases: &[(&[File], bool)]) -> Result<Option<usize>, AllocError> {
     for (row, (files, wanted)) in cases.iter().enumerate() {
         if is_ordered(alloc, files)? != Some(*wanted) {

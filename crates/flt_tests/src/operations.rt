@@ -7,13 +7,13 @@ use flt_rules::{FinalStatus, Mode, Operation, Stage};
 use std::alloc::{AllocError, Global};
 use std::test::Fail;
 
-/// How many filters the scripts have.
+/// The number of filters of the scripts.
 const FILTERS: usize = 3;
 
-/// How many operations a script makes, at most.
+/// The most operations of a script.
 const MOST: usize = 5;
 
-/// How far an operation of the plain program has come.
+/// The progress of an operation of the plain program.
 #[derive(Drop)]
 struct Row {
     file: u32,
@@ -40,7 +40,7 @@ struct Plain {
     visits: Vec<Passing>,
 }
 
-/// Where an operation stands, as a number.
+/// The position of an operation, as a number.
 fn place(position: Position) -> usize {
     match position {
         Position::Down(filter) => filter.saturating_add(2),
@@ -49,7 +49,7 @@ fn place(position: Position) -> usize {
     }
 }
 
-/// How an operation ended, as a number.
+/// The end of an operation, as a number.
 fn end(outcome: Option<Outcome>) -> u8 {
     match outcome {
         None => 0,
@@ -60,7 +60,7 @@ fn end(outcome: Option<Outcome>) -> u8 {
     }
 }
 
-/// What a callback starts with, as numbers.
+/// The arguments with which a callback starts, as numbers.
 fn start(started: Option<Started>) -> Option<(usize, usize, Option<usize>)> {
     match started {
         Some(started) => Some((started.visit, started.filter, started.context)),
@@ -104,7 +104,7 @@ impl Plain {
         }
     }
 
-    /// Where the frame of a filter stands among those of an operation.
+    /// The place of the frame of a filter among those of an operation.
     fn place_of(&self, serial: usize, filter: usize) -> Option<usize> {
         for (at, frame) in self.rows.get(serial)?.frames.iter().enumerate() {
             if frame.filter == filter {
@@ -291,7 +291,7 @@ impl Plain {
     }
 }
 
-/// Whether both programs say the same of all visits, and of one that isn't there.
+/// Whether both programs agree on all visits, and on one that isn't there.
 fn agree_on_visits(operations: &Operations, plain: &Plain) -> bool {
     for (number, passing) in plain.visits.iter().enumerate() {
         let visit = operations.visit(number);
@@ -311,7 +311,7 @@ fn agree_on_visits(operations: &Operations, plain: &Plain) -> bool {
     operations.visit(next).draining && operations.is_settled(next)
 }
 
-/// Whether both programs say the same of all operations and filters, those included that aren't there.
+/// Whether both programs agree on all operations and filters, including ones that aren't there.
 fn agree(operations: &Operations, plain: &Plain) -> bool {
     for serial in 0..MOST as u32 + 2 {
         let number = serial as usize;
@@ -345,7 +345,7 @@ impl Dice {
     }
 }
 
-/// One call of both programs, and whether they answered the same.
+/// Makes one call of both programs. Returns whether their answers are the same.
 fn step(
     operations: &mut Operations,
     plain: &mut Plain,
@@ -397,7 +397,7 @@ fn first_unlike(
     Ok(None)
 }
 
-/// The same of two programs that begin anew.
+/// The same for two new programs.
 fn script_differs(alloc: Global, dice: &mut Dice) -> Result<Option<usize>, Fail> {
     let mut operations = Operations::new(alloc, FILTERS);
     let mut plain = Plain::new(alloc);
@@ -431,8 +431,8 @@ enum Call {
     Settle(usize, Option<usize>, Way),
 }
 
-/// An operation that gets a frame at each filter, is drained of the first, and comes back up: each call with the visit, the filter
-/// and the context of the callback that it starts.
+/// An operation gets a frame at each filter, is drained of the first, and comes back up. Each call has the visit, the filter and the
+/// context of the callback that it starts.
 const CALLS: [(Call, Option<(usize, usize, Option<usize>)>); 13] = [
     (Call::StartPre, Some((0, 0, None))),
     (Call::Settle(0, Some(7), Way::Frames), None),
@@ -449,7 +449,7 @@ const CALLS: [(Call, Option<(usize, usize, Option<usize>)>); 13] = [
     (Call::Settle(5, None, Way::Rises), None),
 ];
 
-/// Makes the call, and answers what a callback starts with, if one does.
+/// Makes the call, and returns the arguments of the callback that it starts, if it starts one.
 fn made(
     heap: &mut Heap,
     operations: &mut Operations,

@@ -12,7 +12,7 @@ const FIRSTS: usize = 3;
 /// The second numbers are below this.
 const SECONDS: usize = 4;
 
-/// The least number at which the row says yes.
+/// The least number at which the row holds true.
 fn least(row: &[bool; SECONDS]) -> Option<u32> {
     for second in 0..SECONDS {
         if row[second] {
@@ -22,7 +22,7 @@ fn least(row: &[bool; SECONDS]) -> Option<u32> {
     None
 }
 
-/// The first turn at which a set says something else than the table.
+/// The first turn at which a set disagrees with the table.
 fn wrong_turn(alloc: Global) -> Result<Option<usize>, AllocError> {
     let mut heap = Heap::new(alloc);
     let mut pairs = PairSet::new(alloc);

@@ -6,7 +6,7 @@ use flt_cbdq::{Entry, InsertFault, Queues};
 use std::alloc::{AllocError, Global};
 use std::test::Fail;
 
-/// How many filters have a queue. Calls name one more, which has none.
+/// The number of filters that have a queue. Calls name one more, which has none.
 const FILTERS: usize = 3;
 
 /// The same queues as vectors of entries.
@@ -78,7 +78,7 @@ impl Plain {
     }
 }
 
-/// Whether both programs hold the same entries in the same order, as far as entries can be asked for.
+/// Whether both programs hold the same entries in the same order, as far as their calls show it.
 fn agree(queues: &Queues, plain: &Plain) -> bool {
     for filter in 0..FILTERS + 1 {
         let length = match plain.queues.get(filter) {
@@ -103,7 +103,7 @@ fn agree(queues: &Queues, plain: &Plain) -> bool {
     true
 }
 
-/// An entry put into both, and whether they answered the same. A refused one must come back.
+/// Puts an entry into both. Returns whether their answers are the same. A refused entry must come back.
 fn insert(
     heap: &mut Heap,
     queues: &mut Queues,
@@ -124,7 +124,7 @@ fn insert(
     }
 }
 
-/// One call of both programs, and whether they answered the same. Few visits, so that many stand in a queue twice.
+/// Makes one call of both programs. Returns whether their answers are the same. There are few visits, so that many are in a queue twice.
 fn step(
     heap: &mut Heap,
     queues: &mut Queues,
@@ -178,7 +178,7 @@ fn first_unlike(
     Ok(None)
 }
 
-/// The same of two programs that begin anew.
+/// The same for two new programs.
 fn script_differs(alloc: Global, dice: &mut Dice) -> Result<Option<usize>, AllocError> {
     let heap = &mut Heap::new(alloc);
     let mut queues = Queues::new(heap, FILTERS)?;
@@ -213,7 +213,7 @@ const SECOND: Entry = Entry {
     context: None,
 };
 
-/// Whether a queue that is disabled while an entry waits keeps it; each filter has a queue of its own.
+/// Whether a queue that is disabled while an entry waits keeps it. Each filter has a queue of its own.
 fn keeps_what_waits(heap: &mut Heap, queues: &mut Queues) -> bool {
     if queues.insert(heap, 0, FIRST).is_err()
         || queues.insert(heap, 0, SECOND).is_err()
@@ -246,7 +246,7 @@ fn a_disabled_queue_keeps_what_waits(rt: HostRuntime) -> Result<(), Fail> {
     Ok(())
 }
 
-/// The first turn at which the programs differ, where entries are put in and taken out. A refused entry comes back, and the queues stay as
+/// The first turn at which the programs differ, as entries are put in and taken out. A refused entry comes back, and the queues stay as
 /// they were.
 fn wrong_turn(
     heap: &mut Heap,
@@ -271,7 +271,7 @@ fn wrong_turn(
     Ok(None)
 }
 
-/// The same of two programs that begin anew.
+/// The same for two new programs.
 fn turns_differ(alloc: Global) -> Result<Option<usize>, AllocError> {
     let heap = &mut Heap::new(alloc);
     let mut queues = Queues::new(heap, FILTERS)?;

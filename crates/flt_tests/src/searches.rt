@@ -1,4 +1,4 @@
-//! What the watcher of a search for runs is told.
+//! The reports to the watcher of a search for runs.
 
 use flt_explain::findings;
 use flt_graph::{Graph, lower};
@@ -8,25 +8,25 @@ use flt_syntax::{Tree, parse};
 use std::alloc::{AllocError, Global};
 use std::test::Fail;
 
-/// Each way through its turns makes another number, and none makes the one at which it keeps a context.
+/// A text in which each path through the turns makes another number, and none makes the one at which it keeps a context.
 const NUMBERS: &str =
     "filter a altitude 100\npre read {\nrepeat 20 {\nn0 = n0 + n0\nif FltAllocateContext c0 {\nn0 = n0 + 1\nFltReleaseContext c0\n}\n}\nif n0 == 2000000 {\nif FltAllocateContext c0 {\n}\n}\nreturn NO_CALLBACK\n}\n";
 
 /// Sees each read, above the other.
 const SEES: &str = "filter b altitude 200\npre read {\nreturn NO_CALLBACK\n}\n";
 
-/// Texts, how many states a search of what the first one is found to break goes on from at most, and the least and the greatest number that may
-/// be told last.
+/// Texts, the most states to expand in a search for runs to the findings of the first one, and the least and the greatest number that may
+/// be reported last.
 type Case<'a> = (&'a [&'a str], u32, u32, u32);
 
-/// Where there are two texts, the first of two searches has half of the states.
+/// If there are two texts, the first of two searches has half of the states.
 static CASES: [Case<'static>; 3] = [
     (&[NUMBERS], 9_999, 0, 0),
     (&[NUMBERS], 12_000, 10_000, 12_000),
     (&[NUMBERS, SEES], 24_000, 12_001, 24_000),
 ];
 
-/// Keeps what it is told last.
+/// A watcher that keeps the last number reported.
 #[derive(Drop)]
 struct Listener {
     last: u32,
@@ -71,7 +71,7 @@ fn suspects_of(alloc: Global, graph: &Graph) -> Result<Vec<Suspect>, AllocError>
     Ok(all)
 }
 
-/// What is told of the searches for what these findings of the first of some filters lead to.
+/// The reports of the searches for runs to these findings of the first of some filters.
 fn told_of(
     alloc: Global,
     trees: &[Tree],
@@ -98,7 +98,7 @@ fn told(alloc: Global, trees: &[Tree], graph: &Graph, states: u32) -> Result<Lis
     told_of(alloc, trees, &suspects, states)
 }
 
-/// Whether of a case what is told is as it should be. The graph is that of its first text.
+/// Whether the reports for a case are right. The graph is that of its first text.
 fn is_told(alloc: Global, graph: &Graph, case: &Case<'_>) -> Result<bool, Fail> {
     let (texts, states, least, most) = *case;
     let trees = trees_of(alloc, texts)?;
@@ -106,7 +106,7 @@ fn is_told(alloc: Global, graph: &Graph, case: &Case<'_>) -> Result<bool, Fail> 
     Ok(told.is_rising && least <= told.last && told.last <= most)
 }
 
-/// The first of these cases of which something else is told.
+/// The first of these cases that has other reports.
 fn wrong_case(alloc: Global, cases: &[Case<'_>]) -> Result<Option<usize>, Fail> {
     let graph = graph_of(alloc, NUMBERS)?;
     for (row, case) in cases.iter().enumerate() {

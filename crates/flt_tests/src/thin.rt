@@ -1,5 +1,5 @@
-//! Thin certificates: what is left of worked certificates, what follows from it, which thin ones are refused where, and which texts are
-//! no certificates.
+//! Thin certificates: how worked certificates are thinned, how thin ones are filled up, which of those are refused and at which place, and
+//! which texts are no certificates.
 
 use flt_cert::{Cert, CertFault, ThinCert, read, thin, write, write_full};
 use flt_check::{Refusal, check, fill};
@@ -23,7 +23,7 @@ const REPEATING: &str =
 const EMPTY_BLOCKS: &str =
     "filter a altitude 100\npre read {\nif irp data {\n} else {\n}\nreturn NO_CALLBACK\n}\n";
 
-/// A text with its least certificate, and what is left of that.
+/// A text with its least certificate, and the thin one of that.
 #[derive(Drop)]
 struct Worked {
     text: &'static str,
@@ -162,13 +162,13 @@ fn graph_of(alloc: Global, text: &str) -> Result<Graph, Fail> {
     Ok(graph?)
 }
 
-/// Whether a certificate is written so.
+/// Whether a certificate is written as this text.
 fn is_text_of(alloc: Global, cert: &Cert, text: &str) -> Result<bool, Fail> {
     let written = write(alloc, cert)?;
     Ok(written.as_slice() == text.as_bytes())
 }
 
-/// Whether what follows from a thin certificate is written so.
+/// Whether a thin certificate is filled up to one that is written as this text.
 fn fills_up_to(alloc: Global, graph: &Graph, cert: &ThinCert, full: &str) -> Result<bool, Fail> {
     let filled = fill(alloc, graph, cert)?;
     let written = write_full(alloc, &filled);
@@ -176,7 +176,7 @@ fn fills_up_to(alloc: Global, graph: &Graph, cert: &ThinCert, full: &str) -> Res
     Ok(written?.as_slice() == full.as_bytes())
 }
 
-/// Whether a certificate is accepted, and what is left of it is written so and accepted too.
+/// Whether a certificate is accepted, and its thin one is written as this text and accepted too.
 fn is_left_so(alloc: Global, graph: &Graph, cert: &Cert, text: &str) -> Result<bool, Fail> {
     let left = thin(alloc, graph, cert)?;
     let same = is_text_of(alloc, &left, text);
@@ -185,7 +185,7 @@ fn is_left_so(alloc: Global, graph: &Graph, cert: &Cert, text: &str) -> Result<b
     Ok(same? && accepted)
 }
 
-/// Whether what is left of the full certificate of a row is as it says, and the thin one stays as it is.
+/// Whether the full certificate of a row is thinned to that of the row, and the thin one stays as it is.
 fn are_left_so(alloc: Global, graph: &Graph, row: &Worked) -> Result<bool, Fail> {
     let full = read(alloc, row.full.as_bytes())?;
     let first = is_text_of(alloc, &full, row.full)? && is_left_so(alloc, graph, &full, row.thin)?;
@@ -193,7 +193,7 @@ fn are_left_so(alloc: Global, graph: &Graph, row: &Worked) -> Result<bool, Fail>
     Ok(first && is_left_so(alloc, graph, &again, row.thin)?)
 }
 
-/// Whether the thin certificate of a row is read, and its full one follows from it.
+/// Whether the thin certificate of a row is read, and filled up to the full one.
 fn follows_so(alloc: Global, graph: &Graph, row: &Worked) -> Result<bool, Fail> {
     match read(alloc, row.thin.as_bytes())? {
         Cert::Thin(given) => fills_up_to(alloc, graph, &given, row.full),
@@ -201,13 +201,13 @@ fn follows_so(alloc: Global, graph: &Graph, row: &Worked) -> Result<bool, Fail> 
     }
 }
 
-/// Whether a row of worked certificates is so.
+/// Whether a row of worked certificates is right.
 fn is_worked(alloc: Global, row: &Worked) -> Result<bool, Fail> {
     let graph = graph_of(alloc, row.text)?;
     Ok(are_left_so(alloc, &graph, row)? && follows_so(alloc, &graph, row)?)
 }
 
-/// The first row that isn't so; how many there are where all are.
+/// The first row that is wrong, or the number of rows if all are right.
 fn first_not_worked(alloc: Global, rows: &[Worked]) -> Result<usize, Fail> {
     for (place, row) in rows.iter().enumerate() {
         if !is_worked(alloc, row)? {
@@ -217,7 +217,7 @@ fn first_not_worked(alloc: Global, rows: &[Worked]) -> Result<usize, Fail> {
     Ok(rows.len())
 }
 
-/// Whether an answer is what a row says.
+/// Whether an answer is that of a row.
 fn is_refused_so(answer: &Result<(), Refusal>, row: &Refused) -> bool {
     match answer {
         Ok(_) => false,
@@ -230,7 +230,7 @@ fn is_refused_so(answer: &Result<(), Refusal>, row: &Refused) -> bool {
     }
 }
 
-/// Whether the thin certificate of a row is refused as it says.
+/// Whether the thin certificate of a row is refused as in the row.
 fn is_refused(alloc: Global, row: &Refused) -> Result<bool, Fail> {
     let graph = graph_of(alloc, row.text)?;
     let given = read(alloc, row.thin.as_bytes());
@@ -239,7 +239,7 @@ fn is_refused(alloc: Global, row: &Refused) -> Result<bool, Fail> {
     Ok(is_refused_so(&answer, row))
 }
 
-/// The first row that isn't so; how many there are where all are.
+/// The first row that is wrong, or the number of rows if all are right.
 fn first_not_refused(alloc: Global, rows: &[Refused]) -> Result<usize, Fail> {
     for (place, row) in rows.iter().enumerate() {
         if !is_refused(alloc, row)? {
@@ -258,7 +258,7 @@ fn is_malformed(alloc: Global, text: &str, line: usize) -> Result<bool, Fail> {
     }
 }
 
-/// The first row that isn't so; how many there are where all are.
+/// The first row that is wrong, or the number of rows if all are right.
 fn first_not_malformed(alloc: Global, rows: &[(&str, usize)]) -> Result<usize, Fail> {
     for (place, row) in rows.iter().enumerate() {
         if !is_malformed(alloc, row.0, row.1)? {

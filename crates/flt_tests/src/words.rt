@@ -1,5 +1,5 @@
-//! Every word of the language: it is read, it is printed in the canonical layout, and each variable has its own place. What is said of
-//! texts that are none stands in `examples/cases/texts.cases`.
+//! Every word of the language: it is read, it is printed in the canonical layout, and each variable has its own place. The errors for other
+//! texts are in `examples/cases/texts.cases`.
 
 use flt_layout::lay_out;
 use flt_print::print;
@@ -37,7 +37,7 @@ const LAYOUTS: [(&[u8], &[u8]); 5] = [
 const ASSIGNMENTS: &[u8] =
     b"filter a altitude 1 pre read { n0 = 0 n1 = 0 n2 = 0 n3 = 0 n4 = 0 n5 = 0 n6 = 0 n7 = 0 c0 = NULL c1 = NULL c2 = NULL c3 = NULL c4 = NULL c5 = NULL c6 = NULL c7 = NULL arg = NULL o0 = NULL o1 = NULL o2 = NULL o3 = NULL }";
 
-/// The kind of each, and where it stands among those of its kind; `arg` stands behind `c7`.
+/// The kind of each, and its place among those of its kind. `arg` comes after `c7`.
 const PLACES: [(u8, usize); 21] = [
     (b'n', 0),
     (b'n', 1),
@@ -85,7 +85,7 @@ fn have_places(statements: &[Statement], places: &[(u8, usize)]) -> bool {
     statements.len() == places.len()
 }
 
-/// The canonical text of what a text spells.
+/// The canonical text of a text's tree.
 fn printed(alloc: Global, text: &[u8]) -> Result<Vec<u8>, ParseError> {
     Ok(print(alloc, &parse(alloc, text)?)?)
 }
@@ -113,7 +113,7 @@ fn other_layout(alloc: Global, rows: &[(&[u8], &[u8])]) -> Result<Option<usize>,
     Ok(None)
 }
 
-/// The first text that hasn't its canonical text, or whose canonical text hasn't itself.
+/// The first text that has another canonical text than this, or whose canonical text isn't its own.
 fn wrong_layout(alloc: Global, rows: &[(&[u8], &[u8])]) -> Result<Option<usize>, ParseError> {
     for (row, (text, canonical)) in rows.iter().enumerate() {
         if !is_printed(alloc, text, canonical)? || !is_printed(alloc, canonical, canonical)? {

@@ -1,4 +1,4 @@
-//! Which callback an activation runs, and where.
+//! The callback that an activation runs, and its lines.
 
 ghost use Rattle.std.specs.Prelude.{◌≡◌, ◌≤◌, List, length, slice_get, [], ◌∷◌, MatchOption};
 ghost use Rattle.flt_model.specs.Program as program;
@@ -49,7 +49,7 @@ fn is_registered(place: Place, head: &Head) -> bool
     }
 }
 
-/// The number of the callback for a place that is no routine's; past all callbacks where there is none.
+/// The number of the callback for a place that isn't a routine's; past all callbacks if there is none.
 fn callback_for(callbacks: &[Callback], place: Place) -> usize
     ensures number { result ≡ spec.callback_for callbacks.now place }
     ensures within { result ≤ length callbacks.now }
@@ -61,7 +61,7 @@ fn callback_for(callbacks: &[Callback], place: Place) -> usize
     }
 }
 
-/// The callbacks of the filter of a number; none where it isn't there.
+/// The callbacks of the filter of a number; none if there is no such filter.
 fn callbacks_at<'a>(filters: &[&'a Filter], filter: usize) -> &'a [Callback]
     ensures { result.now ≡ program.callbacks_at (filters_behind filters.now) filter }
 {
@@ -88,7 +88,7 @@ fn callback_of(
     }
 }
 
-/// The callback that an activation runs, whose routine is known where a work item started it.
+/// The callback that an activation runs, whose routine is known if a work item started it.
 pub(crate) fn start_of(
     filters: &[&Filter],
     world: &World<'_>,
@@ -106,7 +106,7 @@ pub(crate) fn start_of(
 
 // ---- lines
 
-/// The line of the closing brace of a callback; 0 where it isn't there.
+/// The line of the closing brace of a callback; 0 if there is no such callback.
 pub(crate) fn end_line(filters: &[&Filter], started: Started) -> usize
     ensures { result ≡ spec.end_line (filters_behind filters.now) started }
 {
@@ -128,7 +128,7 @@ fn line_of(statement: &Statement) -> usize
     }
 }
 
-/// The line of the next step, by what comes next: at the end of a body that of its closing brace.
+/// The line of the next step: at the end of a body that of its closing brace.
 pub(crate) fn next_line(next: Option<Upcoming<'_>>, end: usize) -> usize
     ensures { (statements rest : List Written) → MatchOption next.entry (statements ≡ []) (λ u. statements ≡ statement_of u ∷ rest) →
         result ≡ spec.next_line end statements }

@@ -1,5 +1,5 @@
-//! The columns of operations. Where there are few operations, each has its own; else a column is free for the next operation once its
-//! own is done.
+//! The columns of operations. If there are few operations, each has its own; else a column is free for the next operation once its own is
+//! done.
 
 ghost use Rattle.std.specs.Prelude.{◌≡◌, ◌≤◌, ◌<◌, ◌^◌, length, position};
 ghost use Rattle.flt_model.specs.Moves as moves;
@@ -13,7 +13,7 @@ use flt_world::World;
 /// How many columns there are.
 pub(crate) const COLUMNS: usize = 8;
 
-/// What is in a column.
+/// The content of a column.
 #[derive(Clone, Copy)]
 pub(crate) struct Tenant {
     /// The number of the operation.
@@ -34,7 +34,7 @@ const FREE: Tenant = Tenant {
 #[derive(Drop)]
 pub(crate) struct Columns {
     tenants: [Tenant; 8],
-    /// Whether columns are given again.
+    /// Whether columns are used again.
     shared: bool,
 }
 
@@ -57,7 +57,7 @@ fn is_done(world: &World<'_>, operation: usize) -> bool
 }
 
 impl Tenant {
-    /// Whether nothing more comes of the operation.
+    /// Whether the operation is over, or there is none.
     fn is_over(self, world: &World<'_>) -> bool
         ensures { result ≡ spec.is_over world.now.store self }
     {
@@ -85,7 +85,7 @@ fn is_of(operation: usize, tenant: &Tenant) -> bool
     tenant.operation == Some(operation)
 }
 
-/// The column of a number; behind all where there is none.
+/// The column of a number; beyond all if there is none.
 fn column_by(number: Option<usize>) -> Column
     ensures { result ≡ spec.column_by number }
 {
@@ -103,7 +103,7 @@ fn bit_of(is_over: bool) -> u32
     if is_over { 0 } else { 1 }
 }
 
-/// The columns of which more comes, the first as the lowest bit.
+/// The columns whose operation isn't over, the first as the lowest bit.
 #[tactic(auto, using(crate::proofs::Bits::few, crate::proofs::Bits::one_more), unfolding(crate::specs::Columns::alive_in))]
 fn alive_in(world: &World<'_>, tenants: &[Tenant]) -> u32
     requires { length tenants.now ≤ 8 }
@@ -117,7 +117,7 @@ fn alive_in(world: &World<'_>, tenants: &[Tenant]) -> u32
 }
 
 impl Columns {
-    /// No operation is there yet; so many will come.
+    /// Columns without operations yet, for so many that will come.
     pub(crate) fn new(operations: usize) -> Columns
         ensures { result ≡ spec.opened operations }
     {
@@ -127,7 +127,7 @@ impl Columns {
         }
     }
 
-    /// The number of the column that an operation is in.
+    /// The number of the column of an operation.
     fn place_of(&self, operation: usize) -> Option<usize>
         ensures { result ≡ position (spec.is_of operation) self.now.tenants }
     {
@@ -136,7 +136,7 @@ impl Columns {
             .position(|tenant| is_of(operation, tenant))
     }
 
-    /// The column of an operation; behind all where it has none.
+    /// The column of an operation, beyond all if it has none; the margin for no operation.
     pub(crate) fn find(&self, operation: Option<usize>) -> Column
         ensures { result ≡ spec.column_of self.now.tenants operation }
     {
@@ -146,7 +146,7 @@ impl Columns {
         }
     }
 
-    /// What is in a column; nothing elsewhere.
+    /// The content of a column; empty elsewhere.
     fn tenant(&self, column: Column) -> Tenant
         ensures { result ≡ spec.tenant_in self.now.tenants column }
     {
@@ -156,7 +156,7 @@ impl Columns {
         }
     }
 
-    /// Puts this into a column; elsewhere nothing is kept.
+    /// Sets the content of a column; elsewhere nothing is kept.
     fn put(&mut self, column: Column, tenant: Tenant)
         ensures { self.new ≡ spec.with_tenant self.old column tenant }
     {
@@ -176,7 +176,7 @@ impl Columns {
             .position(|tenant| is_free(self.shared, world, tenant))
     }
 
-    /// An operation comes in.
+    /// Gives a column to an operation that arrives.
     pub(crate) fn add(&mut self, world: &World<'_>, operation: usize)
         ensures { self.new ≡ spec.arrived world.now.store self.old operation }
     {
@@ -189,7 +189,7 @@ impl Columns {
         self.put(column, tenant);
     }
 
-    /// An activation starts.
+    /// Notes in a column that an activation starts.
     pub(crate) fn start(&mut self, column: Column, activation: usize)
         ensures { self.new ≡ spec.begun self.old column activation }
     {
@@ -202,7 +202,7 @@ impl Columns {
         self.put(column, started);
     }
 
-    /// An activation goes on, and may have ended with that.
+    /// Notes in a column that an activation continues, and whether it has ended with that.
     pub(crate) fn go_on(&mut self, column: Column, activation: usize, ends: bool)
         ensures { self.new ≡ spec.gone_on self.old column activation ends }
     {

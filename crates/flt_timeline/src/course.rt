@@ -1,4 +1,4 @@
-//! What is told of a journal, entry by entry, up to the one that ends the run and behind it.
+//! The descriptions of a journal's entries, up to the one that ends the run and after it.
 
 ghost use Rattle.std.specs.Prelude.{◌≡◌, ◌+◌, ◌++◌, ◌∷◌, [], List, IfOk, None, OnOk, false, true, length};
 ghost use Rattle.flt_model.specs.declared.moves.JournalEntry.{JournalEntry as Written};
@@ -16,7 +16,7 @@ use flt_model::{Journal, JournalEntry, Verdict};
 use sqlite_items::Items;
 use std::alloc::{AllocError, Global};
 
-/// How far a run was told.
+/// How far a run was described.
 #[derive(Clone, Copy)]
 pub(crate) struct Progress {
     /// Whether the run has ended.
@@ -27,7 +27,7 @@ pub(crate) struct Progress {
     pub(crate) refusal: Option<Refusal>,
 }
 
-/// What is told of a journal.
+/// The descriptions of a journal's entries.
 #[derive(Drop)]
 pub(crate) struct Course {
     pub(crate) progress: Progress,
@@ -46,7 +46,7 @@ fn ends_at(verdict: Verdict, number: usize) -> bool
     }
 }
 
-/// The run ends with it.
+/// An entry, as the one that ends the run.
 fn ending(here: Told) -> Told
     ensures { result ≡ spec.ending here }
 {
@@ -67,7 +67,7 @@ fn ending_if(ends: bool, here: Told) -> Told
 }
 
 impl Progress {
-    /// An entry was made, and the run ends with it or goes on.
+    /// Notes that an entry was made, and whether the run ends with it.
     fn made(&mut self, ends: bool, here: Told) -> Told
         ensures told { result ≡ spec.ending_if ends here }
         ensures after { self.new ≡ record { is_over = ends; alive = here.telling.alive; refusal = None } }
@@ -80,7 +80,7 @@ impl Progress {
         ending_if(ends, here)
     }
 
-    /// An entry isn't enabled, and the run ends with it.
+    /// Notes that an entry isn't enabled, and that the run ends with it.
     fn stopped(&mut self, entry: JournalEntry, why: Refusal) -> Told
         ensures told { result ≡ spec.ending (spec.aside self.old.alive (spec.not_enabled entry)) }
         ensures after { self.new ≡ record { is_over = true; alive = self.old.alive; refusal = Some why } }
@@ -94,7 +94,7 @@ impl Progress {
         ending(here)
     }
 
-    /// What is told of the next entry, before which so many are.
+    /// Makes and describes the next entry, before which there are so many.
     #[tactic(auto, using(crate::proofs::NextEntry::told_goes, crate::proofs::NextEntry::told_stops, crate::proofs::NextEntry::refused_goes, crate::proofs::NextEntry::refused_stops))]
     fn next<'a>(
         &mut self,
@@ -141,7 +141,7 @@ impl Course {
         }
     }
 
-    /// What is told of the next entry, and who was on.
+    /// Adds the description of the next entry, and who was on.
 
     fn add(&mut self, here: Told) -> Result<(), AllocError>
         ensures told { OnOk result ((before : List Here) → AreToldBy self.old.tellings self.old.told self.old.whos before →
@@ -156,7 +156,7 @@ impl Course {
     }
 }
 
-/// Tells a journal entry by entry.
+/// Describes a journal entry by entry.
 pub(crate) fn course_of<'a>(
     stage: &Stage<'_, 'a>,
     scene: &mut Scene<'a>,

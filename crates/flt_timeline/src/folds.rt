@@ -1,4 +1,4 @@
-//! What repeats: a block of rows that comes several times, one behind the other.
+//! Repetitions: blocks of rows that come several times, one after the other.
 
 ghost use Rattle.std.specs.Prelude.{◌≡◌, ◌≤◌, ◌+◌, ◌*◌, ◌/◌, ◌<◌, drop, length, slice_get, take, IfOk, IsTrue};
 ghost use Rattle.std.specs.Str.{bytes_eq};
@@ -8,21 +8,21 @@ use crate::rows::Row;
 use sqlite_items::Items;
 use std::alloc::{AllocError, Global};
 
-/// A block has fewer rows.
+/// A block has fewer rows than this.
 const LONGEST: usize = 25;
 
-/// A block of rows, and the rows behind it that repeat it.
+/// A block of rows, and the rows after it that repeat it.
 #[derive(Clone, Copy)]
 pub struct Fold {
     /// The number of the first row, from 0.
     pub first: usize,
     /// How many rows the block has.
     pub block: usize,
-    /// How many rows repeat it: each is told as the row that stands `block` rows before it.
+    /// How many rows repeat it: each has the descriptions of the row that is `block` rows before it.
     pub repeated: usize,
 }
 
-/// What stands from a place on.
+/// The items from a place on.
 pub(crate) fn from<T>(items: &[T], first: usize) -> &[T]
     ensures { result.now ≡ drop first items.now }
 {
@@ -32,7 +32,7 @@ pub(crate) fn from<T>(items: &[T], first: usize) -> &[T]
     &items[first..]
 }
 
-/// So much from a place on, or less where less is there.
+/// So many items from a place on, or fewer if there are fewer.
 pub(crate) fn stretch<T>(items: &[T], first: usize, count: usize) -> &[T]
     ensures { result.now ≡ take count (drop first items.now) }
 {
@@ -43,14 +43,14 @@ pub(crate) fn stretch<T>(items: &[T], first: usize, count: usize) -> &[T]
     &behind[..count]
 }
 
-/// What is told in a row, by number.
+/// The numbers of the descriptions in a row.
 pub(crate) fn part(told: &[usize], row: Row) -> &[usize]
     ensures { result.now ≡ spec.part told.now row }
 {
     stretch(told, row.first, row.count)
 }
 
-/// What is told in the row of a number; nothing where there is none.
+/// The numbers of the descriptions in the row of a number; none if there is no such row.
 fn part_of<'a>(told: &'a [usize], rows: &[Row], number: usize) -> &'a [usize]
     ensures { result.now ≡ spec.part_of told.now (slice_get rows.now number) }
 {
@@ -60,7 +60,7 @@ fn part_of<'a>(told: &'a [usize], rows: &[Row], number: usize) -> &'a [usize]
     }
 }
 
-/// Whether the rows of two numbers tell the same.
+/// Whether the rows of two numbers have the same descriptions.
 fn are_alike(told: &[usize], rows: &[Row], one: usize, other: usize) -> bool
     ensures same { IsTrue result →
         spec.part_of told.now (slice_get rows.now one) ≡ spec.part_of told.now (slice_get rows.now other) }
@@ -69,7 +69,7 @@ fn are_alike(told: &[usize], rows: &[Row], one: usize, other: usize) -> bool
     part_of(told, rows, one) == part_of(told, rows, other)
 }
 
-/// How many rows from behind a block on tell the same as those that stand a block before them.
+/// How many rows, from the end of a block on, have the same descriptions as those a block before them.
 #[tactic(auto, using(crate::proofs::Alike::alike_steps))]
 fn repeated(told: &[usize], rows: &[Row], first: usize, block: usize) -> usize
     requires { first + block ≤ length rows.now }
@@ -88,7 +88,7 @@ fn repeated(told: &[usize], rows: &[Row], first: usize, block: usize) -> usize
     alike
 }
 
-/// As many of some rows as are whole blocks.
+/// How many of some rows are in whole blocks.
 #[tactic(auto, using(crate::proofs::Alike::whole_le))]
 fn whole_blocks(rows: usize, block: usize) -> usize
     requires { 1 ≤ block }

@@ -1,4 +1,4 @@
-//! An activation goes on by the steps of an entry.
+//! The steps of an activation in an entry.
 
 ghost use Rattle.std.specs.Prelude.{◌≡◌, IfOk, option_map};
 ghost use Rattle.flt_timeline.specs.Course as spec;
@@ -13,7 +13,7 @@ use flt_tree::Filter;
 use flt_world::{Stack, World};
 use std::alloc::{AllocError, Global};
 
-/// Where a journal is run: the filters from the highest altitude to the lowest, as the machine has them and as they are lent.
+/// The stack on which a journal is run: the filters from the highest altitude to the lowest, as the machine has them and as they are lent.
 #[derive(Clone, Copy)]
 pub(crate) struct Stage<'b, 'a> {
     pub(crate) alloc: Global,
@@ -30,7 +30,7 @@ fn outcome_of(sign: Option<Sign>, world: &World<'_>, activation: usize) -> Optio
     }
 }
 
-/// Makes the step that others see, in a callback whose closing brace has this line; or why it isn't enabled.
+/// Makes the step that others see, in a callback whose closing brace has this line; or says why it isn't enabled.
 fn go_seen<'a>(
     world: &mut World<'a>,
     stage: &Stage<'_, 'a>,
@@ -51,7 +51,7 @@ fn go_seen<'a>(
     Ok(Ok(Happening::Runs(line, outcome)))
 }
 
-/// Goes on by so many steps, of which the last is seen; or why one of them isn't enabled.
+/// Makes so many steps, of which the last is seen; or says why one of them isn't enabled.
 pub(crate) fn go<'a>(
     world: &mut World<'a>,
     stage: &Stage<'_, 'a>,

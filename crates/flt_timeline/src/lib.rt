@@ -1,10 +1,10 @@
-//! Timelines: journals as people read them. A row is a stretch in which one activation or the system is on, a column is an operation, and
-//! what repeats is told once.
+//! Timelines: journals as people read them. A row is a stretch in which one activation or the system is on, a column is an operation, and a
+//! repetition is shown once.
 //!
-//! `running` runs a journal in the monitor's world and says of each entry what it came to (`telling`): of an activation that goes on by
-//! `going`, with the lines of `callbacks` and the outcomes of `outcome`, in the columns of `columns`, and, where it isn't enabled, for the
-//! reason of `refusal`. `course` does so up to the entry that ends the run, and `tellings` has what is told alike (`likeness`) once. `rows`
-//! cuts entries into rows, and `folds` finds what repeats. `words` and `text` write it all.
+//! `running` runs a journal in the monitor's world and describes each entry (`telling`): the steps of an activation by `going`, with the
+//! lines of `callbacks` and the outcomes of `outcome`, in the columns of `columns`, and, if the entry isn't enabled, with the reason of
+//! `refusal`. `course` does this up to the entry that ends the run, and `tellings` keeps equal descriptions (`likeness`) once. `rows` cuts
+//! entries into rows, and `folds` finds repetitions. `words` and `text` write it all.
 #![tactic(auto)]
 
 mod callbacks;

@@ -1,4 +1,4 @@
-//! Whether the same is told.
+//! Whether two descriptions are the same.
 
 ghost use Rattle.std.specs.Prelude.{◌≡◌, IsTrue};
 
@@ -104,7 +104,7 @@ fn is_happening(one: Happening, other: Happening) -> bool
     }
 }
 
-/// Whether the same is told of two entries; of one that isn't enabled it never is.
+/// Whether two descriptions are the same; never if their entries aren't enabled.
 pub(crate) fn is_same(one: Telling, other: Telling) -> bool
     ensures { IsTrue result → one ≡ other }
 {

@@ -1,4 +1,4 @@
-//! Whether a call succeeded or a test held: what is looked at before the step and after it.
+//! Whether a call succeeded or a test held: the signs in the world before the step and after it.
 
 ghost use Rattle.std.specs.Prelude.{◌≡◌, List, [], ◌∷◌, MatchOption};
 ghost use Rattle.flt_model.specs.Calls.{link_of as link};
@@ -17,10 +17,10 @@ use flt_tree::{
 };
 use flt_world::World;
 
-/// By what it shows, once the step is made.
+/// How the outcome shows, once the step is made.
 #[derive(Clone, Copy)]
 pub(crate) enum Sign {
-    /// It is known before.
+    /// It is known before the step.
     Is(bool),
     /// The variable names a context.
     Gives(ContextVariable),
@@ -28,13 +28,13 @@ pub(crate) enum Sign {
     Removes(RemovedVariable),
     /// The context is linked.
     Links(usize),
-    /// The visit waits more often than so.
+    /// The visit waits more often than this.
     Waits(usize, u64),
-    /// There are more work items than so.
+    /// There are more work items than this.
     Adds(usize),
 }
 
-/// The link that a call works on; none where it is on the stream of `data`, which is NULL.
+/// The link that a call works on; none if it is on the stream of `data` and that is NULL.
 fn link_of(world: &World<'_>, activation: usize, anchor: Anchor) -> Option<Link>
     ensures { result ≡ link world.now.store (machine.actor_at world.now activation).filter anchor
         (variables.operation_in (machine.activation_at world.now activation) Data) }
@@ -55,7 +55,7 @@ fn link_of(world: &World<'_>, activation: usize, anchor: Anchor) -> Option<Link>
     }
 }
 
-/// A set succeeds where a context is linked by it that wasn't.
+/// The sign of a set, which succeeds if it links a context that wasn't linked.
 fn sign_of_set(world: &World<'_>, activation: usize, context: ContextVariable) -> Sign
     ensures { result ≡ spec.sign_of_set world.now.store (variables.context_in (machine.activation_at world.now activation) context) }
 {
@@ -131,7 +131,7 @@ fn sign_of_statement(
     }
 }
 
-/// What shows how the next step comes out, with the choice that is left to the system; none where it can come out in one way alone.
+/// The sign of the next step's outcome, with the choice that is left to the system; none if only one outcome is possible.
 pub(crate) fn sign_of(
     world: &World<'_>,
     activation: usize,
@@ -150,7 +150,7 @@ pub(crate) fn sign_of(
 }
 
 impl Sign {
-    /// Whether it shows in the world behind the step.
+    /// Whether it shows in the world after the step.
     pub(crate) fn shows(self, world: &World<'_>, activation: usize) -> bool
         ensures { result ≡ spec.shows world.now activation self }
     {

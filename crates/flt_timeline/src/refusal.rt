@@ -1,4 +1,4 @@
-//! Why an entry isn't enabled: which condition of its move or step fails, in the world in which it comes.
+//! Why an entry isn't enabled: the condition of its move or step that fails in the world before it.
 
 ghost use Rattle.std.specs.Prelude.{◌≡◌, Bool, List, is_some, length, [], ◌∷◌, MatchOption};
 ghost use Rattle.flt_model.specs.LocalSteps.{local_step};
@@ -56,7 +56,7 @@ pub(crate) enum Refusal {
 impl Refusal {
     ghost use Rattle.flt_timeline.specs.Reasons as spec;
 
-    /// The number of the step that others see first, where that is the reason.
+    /// The number of the step that others see first, if that is the reason.
     pub(crate) fn step(self) -> Option<u32>
         ensures { result ≡ spec.step_of self }
     {
@@ -66,7 +66,7 @@ impl Refusal {
         }
     }
 
-    /// Why, in words; of a step that is seen, what stands before its number.
+    /// The reason, in words; for a step that is seen, the words before its number.
     pub(crate) fn words(self) -> &'static str
         ensures { result.now ≡ spec.reason self }
     {
@@ -75,8 +75,8 @@ impl Refusal {
             Refusal::NoFile => "files are numbered below 1,024",
             Refusal::NoOperation => "no such operation has arrived",
             Refusal::IsVisited => "a filter has the operation: it is in a visit",
-            Refusal::GoesUp => "the operation is on its way up",
-            Refusal::GoesDown => "the operation is on its way down",
+            Refusal::GoesUp => "the operation is going up",
+            Refusal::GoesDown => "the operation is going down",
             Refusal::IsBelow => "the operation is below the last filter: `lower` is next",
             Refusal::IsAbove => "the operation isn't below the last filter yet",
             Refusal::HasPre => "the filter there has a pre callback of it: `pre` is next",
@@ -121,7 +121,7 @@ fn of_arrival(kind: Operation, mode: Mode) -> Refusal
     }
 }
 
-/// An operation isn't there, or this.
+/// Why a move isn't enabled: there is no such operation, or this reason.
 fn of_operation(world: &World<'_>, operation: usize, why: Refusal) -> Refusal
     ensures { result ≡ reasons.of_operation world.now.store operation why }
 {
@@ -132,7 +132,7 @@ fn of_operation(world: &World<'_>, operation: usize, why: Refusal) -> Refusal
     }
 }
 
-/// An operation doesn't go down: it is elsewhere, or at a filter, which is a reason of its own.
+/// Why an operation doesn't go down: it is elsewhere, or at a filter, with a reason of its own.
 fn of_position(
     world: &World<'_>,
     stack: &Stack<'_>,
@@ -191,7 +191,7 @@ fn of_canceled(world: &World<'_>, filter: usize, operation: usize) -> Refusal
     of_operation(world, operation, why)
 }
 
-/// A teardown doesn't go on: it hasn't begun or is over, or there is a reason of its own.
+/// Why a teardown doesn't continue: it hasn't begun or is over, or a reason of its own.
 fn of_teardown(world: &World<'_>, filter: usize, begun: Refusal) -> Refusal
     ensures { result ≡ reasons.of_teardown world.now.store filter begun }
 {
@@ -202,7 +202,7 @@ fn of_teardown(world: &World<'_>, filter: usize, begun: Refusal) -> Refusal
     }
 }
 
-/// A move of the filter of a number.
+/// Why a move of the filter of a number isn't enabled.
 fn of_filter(world: &World<'_>, filter: usize, step: Move) -> Refusal
     ensures { result ≡ reasons.of_filter world.now.store filter step }
 {
@@ -218,7 +218,7 @@ fn of_filter(world: &World<'_>, filter: usize, step: Move) -> Refusal
     }
 }
 
-/// A move of the filter of an altitude.
+/// Why a move of the filter of an altitude isn't enabled.
 fn at_altitude(world: &World<'_>, stack: &Stack<'_>, altitude: u32, step: Move) -> Refusal
     ensures { result ≡ reasons.at_altitude stack.now world.now.store altitude step }
 {

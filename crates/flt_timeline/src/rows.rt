@@ -1,4 +1,4 @@
-//! Entries are cut into rows: stretches in which one activation or the system is on.
+//! Rows of entries: stretches in which one activation or the system is on.
 
 ghost use Rattle.std.specs.Prelude.{◌≡◌, ◌≤◌, ◌<◌, ◌+◌, ◌^◌, ◌++◌, ◌∷◌, List, length, IfOk};
 ghost use Rattle.flt_timeline.specs.declared.telling.Who.{Who as Told};
@@ -8,14 +8,14 @@ use crate::telling::Who;
 use sqlite_items::Items;
 use std::alloc::{AllocError, Global};
 
-/// Some entries, one behind the other: the number of the first, from 0, and how many there are.
+/// Consecutive entries: the number of the first, from 0, and how many there are.
 #[derive(Clone, Copy)]
 pub struct Row {
     pub first: usize,
     pub count: usize,
 }
 
-/// Whether an entry stands in the row of the one before it: both are about one operation or about none, and no other activation is on.
+/// Whether an entry is in the row of the one before it: both are about one operation or about none, and no other activation is on.
 fn joins(last: Who, next: Who) -> bool
     ensures { result ≡ spec.joins last next }
 {
@@ -23,7 +23,7 @@ fn joins(last: Who, next: Who) -> bool
     !last.ends && unbroken && last.operation == next.operation
 }
 
-/// One more entry: it stands in the row that has begun, or begins the next one. The row that has begun then.
+/// Adds an entry to the row that has begun, or begins the next row with it. Returns the row that has begun then.
 #[tactic(auto, using(crate::proofs::Appending::cover_append))]
 fn add(rows: &mut Items<Row>, row: Row, last: Who, next: Who) -> Result<Row, AllocError>
     requires some { 1 ≤ row.count }

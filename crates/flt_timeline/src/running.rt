@@ -1,4 +1,4 @@
-//! A journal is run, and what each entry comes to is written down.
+//! Runs a journal, and describes each entry.
 
 ghost use Rattle.std.specs.Prelude.{◌≡◌, ◌-◌, ◌≤◌, IfOk, count_by, length, slice_get};
 ghost use Rattle.flt_world.specs.Filters.{filters_behind};
@@ -16,14 +16,14 @@ use flt_world::World;
 use sqlite_items::Items;
 use std::alloc::AllocError;
 
-/// An activation, as it is told.
+/// The operation and the callback of an activation.
 #[derive(Clone, Copy)]
 pub(crate) struct Run {
     operation: Option<usize>,
     started: Started,
 }
 
-/// An entry, as it is told.
+/// An entry's description, and who is on in it.
 #[derive(Clone, Copy)]
 pub(crate) struct Told {
     pub(crate) telling: Telling,
@@ -35,7 +35,7 @@ pub(crate) struct Told {
 pub(crate) struct Scene<'a> {
     world: World<'a>,
     columns: Columns,
-    /// By activation.
+    /// The operation and the callback of each activation.
     runs: Items<Run>,
 }
 
@@ -59,7 +59,7 @@ fn arrivals(entries: &[JournalEntry]) -> usize
     arrivals
 }
 
-/// What a move comes to that starts no callback.
+/// The event of a move that starts no callback.
 fn happening_of(step: Move) -> Happening
     ensures { result ≡ spec.happening_of step }
 {
@@ -83,7 +83,7 @@ fn happening_of(step: Move) -> Happening
     }
 }
 
-/// What is told of an entry that changes nothing; the columns are those of the last entry that was made.
+/// The description of an entry that changes nothing; the columns are those of the last entry that was made.
 pub(crate) fn aside(alive: u32, happening: Happening) -> Told
     ensures { result ≡ spec.aside alive happening }
 {
@@ -109,7 +109,7 @@ fn resumed_if(on: bool, started: Started) -> Option<Started>
 }
 
 impl<'a> Scene<'a> {
-    /// Before the first entry.
+    /// The scene before the first entry.
     pub(crate) fn new(stage: &Stage<'_, 'a>, journal: &Journal) -> Result<Scene<'a>, AllocError>
         ensures { IfOk result (λ scene. scene ≡ spec.scene_before stage.now.stack.now journal.now) }
     {
@@ -179,7 +179,7 @@ impl<'a> Scene<'a> {
         }
     }
 
-    /// A callback has started: the activation of a number.
+    /// Describes the start of a callback: the activation of a number.
     fn tell_start(
         &mut self,
         stage: &Stage<'_, 'a>,
@@ -202,7 +202,7 @@ impl<'a> Scene<'a> {
         Ok(self.told(who, None, Happening::Starts(started)))
     }
 
-    /// An operation that arrives takes a column.
+    /// Gives a column to an operation that arrives.
     fn add_column(&mut self, step: Move)
         ensures { self.new ≡ record self.old { columns = spec.columns_after self.old.world.store self.old.columns step } }
     {
@@ -212,7 +212,7 @@ impl<'a> Scene<'a> {
         }
     }
 
-    /// A move was made that started nothing.
+    /// Describes a move that started nothing.
     fn tell_system(&mut self, step: Move) -> Told
         ensures { spec.GoesTo result self.new (spec.after_system self.old step self.old.world) }
     {
@@ -247,7 +247,7 @@ impl<'a> Scene<'a> {
 
     // ---- steps
 
-    /// An activation has gone on, in a world of which this was told.
+    /// Describes an activation that has continued, with this event.
     fn tell_run(&mut self, activation: usize, run: Run, happening: Happening) -> Told
         ensures { spec.GoesTo result self.new (spec.after_run self.old activation run (spec.Comes self.old.world happening)) }
     {
@@ -286,7 +286,7 @@ impl<'a> Scene<'a> {
 
     // ---- all
 
-    /// Makes an entry, and says what it came to; or why it isn't enabled.
+    /// Makes an entry and describes it, or says why it isn't enabled.
     pub(crate) fn tell(
         &mut self,
         stage: &Stage<'_, 'a>,

@@ -1,4 +1,4 @@
-//! What is told of an entry.
+//! The description of an entry.
 
 use flt_model::{JournalEntry, Key};
 use flt_rules::{Mode, Operation};
@@ -10,7 +10,7 @@ pub(crate) enum Column {
     Margin,
     /// The column of an operation, from 0.
     Own(usize),
-    /// Behind all columns, where more operations are alive than there are columns.
+    /// Beyond all columns, if more operations are alive than there are columns.
     Beyond,
 }
 
@@ -22,7 +22,7 @@ pub(crate) struct Started {
     pub(crate) draining: bool,
 }
 
-/// What an entry comes to. The operation's own number isn't in it, so that two operations that go the same way are told alike.
+/// The event of an entry. The operation's own number isn't in it, so that two operations on the same path have the same descriptions.
 #[derive(Clone, Copy)]
 pub(crate) enum Happening {
     /// An operation arrives, of a kind and a mode, on a file.
@@ -35,21 +35,21 @@ pub(crate) enum Happening {
     Unlinks(u32, Key),
     IsDetached(u32),
     Starts(Started),
-    /// A line, from 1, whose statement others see; and where it is a call or a test, whether it succeeds or holds.
+    /// A line, from 1, whose statement others see; and if it is a call or a test, whether it succeeds or holds.
     Runs(usize, Option<bool>),
     /// It isn't enabled.
     IsRefused(JournalEntry),
-    /// It stands behind the entry that ends the run.
+    /// It comes after the entry that ends the run.
     IsLeftOut,
 }
 
-/// What is told of an entry.
+/// The description of an entry.
 #[derive(Clone, Copy)]
 pub(crate) struct Telling {
     pub(crate) column: Column,
     /// The columns in which an operation isn't done, column 0 as the lowest bit.
     pub(crate) alive: u32,
-    /// The callback that goes on, where the column was another's before. In the margin and behind the columns, each that goes on.
+    /// The callback that continues, if the column was another's before. In the margin and beyond the columns, each that continues.
     pub(crate) resumed: Option<Started>,
     pub(crate) happening: Happening,
 }

@@ -1,4 +1,4 @@
-//! What is told of entries, each once, so that it goes by its number.
+//! The descriptions of entries, each once, so that its number identifies it.
 
 ghost use Rattle.std.specs.Prelude.{◌≡◌, ℕ, Some, IfOk, IfSome, OnOk};
 ghost use Rattle.flt_timeline.specs.declared.telling.Telling.{Telling as Saying};
@@ -7,20 +7,20 @@ use crate::likeness::is_same;
 use crate::telling::{Happening, Telling};
 use std::alloc::{AllocError, Global};
 
-/// How many are looked for. What comes later has a number of its own each time, and isn't found to repeat.
+/// How many descriptions are looked for. A later one has a number of its own each time, and isn't found to repeat.
 const MOST: usize = 512;
 
-/// In how many chains they stand.
+/// The number of chains.
 const CHAINS: usize = 64;
 
-/// What is told, and the number of what was told before it in its chain.
+/// A description, and the number of the one before it in its chain.
 #[derive(Clone, Copy)]
 struct Link {
     telling: Telling,
     before: Option<usize>,
 }
 
-/// All that was told, by number from 0. What is told alike stands in one chain, so that few are compared.
+/// All descriptions, by number from 0. Equal ones are in one chain, so that few are compared.
 #[derive(Drop)]
 pub(crate) struct Tellings {
     all: Vec<Link>,
@@ -28,7 +28,7 @@ pub(crate) struct Tellings {
     chains: [Option<usize>; 64],
 }
 
-/// The chain of what is told, from 0: steps stand by their lines.
+/// The chain of a description, from 0: that of a step depends on its line.
 fn chain_of(telling: &Telling) -> usize {
     match telling.happening {
         Happening::Runs(line, _) => line % CHAINS,
@@ -54,7 +54,7 @@ impl Tellings {
         }
     }
 
-    /// The number that it has in a chain.
+    /// The number of a description in a chain, if it is there.
     fn find(&self, chain: usize, telling: &Telling) -> Option<usize>
         ensures { IfSome result (λ number. spec.told_by self.now number ≡ Some telling.now) }
     {
@@ -70,7 +70,7 @@ impl Tellings {
         None
     }
 
-    /// The number of what is told.
+    /// The number of a description.
     pub(crate) fn number(&mut self, telling: Telling) -> Result<usize, AllocError>
         ensures told { IfOk result (λ number. spec.told_by self.new number ≡ Some telling) }
         ensures kept { OnOk result ((number : ℕ) (t : Saying) → spec.told_by self.old number ≡ Some t → spec.told_by self.new number ≡ Some t) }
@@ -90,7 +90,7 @@ impl Tellings {
         Ok(number)
     }
 
-    /// What is told by a number.
+    /// The description of a number.
     pub(crate) fn at(&self, number: usize) -> Option<Telling>
         ensures { result ≡ spec.told_by self.now number }
     {

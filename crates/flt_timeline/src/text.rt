@@ -1,4 +1,4 @@
-//! A timeline as text: a line for each row that is no repetition, and one for what repeats.
+//! A timeline as text: a line for each row that is no repetition, and one for each repetition.
 
 ghost use Rattle.std.specs.Prelude.{◌≡◌, ◌+◌, ◌-◌, ◌/◌, ◌++◌, ◌==◌, codes, drop, flat_map, length, map, option_copied, replicate, slice_get, string_bytes, take, IfOk};
 ghost use Rattle.std.specs.Fmt.{decimal};
@@ -47,7 +47,7 @@ fn breaks(verdict: Verdict, row: Row) -> bool
     }
 }
 
-/// Whether an entry stands behind the one that ends the run.
+/// Whether an entry comes after the one that ends the run.
 fn is_left_out(happening: Happening) -> bool
     ensures { result ≡ spec.is_left_out happening }
 {
@@ -61,7 +61,7 @@ fn is_refused(happening: Happening) -> bool
     matches!(happening, Happening::IsRefused(_))
 }
 
-/// What came of an entry; one of which nothing is told was left out.
+/// The event of an entry; one without a description was left out.
 fn happening_in(telling: Option<Telling>) -> Happening
     ensures { result ≡ spec.happening_in telling }
 {
@@ -82,7 +82,7 @@ fn put_blanks(out: &mut String, count: usize) -> Result<(), AllocError>
     Ok(())
 }
 
-/// A text to the right of a field, and two blanks.
+/// A text at the right of a field, and two blanks.
 fn put_right(out: &mut String, field: usize, text: &str) -> Result<(), AllocError>
     ensures { Puts result (string_bytes out.old) (string_bytes out.new) (spec.to_right field text.now) }
 {
@@ -117,7 +117,7 @@ fn numbers(alloc: Global, first: usize, last: u128) -> Result<String, AllocError
     Ok(out)
 }
 
-/// How wide the numbers of entries are at most, where this is the last.
+/// The greatest width of the numbers of entries, if this is the last.
 fn field_to(alloc: Global, last: u128) -> Result<usize, AllocError>
     ensures { IfOk result (λ width. width ≡ spec.field_to last) }
 {
@@ -153,7 +153,7 @@ fn bar(alive: bool) -> &'static str
     if alive { "|   " } else { "    " }
 }
 
-/// The signs of the first columns, of which those are alive that the bits say, column 0 as the lowest.
+/// The signs of the first columns, of which these bits say which are alive, column 0 as the lowest.
 fn put_bars(out: &mut String, alive: u32, columns: usize) -> Result<(), AllocError>
     ensures { Puts result (string_bytes out.old) (string_bytes out.new) (spec.bars alive columns) }
 {
@@ -232,7 +232,7 @@ fn put_violation(out: &mut String, violation: Violation) -> Result<(), AllocErro
     out.push_str(violation_word(violation))
 }
 
-/// What the run breaks.
+/// The violation by the run, if it breaks something.
 fn put_broken(out: &mut String, verdict: Verdict) -> Result<(), AllocError>
     ensures { Puts result (string_bytes out.old) (string_bytes out.new) (spec.broken_words verdict) }
 {
@@ -249,7 +249,7 @@ fn put_break(out: &mut String, violation: Violation) -> Result<(), AllocError>
     put_violation(out, violation)
 }
 
-/// The callback that goes on, if another was on before.
+/// The callback that continues, if another was on before.
 fn put_resumed(
     out: &mut String,
     filters: &[&Filter],
@@ -288,7 +288,7 @@ fn more_of(fold: Fold) -> usize
     fold.repeated / fold.block
 }
 
-/// That a block of so many rows comes so many times more.
+/// The words for a block of so many rows that comes so many times more.
 fn put_same(out: &mut String, block: usize, more: usize) -> Result<(), AllocError>
     ensures { Puts result (string_bytes out.old) (string_bytes out.new) (spec.same_words block more) }
 {
@@ -299,7 +299,7 @@ fn put_same(out: &mut String, block: usize, more: usize) -> Result<(), AllocErro
     write!(out, "{more} times more\n")
 }
 
-/// The line of what repeats a block, if something does.
+/// The line of the rows that repeat a block, if there are any.
 fn put_again(
     alloc: Global,
     out: &mut String,
@@ -322,21 +322,21 @@ fn put_again(
 impl<'a> Timeline<'a> {
     // ---- what is told
 
-    /// What is told by a number.
+    /// The description of a number.
     fn telling_by(&self, number: usize) -> Option<Telling>
         ensures { result ≡ spec.telling_by self.now number }
     {
         self.tellings.at(number)
     }
 
-    /// What is told of an entry; none behind the last.
+    /// The description of an entry; none after the last.
     fn telling(&self, entry: usize) -> Option<Telling>
         ensures { result ≡ spec.telling_of self.now entry }
     {
         self.telling_by(self.told.get(entry).copied()?)
     }
 
-    /// What is told of a row's last entry.
+    /// The description of a row's last entry.
     fn last_telling(&self, row: Row) -> Option<Telling>
         ensures { result ≡ spec.telling_of self.now (spec.last_entry row) }
     {
@@ -367,7 +367,7 @@ impl<'a> Timeline<'a> {
 
     // ---- words
 
-    /// What is told by a number, in a row about this operation.
+    /// The words of the description of a number, in a row about this operation.
     fn put_telling(
         &self,
         out: &mut String,
@@ -380,7 +380,7 @@ impl<'a> Timeline<'a> {
         put_happening(out, self.filters.as_slice(), operation, happening)
     }
 
-    /// What is told by some numbers.
+    /// The words of the descriptions of some numbers.
     fn put_tellings(
         &self,
         out: &mut String,
@@ -400,7 +400,7 @@ impl<'a> Timeline<'a> {
         Ok(())
     }
 
-    /// A block of what is told, and how often it comes.
+    /// The words of a block of descriptions, and how often it comes.
     fn put_block(
         &self,
         out: &mut String,
@@ -441,7 +441,7 @@ impl<'a> Timeline<'a> {
         Ok(())
     }
 
-    /// All that is told in a row, of which what repeats is told once.
+    /// The words of all descriptions in a row, each repetition once.
     fn put_told(
         &self,
         alloc: Global,
@@ -456,7 +456,7 @@ impl<'a> Timeline<'a> {
         self.put_blocks(out, operation, told, folds.as_slice())
     }
 
-    /// What a row's entries came to, of which the first is told so.
+    /// The words of a row's entries, of which the first has this description.
     fn put_row_by(
         &self,
         alloc: Global,
@@ -473,7 +473,7 @@ impl<'a> Timeline<'a> {
         self.put_told(alloc, out, self.operation(row.first), told)
     }
 
-    /// What a row's entries came to.
+    /// The words of a row's entries.
     fn put_row(&self, alloc: Global, out: &mut String, row: Row) -> Result<(), AllocError>
         ensures { Puts result (string_bytes out.old) (string_bytes out.new) (spec.row_words self.now row) }
     {
@@ -488,7 +488,7 @@ impl<'a> Timeline<'a> {
         }
     }
 
-    /// What the run comes to, behind the row of its last entry.
+    /// The violation, or the reason why an entry isn't enabled, after the row of the run's last entry.
     fn put_end(&self, out: &mut String, row: Row) -> Result<(), AllocError>
         ensures { Puts result (string_bytes out.old) (string_bytes out.new) (spec.end_words self.now row) }
     {
@@ -501,7 +501,7 @@ impl<'a> Timeline<'a> {
         Ok(())
     }
 
-    /// What is said in the line of a row.
+    /// The words in the line of a row.
     fn put_words(&self, alloc: Global, out: &mut String, row: Row) -> Result<(), AllocError>
         ensures { Puts result (string_bytes out.old) (string_bytes out.new) (spec.words self.now row) }
     {
@@ -590,11 +590,11 @@ impl<'a> Timeline<'a> {
 
     // ---- rows by themselves
 
-    /// What a row's entries came to, without their numbers and columns.
+    /// The words of a row's entries, without their numbers and columns.
     ///
     /// # Errors
     ///
-    /// Where a growth was refused.
+    /// If memory is refused.
     pub fn words(&self, alloc: Global, row: Row) -> Result<String, AllocError>
         ensures { IfOk result (λ words. string_bytes words ≡ spec.words self.now row) }
     {
@@ -603,7 +603,7 @@ impl<'a> Timeline<'a> {
         Ok(out)
     }
 
-    /// The column of a row, from 0; none for one in the margin. Behind all columns it is their number.
+    /// The column of a row, from 0; none for one in the margin. Beyond all columns it is their number.
     pub fn column(&self, row: Row) -> Option<usize>
         ensures { result ≡ spec.column_of self.now row }
     {
@@ -641,11 +641,11 @@ impl<'a> Timeline<'a> {
         breaks(self.verdict, row)
     }
 
-    /// The timeline as text, each line behind so many blanks: the numbers of a row's entries, the columns, and what they came to.
+    /// The timeline as text, each line after so many blanks: the numbers of a row's entries, the columns, and the words of the entries.
     ///
     /// # Errors
     ///
-    /// Where a growth was refused.
+    /// If memory is refused.
     pub fn text(&self, alloc: Global, indent: usize) -> Result<String, AllocError>
         ensures { IfOk result (λ text. string_bytes text ≡ spec.text self.now indent) }
     {

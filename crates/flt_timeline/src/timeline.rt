@@ -20,7 +20,7 @@ use flt_world::Stack;
 use sqlite_items::Items;
 use std::alloc::{AllocError, Global};
 
-/// What happened on a stack, for people to read.
+/// The course of a journal on a stack, for people to read.
 #[derive(Drop)]
 pub struct Timeline<'a> {
     /// From the highest altitude to the lowest.
@@ -28,9 +28,9 @@ pub struct Timeline<'a> {
     pub(crate) verdict: Verdict,
     /// Why the entry that ends the run isn't enabled, if it isn't.
     pub(crate) refusal: Option<Refusal>,
-    /// What is told of entries, each once.
+    /// The descriptions of entries, each once.
     pub(crate) tellings: Tellings,
-    /// What each entry came to, by the number of what is told of it.
+    /// The description of each entry, by its number.
     pub told: Items<usize>,
     /// Who was on in each entry.
     pub(crate) whos: Items<Who>,
@@ -38,7 +38,7 @@ pub struct Timeline<'a> {
     pub folds: Items<Fold>,
 }
 
-/// Tells a journal on some filters, from the highest altitude to the lowest.
+/// Describes a journal on some filters, from the highest altitude to the lowest.
 fn course_on<'a>(
     stage: &Stage<'_, 'a>,
     journal: &Journal,
@@ -56,7 +56,7 @@ fn course_on<'a>(
     course
 }
 
-/// The same of a stack and the filters in it.
+/// The same for a stack and the filters in it.
 fn course_by<'a>(
     alloc: Global,
     stack: &Stack<'a>,
@@ -82,12 +82,12 @@ impl<'a> Timeline<'a> {
     ghost use Rattle.flt_model.specs.Program.{filters_of};
     ghost use Rattle.flt_timeline.specs.Timelines as spec;
 
-    /// The timeline of a journal on some filters, in any order, of which the monitor says this. What stands behind the entry that ends
-    /// the run isn't run.
+    /// The timeline of a journal on some filters, in any order, with the monitor's verdict. Entries after the one that ends the run aren't
+    /// run.
     ///
     /// # Errors
     ///
-    /// Where a growth was refused, or a number or a count would reach 2^32.
+    /// If memory is refused, or a number or a count would reach 2^32.
     pub fn of(
         alloc: Global,
         trees: &'a [Tree],

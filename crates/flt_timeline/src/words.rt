@@ -47,7 +47,7 @@ pub(crate) fn violation_word(violation: Violation) -> &'static str
     }
 }
 
-/// What was chosen or came out, behind a blank.
+/// The choice or the outcome, after a blank.
 fn choice_word(choice: bool) -> &'static str
     ensures { result.now ≡ spec.choice_word choice }
 {
@@ -126,7 +126,7 @@ fn put_entry(out: &mut String, entry: JournalEntry) -> Result<(), AllocError>
     }
 }
 
-/// A byte of a name; `?` for what isn't printed.
+/// A byte of a name as it is printed: `?` for one that isn't graphic.
 fn shown(byte: u8) -> u8
     ensures value { result ≡ spec.shown byte }
     ensures ascii { result < 128 }
@@ -143,7 +143,7 @@ fn put_name(out: &mut String, name: &[u8]) -> Result<(), AllocError>
     Ok(())
 }
 
-/// A name behind a word, in quotes with it.
+/// A word and a name, in backquotes.
 #[tactic(auto, unfolding(crate::specs::Words::head_named))]
 fn put_named(out: &mut String, word: &str, name: &[u8]) -> Result<(), AllocError>
     ensures { spec.Puts result (string_bytes out.old) (string_bytes out.new) (spec.head_named word.now name.now) }
@@ -154,7 +154,7 @@ fn put_named(out: &mut String, word: &str, name: &[u8]) -> Result<(), AllocError
     out.push_str("`")
 }
 
-/// The head of an operation's callback, in quotes.
+/// The head of an operation's callback, in backquotes.
 #[tactic(auto, unfolding(crate::specs::Words::head_on))]
 fn put_head_on(out: &mut String, word: &str, kind: Operation) -> Result<(), AllocError>
     ensures { spec.Puts result (string_bytes out.old) (string_bytes out.new) (spec.head_on word.now kind) }
@@ -163,7 +163,7 @@ fn put_head_on(out: &mut String, word: &str, kind: Operation) -> Result<(), Allo
     write!(out, "`{word}{kind}`")
 }
 
-/// The head of a callback as its text has it, in quotes.
+/// The head of a callback as its text has it, in backquotes.
 fn put_head(out: &mut String, head: &Head) -> Result<(), AllocError>
     ensures { spec.Puts result (string_bytes out.old) (string_bytes out.new) (spec.head_words head.now) }
 {
@@ -187,7 +187,7 @@ fn put_head_of(out: &mut String, filter: &Filter, callback: usize) -> Result<(),
     }
 }
 
-/// A filter's name, where there are several.
+/// The name of a filter, if there are several.
 fn put_filter(out: &mut String, filters: usize, filter: &Filter) -> Result<(), AllocError>
     ensures { spec.Puts result (string_bytes out.old) (string_bytes out.new) (spec.of_filter filters filter.now) }
 {
@@ -198,7 +198,7 @@ fn put_filter(out: &mut String, filters: usize, filter: &Filter) -> Result<(), A
     Ok(())
 }
 
-/// A callback by its head, with the name of its filter where there are several.
+/// A callback by its head, with the name of its filter if there are several.
 pub(crate) fn put_callback(
     out: &mut String,
     filters: &[&Filter],
@@ -248,7 +248,7 @@ pub(crate) fn put_operation(
     }
 }
 
-/// What an entry came to that is about this operation, if it is about one.
+/// The words of an event that is about this operation, if it is about one.
 pub(crate) fn put_happening(
     out: &mut String,
     filters: &[&Filter],

@@ -1,4 +1,4 @@
-//! What a text means: a filter, its callbacks and their statements.
+//! The meaning of a text: a filter, its callbacks and their statements.
 
 ghost use Rattle.std.specs.Prelude.{◌≡◌};
 ghost use Rattle.flt_tree.specs.Filter as spec;
@@ -18,9 +18,9 @@ pub struct Position {
     pub column: usize,
 }
 
-/// Where something stands in a text: the line of its first token, from 1, and its bytes from `start`, which counts from 0, up to
-/// `end`. The line is that of the whole statement, while the bytes leave its blocks out: of an `if` they are what it asks, of a
-/// `repeat` its word and its number.
+/// The place of a part of a text: the line of its first token, from 1, and its bytes from `start`, which counts from 0, up to `end`. The
+/// line is that of the whole statement, while the bytes leave its blocks out: of an `if` they are its condition, of a `repeat` its word and
+/// its number.
 #[derive(Clone, Copy)]
 pub struct Span {
     pub line: usize,
@@ -48,7 +48,7 @@ pub struct Routine {
     pub position: Position,
 }
 
-/// A call that can fail. It stands behind `if` alone, whose first block is taken where it succeeds.
+/// A call that can fail. It appears only as the condition of an `if`, whose first block is taken if the call succeeds.
 #[derive(Drop)]
 pub enum FallibleCall {
     /// FltAllocateContext: the variable that receives the context.
@@ -105,7 +105,7 @@ pub enum Test {
     IsDraining,
 }
 
-/// What an `if` asks.
+/// The condition of an `if`.
 #[derive(Drop)]
 pub enum Condition {
     Test(Test),
@@ -130,20 +130,20 @@ pub enum Action {
     ClearOperation(RemovedVariable),
 }
 
-/// A statement, with where it stands.
+/// A statement, with its place.
 #[derive(Drop)]
 pub enum Statement {
     Act(Span, Action),
     Call(Span, PlainCall),
     /// `return`, with a status or without.
     Return(Span, Option<Status>),
-    /// The condition, what is done where it holds, and what is done otherwise. No `else` is an empty one.
+    /// The condition, the statements for when it holds, and those for when it doesn't. Without an `else` the latter are empty.
     If(Span, Condition, Items<Statement>, Items<Statement>),
-    /// The number of turns, and what is done in each.
+    /// The number of turns, and the statements of each.
     Repeat(Span, u64, Items<Statement>),
 }
 
-/// What a callback is registered for. A routine has the name that work items use.
+/// The event of a callback, or the kind of a routine with the name that work items use.
 #[derive(Drop)]
 pub enum Head {
     Pre(Operation),
@@ -158,12 +158,12 @@ pub enum Head {
 #[derive(Drop)]
 pub struct Callback {
     pub head: Head,
-    /// Where its first head word stands.
+    /// The place of its first head word.
     pub position: Position,
-    /// Where its head stands.
+    /// The place of its head.
     pub span: Span,
     pub body: Items<Statement>,
-    /// Where its closing brace stands.
+    /// The place of its closing brace.
     pub end: Span,
 }
 
@@ -182,7 +182,7 @@ pub struct Filter {
     pub altitude: u64,
     /// In order of declaration, at most eight.
     pub locks: Items<Lock>,
-    /// Where `queue` stands, if the filter has a cancel-safe queue.
+    /// The place of `queue`, if the filter has a cancel-safe queue.
     pub queue: Option<Position>,
     /// In order of the text, from 1 to 16.
     pub callbacks: Items<Callback>,
@@ -234,7 +234,7 @@ impl Status {
 }
 
 impl Head {
-    /// Where the callback runs.
+    /// The place in which the callback runs.
     pub fn place(&self) -> Place
         ensures { result ≡ spec.head_place self.now }
     {

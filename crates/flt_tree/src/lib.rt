@@ -1,5 +1,5 @@
-//! The trees of the callback language: what a text means, what its parts are called and where they stand, and how large a
-//! callback is. Which trees are well-formed is said in `specs/WellFormed.antt`.
+//! The trees of the callback language: the meaning of a text, the names and places of its parts, and the size of a callback.
+//! `specs/WellFormed.antt` defines which trees are well-formed.
 #![tactic(auto)]
 
 mod filter;

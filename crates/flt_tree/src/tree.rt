@@ -5,8 +5,8 @@ ghost use Rattle.flt_tree.specs.Measures.{are_small};
 
 use crate::filter::Filter;
 
-/// What a text spells, as `parse` gives it: a filter, and the fact that each of its callbacks has at most 512 points and a cost
-/// of at most 1,000,000.
+/// The filter that a text spells, as `parse` returns it, and the fact that each of its callbacks has at most 512 points and a cost of at
+/// most 1,000,000.
 #[derive(Drop)]
 pub struct Tree {
     pub filter: Filter,

@@ -55,7 +55,7 @@ pub enum Atom {
     Variable(NumberVariable),
 }
 
-/// What a variable of numbers is set to. Sums and differences wrap at 2^64.
+/// The value to which a variable of numbers is set. Sums and differences wrap at 2^64.
 #[derive(Clone, Copy)]
 pub enum Expression {
     Atom(Atom),
@@ -64,7 +64,7 @@ pub enum Expression {
 }
 
 impl NumberVariable {
-    /// Where the variable stands among `n0` to `n7`.
+    /// The index of the variable among `n0` to `n7`.
     pub fn place(self) -> usize
         ensures value { result ≡ spec.number_place self }
         ensures within { result < 8 }
@@ -83,7 +83,7 @@ impl NumberVariable {
 }
 
 impl ContextVariable {
-    /// Where the variable stands among `c0` to `c7` and `arg`.
+    /// The index of the variable among `c0` to `c7` and `arg`.
     pub fn place(self) -> usize
         ensures value { result ≡ spec.context_place self }
         ensures within { result < 9 }
@@ -103,7 +103,7 @@ impl ContextVariable {
 }
 
 impl OperationVariable {
-    /// Where the variable stands among `o0` to `o3` and `data`.
+    /// The index of the variable among `o0` to `o3` and `data`.
     pub fn place(self) -> usize
         ensures value { result ≡ spec.operation_place self }
         ensures within { result < 5 }

@@ -1,4 +1,4 @@
-//! What triggers mean for runs.
+//! The law of triggers for runs.
 
 ghost use Rattle.std.specs.Prelude.{◌≡◌, ◌<◌, ℕ, false, length};
 ghost use Rattle.flt_graph.specs.Lowering.{IsLowered};
@@ -10,7 +10,8 @@ ghost use Rattle.flt_triggers.specs.Triggers.{is_started};
 use flt_graph::callbacks_have_graphs;
 use flt_starts::unasked_callbacks_never_start;
 
-/// No run of any filters starts a callback that neither the system nor a point of its filter starts. It does nothing: its clause is the law.
+/// No run of any filters starts a callback that neither the system nor a point of its filter starts. It does nothing at run time: its
+/// clause is a law.
 pub fn unstarted_callbacks_never_start()
     ensures { (f : Filter) (g : Graph) (k : ℕ) → IsLowered f g → k < length f.callbacks → is_started g k ≡ false → NeverStarts f.callbacks k }
 {

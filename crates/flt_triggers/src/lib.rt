@@ -1,5 +1,6 @@
-//! Triggers: what starts a callback of a filter, by the places and the points of its graph. It exports `is_started`, of all that may start a
-//! callback, `is_started_alone`, of the system, and `is_started_by`, of one point; and the law that no run starts what none of these starts.
+//! The triggers that start a callback of a filter, by the places and the points of its graph. It exports `is_started` for all triggers of a
+//! callback, `is_started_alone` for the system, and `is_started_by` for one point; and the law that no run starts a callback that none of
+//! these starts.
 #![tactic(auto)]
 
 mod laws;

@@ -1,4 +1,4 @@
-//! What starts a callback.
+//! The triggers of a callback.
 
 ghost use Rattle.std.specs.Prelude.{◌≡◌};
 ghost use Rattle.flt_triggers.specs.Triggers as spec;
@@ -12,7 +12,7 @@ pub fn is_started_alone(place: Place) -> bool
     matches!(place, Place::Pre(_))
 }
 
-/// Whether a status has the post callback called.
+/// Whether a status makes the system call the post callback.
 fn is_calling_back(status: Option<Status>) -> bool
     ensures { result ≡ spec.is_calling_back status }
 {
@@ -49,7 +49,7 @@ fn is_started_by_status(from: Place, status: Option<Status>, place: Place) -> bo
     }
 }
 
-/// Whether what is done at a point of a callback starts the callback of a number, which is at this place.
+/// Whether the instruction at a point of a callback starts the callback of a number, which is at this place.
 pub fn is_started_by(from: Place, instruction: &Instruction, number: usize, place: Place) -> bool
     ensures { result ≡ spec.is_started_by from instruction.now number place }
 {

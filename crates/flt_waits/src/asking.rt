@@ -1,4 +1,4 @@
-//! What a statement asks for before it goes on.
+//! The lock that a statement asks for before it continues.
 
 ghost use Rattle.std.specs.Prelude.{◌≡◌};
 ghost use Rattle.flt_tree.specs.declared.filter.Statement.{out-Statement};
@@ -7,7 +7,7 @@ ghost use Rattle.flt_waits.specs.Asking as spec;
 use flt_rules::{Access, LockNumber};
 use flt_tree::{PlainCall, Span, Statement};
 
-/// A lock that a statement asks for: where the statement stands, and how it takes it.
+/// A lock that a statement asks for: the place of the statement, and how it takes the lock.
 #[derive(Clone, Copy)]
 pub(crate) struct Request {
     pub(crate) span: Span,

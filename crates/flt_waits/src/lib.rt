@@ -1,7 +1,7 @@
-//! What a run waits for at its end: the activations whose next step takes a lock that others hold.
+//! The waits at the end of a run: the activations whose next step takes a lock that others hold.
 //!
-//! `asking` says of a statement what it asks for, `settling` makes an activation's local steps, and `waits` goes through the activations of
-//! the world at the end of a journal. `laws` says that they can't go on.
+//! `asking` has the lock that a statement asks for, `settling` makes an activation's local steps, and `waits` goes through the activations
+//! of the world at the end of a journal. `laws` says that those that wait can't continue.
 #![tactic(auto)]
 
 mod asking;

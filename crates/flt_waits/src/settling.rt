@@ -16,7 +16,7 @@ use std::alloc::AllocError;
 /// No callback makes as many steps.
 const MAX_STEPS: u32 = 1_000_000;
 
-/// Whether an activation's next step is one that nobody else sees, where this comes next.
+/// Whether an activation's next step is one that nobody else sees, given its upcoming statement.
 #[tactic(auto, using(crate::proofs::LocalSteps::none_of_ended, crate::proofs::LocalSteps::local_of_list))]
 fn goes_locally(world: &World<'_>, a: usize, next: Option<Upcoming<'_>>) -> bool
     ensures { MatchOption next.entry ((activation_at world.now a).rest ≡ [])
@@ -28,7 +28,7 @@ fn goes_locally(world: &World<'_>, a: usize, next: Option<Upcoming<'_>>) -> bool
     is_local(next)
 }
 
-/// Makes an activation's local steps, as many as come one after another, and answers what comes next; nothing at the end of its body.
+/// Makes an activation's local steps, as many as come one after another, and returns the upcoming statement; none at the end of its body.
 #[tactic(auto, using(crate::proofs::LocalSteps::one_more, crate::proofs::LocalSteps::enabled, crate::proofs::LocalSteps::settled_at, crate::proofs::LocalSteps::settled_after))]
 pub(crate) fn settle<'a>(
     world: &mut World<'a>,

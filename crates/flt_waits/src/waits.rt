@@ -25,7 +25,7 @@ pub struct Blocked {
     pub activation: usize,
     /// The number of its filter, from 0, from the highest altitude to the lowest.
     pub filter: usize,
-    /// Where the statement stands that takes the lock.
+    /// The place of the statement that takes the lock.
     pub span: Span,
     pub lock: LockNumber,
     /// The activation that holds it, of several the one that was started last.
@@ -58,7 +58,7 @@ fn last_holder(world: &World<'_>, a: usize, lock: LockNumber) -> Option<usize>
     last
 }
 
-/// What an activation waits for that asks for this lock; nothing where it may take it.
+/// The wait of an activation that asks for this lock; none if it may take it.
 fn wait_for(world: &World<'_>, a: usize, request: Request) -> Option<Blocked>
     ensures { result ≡ spec.wait_for world.now a request }
 {
@@ -75,7 +75,7 @@ fn wait_for(world: &World<'_>, a: usize, request: Request) -> Option<Blocked>
     })
 }
 
-/// What an activation waits for, which stays.
+/// The wait of an activation; its world stays the same.
 fn wait_of(world: &mut World<'_>, a: usize) -> Result<Option<Blocked>, AllocError>
     ensures { IfOk result (λ wait. (world.new ≡ world.old) × (wait ≡ spec.wait_of world.old a)) }
 {
@@ -93,7 +93,7 @@ fn wait_of(world: &mut World<'_>, a: usize) -> Result<Option<Blocked>, AllocErro
     }
 }
 
-/// All activations of a world make their local steps, one activation after the other.
+/// Makes the local steps of all activations of a world, one activation after the other.
 fn settle_all(world: &mut World<'_>) -> Result<(), AllocError>
     ensures { OnOk result (spec.AreSettled world.old (length world.old.activations) world.new) }
 {
@@ -103,7 +103,7 @@ fn settle_all(world: &mut World<'_>) -> Result<(), AllocError>
     Ok(())
 }
 
-/// What the activations of a world wait for, each by its first statement.
+/// The waits of the activations of a world, each by its first statement.
 fn waits_at(alloc: Global, world: &mut World<'_>) -> Result<Vec<Blocked>, AllocError>
     ensures { IfOk result (λ waits. (world.new ≡ world.old) × (waits.items ≡ spec.waits_at world.old (length world.old.activations))) }
 {
@@ -117,7 +117,7 @@ fn waits_at(alloc: Global, world: &mut World<'_>) -> Result<Vec<Blocked>, AllocE
     Ok(waits)
 }
 
-/// What the activations of a world wait for, once all have made their local steps.
+/// The waits of the activations of a world, once all have made their local steps.
 fn waits_in(alloc: Global, world: &mut World<'_>) -> Result<Vec<Blocked>, AllocError>
     ensures { IfOk result (λ waits. spec.AreWaits world.old world.new waits.items) }
 {
@@ -126,11 +126,11 @@ fn waits_in(alloc: Global, world: &mut World<'_>) -> Result<Vec<Blocked>, AllocE
 }
 
 /// Which activations wait for a lock at the end of a journal on some filters, in any order: those whose next step that others see takes a
-/// lock that others hold. They are in the order of their numbers. Of a journal that isn't a run, or that breaks something, it answers none.
+/// lock that others hold. They are in the order of their numbers. None if the journal isn't a run, or breaks something.
 ///
 /// # Errors
 ///
-/// Where a growth was refused, or a number or a count would reach 2^32.
+/// If memory is refused, or a number or a count would reach 2^32.
 pub fn waits_of(
     alloc: Global,
     trees: &[Tree],

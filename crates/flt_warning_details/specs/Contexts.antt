@@ -93,7 +93,7 @@ lost_help x s = lost_help_by (told_at x s) (found_in (instruction x s))
 -- what may come of it
 unfoldable pub lost_note : Parsed → Site → Text
 lost_note x s =
-    concat (codes "where another context is set already, no other callback sees what is written in " ∷ told_at x s ∷ [])
+    concat (codes "where another context is set already, no other callback sees values written in " ∷ told_at x s ∷ [])
 
 -- what is done where the context is used
 unfoldable pub lost_words : Option ContextVariable → Text

@@ -1,4 +1,4 @@
-//! Which comment allows a warning, and which allows none.
+//! The comments that allow a warning, and those that allow none.
 
 ghost use Rattle.std.specs.Prelude.{◌≡◌, ◌==◌, if◌then◌else◌, option_copied, IfOk};
 ghost use Rattle.std.specs.List.{find, list_any};
@@ -83,7 +83,7 @@ fn is_served(text: &ParsedText<'_>, allowances: &[Allowance], warning: &Warning)
         .any(|allowance| serves(text, warning, allowance))
 }
 
-/// Whether a comment is the first that allows a warning, after some others.
+/// Whether a comment allows a warning and none of those before it does.
 fn is_first(
     text: &ParsedText<'_>,
     before: &[Allowance],
@@ -95,7 +95,7 @@ fn is_first(
     serves(text, warning, allowance) && !is_served(text, before, warning)
 }
 
-/// Whether a comment is the first that allows one of some warnings, after some others.
+/// Whether a comment allows one of some warnings that none of those before it allows.
 pub(crate) fn is_needed(
     text: &ParsedText<'_>,
     warnings: &[Warning],

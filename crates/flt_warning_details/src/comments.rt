@@ -102,7 +102,7 @@ fn help_of(alloc: Global, allowance: &Allowance) -> Result<Items<u8>, AllocError
     Ok(Items::from_vec(page.out))
 }
 
-/// What is said of a comment that allows nothing.
+/// The details of a comment that allows nothing.
 pub(crate) fn idle_detail(alloc: Global, allowance: &Allowance) -> Result<WarningDetail, AllocError>
     ensures { IfOk result (λ d. d ≡ spec.idle_detail allowance.now) }
 {

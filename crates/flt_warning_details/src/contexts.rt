@@ -28,7 +28,7 @@ pub(crate) fn worked_on(instruction: &Instruction) -> Option<ContextVariable>
     }
 }
 
-/// The variable in which a call gives the context that it found.
+/// The variable in which a call returns the context that it found.
 fn found_in(instruction: &Instruction) -> Option<ContextVariable>
     ensures { result ≡ spec.found_in instruction.now }
 {
@@ -38,7 +38,7 @@ fn found_in(instruction: &Instruction) -> Option<ContextVariable>
     }
 }
 
-/// What is named where an instruction works on a context.
+/// The subject of an instruction that works on a context: the context, or the call if there is none.
 pub(crate) fn subject_of(context: Option<ContextVariable>) -> Subject
     ensures { result ≡ spec.subject_of context }
 {
@@ -84,14 +84,14 @@ pub(crate) fn tell_changed_help(page: &mut Page) -> Result<(), AllocError>
     page.texts(&["hold one lock wherever this value is read or written"])
 }
 
-/// Writes what may come of it.
+/// Writes the possible consequence.
 pub(crate) fn tell_changed_note(page: &mut Page) -> Result<(), AllocError>
     ensures { Writes result page.old page.new spec.changed_note }
 {
     page.texts(&["callbacks that run at the same time might lose one of two changes"])
 }
 
-/// What an instruction does with a value.
+/// The access of an instruction to a value, in words.
 fn access(instruction: &Instruction) -> &'static str
     ensures { result.now ≡ spec.access instruction.now }
 {
@@ -178,7 +178,7 @@ pub(crate) fn tell_lost_help(
     }
 }
 
-/// Writes what may come of it.
+/// Writes the possible consequence.
 #[tactic(auto, unfolding(crate::specs::Contexts::lost_note))]
 pub(crate) fn tell_lost_note(
     page: &mut Page,
@@ -189,13 +189,13 @@ pub(crate) fn tell_lost_note(
 {
     page.say(&[
         Part::Text(
-            "where another context is set already, no other callback sees what is written in ",
+            "where another context is set already, no other callback sees values written in ",
         ),
         context_part(text, worked_on(&text.instruction(site))),
     ])
 }
 
-/// Writes where the context is used.
+/// Writes that a context is used that might be set nowhere.
 #[tactic(auto, unfolding(crate::specs::Contexts::lost_words))]
 fn tell_lost_use(
     page: &mut Page,

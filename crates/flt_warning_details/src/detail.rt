@@ -1,4 +1,4 @@
-//! What is said of a warning.
+//! The details of a warning.
 
 ghost use Rattle.std.specs.Prelude.{◌≡◌};
 ghost use Rattle.flt_warning_details.specs.Options as spec;
@@ -12,29 +12,29 @@ use sqlite_items::Items;
 #[derive(Drop)]
 pub struct RelatedPlace {
     pub marks: Marks,
-    /// What is done there.
+    /// A description of what the statement there does.
     pub words: Items<u8>,
 }
 
-/// What is said of a warning in every form.
+/// The details of a warning that every form reports.
 #[derive(Drop)]
 pub struct WarningDetail {
     pub kind: Kind,
-    /// The point that it is about; none where it is about a declaration or a comment.
+    /// The point that it is about; `None` if it is about a declaration or a comment.
     pub site: Option<Site>,
-    /// Where that statement, declaration or comment is, and in it what the warning names.
+    /// The regions of that statement, declaration or comment, and in it of the word that the warning names.
     pub marks: Marks,
-    /// The head of its callback; nothing where it is in none.
+    /// The head of its callback; empty if it is in none.
     pub head: Items<u8>,
-    /// What is wrong.
+    /// The problem, in words.
     pub title: Items<u8>,
-    /// What to write.
+    /// How to fix it.
     pub help: Items<u8>,
-    /// What may come of it; or nothing.
+    /// The possible consequence or the reason; or nothing.
     pub note: Items<u8>,
     /// The other places that it is about, in the order in which they are read.
     pub related: Items<RelatedPlace>,
-    /// Of a circle of locks its acquisitions; else nothing.
+    /// The acquisitions of a circle of locks; empty for other warnings.
     pub circle: Items<Acquisition>,
     /// The reason of the comment that allows it, if one does.
     pub reason: Option<Items<u8>>,

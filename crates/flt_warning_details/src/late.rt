@@ -32,7 +32,7 @@ pub(crate) fn tell_late_help(page: &mut Page) -> Result<(), AllocError>
     page.texts(&["make this call before the operation is completed or queued"])
 }
 
-/// Writes what may come of it.
+/// Writes the possible consequence.
 pub(crate) fn tell_late_note(page: &mut Page) -> Result<(), AllocError>
     ensures { Writes result page.old page.new spec.late_note }
 {

@@ -1,11 +1,11 @@
-//! What it means that no circle of locks is warned of.
+//! The law of texts without warnings about circles of locks.
 
 ghost use Rattle.flt_warning_details.specs.Orderly.{TextsWithoutCirclesAreOrderly};
 
 use flt_syntax::spelled_is_well_formed;
 
-/// A text in which nothing is found and of which no circle of locks is warned is of a filter that takes its locks in an order. It does
-/// nothing: its clause is the law.
+/// A text without findings and without a warning about a circle of locks is of a filter that takes its locks in an order. It does nothing
+/// at run time: its clause is the law.
 pub fn texts_without_circles_are_orderly()
     ensures { TextsWithoutCirclesAreOrderly }
 {

@@ -1,5 +1,5 @@
-//! What is said of warnings: `warning_details` looks for them in a text in which nothing is found, and says of each where it is, what is
-//! wrong and what to write, and whether a comment of the text allows it. Comments that allow nothing are warnings, too.
+//! The details of warnings: `warning_details` finds the warnings of a text without findings, and says for each where it is, what the
+//! problem is, how to fix it, and whether a comment of the text allows it. Comments that allow nothing are warnings, too.
 #![tactic(auto)]
 
 mod allowing;

@@ -18,7 +18,7 @@ use std::alloc::{AllocError, Global};
 
 // ---- W01
 
-/// Writes what is wrong with the first acquisition of a circle.
+/// Writes the problem of the first acquisition of a circle.
 #[tactic(auto, unfolding(crate::specs::Locks::order_title))]
 fn tell_order_title(
     page: &mut Page,
@@ -51,7 +51,7 @@ fn tell_order_help(
     ])
 }
 
-/// Writes what is wrong with a circle.
+/// Writes the problem of a circle.
 pub(crate) fn tell_circle_title(
     page: &mut Page,
     text: &ParsedText<'_>,
@@ -79,7 +79,7 @@ pub(crate) fn tell_circle_help(
     }
 }
 
-/// Writes what may come of a circle.
+/// Writes the possible consequence of a circle.
 pub(crate) fn tell_circle_note(page: &mut Page) -> Result<(), AllocError>
     ensures { Writes result page.old page.new spec.circle_note }
 {
@@ -115,7 +115,7 @@ fn site_of(acquisition: &Acquisition) -> Site
     }
 }
 
-/// Where an acquisition is, and in that the lock that it takes.
+/// The regions of an acquisition, and in it of the lock that it takes.
 fn acquisition_marks(
     alloc: Global,
     text: &ParsedText<'_>,
@@ -127,7 +127,7 @@ fn acquisition_marks(
     marks_at(alloc, text, site_of(acquisition), subject)
 }
 
-/// Where the first acquisition of a circle is.
+/// The regions of the first acquisition of a circle.
 pub(crate) fn circle_marks(
     alloc: Global,
     text: &ParsedText<'_>,
@@ -173,7 +173,7 @@ fn acquisition_places(
     Ok(all)
 }
 
-/// The places of a circle but the first.
+/// The places of a circle's acquisitions, without the first.
 pub(crate) fn circle_places(
     alloc: Global,
     text: &ParsedText<'_>,
@@ -233,7 +233,7 @@ pub(crate) fn tell_called_help(
     ])
 }
 
-/// Writes what may come of it.
+/// Writes the possible consequence.
 #[tactic(auto, unfolding(crate::specs::Locks::called_note))]
 pub(crate) fn tell_called_note(
     page: &mut Page,

@@ -1,4 +1,4 @@
-//! What is said of all warnings of a text.
+//! The details of all warnings of a text.
 
 ghost use Rattle.std.specs.Prelude.{◌≡◌, ◌<◌, ◌++◌, flat_map, length, slice_get, IfOk, OnOk, Some};
 ghost use Rattle.flt_warning_details.specs.Details as spec;
@@ -25,7 +25,7 @@ use std::sync::ledger::{Blank, Ledger};
 
 // ---- the certificate
 
-/// The least certificate of a text; none where none covers it.
+/// The least certificate of a graph; `None` if no certificate covers it.
 fn certificate_with<L: Ledger>(
     alloc: Global,
     graph: &Graph,
@@ -52,7 +52,7 @@ fn certificate(alloc: Global, graph: &Graph) -> Result<Option<FullCert>, AllocEr
 
 // ---- what is said
 
-/// What is said of a warning.
+/// The details of a warning.
 fn detail_of(
     alloc: Global,
     text: &ParsedText<'_>,
@@ -83,7 +83,7 @@ fn detail_of(
     })
 }
 
-/// Adds what is said of a warning, if its kind isn't left out.
+/// Adds the details of a warning, unless its kind is left out.
 fn add_detail(
     alloc: Global,
     all: &mut Items<WarningDetail>,
@@ -100,7 +100,7 @@ fn add_detail(
     Ok(())
 }
 
-/// What is said of some warnings.
+/// The details of some warnings.
 fn warned(
     alloc: Global,
     text: &ParsedText<'_>,
@@ -125,7 +125,7 @@ fn comment_at(comments: &[Allowance], number: usize) -> &Allowance
     &comments[number]
 }
 
-/// Adds what is said of a comment after some others, if it allows nothing.
+/// Adds the details of a comment that comes after some others, if it allows nothing.
 fn add_unneeded(
     alloc: Global,
     all: &mut Items<WarningDetail>,
@@ -142,7 +142,7 @@ fn add_unneeded(
     Ok(())
 }
 
-/// Adds what is said of the comment of a number, if it allows nothing.
+/// Adds the details of the comment of a number, if it allows nothing.
 fn add_idle(
     alloc: Global,
     all: &mut Items<WarningDetail>,
@@ -158,7 +158,7 @@ fn add_idle(
     add_unneeded(alloc, all, text, warnings, &comments[..number], comment)
 }
 
-/// What is said of the comments that allow nothing.
+/// The details of the comments that allow nothing.
 #[tactic(auto, using(crate::proofs::IdleComments::one_comment, crate::proofs::IdleComments::no_comment))]
 fn idle(
     alloc: Global,
@@ -192,7 +192,7 @@ fn idle_unless(
     }
 }
 
-/// What is said of the warnings of a text and of its comments that allow nothing.
+/// The details of the warnings of a text and of its comments that allow nothing.
 #[tactic(auto, unfolding(crate::specs::Details::details))]
 fn details(
     alloc: Global,
@@ -209,7 +209,7 @@ fn details(
     Ok(all)
 }
 
-/// What is said of the warnings of a text that a certificate covers.
+/// The details of the warnings of a text that a certificate covers.
 fn certified(
     alloc: Global,
     text: &[u8],
@@ -241,13 +241,13 @@ fn certified(
     )
 }
 
-/// What is said of the warnings of a text in which nothing is found, by its least certificate: in the order of `flt_warnings::warnings`,
-/// and after them of each comment that allows nothing, in the order of the text. Kinds that are `allowed` are left out. Of a text with
-/// findings nothing is said.
+/// The details of the warnings of a text without findings, by its least certificate: in the order of `flt_warnings::warnings`, and after
+/// them those of each comment that allows nothing, in the order of the text. Kinds that are `allowed` are left out. A text with findings
+/// has none.
 ///
 /// # Errors
 ///
-/// Where a growth was refused.
+/// `AllocError` if a growth is refused.
 pub fn warning_details(
     alloc: Global,
     text: &[u8],

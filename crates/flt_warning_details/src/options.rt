@@ -1,4 +1,4 @@
-//! What a caller asks of warnings, and what becomes of the exit status.
+//! Options for warnings, and the exit status that results.
 
 ghost use Rattle.std.specs.Prelude.{◌≡◌, count_by};
 ghost use Rattle.flt_warning_details.specs.Options as spec;
@@ -7,7 +7,7 @@ use crate::detail::WarningDetail;
 use flt_explain::Finding;
 use flt_warnings::AllowedKinds;
 
-/// What a caller asks of warnings.
+/// A caller's options for warnings.
 #[derive(Clone, Copy)]
 pub struct WarningOptions {
     /// The kinds that are left out.
@@ -16,7 +16,7 @@ pub struct WarningOptions {
     pub is_strict: bool,
 }
 
-/// How many warnings no comment allows.
+/// The number of warnings that no comment allows.
 pub fn shown_count(details: &[WarningDetail]) -> usize
     ensures { result ≡ spec.shown_count details.now }
 {
@@ -29,7 +29,7 @@ pub fn shown_count(details: &[WarningDetail]) -> usize
     count
 }
 
-/// The exit status of a text: 1 where something is found, or where warnings make it so and no comment allows one of them; else 0.
+/// The exit status of a text: 1 if there are findings, or if `is_strict` and there is a warning that no comment allows; else 0.
 pub fn warned_status(is_strict: bool, found: &[Finding], details: &[WarningDetail]) -> u8
     ensures { result ≡ spec.warned_status is_strict found.now details.now }
 {

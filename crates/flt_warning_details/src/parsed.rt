@@ -20,7 +20,7 @@ pub(crate) struct ParsedText<'a> {
 }
 
 impl<'a> ParsedText<'a> {
-    /// What is done at a point.
+    /// The instruction at a point.
     #[tactic(auto, unfolding(crate::specs::Parsed::instruction))]
     pub(crate) fn instruction(&self, site: Site) -> Instruction
         ensures { result ≡ spec.instruction (spec.of_parsed self.now) site }

@@ -1,4 +1,4 @@
-//! Where warnings are in a text.
+//! The places of warnings in a text.
 
 ghost use Rattle.std.specs.Prelude.{◌≡◌, option_copied, IfOk};
 ghost use Rattle.flt_warning_details.specs.Parsed.{of_parsed};
@@ -14,14 +14,14 @@ use flt_tree::Span;
 use flt_warnings::Site;
 use std::alloc::{AllocError, Global};
 
-/// What isn't in the text.
+/// The span of anything that isn't in the text.
 pub(crate) const NOWHERE: Span = Span {
     line: 0,
     start: 0,
     end: 0,
 };
 
-/// Where the statement of a point is, and in it what is named.
+/// The regions of the statement of a point, and in it of a subject.
 pub(crate) fn marks_at(
     alloc: Global,
     text: &ParsedText<'_>,
@@ -47,7 +47,7 @@ pub(crate) fn bare(statement: Region) -> Marks
     }
 }
 
-/// Where the head of a callback is.
+/// The region of the head of a callback.
 pub(crate) fn marks_of_head(text: &ParsedText<'_>, callback: usize) -> Marks
     ensures { result ≡ spec.marks_of_head (of_parsed text.now) callback }
 {
@@ -60,7 +60,7 @@ pub(crate) fn marks_of_head(text: &ParsedText<'_>, callback: usize) -> Marks
 
 // ---- locks
 
-/// The token of a number; one that isn't there is nowhere.
+/// The span of a token; `NOWHERE` if there is none.
 fn span_of(token: Option<&Token>) -> Span
     ensures { result ≡ spec.span_of (option_copied token.entry) }
 {
@@ -74,21 +74,22 @@ fn span_of(token: Option<&Token>) -> Span
     }
 }
 
-/// The word `lock` of the declaration of a lock: `filter NAME altitude NUMBER` is before the first one, and each has three tokens.
+/// The span of the word `lock` in the declaration of a lock: `filter NAME altitude NUMBER` is before the first one, and each has three
+/// tokens.
 fn declared(tokens: &[Token], lock: LockNumber) -> Span
     ensures { result ≡ spec.declared tokens.now lock }
 {
     span_of(tokens.get(4 + 3 * usize::from(lock.place())))
 }
 
-/// The name in the declaration of a lock.
+/// The span of the name in the declaration of a lock.
 fn named(tokens: &[Token], lock: LockNumber) -> Span
     ensures { result ≡ spec.named tokens.now lock }
 {
     span_of(tokens.get(6 + 3 * usize::from(lock.place())))
 }
 
-/// Where a lock is declared, and in that its name.
+/// The regions of the declaration of a lock, and in it of its name.
 pub(crate) fn marks_of_lock(text: &ParsedText<'_>, lock: LockNumber) -> Marks
     ensures { result ≡ spec.marks_of_lock (of_parsed text.now) lock }
 {

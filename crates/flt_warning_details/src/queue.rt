@@ -30,14 +30,14 @@ pub(crate) fn tell_kept_help(page: &mut Page) -> Result<(), AllocError>
     ])
 }
 
-/// Writes what may come of it.
+/// Writes the possible consequence.
 pub(crate) fn tell_kept_note(page: &mut Page) -> Result<(), AllocError>
     ensures { Writes result page.old page.new spec.kept_note }
 {
     page.texts(&["the operation waits until it is cancelled or the filter is unloaded"])
 }
 
-/// Writes that nothing is queued that takes an operation out of the queue.
+/// Writes that no work item is queued that takes an operation out of the queue.
 pub(crate) fn tell_left_title(page: &mut Page) -> Result<(), AllocError>
     ensures { Writes result page.old page.new spec.left_title }
 {
@@ -53,7 +53,7 @@ pub(crate) fn tell_left_help(page: &mut Page) -> Result<(), AllocError>
     ])
 }
 
-/// Writes what may come of it.
+/// Writes the possible consequence.
 pub(crate) fn tell_left_note(page: &mut Page) -> Result<(), AllocError>
     ensures { Writes result page.old page.new spec.left_note }
 {

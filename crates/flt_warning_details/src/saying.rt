@@ -1,4 +1,4 @@
-//! What is said of each warning: where it is, what is wrong, what to write, and which other places it is about.
+//! The details of each warning: its place, the problem, how to fix it, and the other places that it is about.
 
 ghost use Rattle.std.specs.Prelude.{◌≡◌, ◌∷◌, [], IfOk};
 ghost use Rattle.flt_details.specs.Page.{Writes};
@@ -35,7 +35,7 @@ use std::alloc::{AllocError, Global};
 
 // ---- places
 
-/// Where a point is that works on a context.
+/// The regions of a point that works on a context.
 fn context_marks(alloc: Global, text: &ParsedText<'_>, site: Site) -> Result<Marks, AllocError>
     ensures { IfOk result (λ m. m ≡ spec.context_marks (of_parsed text.now) site) }
 {
@@ -43,7 +43,7 @@ fn context_marks(alloc: Global, text: &ParsedText<'_>, site: Site) -> Result<Mar
     marks_at(alloc, text, site, subject)
 }
 
-/// Where a warning is.
+/// The regions of a warning.
 pub(crate) fn marks_of(
     alloc: Global,
     text: &ParsedText<'_>,
@@ -69,7 +69,7 @@ pub(crate) fn marks_of(
     }
 }
 
-/// The line from 1 where the statement of a warning begins, or its declaration.
+/// The line from 1 on which the statement or the declaration of a warning begins.
 pub(crate) fn line_of(text: &ParsedText<'_>, warning: &Warning) -> usize
     ensures { result ≡ spec.line_of (of_parsed text.now) warning.now }
 {
@@ -83,7 +83,7 @@ pub(crate) fn line_of(text: &ParsedText<'_>, warning: &Warning) -> usize
     }
 }
 
-/// The head of the callback of a warning; nothing where it is in none.
+/// The head of the callback of a warning; empty if it is in none.
 pub(crate) fn head_of<'a>(text: &ParsedText<'a>, warning: &Warning) -> &'a [u8]
     ensures { result.now ≡ spec.head_of (of_parsed text.now) warning.now }
 {
@@ -128,7 +128,7 @@ pub(crate) fn related_of(
     }
 }
 
-/// The acquisitions of the circle that a warning is about; nothing where it is about none.
+/// The acquisitions of the circle that a warning is about; empty if it is about none.
 pub(crate) fn circle_of(warning: &Warning) -> &[Acquisition]
     ensures { result.now ≡ spec.circle_of warning.now }
 {
@@ -140,7 +140,7 @@ pub(crate) fn circle_of(warning: &Warning) -> &[Acquisition]
 
 // ---- words
 
-/// Writes what is wrong.
+/// Writes the problem.
 fn tell_title(page: &mut Page, text: &ParsedText<'_>, warning: &Warning) -> Result<(), AllocError>
     ensures { Writes result page.old page.new (spec.title_of (of_parsed text.now) warning.now) }
 {
@@ -159,7 +159,7 @@ fn tell_title(page: &mut Page, text: &ParsedText<'_>, warning: &Warning) -> Resu
     }
 }
 
-/// Writes what to write.
+/// Writes how to fix it.
 fn tell_help(page: &mut Page, text: &ParsedText<'_>, warning: &Warning) -> Result<(), AllocError>
     ensures { Writes result page.old page.new (spec.help_of (of_parsed text.now) warning.now) }
 {
@@ -178,7 +178,7 @@ fn tell_help(page: &mut Page, text: &ParsedText<'_>, warning: &Warning) -> Resul
     }
 }
 
-/// Writes what may come of it, or why it is so.
+/// Writes the possible consequence or the reason, if there is a note.
 fn tell_note(page: &mut Page, text: &ParsedText<'_>, warning: &Warning) -> Result<(), AllocError>
     ensures { Writes result page.old page.new (spec.note_of (of_parsed text.now) warning.now) }
 {
@@ -195,7 +195,7 @@ fn tell_note(page: &mut Page, text: &ParsedText<'_>, warning: &Warning) -> Resul
     }
 }
 
-/// What is wrong.
+/// The problem, in words.
 pub(crate) fn title_of(
     alloc: Global,
     text: &ParsedText<'_>,
@@ -208,7 +208,7 @@ pub(crate) fn title_of(
     Ok(Items::from_vec(page.out))
 }
 
-/// What to write.
+/// How to fix it, in words.
 pub(crate) fn help_of(
     alloc: Global,
     text: &ParsedText<'_>,
@@ -221,7 +221,7 @@ pub(crate) fn help_of(
     Ok(Items::from_vec(page.out))
 }
 
-/// What may come of it, or why it is so; nothing where that isn't said.
+/// The possible consequence or the reason, in words; or nothing.
 pub(crate) fn note_of(
     alloc: Global,
     text: &ParsedText<'_>,

@@ -1,4 +1,4 @@
-//! What is never used (W06): locks, callbacks, statements and tests.
+//! Locks, callbacks, statements and tests that are never used (W06).
 
 ghost use Rattle.std.specs.Prelude.{◌≡◌, option_map};
 ghost use Rattle.flt_details.specs.Page.{Writes};
@@ -38,7 +38,7 @@ pub(crate) fn tell_lock_help(page: &mut Page) -> Result<(), AllocError>
 
 // ---- callbacks
 
-/// That a callback at a place never runs, and why.
+/// The words that say why a callback at a place never runs.
 fn never_runs(place: Place) -> &'static str
     ensures { result.now ≡ spec.never_runs place }
 {

@@ -1,4 +1,4 @@
-//! W02: handed to the system while a lock is held.
+//! W02: an operation handed to the system while a lock is held.
 
 ghost use Rattle.std.specs.Prelude.{◌≡◌};
 ghost use Rattle.flt_warnings.specs.Called as spec;

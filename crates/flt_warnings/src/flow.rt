@@ -1,4 +1,4 @@
-//! Which points of a callback are reached along a trail.
+//! The points of a callback that are reached along a trail.
 
 ghost use Rattle.std.specs.Prelude.{◌≡◌, false, IfOk};
 ghost use Rattle.flt_graph.specs.Graph.{points_at};
@@ -20,7 +20,7 @@ pub(crate) fn is_marked(marks: &[bool], point: usize) -> bool
     }
 }
 
-/// Marks a point, if there is one; whether it is new.
+/// Marks a point, if there is one; returns whether it is new.
 #[tactic(auto, using(crate::proofs::Marks::marked_again, crate::proofs::Marks::nothing_marked))]
 pub(crate) fn mark(marks: &mut Items<bool>, point: Option<usize>) -> bool
     ensures marks { marks.new ≡ spec.marked marks.old point }
@@ -36,7 +36,7 @@ pub(crate) fn mark(marks: &mut Items<bool>, point: Option<usize>) -> bool
     true
 }
 
-/// Marks where a point leads along the trail, if it is marked itself; whether something is new.
+/// Marks the points to which a point leads along the trail, if it is marked itself; returns whether one is new.
 fn follow(
     graph: &Graph,
     callback: usize,
@@ -56,7 +56,7 @@ fn follow(
     granted || refused
 }
 
-/// Follows the points of a callback once, in order; whether something is new.
+/// Follows the points of a callback once, in order; returns whether a mark is new.
 #[tactic(auto, using(crate::proofs::Marks::one_point, crate::proofs::Marks::no_point))]
 fn pass(graph: &Graph, callback: usize, trail: Trail, marks: &mut Items<bool>) -> bool
     ensures marks { marks.new ≡ spec.passed graph.now callback trail marks.old }
@@ -84,7 +84,7 @@ pub(crate) fn settle(graph: &Graph, callback: usize, trail: Trail, marks: &mut I
     }
 }
 
-/// No point is marked.
+/// Marks for a number of points, of which none is marked.
 pub(crate) fn blank(alloc: Global, count: usize) -> Result<Items<bool>, AllocError>
     ensures { IfOk result (λ m. m ≡ spec.blank count) }
 {
@@ -111,7 +111,7 @@ fn reached(
     Ok(marks)
 }
 
-/// The first marked point of a callback that is what the trail looks for.
+/// The first marked point of a callback that is an end of the trail.
 #[tactic(auto, using(crate::proofs::Marks::no_end_at, crate::proofs::Marks::end_at, crate::proofs::Marks::no_end))]
 fn first_end(graph: &Graph, callback: usize, trail: Trail, marks: &[bool]) -> Option<usize>
     ensures { result ≡ spec.first_end graph.now callback trail marks.now }
@@ -124,7 +124,7 @@ fn first_end(graph: &Graph, callback: usize, trail: Trail, marks: &[bool]) -> Op
     None
 }
 
-/// The first point of a callback that is reached along a trail from one point and is what the trail looks for.
+/// The first point of a callback that is reached along a trail from one point and is an end of the trail.
 pub(crate) fn end_from(
     alloc: Global,
     graph: &Graph,

@@ -1,4 +1,4 @@
-//! W07: the instance is needed where no operation keeps it any more.
+//! W07: a call that needs the instance where no operation keeps it any more.
 
 ghost use Rattle.std.specs.Prelude.{◌≡◌};
 ghost use Rattle.std.specs.List.{list_any};

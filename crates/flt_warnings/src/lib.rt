@@ -1,5 +1,5 @@
-//! What is checked beside the rules: what an accepted text may still do wrong, by its least certificate and its graph. It exports
-//! `warnings`, which lists all of them, and `Warning`, which says of each where it is and what it is about.
+//! Warnings: mistakes beside the rules that an accepted text may still have, by its least certificate and its graph. It exports `warnings`,
+//! which lists all of them, and `Warning`, which says where each of them is and which items it is about.
 #![tactic(auto)]
 
 mod called;

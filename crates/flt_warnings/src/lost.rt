@@ -12,7 +12,7 @@ use flt_graph::{Call, Graph, Instruction, Invocation};
 use flt_rules::Existing;
 use std::alloc::{AllocError, Global};
 
-/// Where a search begins, from 0, and what it follows.
+/// The point, from 0, at which a search begins, and the trail that it follows.
 #[derive(Clone, Copy)]
 struct Loss {
     start: usize,
@@ -26,7 +26,7 @@ fn keeps(call: Call) -> bool
     matches!(call, Call::SetContext(_, Existing::Keep))
 }
 
-/// The loss where a call fails.
+/// The loss if a call fails.
 fn loss_by(call: &Invocation, refused: usize) -> Option<Loss>
     ensures { result ≡ spec.loss_by call.now refused }
 {
@@ -40,7 +40,7 @@ fn loss_by(call: &Invocation, refused: usize) -> Option<Loss>
     })
 }
 
-/// The loss where an instruction fails.
+/// The loss if an instruction fails.
 fn loss_in(instruction: &Instruction) -> Option<Loss>
     ensures { result ≡ spec.loss_in instruction.now }
 {
@@ -50,7 +50,7 @@ fn loss_in(instruction: &Instruction) -> Option<Loss>
     }
 }
 
-/// The loss where a point fails that is reached.
+/// The loss if a point fails that is reached.
 fn loss_at(graph: &Graph, cert: &FullCert, site: Site) -> Option<Loss>
     ensures { result ≡ spec.loss_at graph.now cert.now site }
 {
@@ -61,7 +61,7 @@ fn loss_at(graph: &Graph, cert: &FullCert, site: Site) -> Option<Loss>
     }
 }
 
-/// The warning that the context that a point doesn't set is used behind it.
+/// The warning that the context that a point doesn't set is used after it.
 pub(crate) fn lost_context(
     alloc: Global,
     graph: &Graph,

@@ -46,7 +46,7 @@ fn is_written(points: &[Point], number: NumberVariable) -> bool
         .any(|point| writes(&point.instruction, number))
 }
 
-/// What an atom always is, where nothing writes it.
+/// The number that an atom always has; `None` if a point writes its variable.
 fn fixed(points: &[Point], atom: Atom) -> Option<u64>
     ensures { result ≡ spec.fixed points.now atom }
 {
@@ -62,7 +62,7 @@ fn fixed(points: &[Point], atom: Atom) -> Option<u64>
     }
 }
 
-/// Whether a variable of numbers that is 0 never equals what an atom is.
+/// Whether a variable of numbers that is 0 never equals an atom with this number.
 fn never_equals(fixed: Option<u64>) -> bool
     ensures { result ≡ spec.never_equals fixed }
 {
@@ -72,7 +72,7 @@ fn never_equals(fixed: Option<u64>) -> bool
     }
 }
 
-/// Whether a variable of numbers that is 0 is never less than what an atom is.
+/// Whether a variable of numbers that is 0 is never less than an atom with this number.
 fn never_less(fixed: Option<u64>) -> bool
     ensures { result ≡ spec.never_less fixed }
 {

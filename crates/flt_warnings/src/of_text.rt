@@ -21,7 +21,7 @@ use flt_order::{Circle, find_circle};
 use sqlite_items::Items;
 use std::alloc::{AllocError, Global};
 
-/// The kinds that are looked for point by point, in their order.
+/// The kinds that are searched point by point, in their order.
 const KINDS: [Kind; 6] = [
     Kind::W02,
     Kind::W03,
@@ -67,7 +67,7 @@ fn add_pended(
     Ok(())
 }
 
-/// Adds the warnings of what nothing reaches.
+/// Adds the warnings of callbacks, statements and tests that nothing reaches or passes.
 fn add_unreached(
     warnings: &mut Items<Warning>,
     graph: &Graph,
@@ -184,13 +184,13 @@ fn add_kinds(
     Ok(())
 }
 
-/// The warnings of a text, by its least certificate: by kind, then by callback, then by point. A circle of locks comes first, and there
-/// is one exactly where no order of the locks is kept; of several circles it is any one. Locks that no call names come before all
-/// other warnings of their kind.
+/// The warnings of a text, by its least certificate: by kind, then by callback, then by point. A circle of locks comes first, and there is
+/// one exactly if no order of the locks is kept; of several circles it is any one. Locks that no call names come before all other warnings
+/// of their kind.
 ///
 /// # Errors
 ///
-/// Where a growth was refused.
+/// `AllocError` if a growth is refused.
 pub fn warnings(alloc: Global, graph: &Graph, cert: &FullCert) -> Result<Items<Warning>, AllocError>
     ensures { IfOk result (spec.AreWarnings graph.now cert.now) }
 {

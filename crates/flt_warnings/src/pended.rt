@@ -11,7 +11,7 @@ use flt_cert::FullCert;
 use flt_graph::{Call, Graph, Instruction};
 use std::alloc::{AllocError, Global};
 
-/// The point behind an insert that succeeds.
+/// The point after an insert that succeeds.
 fn inserted(instruction: &Instruction) -> Option<usize>
     ensures { result ≡ spec.inserted instruction.now }
 {
@@ -27,7 +27,7 @@ fn inserted(instruction: &Instruction) -> Option<usize>
     }
 }
 
-/// The point behind an insert that is reached and succeeds.
+/// The point after an insert that is reached and succeeds.
 fn inserted_at(graph: &Graph, cert: &FullCert, site: Site) -> Option<usize>
     ensures { result ≡ spec.inserted_at graph.now cert.now site }
 {
@@ -50,7 +50,7 @@ pub(crate) fn never_removed(graph: &Graph, cert: &FullCert, site: Site) -> Optio
     }
 }
 
-/// The point behind an insert from which only work items remove.
+/// The point after an insert into a queue from which only work items remove.
 fn awaiting(graph: &Graph, cert: &FullCert, site: Site) -> Option<usize>
     ensures { result ≡ spec.awaiting graph.now cert.now site }
 {
@@ -62,7 +62,7 @@ fn awaiting(graph: &Graph, cert: &FullCert, site: Site) -> Option<usize>
     }
 }
 
-/// The warning that PENDING is returned after an insert and nothing was queued that removes.
+/// The warning that PENDING is returned after an insert and no work item was queued that removes.
 pub(crate) fn left_pended(
     alloc: Global,
     graph: &Graph,

@@ -1,4 +1,4 @@
-//! What a text has somewhere: points of a callback, calls that take an operation out of the queue, and work routines.
+//! Questions about a graph: the points of a callback, calls that take an operation out of the queue, and work routines.
 
 ghost use Rattle.std.specs.Prelude.{◌≡◌};
 ghost use Rattle.std.specs.List.{list_any};
@@ -9,7 +9,7 @@ use crate::warning::Site;
 use flt_cert::FullCert;
 use flt_graph::{Call, CallbackGraph, Graph, Instruction, Place, Point};
 
-/// The points of a callback; none where it isn't there.
+/// The points of a callback; none if it isn't there.
 #[tactic(auto, using(crate::proofs::Places::found, crate::proofs::Places::missing))]
 pub(crate) fn points(graph: &Graph, callback: usize) -> &[Point]
     ensures { result.now ≡ (callback_at graph.now callback).points }

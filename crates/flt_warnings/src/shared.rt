@@ -25,7 +25,7 @@ const VARIABLES: [ContextVariable; 9] = [
     ContextVariable::Arg,
 ];
 
-/// What a callback does with a context: it reads the value, writes it, or hands the context over.
+/// A use of a context by a callback: it reads the value, writes it, or hands the context over.
 #[derive(Clone, Copy)]
 pub(crate) enum Usage {
     Read,
@@ -33,7 +33,7 @@ pub(crate) enum Usage {
     HandOver,
 }
 
-/// A point that uses a context that others may have, and what the context is set on.
+/// A point that uses a context that others may have, and the anchor on which the context is set.
 #[derive(Clone, Copy)]
 pub(crate) struct SharedUse {
     pub(crate) site: Site,
@@ -41,7 +41,7 @@ pub(crate) struct SharedUse {
     pub(crate) usage: Usage,
 }
 
-/// Of which anchors callbacks hand contexts over, so that others may be given one.
+/// The anchors of the contexts that callbacks hand over, so that others may be given one.
 #[derive(Clone, Copy)]
 struct HandedOver {
     stream: bool,
@@ -67,7 +67,7 @@ pub(crate) fn same_anchor(one: Anchor, other: Anchor) -> bool
     }
 }
 
-/// Whether a call answers a context that others may have, by an outcome.
+/// Whether a call returns a context that others may have, by an outcome.
 fn gives(sharing: Sharing, call: Call, outcome: bool) -> bool
     ensures { result ≡ spec.gives sharing call outcome }
 {
@@ -123,7 +123,7 @@ fn shared_behind(sharing: Sharing, instruction: &Instruction, outcome: bool) -> 
     }
 }
 
-/// Marks where others may have the variable's context after a point, by that point.
+/// Marks the points after a point at which others may have the variable's context because of it.
 fn begin(graph: &Graph, callback: usize, sharing: Sharing, marks: &mut Items<bool>, point: usize)
     ensures { marks.new ≡ spec.begun graph.now callback sharing point marks.old }
 {
@@ -187,7 +187,7 @@ fn usage_by(action: Action, variable: ContextVariable) -> Option<Usage>
     }
 }
 
-/// That a context is handed over, if it is.
+/// The usage of a context that is handed over; `None` if it isn't.
 fn handing(is_handed: bool) -> Option<Usage>
     ensures { result ≡ spec.handing is_handed }
 {
@@ -198,7 +198,7 @@ fn handing(is_handed: bool) -> Option<Usage>
     }
 }
 
-/// What an instruction does with the variable's context.
+/// The use that an instruction makes of the variable's context.
 fn usage_in(instruction: &Instruction, variable: ContextVariable) -> Option<Usage>
     ensures { result ≡ spec.usage_in instruction.now variable }
 {
@@ -212,7 +212,7 @@ fn usage_in(instruction: &Instruction, variable: ContextVariable) -> Option<Usag
     }
 }
 
-/// What a point does with the variable's context, if others may have it there.
+/// The use that a point makes of the variable's context, if others may have it there.
 fn use_at(graph: &Graph, sharing: Sharing, marks: &[bool], site: Site) -> Option<SharedUse>
     ensures { result ≡ spec.use_at graph.now sharing marks.now site }
 {
@@ -228,7 +228,7 @@ fn use_at(graph: &Graph, sharing: Sharing, marks: &[bool], site: Site) -> Option
     })
 }
 
-/// Adds what a point does with the variable's context.
+/// Adds the use that a point makes of the variable's context.
 fn add_use(
     uses: &mut Items<SharedUse>,
     graph: &Graph,
@@ -244,7 +244,7 @@ fn add_use(
     Ok(())
 }
 
-/// Adds what a callback does with the variable's contexts, where others may have them at the marked points.
+/// Adds the uses that a callback makes of the variable's contexts, if others may have them at the marked points.
 #[tactic(auto, using(crate::proofs::Sharing::one_used, crate::proofs::Sharing::none_used))]
 fn add_marked(
     uses: &mut Items<SharedUse>,
@@ -261,7 +261,7 @@ fn add_marked(
     Ok(())
 }
 
-/// Adds what a callback does with the contexts of a variable.
+/// Adds the uses that a callback makes of the contexts of a variable.
 fn add_uses(
     alloc: Global,
     uses: &mut Items<SharedUse>,
@@ -276,7 +276,7 @@ fn add_uses(
     Ok(())
 }
 
-/// Adds what a callback does with the contexts of some variables, of either anchor.
+/// Adds the uses that a callback makes of the contexts of some variables, of either anchor.
 fn add_among(
     alloc: Global,
     uses: &mut Items<SharedUse>,
@@ -305,7 +305,7 @@ fn add_among(
     Ok(())
 }
 
-/// What all callbacks do with contexts that others may have, where callbacks are given those of some anchors.
+/// The uses of all callbacks of contexts that others may have, if callbacks are given those of some anchors.
 #[tactic(auto, using(crate::proofs::Sharing::one_more, crate::proofs::Sharing::no_more))]
 fn uses_with(
     alloc: Global,
@@ -343,7 +343,7 @@ fn handed_over(uses: &[SharedUse]) -> HandedOver
     }
 }
 
-/// What all callbacks do with contexts that others may have.
+/// The uses of all callbacks of contexts that others may have.
 pub(crate) fn shared_uses(alloc: Global, graph: &Graph) -> Result<Items<SharedUse>, AllocError>
     ensures { IfOk result (λ uses. uses ≡ spec.shared_uses graph.now) }
 {

@@ -1,4 +1,4 @@
-//! What is followed along the paths of a graph, how far, and what ends the search.
+//! Trails: the things that a search follows along the paths of a graph, how far, and the points that end the search.
 
 ghost use Rattle.std.specs.Prelude.{◌≡◌};
 ghost use Rattle.flt_graph.specs.Points.{successor as successor_of};
@@ -7,7 +7,7 @@ ghost use Rattle.flt_warnings.specs.Trail as spec;
 use crate::reading::removes_in;
 use flt_graph::{Action, Call, ContextVariable, Graph, Instruction, Invocation, Status, Test};
 
-/// What is followed.
+/// The thing that a search follows.
 #[derive(Clone, Copy)]
 pub(crate) enum Trail {
     /// An operation in the queue, while no work item is queued whose routine removes.
@@ -28,7 +28,7 @@ pub(crate) fn is_named(named: Option<ContextVariable>, variable: ContextVariable
     }
 }
 
-/// Where an instruction leads by an outcome, if it goes on.
+/// The point after an instruction by an outcome, if there is one.
 pub(crate) fn successor(instruction: &Instruction, outcome: bool) -> Option<usize>
     ensures { result ≡ successor_of instruction.now outcome }
 {
@@ -98,7 +98,7 @@ fn settles_by(call: &Invocation, variable: ContextVariable) -> bool
         || ((is_set(call.call) || is_release(call.call)) && is_named(call.context, variable))
 }
 
-/// Whether an instruction ends what was known of the variable's context.
+/// Whether an instruction ends the knowledge about the variable's context.
 fn settles(instruction: &Instruction, variable: ContextVariable) -> bool
     ensures { result ≡ spec.settles instruction.now variable }
 {
@@ -178,7 +178,7 @@ fn renews(instruction: &Instruction, variable: ContextVariable) -> bool
 // ---- all
 
 impl Trail {
-    /// Whether the trail is lost behind an instruction by an outcome.
+    /// Whether the trail is lost after an instruction by an outcome.
     fn stops(self, graph: &Graph, instruction: &Instruction, outcome: bool) -> bool
         ensures { result ≡ spec.stops graph.now self instruction.now outcome }
     {
@@ -191,7 +191,7 @@ impl Trail {
         }
     }
 
-    /// Where the trail leads behind an instruction by an outcome.
+    /// The point to which the trail leads after an instruction by an outcome.
     pub(crate) fn onward(
         self,
         graph: &Graph,
@@ -207,7 +207,7 @@ impl Trail {
         }
     }
 
-    /// Whether an instruction is what is looked for.
+    /// Whether an instruction is an end of the trail, for which the search looks.
     pub(crate) fn ends(self, instruction: &Instruction) -> bool
         ensures { result ≡ spec.ends self instruction.now }
     {

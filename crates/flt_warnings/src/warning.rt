@@ -1,4 +1,4 @@
-//! What a warning says.
+//! A warning, with its kind and its place.
 
 ghost use Rattle.std.specs.Prelude.{◌≡◌};
 ghost use Rattle.flt_warnings.specs.Warning as spec;
@@ -6,10 +6,10 @@ ghost use Rattle.flt_warnings.specs.Warning as spec;
 use flt_order::Circle;
 use flt_rules::LockNumber;
 
-/// What is checked beside the rules, by number.
+/// The kinds of warnings, by number.
 #[derive(Clone, Copy)]
 pub enum Kind {
-    /// A comment that allows a warning where there is none.
+    /// A comment that allows no warning.
     W00,
     W01,
     W02,
@@ -37,13 +37,13 @@ pub enum Warning {
     CalledLocked(Site, LockNumber),
     /// W03: an insert, in a text that removes nothing from its queue.
     NeverRemoved(Site),
-    /// W03: an insert, and the point of the same callback that returns PENDING after it, where no work item was queued that removes.
+    /// W03: an insert, and the point of the same callback that returns PENDING after it, without a work item queued that removes.
     LeftPended(Site, usize),
     /// W04: a write of the value of a context that others may have, and the first use of such a value with which it has no lock in
     /// common: a read of the same callback, or a write of another one.
     ChangedUnlocked(Site, Site),
-    /// W05: a call that sets a context unless there is one, and the first point of the same callback where that context is used behind
-    /// the failing side.
+    /// W05: a call that sets a context unless there is one, and the first point of the same callback that uses that context after the call
+    /// fails.
     LostContext(Site, usize),
     /// W06: a lock that no call names.
     UnusedLock(LockNumber),
@@ -75,7 +75,7 @@ impl Warning {
         }
     }
 
-    /// The point that the warning is about: of a circle its first acquisition. None where it is about a declaration, of a lock or of a
+    /// The point that the warning is about: of a circle its first acquisition. `None` if it is about the declaration of a lock or of a
     /// callback.
     pub fn site(&self) -> Option<Site>
         ensures { result ≡ spec.site_of self.now }
@@ -95,7 +95,7 @@ impl Warning {
     }
 }
 
-/// Where the first acquisition of a circle is.
+/// The point of the first acquisition of a circle.
 fn first_site(circle: &Circle) -> Option<Site>
     ensures { result ≡ spec.first_site circle.now }
 {

@@ -1,4 +1,4 @@
-//! What is said of warnings.
+//! The details of warnings.
 
 use flt_graph::lower;
 use flt_syntax::parse;
@@ -11,7 +11,7 @@ use std::test::Fail;
 const UNUSED: &str =
     "filter a altitude 100\n# allow W06: other code takes it\nlock push x\npre write {\nreturn NO_CALLBACK\n}\npost write {\nif arg != NULL {\nFltReleaseContext arg\n}\nreturn FINISHED_PROCESSING\n}\n";
 
-/// What is wrong, what to write, and the reason of the comment that allows it.
+/// The problem, the fix, and the reason of the comment that allows the warning.
 type Row<'a> = (&'a str, &'a str, Option<&'a str>);
 
 static ROWS: [Row<'static>; 2] = [
@@ -36,7 +36,7 @@ fn is_allowed(detail: &WarningDetail, reason: Option<&str>) -> bool {
     }
 }
 
-/// Whether what is said is what some rows have.
+/// Whether these details are those of some rows.
 fn are_rows(details: &[WarningDetail], rows: &[Row<'_>]) -> bool {
     if details.len() != rows.len() {
         return false;
@@ -52,7 +52,7 @@ fn are_rows(details: &[WarningDetail], rows: &[Row<'_>]) -> bool {
     true
 }
 
-/// Whether of a text is said what some rows have.
+/// Whether the details of a text's warnings are those of some rows.
 fn is_told(alloc: Global, text: &str, rows: &[Row<'_>]) -> Result<bool, Fail> {
     let tree = parse(alloc, text.as_bytes())?;
     let graph = lower(alloc, &tree)?;

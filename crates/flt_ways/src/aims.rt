@@ -1,4 +1,4 @@
-//! What is to be so at the point of a finding.
+//! The conditions that hold at the point of a finding.
 
 use crate::ground::Ground;
 use crate::held::Lists;
@@ -11,7 +11,7 @@ use flt_rules::{
 };
 use std::alloc::{AllocError, Global};
 
-/// What is to be so of the locks that are held.
+/// A condition on the locks that are held.
 #[derive(Clone, Copy)]
 pub(crate) enum LockWant {
     Nothing,
@@ -20,8 +20,8 @@ pub(crate) enum LockWant {
     NotLatest(LockNumber),
 }
 
-/// What is to be so at a point, and the search's number of the first moment in which it is; a part that isn't followed may have
-/// stopped the way there.
+/// The conditions on a point, and the search's number of the first moment that meets them; a part that isn't followed may have stopped the
+/// path there.
 #[derive(Clone, Copy)]
 pub(crate) struct Aim {
     pub(crate) point: usize,
@@ -34,7 +34,7 @@ pub(crate) struct Aim {
     pub(crate) task: usize,
 }
 
-/// What breaks a rule of a variable.
+/// The statuses of a variable that break a rule.
 fn bad_by(rule: Rule) -> u8 {
     match rule {
         Rule::R02 | Rule::R03 | Rule::R05 => HELD,
@@ -42,7 +42,7 @@ fn bad_by(rule: Rule) -> u8 {
     }
 }
 
-/// What isn't as the row of a returned status asks, of the operation and of the mode.
+/// The statuses of the operation that the row of a returned status refuses; likewise below for the mode and draining.
 fn bad_data(row: &StatusRow) -> u8 {
     match row.data {
         Possession::Held => NOT_HELD,
@@ -70,7 +70,7 @@ fn returned(instruction: &Instruction) -> Option<StatusRow> {
     }
 }
 
-/// All but what breaks a rule of the state where a status is returned, so that the status itself is to blame.
+/// All but the digits that break a rule of the state where a status is returned, so that the fault is the status itself.
 fn fine_for_status(instruction: &Instruction) -> Possible {
     match returned(instruction) {
         Some(row) => Possible::ALL
@@ -81,7 +81,7 @@ fn fine_for_status(instruction: &Instruction) -> Possible {
     }
 }
 
-/// The same of a call, so that the call itself is to blame.
+/// The same for a call, so that the fault is the call itself.
 fn fine_for_call(instruction: &Instruction) -> Possible {
     match instruction {
         Instruction::Call(call, _, _) if !is_legal_in_draining(call.call) => {
@@ -112,7 +112,7 @@ fn wanted_operation(rule: Rule, instruction: &Instruction) -> u8 {
     }
 }
 
-/// What is to be possible where a finding is.
+/// The values of each part of which one must be possible where a finding is.
 fn wanted(finding: &Finding, instruction: &Instruction) -> Possible {
     match finding.subject {
         Subject::Context(v) => Possible::ALL.with(Part::context(v), bad_by(finding.rule)),
@@ -128,7 +128,7 @@ fn wanted(finding: &Finding, instruction: &Instruction) -> Possible {
     }
 }
 
-/// The level that is to be exceeded at a call.
+/// The condition that a call's greatest level is exceeded.
 fn wanted_level(instruction: &Instruction) -> LockWant {
     match instruction {
         Instruction::Call(call, _, _) => LockWant::Above(row(call.call).greatest),
@@ -136,7 +136,7 @@ fn wanted_level(instruction: &Instruction) -> LockWant {
     }
 }
 
-/// What is to be so of the locks where a finding is.
+/// The condition on the locks where a finding is.
 fn wanted_locks(finding: &Finding, instruction: &Instruction) -> LockWant {
     match finding.subject {
         Subject::Lock(lock) => match finding.rule {
@@ -161,7 +161,7 @@ impl LockWant {
     }
 }
 
-/// What is followed of the state for a finding alone: what it is about.
+/// The part of the state that is followed for a finding alone: its subject.
 pub(crate) fn asked(finding: &Finding) -> Followed {
     let part = match finding.subject {
         Subject::Context(v) => Some(Part::context(v)),
@@ -199,7 +199,7 @@ impl Aim {
 pub(crate) struct Aims {
     pub(crate) aims: Vec<Aim>,
     firsts: Vec<Option<usize>>,
-    /// How many aren't met, how many are met where the way was stopped, and how many steps the last of these took.
+    /// How many aims aren't met, how many are met where the path was stopped, and how many steps the last of these took.
     open: usize,
     stopped: usize,
     last: usize,
@@ -239,17 +239,17 @@ impl Aims {
         }
     }
 
-    /// Whether one isn't met.
+    /// Whether an aim isn't met.
     pub(crate) fn is_any_open(&self) -> bool {
         self.open != 0
     }
 
-    /// Whether all are met, and moments of this many steps could meet none better.
+    /// Whether all aims are met, and moments of this many steps could meet none better.
     pub(crate) fn are_met(&self, steps: usize) -> bool {
         self.open == 0 && (self.stopped == 0 || steps > self.last)
     }
 
-    /// A aim is met, unless it is already as well.
+    /// Meets an aim, unless it is met as well already.
     fn meet(&mut self, at: usize, number: usize, steps: usize, stop: Option<Stop>) {
         let Some(aim) = self.aims.get_mut(at) else {
             return;

@@ -1,5 +1,5 @@
-//! The choices on a way: which of what is possible at the entry, and whether a call that may give a context gives one. Each part is chosen
-//! backwards, from what is wanted at the end.
+//! The choices on a path: which of the possible situations at the entry, and whether a call that may give a context gives one. Each part is
+//! chosen backwards, from the value that is wanted at the end.
 
 use crate::answer::Step;
 use crate::ground::Ground;
@@ -17,14 +17,14 @@ pub(crate) struct Path {
     pub(crate) steps: Items<Step>,
 }
 
-/// A point on a way, and its outcome.
+/// A point on a path, and its outcome.
 #[derive(Clone, Copy)]
 pub(crate) struct Branch {
     pub(crate) point: usize,
     pub(crate) granted: bool,
 }
 
-/// A step, with what is possible where it is taken, when the point has come out so.
+/// A step, with all that is possible where it is taken, given the point's outcome.
 #[derive(Clone, Copy)]
 struct Passed {
     branch: Branch,
@@ -36,7 +36,7 @@ fn side_of(spot: &Spot, granted: bool) -> Option<Side> {
     if granted { spot.granted } else { spot.refused }
 }
 
-/// The branches to the moment of a number, and the one behind it, if there is one.
+/// The branches to the moment of a number, and the branch after it, if there is one.
 pub(crate) fn branches_to(
     alloc: Global,
     search: &Search,
@@ -67,14 +67,14 @@ pub(crate) fn branches_to(
     Ok(branches)
 }
 
-/// What is possible on a way, step by step.
+/// All that is possible on a path, step by step.
 #[derive(Drop)]
 struct Passage {
     passed: Vec<Passed>,
     end: Possible,
 }
 
-/// The passage of branches; none where they don't follow one another.
+/// The passage of branches; none if they don't follow one another.
 fn passage_of(
     alloc: Global,
     ground: &Ground<'_>,
@@ -100,7 +100,7 @@ fn passage_of(
     Ok(Some(Passage { passed, end: all }))
 }
 
-/// Whether a call gave a context, by what is needed behind it.
+/// Whether a call gave a context, by the need after it.
 fn gives(side: &Side, need: Possible) -> bool {
     match side.gives {
         Some(part) => need.digit(part) / HELD % 2 == 1,
@@ -108,7 +108,7 @@ fn gives(side: &Side, need: Possible) -> bool {
     }
 }
 
-/// The situation at the entry that is needed, if it may be entered so.
+/// The situation at the entry that is needed, if the callback may be entered in it.
 fn start_in(alloc: Global, ground: &Ground<'_>, need: Possible) -> Option<Situation> {
     entered(
         alloc,
@@ -119,7 +119,7 @@ fn start_in(alloc: Global, ground: &Ground<'_>, need: Possible) -> Option<Situat
     )
 }
 
-/// The path along branches to what is wanted at their end; none where that isn't possible.
+/// The path along branches that ends as wanted; none if that isn't possible.
 pub(crate) fn path_along(
     alloc: Global,
     ground: &Ground<'_>,

@@ -1,4 +1,4 @@
-//! Sets of states that rule out ways: the search writes down all that it reached, and what is proved here looks at that alone.
+//! Sets of states that rule out paths: the search writes down all that it reached, and the proof here is about these sets alone.
 
 ghost use Rattle.std.specs.Prelude.{◌≡◌, map, slice_get, IfOk, IsTrue};
 ghost use Rattle.std.specs.List.{list_all};
@@ -16,7 +16,7 @@ use flt_rules::Rule;
 use sqlite_items::Items;
 use std::alloc::{AllocError, Global};
 
-/// All that a search reached in a callback, with the locks that are held or without.
+/// All that a search reached in a callback, with or without the locks that are held.
 #[derive(Drop)]
 pub(crate) struct Cover {
     pub(crate) callback: usize,
@@ -24,7 +24,7 @@ pub(crate) struct Cover {
     pub(crate) members: Items<Member>,
 }
 
-/// Of each cover whether no step leads out of it.
+/// For each cover, whether no step leads out of it.
 pub(crate) fn checked(
     alloc: Global,
     graph: &Graph,
@@ -54,7 +54,7 @@ fn reads_locks(rule: Rule) -> bool
     matches!(rule, Rule::R07 | Rule::R09 | Rule::R10 | Rule::R11)
 }
 
-/// Whether the finding's point may break its rule in a state by what it is about.
+/// Whether the finding's point may break its rule in a state because of its subject.
 fn may_break(graph: &Graph, finding: &Finding, state: &Abs) -> bool
     ensures { result ≡ spec.may_break graph.now finding.now state.now }
 {
@@ -71,7 +71,7 @@ fn may_break(graph: &Graph, finding: &Finding, state: &Abs) -> bool
             || is_about(graph.place(callback), state, instruction, rule, subject))
 }
 
-/// Whether a state of the cover isn't one in which it is found.
+/// Whether a state of the cover isn't one in which the finding holds.
 fn is_free(graph: &Graph, finding: &Finding, member: &Member) -> bool
     ensures { result ≡ spec.is_free graph.now finding.now member.now }
 {
@@ -82,7 +82,7 @@ fn is_free(graph: &Graph, finding: &Finding, member: &Member) -> bool
     !may_break(graph, finding, &member.state)
 }
 
-/// Whether a state of the cover isn't at the point of another one, or its lock list isn't another.
+/// Whether a state of the cover is at another point than `next`, or their lock lists aren't apart.
 fn is_with(subject: Subject, next: &Successor, member: &Member) -> bool
     ensures { result ≡ spec.is_with subject next.now member.now }
 {
@@ -90,14 +90,14 @@ fn is_with(subject: Subject, next: &Successor, member: &Member) -> bool
         || !are_lists_apart(subject, next.state.locks(), member.state.locks())
 }
 
-/// Whether none of these states is at the point of another one with another lock list.
+/// Whether none of these states is at the point of `next` with a lock list apart from its own.
 fn are_with(subject: Subject, next: &Successor, these: &[Member]) -> bool
     ensures { result ≡ list_all (spec.is_with subject next.now) these.now }
 {
     these.iter().all(|member| is_with(subject, next, member))
 }
 
-/// Whether what follows, if something does, meets no state of the cover with another lock list.
+/// Whether a successor, if there is one, meets no state of the cover with a lock list apart from its own.
 fn meets_none(subject: Subject, members: &[Member], next: &Option<Successor>) -> bool
     ensures { result ≡ spec.meets_none subject members.now next.now }
 {
@@ -107,7 +107,7 @@ fn meets_none(subject: Subject, members: &[Member], next: &Option<Successor>) ->
     }
 }
 
-/// Whether what follows a state at the finding's point meets no state of the cover with another lock list.
+/// Whether the successors of a state, if it is at the finding's point, meet no state of the cover with a lock list apart from their own.
 fn is_alone(graph: &Graph, finding: &Finding, members: &[Member], member: &Member) -> bool
     ensures { result ≡ spec.is_alone graph.now finding.now members.now member.now }
 {
@@ -123,14 +123,15 @@ fn is_alone(graph: &Graph, finding: &Finding, members: &[Member], member: &Membe
     meets_none(finding.subject, members, &first) && meets_none(finding.subject, members, &second)
 }
 
-/// Whether none of these states is one in which it is found.
+/// Whether none of these states is one in which the finding holds.
 fn are_free(graph: &Graph, finding: &Finding, these: &[Member]) -> bool
     ensures { result ≡ list_all (spec.is_free graph.now finding.now) these.now }
 {
     these.iter().all(|member| is_free(graph, finding, member))
 }
 
-/// Whether what follows these states, where they are at the finding's point, meets no state of the cover with another lock list.
+/// Whether the successors of these states, if they are at the finding's point, meet no state of the cover with a lock list apart from their
+/// own.
 fn are_alone(graph: &Graph, finding: &Finding, members: &[Member], these: &[Member]) -> bool
     ensures { result ≡ list_all (spec.is_alone graph.now finding.now members.now) these.now }
 {
@@ -139,7 +140,7 @@ fn are_alone(graph: &Graph, finding: &Finding, members: &[Member], these: &[Memb
         .all(|member| is_alone(graph, finding, members, member))
 }
 
-/// Whether a cover, if no step leads out of it, rules out each way.
+/// Whether a cover, if no step leads out of it, rules out each path.
 fn rules_out(graph: &Graph, finding: &Finding, cover: &Cover) -> bool
     ensures { result ≡ spec.rules_out finding.now.rule graph.now finding.now cover.now }
 {
@@ -150,7 +151,7 @@ fn rules_out(graph: &Graph, finding: &Finding, cover: &Cover) -> bool
     }
 }
 
-/// Whether the cover of a number is of the finding's callback, no step leads out of it, and it rules out each way.
+/// Whether the cover of a number is of the finding's callback, no step leads out of it, and it rules out each path.
 fn has_ruled_out(
     graph: &Graph,
     finding: &Finding,
@@ -168,7 +169,7 @@ fn has_ruled_out(
     }
 }
 
-/// Whether the cover of a number rules out each way, where it was found out whether a step leads out of each.
+/// Whether the cover of a number rules out each path; `closed` says of each cover whether no step leads out of it.
 pub(crate) fn is_ruled_out(
     graph: &Graph,
     finding: &Finding,

@@ -1,4 +1,4 @@
-//! Where steps lead.
+//! The moments to which steps lead.
 
 ghost use Rattle.std.specs.Prelude.{◌≡◌, Some, IfSome, IsTrue};
 ghost use Rattle.flt_ways.specs.Ways as spec;
@@ -8,7 +8,7 @@ use crate::faults::breaks_nothing;
 use crate::situation::Moment;
 use flt_graph::Graph;
 
-/// Where a step leads, if it may be taken.
+/// The moment to which a step leads, if it may be taken.
 fn taken(graph: &Graph, callback: usize, clean: bool, from: &Moment, step: Step) -> Option<Moment>
     ensures { IfSome result (λ m. IsTrue (spec.is_taken graph.now callback clean from.now.point from.now.situation step)
         × (m ≡ spec.moment_after graph.now callback from.now.point from.now.situation step)) }
@@ -22,7 +22,7 @@ fn taken(graph: &Graph, callback: usize, clean: bool, from: &Moment, step: Step)
     from.situation.after(graph, callback, step)
 }
 
-/// Where steps lead, if each may be taken where the one before leads.
+/// The moment to which steps lead, if each may be taken where the one before it leads.
 pub(crate) fn end_of(
     graph: &Graph,
     callback: usize,

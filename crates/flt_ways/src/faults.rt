@@ -1,4 +1,4 @@
-//! What is wrong at a point in a single situation.
+//! The faults at a point in a single situation.
 
 ghost use Rattle.std.specs.Prelude.{◌≡◌, IfOk, Ok};
 ghost use Rattle.flt_explain.specs.Subjects.{place as place_of_subject};
@@ -10,7 +10,7 @@ use flt_explain::{Fault, Finding, Subject, faults};
 use flt_graph::Graph;
 use std::alloc::{AllocError, Global};
 
-/// Where a subject stands among all: the variables, mode and draining, the locks, the call and the status.
+/// The place of a subject among all: the variables, mode and draining, the locks, the call and the status.
 fn place(subject: Subject) -> usize
     ensures { result ≡ place_of_subject subject }
 {
@@ -52,7 +52,7 @@ fn is_among(faults: &[Fault], finding: &Finding) -> bool
     faults.iter().any(|fault| is_fault_of(finding, fault))
 }
 
-/// Whether what is found is so at the finding's point.
+/// Whether the finding holds at its point in a situation.
 pub(crate) fn is_found_in(
     alloc: Global,
     graph: &Graph,
@@ -81,14 +81,14 @@ fn is_held_lock(subject: Subject, locks: &LockList) -> bool
     }
 }
 
-/// Whether other locks are held, or in another way or order, and that which the subject is in one list at least.
+/// Whether two lists have different locks, or the same in another manner or order, and at least one has the lock that is the subject.
 pub(crate) fn are_lists_apart(subject: Subject, a: &LockList, b: &LockList) -> bool
     ensures { result ≡ spec.are_lists_apart subject a.now b.now }
 {
     !a.is_same(b) && (is_held_lock(subject, a) || is_held_lock(subject, b))
 }
 
-/// Whether the locks of two situations are apart so.
+/// Whether the lock lists of two situations are apart in this sense.
 pub(crate) fn are_apart(subject: Subject, a: &Situation, b: &Situation) -> bool
     ensures { result ≡ spec.are_apart subject a.now b.now }
 {

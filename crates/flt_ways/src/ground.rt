@@ -1,4 +1,4 @@
-//! A callback in which ways are sought.
+//! A callback in which paths are sought.
 
 use crate::held::Lists;
 use crate::plan::Plan;
@@ -7,14 +7,14 @@ use flt_abs::{Abs, Statuses, entry_state};
 use flt_graph::{Graph, Place};
 use std::alloc::{AllocError, Global};
 
-/// A callback, with all that is looked up of it.
+/// A callback, with all that is looked up in it.
 #[derive(Drop)]
 pub(crate) struct Ground<'a> {
     pub(crate) graph: &'a Graph,
     pub(crate) callback: usize,
     pub(crate) plan: Plan,
     pub(crate) lists: Lists,
-    /// What is possible at the entry.
+    /// All that is possible at the entry.
     pub(crate) entry: Possible,
 }
 
@@ -57,7 +57,7 @@ impl<'a> Ground<'a> {
         })
     }
 
-    /// The list behind a point; none where there are too many.
+    /// The list after a point; none if there are too many.
     pub(crate) fn list_behind(
         &mut self,
         point: usize,

@@ -1,4 +1,4 @@
-//! The lists of locks that are held on ways through a callback, each kept once and named by its number.
+//! The lists of locks that are held on paths through a callback, each kept once and named by its number.
 
 use crate::plan::LockAsk;
 use flt_abs::{Abs, LockList, Successor, Successors, entry_state, leads_past};
@@ -7,7 +7,7 @@ use flt_graph::Graph;
 use flt_rules::{HeldLock, Level, LockNeed, LockNumber, entry_level, raised_by};
 use std::alloc::{AllocError, Global};
 
-/// How many lists are kept of a callback, at most.
+/// The greatest number of lists that are kept of a callback.
 const LISTS: usize = 4096;
 
 /// A state in which the locks of a list are held, and the level that they make.
@@ -50,7 +50,7 @@ impl Lists {
         Ok(lists)
     }
 
-    /// The number of a state's list; none where there are too many.
+    /// The number of a state's list; none if there are too many.
     fn number(
         &mut self,
         graph: &Graph,
@@ -85,7 +85,7 @@ impl Lists {
         }
     }
 
-    /// The list behind a point that takes or releases a lock; none where there are too many.
+    /// The list after a point that takes or releases a lock; none if there are too many.
     pub(crate) fn behind(
         &mut self,
         graph: &Graph,
@@ -99,7 +99,7 @@ impl Lists {
         }
     }
 
-    /// Where a point leads that comes out well, with a list before it.
+    /// The granted successor of a point, with a list before it.
     fn granted(
         &self,
         graph: &Graph,
@@ -113,7 +113,7 @@ impl Lists {
         first
     }
 
-    /// Whether a list breaks a rule at a point that asks this.
+    /// Whether a list breaks a rule at a point that asks this of the locks.
     pub(crate) fn breaks(&self, number: usize, ask: LockAsk) -> bool {
         let Some(held) = self.held(number) else {
             return false;
@@ -159,7 +159,7 @@ impl Lists {
     }
 }
 
-/// Whether a call needs the lock otherwise that it names.
+/// Whether the lock that a call names isn't held as the call needs it.
 fn is_needed_otherwise(locks: &LockList, need: LockNeed, lock: Option<LockNumber>) -> bool {
     match (need, lock) {
         (LockNeed::NotHeld, Some(lock)) => locks.contains(lock),

@@ -1,5 +1,5 @@
-//! A way through the callback to what is found there: from a situation at the entry, step by step, to the finding's point. It exports
-//! `ways`, which looks for one and checks it; or it finds out, from all that the search reached, that there is none.
+//! A path through the callback to a finding: from a situation at the entry, step by step, to the finding's point. It exports `ways`, which
+//! looks for one and checks it; or it finds out, from all that the search reached, that there is none.
 #![tactic(auto)]
 
 mod aims;

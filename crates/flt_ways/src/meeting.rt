@@ -1,4 +1,4 @@
-//! The search for two ways that meet with other locks.
+//! The search for two paths that meet with different locks.
 
 use crate::choices::{Branch, branches_to, path_along};
 use crate::cover::Cover;
@@ -9,11 +9,11 @@ use crate::sought::{Budget, Found, Sought};
 use flt_explain::Finding;
 use std::alloc::{AllocError, Global};
 
-/// How often a search is done anew with more that is followed: once for each part.
+/// How often a search is done anew with more parts followed: once for each part.
 const TURNS: usize = 18;
 
-/// Two moments that meet: the number and the outcome from which the first comes, and the number of the other; and what stopped one of the
-/// ways.
+/// Two moments that meet: the number and the outcome from which the first comes, and the number of the other; and the stop of one of the
+/// paths, if it had one.
 #[derive(Clone, Copy)]
 struct Pair {
     number: usize,
@@ -22,7 +22,7 @@ struct Pair {
     stop: Option<Stop>,
 }
 
-/// The better one of two pairs: the first, if no way of it was stopped.
+/// The better one of two pairs: the first, unless it was stopped and the second wasn't.
 fn better(first: Option<Pair>, second: Option<Pair>) -> Option<Pair> {
     match (first, second) {
         (Some(pair), Some(other)) if pair.stop.is_some() && other.stop.is_none() => second,
@@ -32,7 +32,7 @@ fn better(first: Option<Pair>, second: Option<Pair>) -> Option<Pair> {
 }
 
 impl Search {
-    /// What a moment behind the one of a number meets with other locks.
+    /// A pair of a moment after the one of a number and a moment that it meets with different locks.
     fn meets(
         &self,
         ground: &Ground<'_>,
@@ -95,7 +95,7 @@ impl Search {
     }
 }
 
-/// The ways to a pair that no part stopped.
+/// The paths to a pair that no part stopped.
 fn ways_to(
     alloc: Global,
     ground: &Ground<'_>,
@@ -118,7 +118,7 @@ fn ways_to(
     }
 }
 
-/// What a search came to: ways, or the next that must be followed too, or neither.
+/// The result of a search: paths, or the next part that must be followed too, or neither.
 #[derive(Drop)]
 enum Came {
     To(Sought),
@@ -153,7 +153,7 @@ fn meeting_with(
     }
 }
 
-/// Looks for two ways that meet as the finding says: where `clean`, past nothing that is broken.
+/// Looks for two paths that meet as the finding says: if `clean`, only past points where no rule is broken.
 pub(crate) fn seek_meeting(
     alloc: Global,
     ground: &mut Ground<'_>,

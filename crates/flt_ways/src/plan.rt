@@ -1,5 +1,5 @@
-//! What the points of a callback make of what is possible, read from the call table once. Nothing is proved of it: what the search finds by
-//! it is checked by walking it again.
+//! The effects of a callback's points on all that is possible, read from the call table once. Nothing is proved of it: the paths that the
+//! search finds by it are checked by walking them again.
 
 use crate::possible::{FAST, HELD, IRP, NO, NOT_HELD, Part, Possible, YES};
 use flt_abs::{Abs, Draining, Modes, breaks_rule, entry_state};
@@ -12,17 +12,17 @@ use flt_rules::{
 };
 use std::alloc::{AllocError, Global};
 
-/// What a point asks of the locks that are held.
+/// The need of a point for the locks that are held.
 #[derive(Clone, Copy)]
 pub(crate) enum LockAsk {
     Nothing,
-    /// A call asks for this level at most, and of the lock that it names.
+    /// A call needs this level at most, and this of the lock that it names.
     Call(Level, LockNeed, Option<LockNumber>),
-    /// No lock is held at a return.
+    /// A return needs that no lock is held.
     None,
 }
 
-/// Where a point leads by one outcome. What isn't kept of a part that is tested rules the outcome out; parts that are written are
+/// The side of a point by one outcome. It is ruled out if nothing that it keeps of a tested part is possible; parts that are written are
 /// cleared first.
 #[derive(Clone, Copy)]
 pub(crate) struct Side {
@@ -34,19 +34,19 @@ pub(crate) struct Side {
     pub(crate) gives: Option<Part>,
 }
 
-/// What is done at a point.
+/// The effects of a point.
 #[derive(Clone, Copy)]
 pub(crate) struct Spot {
-    /// What of each part breaks a rule there.
+    /// The digits of each part that break a rule there.
     pub(crate) bad: Possible,
-    /// A rule is broken there whatever is so.
+    /// A rule is broken there in every situation.
     pub(crate) is_broken: bool,
     pub(crate) asks: LockAsk,
     pub(crate) changes_locks: bool,
-    /// Where the call succeeds, the test holds or a turn is left.
+    /// The outcome if the call succeeds, the test holds or a turn is left.
     pub(crate) granted: Option<Side>,
     pub(crate) refused: Option<Side>,
-    /// What is so at the entry is tested: that it isn't is looked at first.
+    /// A fact of the entry is tested, and the outcome without it is looked at first.
     pub(crate) asks_entry: bool,
 }
 
@@ -75,7 +75,7 @@ fn of_operation(variable: Option<OperationVariable>, digit: u8) -> Possible {
     }
 }
 
-/// What breaks a rule of a variable, by what a call needs of it.
+/// The statuses of a variable that break a rule, by the need of a call.
 fn bad_by(need: Need) -> u8 {
     match need {
         Need::Nothing => 0,
@@ -109,7 +109,7 @@ fn bad_of_action(action: Action) -> Possible {
     }
 }
 
-/// What a change leaves of a variable; none where it leaves it as it is.
+/// The digit that a change leaves of a variable; none if the variable stays as it is.
 fn left(change: Change) -> Option<u8> {
     match change {
         Change::Stays => None,
@@ -121,7 +121,7 @@ fn left(change: Change) -> Option<u8> {
 }
 
 impl Side {
-    /// To a point, with nothing changed.
+    /// A side that leads to a point and changes nothing.
     fn to(point: usize) -> Side {
         Side {
             point,
@@ -132,7 +132,7 @@ impl Side {
         }
     }
 
-    /// The same where a part is written.
+    /// The same if a part is written.
     fn put(self, part: Part, change: Change) -> Side {
         match left(change) {
             Some(digit) => Side {
@@ -159,14 +159,14 @@ impl Side {
         }
     }
 
-    /// The same where a call had these effects. A variable that receives a context is written last.
+    /// The same if a call had these effects. A variable that receives a context is written last.
     fn after(self, call: &Invocation, effects: Effects) -> Side {
         self.put_context(call.context, effects.context)
             .put_context(call.output, effects.output)
             .put_operation(call.operation, effects.operation)
     }
 
-    /// The same where a test of a part keeps what a digit says.
+    /// The same if a test of a part keeps a digit of it.
     fn keep(self, part: Part, digit: u8) -> Side {
         Side {
             keeps: self.keeps.with(part, digit),
@@ -175,7 +175,7 @@ impl Side {
     }
 }
 
-/// The part that a test asks, and what of it holds and what doesn't.
+/// The part that a test reads, with its digits if the test holds, and if it doesn't.
 fn asked_by(test: Test) -> Option<(Part, u8, u8)> {
     match test {
         Test::ContextIsSome(c) => Some((Part::context(c), 6, 1)),
@@ -186,8 +186,8 @@ fn asked_by(test: Test) -> Option<(Part, u8, u8)> {
     }
 }
 
-/// Whether a rule is broken at a point where nothing of the state does it: the operation is as a status asks, and fast I/O or draining
-/// isn't in the way.
+/// Whether a rule is broken at a point by something other than the state: the operation is as a status needs it, and fast I/O or draining
+/// doesn't matter.
 fn is_broken_anyway(
     alloc: Global,
     graph: &Graph,
@@ -274,7 +274,7 @@ fn spot_of_action(action: Action, next: usize) -> Spot {
     }
 }
 
-/// What is done at a point of a callback.
+/// The effects of a point of a callback.
 fn spot_at(alloc: Global, graph: &Graph, callback: usize, point: usize) -> Spot {
     let spot = match graph.instruction_ref(callback, point) {
         Instruction::Act(action, next) => spot_of_action(*action, *next),
@@ -299,7 +299,7 @@ fn spot_at(alloc: Global, graph: &Graph, callback: usize, point: usize) -> Spot 
     Spot { is_broken, ..spot }
 }
 
-/// What is done at each point of a callback.
+/// The effects of each point of a callback.
 #[derive(Drop)]
 pub(crate) struct Plan {
     spots: Vec<Spot>,
@@ -314,7 +314,7 @@ impl Plan {
         Ok(Plan { spots })
     }
 
-    /// What is done at a point. It leads nowhere where the point isn't there.
+    /// The effects of a point. A point that isn't there leads nowhere.
     pub(crate) fn spot(&self, point: usize) -> Spot {
         match self.spots.get(point) {
             Some(spot) => *spot,

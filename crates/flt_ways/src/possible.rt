@@ -1,15 +1,15 @@
-//! What is possible on the way to a point, part by part.
+//! All that is possible on the path to a point, part by part.
 
 ghost use Rattle.std.specs.Prelude.{◌<◌};
 
 use flt_graph::{ContextVariable, OperationVariable};
 
-/// The digits of what is possible of a variable: it isn't held, it is held, and all.
+/// The digits of a variable's possible statuses: it isn't held, and it is held.
 pub(crate) const NOT_HELD: u8 = 5;
 
 pub(crate) const HELD: u8 = 2;
 
-/// Those of a mode and of an answer to the draining test.
+/// The digits of a mode, and of an answer to the draining test.
 pub(crate) const IRP: u8 = 1;
 
 pub(crate) const FAST: u8 = 2;
@@ -18,7 +18,7 @@ pub(crate) const NO: u8 = 1;
 
 pub(crate) const YES: u8 = 2;
 
-/// The lowest bit of each part, and all that can be: three statuses of a variable, two modes, two answers.
+/// The lowest bit of each part, and all bits that can be set: three statuses of a variable, two modes, two answers.
 const LOWEST: u64 = 0x1111_1111_1111_1111;
 
 const ALL: u64 = 0x3377_7777_7777_7777;
@@ -28,7 +28,7 @@ const PARTS: usize = 16;
 
 const BITS: usize = 4;
 
-/// A part of what is possible: a variable, the mode or draining.
+/// A part of the state: a variable, the mode or draining.
 #[derive(Clone, Copy)]
 pub(crate) struct Part {
     place: usize,
@@ -58,7 +58,7 @@ impl Part {
         }
     }
 
-    /// Where its lowest bit stands.
+    /// The number of its lowest bit.
     fn shift(self) -> u32
         ensures { result < 64 }
     {
@@ -66,8 +66,8 @@ impl Part {
     }
 }
 
-/// Of each part the set of what is possible, in the bits of its digit: of a variable NULL, held and stale, IRP and fast I/O, draining not
-/// set and set.
+/// For each part the set of its possible values, in the bits of its digit: NULL, held and stale for a variable, IRP and fast I/O, draining
+/// not set and set.
 #[derive(Clone, Copy)]
 pub(crate) struct Possible {
     bits: u64,
@@ -78,7 +78,7 @@ impl Possible {
 
     pub(crate) const ALL: Possible = Possible { bits: ALL };
 
-    /// Of one part what a digit says, and nothing else.
+    /// A digit of one part, and nothing else.
     pub(crate) fn of(part: Part, digit: u8) -> Possible {
         Possible {
             bits: u64::from(digit % 16) << part.shift(),
@@ -90,7 +90,7 @@ impl Possible {
         Possible::of(part, 15)
     }
 
-    /// What is possible of a part.
+    /// The digit of a part.
     pub(crate) fn digit(self, part: Part) -> u8 {
         ((self.bits >> part.shift()) % 16) as u8
     }
@@ -113,7 +113,7 @@ impl Possible {
         }
     }
 
-    /// With what a digit says of a part in place of what was possible of it.
+    /// The same with another digit of a part.
     pub(crate) fn with(self, part: Part, digit: u8) -> Possible {
         self.without(Possible::whole(part))
             .or(Possible::of(part, digit))

@@ -10,7 +10,7 @@ use flt_graph::Place;
 use sqlite_items::Items;
 use std::alloc::{AllocError, Global};
 
-/// What is possible where some of it is followed: of all else all.
+/// All that is possible if only some parts are followed: anything, in the other parts.
 fn seen(followed: Followed, all: Possible) -> Possible {
     let others = Possible::ALL.without(followed.parts);
     all.and(followed.parts).or(others)
@@ -44,7 +44,7 @@ fn operations(seen: Possible) -> Option<[Statuses; OPERATIONS]> {
     ])
 }
 
-/// The state in which this is possible, and the locks of another one are held.
+/// The state in which this is possible, with the locks of another state.
 fn with_sets(locks: &Abs, seen: Possible) -> Option<Abs> {
     let modes = Modes::from_digit(seen.digit(Part::MODE))?;
     let draining = Draining::from_digit(seen.digit(Part::DRAINING))?;
@@ -52,7 +52,7 @@ fn with_sets(locks: &Abs, seen: Possible) -> Option<Abs> {
 }
 
 impl Search {
-    /// The state of a moment; no lock is held in it where locks aren't followed, as in the state `bare`.
+    /// The state of a moment; no lock is held in it if locks aren't followed, as in the state `bare`.
     fn state(&self, ground: &Ground<'_>, bare: &Abs, node: Node) -> Option<Abs> {
         let followed = self.manner.followed;
         let seen = seen(followed, node.all);
@@ -85,7 +85,7 @@ impl Search {
         Ok(members)
     }
 
-    /// Adds a cover of all that was reached, and answers its number.
+    /// Adds a cover of all that was reached, and returns its number.
     pub(crate) fn write_down(
         &self,
         alloc: Global,

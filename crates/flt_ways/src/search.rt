@@ -1,7 +1,7 @@
-//! The search for ways: breadth first over the points of a callback and what is possible of the parts that are followed. A status never
-//! depends on another variable but by the way that is taken. So along one way each part has a set of its own, which tests and asks cut,
-//! and the way can be gone exactly where no set becomes empty. Nothing is proved of the search's answer but that it comes to one: what
-//! it finds is checked by walking it again, and that it finds nothing by going one step from all that it reached.
+//! The search for paths: breadth first over the points of a callback and the possible values of the parts that are followed. A status
+//! depends on another variable only through the path that is taken. So along one path each part has a set of its own, which tests and needs
+//! narrow, and the path can be taken exactly if no set becomes empty. Nothing is proved of the search but that it ends: the paths that it
+//! finds are checked by walking them again, and its answer that there is none by taking one step from all that it reached.
 
 use crate::aims::Aims;
 use crate::ground::Ground;
@@ -10,21 +10,21 @@ use crate::possible::{Part, Possible};
 use crate::table::{Key, Table};
 use std::alloc::{AllocError, Global};
 
-/// What of the state is followed: what is possible of the other parts isn't told apart.
+/// The parts of the state that are followed: moments that differ in other parts are the same.
 #[derive(Clone, Copy)]
 pub(crate) struct Followed {
     pub(crate) parts: Possible,
     pub(crate) locks: bool,
 }
 
-/// What stopped a way that isn't followed: nothing was possible of a part, or the locks broke a rule.
+/// A stop of a path by something that isn't followed: nothing was possible of a part, or the locks broke a rule.
 #[derive(Clone, Copy)]
 pub(crate) enum Stop {
     Part(Part),
     Locks,
 }
 
-/// A point that was reached, with all that is possible there along the way by which it was reached first.
+/// A point that was reached, with all that is possible there along the path by which it was reached first.
 #[derive(Clone, Copy)]
 pub(crate) struct Node {
     pub(crate) point: usize,
@@ -36,7 +36,7 @@ pub(crate) struct Node {
     pub(crate) arrival: Option<(usize, bool)>,
 }
 
-/// The numbers of the moments that follow one, by its outcomes; `NOWHERE` where none does.
+/// The numbers of the moments that follow one, by its outcomes; `NOWHERE` if none does.
 #[derive(Clone, Copy)]
 pub(crate) struct Lead {
     pub(crate) granted: usize,
@@ -51,7 +51,7 @@ impl Followed {
         self.parts.is_same(other.parts) && self.locks == other.locks
     }
 
-    /// The same with what stopped a way.
+    /// The same with the part or the locks that stopped a path.
     pub(crate) fn with(self, stop: Stop) -> Followed {
         match stop {
             Stop::Part(part) => Followed {
@@ -81,8 +81,8 @@ impl Stop {
     }
 }
 
-/// What is left of what is possible where some of it is kept; none where nothing is left of a part that is followed. Where nothing is left of
-/// one that isn't, all that is kept of it is possible again, and the part is answered.
+/// The part of `all` that is kept; none if nothing is left of a part that is followed. If nothing is left of one that isn't, all that
+/// `keeps` has of it is possible again, and the part is returned.
 pub(crate) fn kept(
     followed: Possible,
     all: Possible,
@@ -102,12 +102,12 @@ pub(crate) fn kept(
 /// How a search is done.
 #[derive(Clone, Copy)]
 pub(crate) struct Manner {
-    /// Past nothing that is broken.
+    /// Only past points where no rule is broken.
     pub(crate) clean: bool,
     pub(crate) followed: Followed,
-    /// What isn't granted is looked at first. It stops ways less often, since less is held then.
+    /// The refused outcome is looked at first. It stops paths less often, since less is held then.
     pub(crate) refused_first: bool,
-    /// Moments to which the way was stopped aren't gone on from.
+    /// The search doesn't continue from moments to which the path was stopped.
     pub(crate) open_alone: bool,
 }
 
@@ -115,7 +115,7 @@ pub(crate) struct Manner {
 pub(crate) struct Search {
     pub(crate) manner: Manner,
     pub(crate) nodes: Vec<Node>,
-    /// What follows each moment that was looked at, by their numbers.
+    /// The numbers of the moments that follow each moment that was looked at.
     pub(crate) leads: Vec<Lead>,
     table: Table,
     /// Whether something was left out.
@@ -125,7 +125,7 @@ pub(crate) struct Search {
 }
 
 impl Search {
-    /// The entry is reached.
+    /// Begins a search, with the entry reached.
     pub(crate) fn open(
         alloc: Global,
         ground: &Ground<'_>,
@@ -160,7 +160,7 @@ impl Search {
         }
     }
 
-    /// What tells a moment apart.
+    /// The key by which a moment differs from others.
     fn key(&self, node: Node) -> Key {
         Key {
             point: node.point,
@@ -173,7 +173,7 @@ impl Search {
         }
     }
 
-    /// Takes a way that wasn't stopped in place of one that was, and is as long.
+    /// Replaces a path that was stopped by one that wasn't and is as long.
     fn better(&mut self, known: usize, node: Node) {
         if let Some(before) = self.nodes.get_mut(known) {
             if before.stop.is_some() && node.stop.is_none() && before.steps == node.steps {
@@ -182,7 +182,7 @@ impl Search {
         }
     }
 
-    /// A moment is reached. Its number.
+    /// Reaches a moment, and returns its number.
     fn arrive(&mut self, alloc: Global, node: Node) -> Result<usize, AllocError> {
         if self.manner.open_alone && node.stop.is_some() {
             return Ok(NOWHERE);
@@ -202,7 +202,7 @@ impl Search {
         }
     }
 
-    /// A moment is reached, if there is one. Its number.
+    /// Reaches a moment, if there is one, and returns its number.
     fn arrive_at(&mut self, alloc: Global, node: Option<Node>) -> Result<usize, AllocError> {
         match node {
             Some(node) => self.arrive(alloc, node),
@@ -210,7 +210,7 @@ impl Search {
         }
     }
 
-    /// What is left at a point: on a clean way where no rule is broken, none where one is.
+    /// The part of a moment that passes its point: on a clean path the part that breaks no rule, if there is one.
     fn past(&self, ground: &Ground<'_>, spot: &Spot, node: Node) -> Option<Node> {
         if !self.manner.clean {
             return Some(node);
@@ -229,7 +229,7 @@ impl Search {
         })
     }
 
-    /// The moment to which a side leads, if the point may come out so.
+    /// The moment to which a side leads, if the point may have that outcome.
     fn by(&self, number: usize, left: Node, granted: bool, side: Option<Side>) -> Option<Node> {
         let side = side?;
         let (all, part) = kept(self.manner.followed.parts, left.all, side.keeps)?;
@@ -243,7 +243,7 @@ impl Search {
         })
     }
 
-    /// The moments that follow that of a number: first by what is granted, then otherwise.
+    /// The moments that follow that of a number: first the granted one, then the refused one.
     pub(crate) fn behind(
         &mut self,
         ground: &mut Ground<'_>,
@@ -263,7 +263,7 @@ impl Search {
         Ok((granted, self.by(number, left, false, spot.refused)))
     }
 
-    /// Reaches what follows the moment of a number.
+    /// Reaches the moments that follow that of a number.
     fn go_on(
         &mut self,
         alloc: Global,
@@ -286,7 +286,7 @@ impl Search {
         Ok(())
     }
 
-    /// Goes on until all aims are met, nothing more can be reached, or so many moments were looked at.
+    /// Continues until all aims are met, nothing more can be reached, or `limit` moments were looked at.
     pub(crate) fn run(
         &mut self,
         alloc: Global,
@@ -308,7 +308,7 @@ impl Search {
         Ok(())
     }
 
-    /// Goes on until nothing more can be reached, or so many moments were looked at.
+    /// Continues until nothing more can be reached, or `limit` moments were looked at.
     pub(crate) fn reach_all(
         &mut self,
         alloc: Global,
@@ -325,7 +325,7 @@ impl Search {
         Ok(())
     }
 
-    /// Whether all was reached that can be.
+    /// Whether all that can be reached was reached.
     pub(crate) fn is_all(&self) -> bool {
         !self.manner.open_alone && !self.is_cut && self.looked >= self.nodes.len()
     }

@@ -12,7 +12,7 @@ use flt_graph::Graph;
 use flt_rules::Rule;
 use std::alloc::{AllocError, Global};
 
-/// Nothing is sought yet for each of some findings.
+/// A list with no result yet for each of some findings.
 fn unsought(alloc: Global, found: &[Finding]) -> Result<Vec<Option<Sought>>, AllocError> {
     let mut sought = Vec::new(alloc);
     for _finding in found {
@@ -21,7 +21,7 @@ fn unsought(alloc: Global, found: &[Finding]) -> Result<Vec<Option<Sought>>, All
     Ok(sought)
 }
 
-/// Looks for two ways that meet, past nothing that is broken, then otherwise.
+/// Looks for two paths that meet, first only past points where no rule is broken, then past any.
 fn seek_pair(
     alloc: Global,
     ground: &mut Ground<'_>,
@@ -37,7 +37,7 @@ fn seek_pair(
     }
 }
 
-/// Looks for what shows the findings of one callback, the first of which has this number.
+/// Looks for the paths that show the findings of one callback, the first of which has this number.
 fn seek_in(
     alloc: Global,
     graph: &Graph,
@@ -76,7 +76,7 @@ fn run_of(found: &[Finding]) -> usize
     }
 }
 
-/// Looks for what shows each finding of a text.
+/// Looks for the paths that show each finding of a text.
 pub(crate) fn seek_all(
     alloc: Global,
     graph: &Graph,

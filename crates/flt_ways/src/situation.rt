@@ -36,7 +36,7 @@ impl Model for Situation {
     ghost invariant = { λ s. IsTrue (is_single s.state) };
 }
 
-/// A point, from 0, and what is so there.
+/// A point, from 0, and the situation there.
 #[derive(Drop)]
 pub struct Moment {
     pub point: usize,
@@ -71,7 +71,7 @@ fn is_one_draining(draining: Draining) -> bool
     digit == 1 || digit == 2
 }
 
-/// Of NULL or held the one that a call gave; any other set as it is.
+/// Of NULL or held the one that a call gave; any other set unchanged.
 #[tactic(auto, using(crate::proofs::Singles::held_is, crate::proofs::Singles::null_is))]
 fn one_of(set: Statuses, gives: bool) -> Statuses
     ensures { result ≡ spec.one_of gives set }
@@ -87,7 +87,7 @@ fn one_of(set: Statuses, gives: bool) -> Statuses
     }
 }
 
-/// The sets of contexts where a call that may give one gave one, or none.
+/// The sets of contexts after a call that may give one gave one, or none.
 fn contexts_given(sets: &[Statuses], gives: bool) -> Option<[Statuses; CONTEXTS]>
     ensures { IfSome result (λ given. given ≡ map (spec.one_of gives) sets.now) }
 {
@@ -107,7 +107,7 @@ fn contexts_given(sets: &[Statuses], gives: bool) -> Option<[Statuses; CONTEXTS]
     ])
 }
 
-/// The same of operations.
+/// The same for operations.
 fn operations_given(sets: &[Statuses], gives: bool) -> Option<[Statuses; OPERATIONS]>
     ensures { IfSome result (λ given. given ≡ map (spec.one_of gives) sets.now) }
 {
@@ -123,7 +123,7 @@ fn operations_given(sets: &[Statuses], gives: bool) -> Option<[Statuses; OPERATI
     ])
 }
 
-/// The state in which a call that may give a context gave one, or none.
+/// The state after a call that may give a context gave one, or none.
 fn where_given(state: &Abs, gives: bool) -> Option<Abs>
     ensures { IfSome result (λ x. x ≡ spec.where_given gives state.now) }
 {
@@ -168,8 +168,8 @@ fn narrowed_entry(
     Situation::of(narrowed(&state, arg, mode, draining)?)
 }
 
-/// A situation in which a callback of the place may be entered, by the digits of `arg`, of the mode and of draining; none where it may
-/// not be entered so.
+/// A situation in which a callback of the place may be entered, by the digits of `arg`, of the mode and of draining; none if it can't be
+/// entered in that situation.
 pub(crate) fn entered(
     alloc: Global,
     place: Place,
@@ -212,7 +212,7 @@ impl Situation {
         &self.state
     }
 
-    /// The same situation.
+    /// A copy of the situation.
     #[tactic(auto, using(crate::proofs::Leading::same_given))]
     pub(crate) fn copied(&self) -> Option<Situation>
         ensures { IfSome result (λ t. t ≡ self.now) }
@@ -244,7 +244,7 @@ impl Situation {
         leq(self.state(), other.state()) && leq(other.state(), self.state())
     }
 
-    /// Where the step of a point leads, if the point may come out so.
+    /// The moment to which the step of a point leads, if the point may have that outcome.
     pub(crate) fn after(&self, graph: &Graph, callback: usize, step: Step) -> Option<Moment>
         ensures { IfSome result (λ m. (may_come_out (instruction_at graph.now callback step.point) self.now step.granted ≡ true)
             × (m ≡ ways.moment_after graph.now callback step.point self.now step)) }

@@ -1,11 +1,11 @@
-//! What searches come to, and how far they go.
+//! The results of searches, and how far they go.
 
 use crate::choices::Path;
 use crate::cover::Cover;
 use std::mem::swap;
 
-/// How many moments are looked at, at most: for all findings of a text, in one search, and for all in the searches that take ways which may
-/// not be shortest where these didn't come to an end.
+/// How many moments are looked at, at most: for all findings of a text, in one search, and for all in the last searches, which take paths
+/// that might not be the shortest, if the others didn't come to an end.
 const OF_TEXT: usize = 200_000;
 
 const OF_SEARCH: usize = 50_000;
@@ -19,19 +19,19 @@ pub(crate) enum Found {
     Two(Path, Path),
 }
 
-/// Where searches for a finding came to.
+/// The results of the searches for a finding.
 #[derive(Drop)]
 pub(crate) enum Sought {
-    /// Past nothing that is broken.
+    /// Only past points where no rule is broken.
     Clean(Found),
     Behind(Found),
-    /// Nothing more can be reached: all that was stands in the cover of this number.
+    /// Nothing more can be reached: all that was reached is in the cover of this number.
     Nothing(usize),
     Unknown,
 }
 
 impl Sought {
-    /// Something was found: where `clean`, past nothing that is broken.
+    /// A result with paths: if `clean`, only past points where no rule is broken.
     pub(crate) fn of(clean: bool, found: Found) -> Sought {
         if clean {
             Sought::Clean(found)
@@ -73,13 +73,13 @@ impl Budget {
         }
     }
 
-    /// So many were looked at.
+    /// Takes the moments that were looked at from the budget.
     pub(crate) fn take(&mut self, looked: usize) {
         self.left = self.left.saturating_sub(looked);
     }
 }
 
-/// What the searches for the findings of a text came to, by their numbers, and the covers that this names.
+/// The results of the searches for the findings of a text, by their numbers, and the covers that these name.
 #[derive(Drop)]
 pub(crate) struct Outcomes {
     pub(crate) sought: Vec<Option<Sought>>,
@@ -87,7 +87,7 @@ pub(crate) struct Outcomes {
 }
 
 impl Outcomes {
-    /// Writes down what the searches for the finding of a number came to.
+    /// Writes down the result of the searches for the finding of a number.
     pub(crate) fn put(&mut self, number: usize, sought: Sought) {
         let mut sought = Some(sought);
         if let Some(place) = self.sought.get_mut(number) {

@@ -1,14 +1,14 @@
-//! A table that finds numbers by what they stand for, by open addressing.
+//! A table of numbers by their keys, with open addressing.
 
 use std::alloc::{AllocError, Global};
 
 /// How many slots a table has at first.
 const SLOTS: usize = 256;
 
-/// How many numbers are tried at most, since a table is never more than half full.
+/// How many slots are tried at most, since a table is never more than half full.
 const TRIES: usize = 1_000_000;
 
-/// What tells the things apart for which numbers stand: a point, what is possible there, and a list of locks.
+/// The key of a number: a point, all that is possible there, and a list of locks.
 #[derive(Clone, Copy)]
 pub(crate) struct Key {
     pub(crate) point: usize,
@@ -22,7 +22,7 @@ struct Slot {
     number: usize,
 }
 
-/// Where the number of a key stands, or where it would be put.
+/// The slot of a key's number, or the one where it would be put.
 #[derive(Clone, Copy)]
 enum Place {
     Found(usize),
@@ -41,7 +41,7 @@ impl Key {
         self.point == other.point && self.possible == other.possible && self.list == other.list
     }
 
-    /// Spread over all bits of a number.
+    /// The key spread over all bits of a number.
     fn spread(self) -> u64 {
         let number = (self.point as u64) ^ (self.list as u64).rotate_left(16);
         let first = (number ^ self.possible).wrapping_mul(0x9E37_79B9_7F4A_7C15);
@@ -99,7 +99,7 @@ impl Table {
         }
     }
 
-    /// Twice as many slots.
+    /// Doubles the number of slots.
     fn grow(&mut self, alloc: Global) -> Result<(), AllocError> {
         let more = slots_of(alloc, self.slots.len().saturating_mul(2))?;
         let old = std::mem::replace(&mut self.slots, more);

@@ -1,5 +1,4 @@
-//! The findings of a callback for which ways are sought, put together by what must be followed for them: one search for all of which that is
-//! the same.
+//! The findings of a callback for which paths are sought, in groups that need the same parts followed, with one search for each group.
 
 use crate::aims::{Aim, Aims, asked};
 use crate::choices::{branches_to, path_along};
@@ -10,21 +9,22 @@ use crate::sought::{Budget, Budgets, Found, Outcomes, Sought};
 use flt_explain::Finding;
 use std::alloc::{AllocError, Global};
 
-/// How often a finding can be sought anew: what is refused is looked at first, and then what is followed grows, once for each part.
+/// How often a finding can be sought anew: first with the refused outcome looked at first, and then with more parts followed, once for each
+/// part.
 const TURNS: usize = 20;
 
-/// Where the searches for a finding stand.
+/// The state of the searches for a finding.
 #[derive(Clone, Copy)]
 enum Standing {
     Open,
-    /// Nothing more can be reached: all that was stands in the cover of this number, if rules may be broken before.
+    /// Nothing more can be reached: all that was reached is in the cover of this number, if rules may be broken before.
     Ended(usize),
     /// A search was ended.
     Cut,
     Found,
 }
 
-/// A finding of the callback, where it stands among all, and what is followed for it.
+/// A finding of the callback, its number among all, and the parts that are followed for it.
 #[derive(Clone, Copy)]
 struct Task {
     number: usize,
@@ -50,7 +50,7 @@ impl Task {
         self.is_open() && self.followed.is_same(followed) && self.refused_first == refused_first
     }
 
-    /// What is sought next where a way was stopped: the same with what is refused first, then more is followed.
+    /// Changes the search after a path was stopped: at first to look at the refused outcome first, later to follow more.
     fn stopped_by(&mut self, stop: Stop) {
         if self.refused_first {
             self.followed = self.followed.with(stop);
@@ -104,7 +104,7 @@ impl Tasks {
         Ok(aims)
     }
 
-    /// A task stands otherwise from now on.
+    /// Changes the state of a task.
     fn stand(&mut self, at: usize, standing: Standing) {
         if let Some(task) = self.tasks.get_mut(at) {
             task.standing = standing;
@@ -124,7 +124,7 @@ impl Tasks {
         }
     }
 
-    /// What becomes of a task by what a search came to.
+    /// Updates a task by the result of a search.
     fn settle(
         &mut self,
         alloc: Global,
@@ -169,8 +169,8 @@ impl Tasks {
         Ok(())
     }
 
-    /// Search after search, until no task is open: where `clean`, past nothing that is broken; where `open_alone`, by the ways alone that
-    /// nothing stops, which may not be shortest.
+    /// Searches again and again, until no task is open: if `clean`, only past points where no rule is broken; if `open_alone`, only by
+    /// paths that nothing stops, which might not be the shortest.
     fn seek(
         &mut self,
         alloc: Global,
@@ -195,7 +195,7 @@ impl Tasks {
         Ok(())
     }
 
-    /// Opens the tasks again whose searches came to their end, or where `cut` those whose searches were ended.
+    /// Opens the tasks again whose searches came to their end, or if `cut` those whose searches were ended.
     fn open_again(&mut self, cut: bool) {
         for task in self.tasks.iter_mut() {
             let is_meant = match task.standing {
@@ -211,7 +211,7 @@ impl Tasks {
         }
     }
 
-    /// Writes down what became of each task that has no path.
+    /// Writes down the result of each task that has no path.
     fn write_down(&self, outcomes: &mut Outcomes) {
         for task in self.tasks.iter() {
             let came = match task.standing {
@@ -225,7 +225,7 @@ impl Tasks {
         }
     }
 
-    /// Looks for a path to each finding: past nothing that is broken, then otherwise.
+    /// Looks for a path to each finding: first only past points where no rule is broken, then past any.
     pub(crate) fn seek_all(
         &mut self,
         alloc: Global,
@@ -245,8 +245,8 @@ impl Tasks {
     }
 }
 
-/// The number of the cover of all that a search reached, if it came to its end; no cover is written down where each aim is met, or where
-/// the search went past nothing that is broken.
+/// The number of the cover of all that a search reached, if it came to its end. No cover is written down if each aim is met, or if the
+/// search was clean.
 fn cover_of(
     alloc: Global,
     ground: &Ground<'_>,

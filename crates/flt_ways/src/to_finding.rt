@@ -1,4 +1,4 @@
-//! Ways that show a finding, checked by walking them.
+//! Paths that show a finding, checked by walking them.
 
 ghost use Rattle.std.specs.List.{AllZip};
 ghost use Rattle.std.specs.Prelude.{◌≡◌, map, IfOk, IfSome, IsTrue};
@@ -19,7 +19,7 @@ use flt_graph::Graph;
 use sqlite_items::Items;
 use std::alloc::{AllocError, Global};
 
-/// The way that a path is, if it can be gone.
+/// The `Way` of a path, if it can be walked.
 fn walked(alloc: Global, graph: &Graph, callback: usize, clean: bool, path: Path) -> Option<Way>
     ensures { IfSome result (spec.IsWay graph.now callback clean) }
 {
@@ -35,7 +35,7 @@ fn walked(alloc: Global, graph: &Graph, callback: usize, clean: bool, path: Path
     Some(Way { start, steps, end })
 }
 
-/// The way that a path is, if it shows the finding.
+/// The `Way` of a path, if it shows the finding.
 fn shown(
     alloc: Global,
     graph: &Graph,
@@ -54,7 +54,7 @@ fn shown(
     Ok(Some(Ways { way, other: None }))
 }
 
-/// Whether two ways meet as the finding says.
+/// Whether two paths meet as the finding says.
 fn do_meet(finding: &Finding, way: &Way, other: &Way) -> bool
     ensures from { IsTrue result → IsTrue (spec.is_last way.now.steps finding.now.point) }
     ensures there { IsTrue result → way.now.end.point ≡ other.now.end.point }
@@ -65,7 +65,7 @@ fn do_meet(finding: &Finding, way: &Way, other: &Way) -> bool
         && are_apart(finding.subject, &way.end.situation, &other.end.situation)
 }
 
-/// The ways that two paths are, if they meet as the finding says.
+/// The `Way`s of two paths, if they meet as the finding says.
 fn met(
     alloc: Global,
     graph: &Graph,
@@ -88,7 +88,7 @@ fn met(
     }
 }
 
-/// What was found, checked.
+/// The paths that were found, if a check confirms them.
 fn confirmed(
     alloc: Global,
     graph: &Graph,
@@ -104,7 +104,7 @@ fn confirmed(
     }
 }
 
-/// What is told of a finding where all that the searches for it reached stands in the cover of a number.
+/// The answer for a finding if all that its searches reached is in the cover of a number.
 fn without_way(
     graph: &Graph,
     finding: &Finding,
@@ -122,7 +122,7 @@ fn without_way(
     }
 }
 
-/// What is told of a finding, by what the searches for it came to.
+/// The answer for a finding, by the result of its searches.
 fn answer(
     alloc: Global,
     graph: &Graph,
@@ -148,7 +148,7 @@ fn answer(
     }
 }
 
-/// What the searches for the finding of a number came to.
+/// Takes the result of the searches for the finding of a number.
 fn taken_from(sought: &mut Vec<Option<Sought>>, number: usize) -> Sought {
     match sought.get_mut(number) {
         Some(place) => place.take().unwrap_or(Sought::Unknown),
@@ -156,14 +156,14 @@ fn taken_from(sought: &mut Vec<Option<Sought>>, number: usize) -> Sought {
     }
 }
 
-/// What shows each finding of a text, in their order: a way to its point, or, where ways meet with other locks, two to the point where they
-/// meet, the first of which comes from the finding's point. Numbers aren't followed, so a test of them may come out either way; nor is how
-/// many turns a `repeat` has left. Where `Unreached` is answered there is no way; no clause says that a way is found where there is one,
-/// nor that it is a shortest one.
+/// The answer for each finding of a text, in their order: a path to its point, or, if paths meet with different locks, two to the point
+/// where they meet, the first of which comes from the finding's point. Numbers aren't followed, so a test of them may have either outcome;
+/// nor are the turns that a `repeat` has left. If the answer is `Unreached`, there is no path; no clause says that a path is found if there
+/// is one, nor that it is a shortest one.
 ///
 /// # Errors
 ///
-/// Where a growth was refused.
+/// `AllocError` if a growth is refused.
 pub fn ways(alloc: Global, graph: &Graph, found: &[Finding]) -> Result<Items<Answer>, AllocError>
     ensures { IfOk result (AllZip (told.IsAnswer graph.now) found.now) }
 {

@@ -8,10 +8,10 @@ ghost use Rattle.flt_words.specs.Program as spec;
 use clap::{Arg, ArgAction, Command, value_parser};
 use std::alloc::{AllocError, Global};
 
-/// What `--version` prints behind the program's name.
+/// The version that `--version` prints after the program's name.
 const VERSION: &str = "0.1.0";
 
-/// What is said of FILE.. where the texts are those of one stack.
+/// The help of FILE.. in a command whose texts are those of one stack.
 const STACK: &str = "The filters' texts, up to 16";
 
 // ---- arguments
@@ -71,7 +71,7 @@ fn script_argument<'a>(alloc: Global) -> Arg<'a>
     ensures own { result.global ≡ false }
 {
     Arg::new(alloc, "SCRIPT").required(true).help(
-        "What is asked of the filters, line by line; `-` is the standard input",
+        "The requests to the filters, line by line; `-` is the standard input",
     )
 }
 
@@ -84,7 +84,7 @@ fn workers_argument<'a>(alloc: Global) -> Arg<'a>
         .long("workers")
         .value_name("N")
         .value_parser(value_parser!(u8).range(1..=16))
-        .help("How many workers drive them, each in a thread of its own; 1 where nothing is said")
+        .help("How many workers drive them, each in a thread of its own; 1 by default")
 }
 
 /// The flag `--quiet`.
@@ -95,7 +95,7 @@ fn quiet_argument<'a>(alloc: Global) -> Arg<'a>
     Arg::new(alloc, "quiet")
         .long("quiet")
         .action(ArgAction::SetTrue)
-        .help("Tell a terminal nothing of how far the run has come")
+        .help("Don't report the run's progress on a terminal")
 }
 
 /// The option `--form`.
@@ -104,7 +104,7 @@ fn form_argument<'a>(alloc: Global) -> Arg<'a>
     ensures own { result.global ≡ false }
 {
     Arg::new(alloc, "form").long("form").value_name("FORM").help(
-        "How it is told: `human`, `short` (a line a finding), or `lines` (JSON) or `sarif` for other programs",
+        "How it is reported: `human`, `short` (a line a finding), or `lines` (JSON) or `sarif` for other programs",
     )
 }
 
@@ -131,7 +131,7 @@ fn states_argument<'a>(alloc: Global) -> Arg<'a>
         .value_name("N")
         .value_parser(value_parser!(u32).range(1..=100_000_000))
         .help(
-            "How many states the search for runs of a FILE goes on from at most; 40000 where nothing is said",
+            "How many states the search for runs of a FILE continues from at most; 40000 by default",
         )
 }
 
@@ -236,7 +236,7 @@ fn part_argument<'a>(alloc: Global) -> Arg<'a>
 
 // ---- commands
 
-/// A command with an argument more, if memory was there for both.
+/// A command with one more argument, if memory sufficed for both.
 #[inline(always)]
 #[tactic(auto, using(crate::proofs::Commands::with_last_argument))]
 fn with_argument<'a>(
@@ -275,7 +275,7 @@ fn analyse_command<'a>(alloc: Global) -> Result<Command<'a>, AllocError>
         .about("Finds the least certificate that covers a filter's text")
         .override_usage("fltstack analyse <FILE>")
         .after_help(
-            "Prints the certificate, thinned (exit 0), or the point and rule for which there is none (exit 1).\nErrors go to the standard error with exit 2.\n\n`fltstack explain <FILE>` says where that comes from, how to get there and how to mend it.\n\nExample: fltstack analyse examples/pending_reads.flt",
+            "Prints the certificate, thinned (exit 0), or the point and rule for which there is none (exit 1).\nErrors go to the standard error with exit 2.\n\n`fltstack explain <FILE>` says where that comes from, how to get there and how to fix it.\n\nExample: fltstack analyse examples/pending_reads.flt",
         )
         .arg(text_argument(alloc))
 }
@@ -330,7 +330,7 @@ fn bare_replay<'a>(alloc: Global) -> Command<'a>
         .about("Says whether a journal is a run of the machine on some filters that breaks nothing")
         .override_usage("fltstack replay [--timeline] [--svg <PICTURE>] <JOURNAL> <FILE>...")
         .after_help(
-            "Prints `legal` (exit 0), or `not a run at N` or `breaks Vk at N` for the first such entry (exit 1),\nbehind the rows where they are asked for. Errors go to the standard error with exit 2.\n\n`--timeline` says why an entry isn't enabled, and `fltstack explain <JOURNAL>` why a line is malformed.\n\nExample: fltstack replay examples/pending_reads.journal examples/pending_reads.flt",
+            "Prints `legal` (exit 0), or `not a run at N` or `breaks Vk at N` for the first such entry (exit 1),\nafter the rows if they are requested. Errors go to the standard error with exit 2.\n\n`--timeline` says why an entry isn't enabled, and `fltstack explain <JOURNAL>` why a line is malformed.\n\nExample: fltstack replay examples/pending_reads.journal examples/pending_reads.flt",
         )
 }
 
@@ -349,7 +349,7 @@ fn bare_explain<'a>(alloc: Global) -> Command<'a>
 {
     Command::new(alloc, "explain")
         .about(
-            "Says all that is wrong with filters' texts, where it comes from, how to get there and how to mend it",
+            "Says all that is wrong with filters' texts, where it comes from, how to get there and how to fix it",
         )
         .override_usage(
             "fltstack explain [--form <FORM>] [--color <WHEN>] [--states <N>] [--journal <JOURNAL>] [--strict] [--allow <KIND>]... <FILE>...\n       fltstack explain <R01 to R15, W00 to W07, V1 to V8, E01 to E08, a call or a status>...",
@@ -385,7 +385,7 @@ fn bare_extract<'a>(alloc: Global) -> Command<'a>
         .about("Prints the text that the annotations of C files make")
         .override_usage("fltstack extract [--map] <FILE>...")
         .after_help(
-            "An annotation is what stands behind `//@flt` in its line, or behind `/*@flt` up to `*/`. Prints all of them, in\nthe order of the files (exit 0). Errors go to the standard error with exit 2.\n\nExample: fltstack extract examples/c/counts_opens.c",
+            "An annotation is the text after `//@flt` in its line, or after `/*@flt` up to `*/`. Prints all of them, in\nthe order of the files (exit 0). Errors go to the standard error with exit 2.\n\nExample: fltstack extract examples/c/counts_opens.c",
         )
 }
 
@@ -409,7 +409,7 @@ fn bare_format<'a>(alloc: Global) -> Command<'a>
             "fltstack format <FILE>\n       fltstack format --check <FILE>...\n       fltstack format --write <FILE>...",
         )
         .after_help(
-            "Prints the layout of one FILE, with the certificate after its text (exit 0). `--check` prints `not formatted`\nand the name of each file that differs from its layout (exit 1 if there is one). `--write` changes these files,\nand leaves a symbolic link as it is. Errors go to the standard error with exit 2; `--check` and `--write` go on\nwith the other files.\n\nExample: fltstack format examples/pending_reads.flt",
+            "Prints the layout of one FILE, with the certificate after its text (exit 0). `--check` prints `not formatted`\nand the name of each file that differs from its layout (exit 1 if there is one). `--write` changes these files,\nand leaves a symbolic link as it is. Errors go to the standard error with exit 2; `--check` and `--write` continue\nwith the other files.\n\nExample: fltstack format examples/pending_reads.flt",
         )
 }
 
@@ -458,13 +458,13 @@ fn bare_program<'a>(alloc: Global) -> Command<'a>
             "A static verifier for Windows file-system minifilters, and the stack that runs what it accepts",
         )
         .after_help(
-            "With no words it acts as `check -`. `fltstack <COMMAND> --help` says more of a command.\n\nExit status: 0 for `accepted`, a certificate, a journal, a text, a source, `legal` or nothing found; 1 for any other answer;\n2 where there is none, and the standard error says why.\n\nExample: fltstack analyse examples/pending_reads.flt",
+            "With no words it acts as `check -`. `fltstack <COMMAND> --help` says more of a command.\n\nExit status: 0 for `accepted`, a certificate, a journal, a text, a source, `legal` or nothing found; 1 for any other answer;\n2 if there is none, and the standard error says why.\n\nExample: fltstack analyse examples/pending_reads.flt",
         )
         .subcommand_required(true)
         .no_binary_name(true)
 }
 
-/// A program with a command more, if memory was there for both.
+/// A program with one more command, if memory sufficed for both.
 #[inline(always)]
 fn with_command<'a>(
     program: Result<Command<'a>, AllocError>,
@@ -502,8 +502,8 @@ fn program_with<'a>(
     with_command(Ok(bare_program(alloc)), command)
 }
 
-/// The program as far as words need it that begin with this one: with the command that it names alone, since each that is built takes some
-/// 10,000 instructions, or whole where it names none.
+/// The program for words whose first is this one. It has only the command that the word names, since each command that is built takes some
+/// 10,000 instructions, or all commands if the word names none.
 #[inline(always)]
 pub(crate) fn program_for<'a>(alloc: Global, word: &str) -> Result<Command<'a>, AllocError>
     ensures { IfOk result (λ c. spec.IsCommand c (spec.app_for word.now)) }

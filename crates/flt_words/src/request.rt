@@ -1,8 +1,8 @@
-//! What the words of a command line ask for.
+//! The request that the words of a command line make.
 
 use crate::workers::Workers;
 
-/// How what is found is told.
+/// The form of a report of findings.
 #[derive(Clone, Copy, Debug)]
 pub enum Form {
     /// For people.
@@ -11,7 +11,7 @@ pub enum Form {
     Lines,
     /// SARIF 2.1.0.
     Sarif,
-    /// A line a finding, as compilers say it.
+    /// One line a finding, in the form of compilers.
     Short,
 }
 
@@ -24,7 +24,7 @@ pub enum Colour {
     Never,
 }
 
-/// What `explain` is asked of warnings.
+/// The settings of `explain` for warnings.
 #[derive(Debug, Drop)]
 pub struct WarningChoice<'a> {
     /// Whether a warning that is shown counts as a finding does for the exit status.
@@ -33,12 +33,12 @@ pub struct WarningChoice<'a> {
     pub allowed: Vec<&'a str>,
 }
 
-/// Where the layouts of texts go.
+/// Where the layouts of texts are written.
 #[derive(Clone, Copy, Debug)]
 pub enum FormatMode {
     /// To the standard output.
     Print,
-    /// Nowhere: it is said which files differ from theirs.
+    /// Nowhere: the files that differ from their layouts are listed.
     Check,
     /// Into the files.
     Write,
@@ -55,7 +55,7 @@ pub enum Part {
     Inf,
 }
 
-/// What the words ask for.
+/// A request, with its arguments.
 #[derive(Debug, Drop)]
 pub enum Request<'a> {
     /// Check the text of a file, with the certificate of another one or of the same.
@@ -76,12 +76,12 @@ pub enum Request<'a> {
     Run {
         /// How many workers drive them.
         workers: Workers,
-        /// Whether a terminal is told nothing of how far the run has come.
+        /// Whether a terminal shows no progress of the run.
         quiet: bool,
         script: &'a str,
         files: Vec<&'a str>,
     },
-    /// Say what a journal is on the texts of some files.
+    /// Replay a journal on the texts of some files, and report the outcome.
     Replay {
         journal: &'a str,
         files: Vec<&'a str>,
@@ -94,11 +94,11 @@ pub enum Request<'a> {
         journal: &'a str,
         files: Vec<&'a str>,
     },
-    /// Say all that is wrong with the texts of some files, and what comes of it in runs.
+    /// Report all faults and violations of the texts of some files, and what they lead to in runs.
     Explain {
         form: Form,
         colour: Colour,
-        /// How many states the search for runs of a text goes on from at most.
+        /// The number of states that the search for runs of a text expands at most.
         states: u32,
         /// The file into which the journal of the first finding that has one is written.
         journal: Option<&'a str>,
@@ -114,14 +114,14 @@ pub enum Request<'a> {
     /// Lay out the texts of some files.
     Format {
         mode: FormatMode,
-        /// One, where the layout is printed.
+        /// One file, if the layout is printed.
         files: Vec<&'a str>,
     },
     /// Print the pages of some names: of rules, violations, faults of a text, calls or statuses.
     Pages {
         names: Vec<&'a str>,
     },
-    /// They can't be taken, or ask for help or the version: the text that says so.
+    /// The words are malformed, or request help or the version: the text to print for them.
     Usage(String),
     /// Emit a part of the driver that the text of a file is, with the certificate of another one or after an analysis.
     Emit {

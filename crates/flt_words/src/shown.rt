@@ -1,12 +1,12 @@
-//! Words of others, as they stand on a terminal.
+//! Words from outside, made safe for a terminal.
 
 ghost use Rattle.std.specs.Prelude.{◌≡◌, ◌++◌, IfOk, OnOk, string_bytes};
 ghost use Rattle.flt_words.specs.Shown as spec;
 
 use std::alloc::{AllocError, Global};
 
-/// Whether a terminal may act on a character in place of showing it: on a control, on one that turns the direction of those behind it, and
-/// on one that ends a line.
+/// Whether a terminal may act on a character in place of showing it: on a control, on one that changes the direction of the characters
+/// after it, and on one that ends a line.
 fn is_hidden(letter: char) -> bool
     ensures { result ≡ spec.is_hidden letter }
 {
@@ -18,7 +18,7 @@ fn is_hidden(letter: char) -> bool
     }
 }
 
-/// Puts a character behind others, or what stands for it.
+/// Appends a character, or its escape if it is hidden.
 fn put(alloc: Global, shown: &mut String, letter: char) -> Result<(), AllocError>
     ensures { OnOk result (string_bytes shown.new ≡ string_bytes shown.old ++ spec.shown letter) }
 {
@@ -34,7 +34,7 @@ fn put(alloc: Global, shown: &mut String, letter: char) -> Result<(), AllocError
 ///
 /// # Errors
 ///
-/// A growth was refused.
+/// `AllocError` if a growth is refused.
 pub fn visible(alloc: Global, words: &str) -> Result<String, AllocError>
     ensures { IfOk result (λ shown. string_bytes shown ≡ spec.visible words.now) }
 {

@@ -1,4 +1,4 @@
-//! What the words of a command line ask for.
+//! Reads the words of a command line as a request.
 
 ghost use Rattle.std.specs.Prelude.{◌≡◌, false, true, Some, IfOk, map, option_and_then, option_map, string_bytes};
 ghost use Rattle.std.specs.List.{list_all, list_any};
@@ -18,42 +18,42 @@ use clap::error::ErrorKind;
 use flt_pages::page;
 use std::alloc::{AllocError, Global};
 
-/// What is said where another number of workers is asked for.
+/// The error if the number of workers isn't 1 to 16.
 const FEW_WORKERS: &str =
     "error: `--workers` takes 1 to 16\n\nUsage: fltstack run [--workers <N>] [--quiet] <SCRIPT> <FILE>...\n\nFor more information, try '--help'.\n";
 
-/// How many states the search for runs of a text goes on from at most, where the words say nothing of it.
+/// The number of states that the search for runs of a text expands at most, unless the words give another.
 pub const DEFAULT_STATES: u32 = 40_000;
 
-/// What is said where a form is asked for that there isn't.
+/// The error if no form has the given name.
 const NO_FORM: &str =
     "error: `--form` takes `human`, `short`, `lines` or `sarif`\n\nUsage: fltstack explain [--form <FORM>] [--color <WHEN>] [--states <N>] [--journal <JOURNAL>] [--strict] [--allow <KIND>]... <FILE>...\n\nFor more information, try '--help'.\n";
 
-/// The same of when there are colours.
+/// The error if no time of colours has the given name.
 const NO_COLOUR: &str =
     "error: `--color` takes `auto`, `always` or `never`\n\nUsage: fltstack explain [--form <FORM>] [--color <WHEN>] [--states <N>] [--journal <JOURNAL>] [--strict] [--allow <KIND>]... <FILE>...\n\nFor more information, try '--help'.\n";
 
-/// The same of a kind of warning.
+/// The error if no kind of warning has the given name.
 const NO_KIND: &str =
     "error: `--allow` takes `W00` to `W07`\n\nUsage: fltstack explain [--form <FORM>] [--color <WHEN>] [--states <N>] [--journal <JOURNAL>] [--strict] [--allow <KIND>]... <FILE>...\n\nFor more information, try '--help'.\n";
 
-/// What is said where the standard input is named for a journal that is written.
+/// The error if a journal would be written to the standard input.
 const NO_JOURNAL: &str =
     "error: `--journal` takes the name of a file\n\nUsage: fltstack explain [--form <FORM>] [--color <WHEN>] [--states <N>] [--journal <JOURNAL>] [--strict] [--allow <KIND>]... <FILE>...\n\nFor more information, try '--help'.\n";
 
-/// The same of a picture.
+/// The error if a picture would be written to the standard input.
 const NO_PICTURE: &str =
     "error: `--svg` takes the name of a file\n\nUsage: fltstack replay [--timeline] [--svg <PICTURE>] <JOURNAL> <FILE>...\n\nFor more information, try '--help'.\n";
 
-/// What is said where files are to be both checked and written.
+/// The error if files would be both checked and written.
 const BOTH_MODES: &str =
     "error: `format` takes `--check` or `--write`, not both\n\nUsage: fltstack format <FILE>\n       fltstack format --check <FILE>...\n       fltstack format --write <FILE>...\n\nFor more information, try '--help'.\n";
 
-/// The same where several layouts are to be printed.
+/// The error if layouts of several files would be printed.
 const FEW_LAYOUTS: &str =
     "error: `format` prints the layout of one FILE; several take `--check` or `--write`\n\nUsage: fltstack format <FILE>\n       fltstack format --check <FILE>...\n       fltstack format --write <FILE>...\n\nFor more information, try '--help'.\n";
 
-/// The same where the standard input is to be written.
+/// The error if a layout would be written to the standard input.
 const NO_INPUT: &str =
     "error: `--write` takes the names of files\n\nUsage: fltstack format <FILE>\n       fltstack format --check <FILE>...\n       fltstack format --write <FILE>...\n\nFor more information, try '--help'.\n";
 
@@ -61,7 +61,7 @@ const NO_INPUT: &str =
 const NO_PART: &str =
     "error: `--part` takes `source`, `user` or `inf`\n\nUsage: fltstack emit [--part <PART>] <FILE> [CERT]\n\nFor more information, try '--help'.\n";
 
-/// What is said of words that can't be taken, where nothing else is.
+/// The error for malformed words if `clap` reports none for them.
 const NO_WORDS: &str = "error: these words can't be taken\n\nFor more information, try '--help'.\n";
 
 // ---- values
@@ -94,7 +94,7 @@ fn files_of<'a>(alloc: Global, matches: &ArgMatches<'a>) -> Result<Vec<&'a str>,
     texts_of(alloc, matches, "FILE")
 }
 
-/// The number behind `--workers`; 1 where nothing is said.
+/// The number after `--workers`: 1 without the option, 0 if it is no number.
 fn workers_of(matches: &ArgMatches) -> u8
     ensures { result ≡ spec.workers_of (rows_of (found_of matches.now)) }
 {
@@ -104,7 +104,7 @@ fn workers_of(matches: &ArgMatches) -> u8
     }
 }
 
-/// How many states a search goes on from.
+/// The number of states that a search expands at most: 0 if `--states` is no number.
 fn states_of(matches: &ArgMatches) -> u32
     ensures { result ≡ spec.states_of (rows_of (found_of matches.now)) }
 {
@@ -137,7 +137,7 @@ fn form_named(name: &str) -> Option<Form>
     }
 }
 
-/// The form that is asked for, if there is such a form; that for people where nothing is said.
+/// The form that `--form` names, if there is such a form. Without the option it is the form for people.
 fn form_of(matches: &ArgMatches) -> Option<Form>
     ensures { result ≡ spec.form_of (rows_of (found_of matches.now)) }
 {
@@ -159,7 +159,7 @@ fn colour_named(name: &str) -> Option<Colour>
     }
 }
 
-/// When there are colours, if such a time is named; on a terminal where nothing is said.
+/// When there are colours, if `--color` names such a time. Without the option there are colours on a terminal.
 fn colour_of(matches: &ArgMatches) -> Option<Colour>
     ensures { result ≡ spec.colour_of (rows_of (found_of matches.now)) }
 {
@@ -207,7 +207,7 @@ fn are_kinds(names: &[&str]) -> bool
     names.iter().all(|name| is_kind(name))
 }
 
-/// Some names of kinds of warnings; none at all where one isn't the name of a kind.
+/// The names, if each is that of a kind of warning.
 fn kinds_in<'a>(names: Vec<&'a str>) -> Option<Vec<&'a str>>
     ensures { option_map (λ kinds. map (λ name. name.now) kinds.items) result ≡ spec.kinds_in (map (λ name. name.now) names.entry.items) }
 {
@@ -218,7 +218,7 @@ fn kinds_in<'a>(names: Vec<&'a str>) -> Option<Vec<&'a str>>
     }
 }
 
-/// The kinds of warnings that are left out, by name, if there are such kinds.
+/// The kinds of warnings that `--allow` leaves out, by name, if each is such a kind.
 fn allowed_of<'a>(
     alloc: Global,
     matches: &ArgMatches<'a>,
@@ -228,7 +228,7 @@ fn allowed_of<'a>(
     Ok(kinds_in(texts_of(alloc, matches, "allow")?))
 }
 
-/// The file that is written, if one is named for it; none at all where `-` is.
+/// The file to write, if one is named. `None` if the name is `-`.
 fn written_by<'a>(name: Option<&'a str>) -> Option<Option<&'a str>>
     ensures { option_map (λ file. option_map (λ name. name.now) file) result ≡ spec.written_by (option_map (λ name. name.now) name.entry) }
 {
@@ -238,7 +238,7 @@ fn written_by<'a>(name: Option<&'a str>) -> Option<Option<&'a str>>
     }
 }
 
-/// The same of the file behind an option.
+/// The same for the file that an option names.
 fn written_of<'a>(matches: &ArgMatches<'a>, id: &str) -> Option<Option<&'a str>>
     ensures { option_map (λ file. option_map (λ name. name.now) file) result ≡ spec.written_of id.now (rows_of (found_of matches.now)) }
 {
@@ -247,7 +247,7 @@ fn written_of<'a>(matches: &ArgMatches<'a>, id: &str) -> Option<Option<&'a str>>
 
 // ---- commands
 
-/// What the matches of `check` ask for.
+/// The request of the matches of `check`.
 fn asked_check<'a>(check: &ArgMatches<'a>) -> Request<'a>
     ensures { asked_of result ≡ Some (spec.check_of (rows_of (found_of check.now))) }
 {
@@ -257,7 +257,7 @@ fn asked_check<'a>(check: &ArgMatches<'a>) -> Request<'a>
     }
 }
 
-/// What the matches of `analyse` ask for.
+/// The request of the matches of `analyse`.
 fn asked_analyse<'a>(analyse: &ArgMatches<'a>) -> Request<'a>
     ensures { asked_of result ≡ Some (spec.analyse_of (rows_of (found_of analyse.now))) }
 {
@@ -266,7 +266,7 @@ fn asked_analyse<'a>(analyse: &ArgMatches<'a>) -> Request<'a>
     }
 }
 
-/// What the matches of `thin` ask for.
+/// The request of the matches of `thin`.
 fn asked_thin<'a>(thin: &ArgMatches<'a>) -> Request<'a>
     ensures { asked_of result ≡ Some (spec.thin_of (rows_of (found_of thin.now))) }
 {
@@ -293,7 +293,7 @@ fn have_pages(names: &[&str]) -> bool
     }
 }
 
-/// What `explain` of some names asks for.
+/// The request of `explain` with some names.
 fn explain_of<'a>(
     form: Form,
     colour: Colour,
@@ -318,7 +318,7 @@ fn explain_of<'a>(
     }
 }
 
-/// What the matches of `explain` ask for, in a form, with colours at some time, and with the file into which a journal is written.
+/// The request of the matches of `explain`, given the form, the time of colours, and the file into which a journal is written.
 #[tactic(auto, unfolding(crate::specs::Words::explain_with))]
 fn explain_with<'a>(
     alloc: Global,
@@ -341,7 +341,7 @@ fn explain_with<'a>(
     Ok(explain_of(form, colour, states_of(explain), journal, warnings, files))
 }
 
-/// What the matches of `explain` ask for, in a form, with colours at some time.
+/// The request of the matches of `explain`, given the form and the time of colours.
 #[tactic(auto, unfolding(crate::specs::Words::explain_in))]
 fn explain_in<'a>(
     alloc: Global,
@@ -357,7 +357,7 @@ fn explain_in<'a>(
     explain_with(alloc, explain, form, colour, journal)
 }
 
-/// What the matches of `explain` ask for, in a form.
+/// The request of the matches of `explain`, given the form.
 #[tactic(auto, unfolding(crate::specs::Words::explain_as))]
 fn explain_as<'a>(
     alloc: Global,
@@ -372,7 +372,7 @@ fn explain_as<'a>(
     explain_in(alloc, explain, form, colour)
 }
 
-/// What the matches of `explain` ask for.
+/// The request of the matches of `explain`.
 fn asked_explain<'a>(alloc: Global, explain: &ArgMatches<'a>) -> Result<Request<'a>, AllocError>
     ensures { IfOk result (λ r. asked_of r ≡ spec.explain_by (rows_of (found_of explain.now))) }
 {
@@ -382,7 +382,7 @@ fn asked_explain<'a>(alloc: Global, explain: &ArgMatches<'a>) -> Result<Request<
     explain_as(alloc, explain, form)
 }
 
-/// What the matches of `run` ask for.
+/// The request of the matches of `run`.
 fn asked_run<'a>(alloc: Global, run: &ArgMatches<'a>) -> Result<Request<'a>, AllocError>
     ensures { IfOk result (λ r. asked_of r ≡ spec.run_of (rows_of (found_of run.now))) }
 {
@@ -397,7 +397,7 @@ fn asked_run<'a>(alloc: Global, run: &ArgMatches<'a>) -> Result<Request<'a>, All
     })
 }
 
-/// What `replay` of a journal on some files asks for.
+/// The request of `replay` with a journal and some files.
 fn replay_by<'a>(
     timeline: bool,
     picture: Option<&'a str>,
@@ -418,7 +418,7 @@ fn replay_by<'a>(
     }
 }
 
-/// What the matches of `replay` ask for.
+/// The request of the matches of `replay`.
 fn asked_replay<'a>(alloc: Global, replay: &ArgMatches<'a>) -> Result<Request<'a>, AllocError>
     ensures { IfOk result (λ r. asked_of r ≡ spec.replay_of (rows_of (found_of replay.now))) }
 {
@@ -434,7 +434,7 @@ fn asked_replay<'a>(alloc: Global, replay: &ArgMatches<'a>) -> Result<Request<'a
     ))
 }
 
-/// What the matches of `extract` ask for.
+/// The request of the matches of `extract`.
 fn asked_extract<'a>(alloc: Global, extract: &ArgMatches<'a>) -> Result<Request<'a>, AllocError>
     ensures { IfOk result (λ r. asked_of r ≡ Some (spec.extract_of (rows_of (found_of extract.now)))) }
 {
@@ -458,7 +458,7 @@ fn names_input(names: &[&str]) -> bool
     names.iter().any(|name| is_input(name))
 }
 
-/// What `format` of some files asks for that are written.
+/// The request of `format` with `--write` and some files.
 fn written_format<'a>(alloc: Global, files: Vec<&'a str>) -> Result<Request<'a>, AllocError>
     ensures { IfOk result (λ r. asked_of r ≡ spec.format_by false true (map (λ name. name.now) files.entry.items)) }
 {
@@ -469,7 +469,7 @@ fn written_format<'a>(alloc: Global, files: Vec<&'a str>) -> Result<Request<'a>,
     Ok(Request::Format { mode, files })
 }
 
-/// What `format` of some files asks for without an option.
+/// The request of `format` with some files and no option.
 fn printed_format<'a>(alloc: Global, files: Vec<&'a str>) -> Result<Request<'a>, AllocError>
     ensures { IfOk result (λ r. asked_of r ≡ spec.format_by false false (map (λ name. name.now) files.entry.items)) }
 {
@@ -480,7 +480,7 @@ fn printed_format<'a>(alloc: Global, files: Vec<&'a str>) -> Result<Request<'a>,
     Ok(Request::Format { mode, files })
 }
 
-/// What `format` of some files asks for, by its options.
+/// The request of `format` with some files, by its options.
 fn format_by<'a>(
     alloc: Global,
     is_check: bool,
@@ -498,7 +498,7 @@ fn format_by<'a>(
     }
 }
 
-/// What the matches of `format` ask for.
+/// The request of the matches of `format`.
 fn asked_format<'a>(alloc: Global, format: &ArgMatches<'a>) -> Result<Request<'a>, AllocError>
     ensures { IfOk result (λ r. asked_of r ≡ spec.format_of (rows_of (found_of format.now))) }
 {
@@ -532,7 +532,7 @@ fn asked_emit<'a>(alloc: Global, emit: &ArgMatches<'a>) -> Result<Request<'a>, A
     Ok(emit_with(emit, part))
 }
 
-/// What the matches of a command line ask for.
+/// The request of the matches of a command line.
 fn matched<'a>(alloc: Global, matches: &ArgMatches<'a>) -> Result<Request<'a>, AllocError>
     ensures { IfOk result (λ r. asked_of r ≡ option_and_then spec.asked_by (subcommand_rows_of matches.now)) }
 {
@@ -574,7 +574,7 @@ fn is_memory(kind: ErrorKind) -> bool
     matches!(kind, ErrorKind::OutOfMemory)
 }
 
-/// What words ask for, of which this one is the first.
+/// The request of some words, of which this one is the first.
 fn take_words<'a>(
     alloc: Global,
     first: &str,
@@ -594,8 +594,8 @@ fn take_words<'a>(
     }
 }
 
-/// What is said of words that can't be taken, or ask for help or the version. `clap` says it of the words as they are shown, so that a
-/// terminal acts on none of them.
+/// The text to print for words that are malformed, or request help or the version. `clap` makes it from the words as they are shown, so
+/// that a terminal acts on none of them.
 fn usage(alloc: Global, words: &[String]) -> Result<String, AllocError> {
     let mut shown = Vec::new(alloc);
     for word in words {
@@ -613,11 +613,11 @@ fn usage(alloc: Global, words: &[String]) -> Result<String, AllocError> {
     }
 }
 
-/// What a program's words ask for, its own name left out. No words ask for a check of the standard input.
+/// Reads a program's words without its own name. If there are none, the request is a check of the standard input.
 ///
 /// # Errors
 ///
-/// A growth was refused.
+/// `AllocError` if a growth is refused.
 pub fn read_words<'a>(alloc: Global, words: &'a [String]) -> Result<Request<'a>, AllocError>
     ensures { IfOk result (λ r. asked_of r ≡ spec.asked (map string_bytes words.entry.now)) }
 {

@@ -1,9 +1,9 @@
-//! How many workers can be asked for.
+//! The number of workers.
 
 ghost use Rattle.std.specs.Prelude.{◌≡◌, ◌≤◌, option_map};
 ghost use Rattle.flt_words.specs.Workers as spec;
 
-/// How many workers are asked for: 1 to 16.
+/// A number of workers: 1 to 16.
 #[derive(Clone, Copy, Debug)]
 pub struct Workers {
     pub(crate) count: u8,
@@ -12,7 +12,7 @@ pub struct Workers {
 }
 
 impl Workers {
-    /// So many workers; none where they are too many, or none at all.
+    /// A given number of workers. `None` if it is 0 or more than 16.
     pub(crate) fn new(count: u8) -> Option<Workers>
         ensures { option_map (λ w. w.count) result ≡ spec.within count }
     {
@@ -22,7 +22,7 @@ impl Workers {
         Some(Workers { count })
     }
 
-    /// How many they are.
+    /// Their number.
     pub fn count(self) -> usize
         ensures count { result ≡ self.count }
         ensures some { 1 ≤ result }

@@ -1,4 +1,4 @@
-//! The exchange: opening it, and what callers and workers do there.
+//! The exchange: opening it, and the calls of callers and workers on it.
 ghost use Rattle.std.specs.Prelude.{◌≡◌, ◌<◌, ◌≤◌, ◌++◌, ◌∷◌, [], ℕ, All, IfErr, IfNone, IfOk, IfSome, OnOk, length, map};
 ghost use Rattle.flt_cancel.specs.Serials.{group_of, serials, IsPresent};
 ghost use Rattle.flt_cancel.specs.Steps.{words_after, IsNext, WasAsked};
@@ -24,7 +24,7 @@ pub struct Exchange {
 
 impl Exchange {
     /// An exchange with no ticket and no request, a place for each caller and one for each worker, through which nothing has gone. Each
-    /// worker has a way to each other worker's deque.
+    /// worker has a path to each other worker's deque.
     pub fn open(
         alloc: Global,
         callers: usize,
@@ -46,7 +46,7 @@ impl Exchange {
 
     // ---- what callers do
 
-    /// Puts a ticket where any worker finds it. It comes back where there is no memory for it, or after nearly 2^62 tickets.
+    /// Puts a ticket where any worker finds it. It comes back if memory is refused, or after nearly 2^62 tickets.
     pub fn put<R: Wait>(
         &self,
         rt: &R,
@@ -63,8 +63,8 @@ impl Exchange {
         self.pool.put(rt, &mut place.tickets, ticket)
     }
 
-    /// Asks for the cancel of an operation, by its serial number, and then sets the mark of the number's group. It waits for nobody, takes no
-    /// memory and is never refused.
+    /// Requests that an operation be cancelled, by its serial number, and then sets the mark of the number's group. It waits for nobody,
+    /// takes no memory and is never refused.
     pub fn ask(&self, place: &mut CallerPlace, serial: u32)
         requires serial { serial < 65536 }
         requires place { IsCallerOf self.now place.old }
@@ -84,9 +84,9 @@ impl Exchange {
 
     // ---- what workers do
 
-    /// Takes a ticket. It looks at the worker's own deque, then at what callers put, and then at the others' deques in the order of the
-    /// workers, and takes the front ticket of the first one in which it finds any. As with `Pool::take`, no contract says in which order
-    /// it looks, nor that all of them were empty, each at its moment, where it answers none.
+    /// Takes a ticket. It looks at the worker's own deque, then at the callers' tickets, and then at the others' deques in the order of the
+    /// workers, and takes the front ticket of the first one in which it finds any. As with `Pool::take`, no contract says in which order it
+    /// looks, nor that all of them were empty, each at its moment, if it answers none.
     pub fn take<R: Wait>(&self, rt: &R, place: &mut WorkerPlace) -> Option<Ticket>
         requires { IsWorkerOf self.now place.old }
         ensures place { IsWorkerOf self.now place.new }
@@ -113,8 +113,8 @@ impl Exchange {
         self.pads.collect(&mut place.requests, word)
     }
 
-    /// Takes all marks, in one step. Bit `g` of the result is the mark of group `g`, whose words are `16 * g` to `16 * g + 15`. Whoever does
-    /// so collects these words, or sets the marks again. It waits for nobody.
+    /// Takes all marks, in one step. Bit `g` of the result is the mark of group `g`, whose words are `16 * g` to `16 * g + 15`. Whoever
+    /// does so collects these words, or sets the marks again. It waits for nobody.
     pub fn unmark(&self, place: &mut WorkerPlace) -> u64
         requires { IsWorkerOf self.now place.old }
         ensures place { IsWorkerOf self.now place.new }

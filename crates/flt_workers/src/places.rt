@@ -25,8 +25,8 @@ pub struct WorkerPlace {
 }
 
 impl WorkerPlace {
-    /// Puts a ticket at the back of the place's own deque. It waits for nobody. The ticket comes back where there is no memory for it,
-    /// which the first 64 tickets of a place don't need, or after 2^62 tickets.
+    /// Puts a ticket at the back of the place's own deque. It waits for nobody. The ticket comes back if memory is refused, which the first
+    /// 64 tickets of a place don't need, or after 2^62 tickets.
     pub fn push(&mut self, ticket: Ticket) -> Result<(), Ticket>
         ensures pushed { OnOk result (hands_by self.new ≡ having_put ticket (own_hand self.old.tickets) ∷ other_hands self.old.tickets) }
         ensures back { IfErr result (λ t. t ≡ ticket) }

@@ -1,4 +1,4 @@
-//! The callbacks of a filter by what they are registered for, and its locks.
+//! The callbacks of a filter by the places for which they are registered, and its locks.
 
 ghost use Rattle.std.specs.Prelude.{◌≡◌, ◌≤◌, length};
 ghost use Rattle.flt_model.specs.Levels as levels;
@@ -60,7 +60,7 @@ pub(crate) fn are_paired(callbacks: &[Callback]) -> bool
         && is_paired(callbacks, Operation::Cleanup)
 }
 
-/// The statements of the pre callback of an operation; none where it isn't there.
+/// The statements of the pre callback of an operation; none if it isn't there.
 pub(crate) fn pre_body(callbacks: &[Callback], kind: Operation) -> &[Statement]
     ensures { result.now ≡ spec.body_for (spec.is_pre_of kind) callbacks.now }
 {
@@ -91,7 +91,7 @@ pub(crate) fn canceled_body(callbacks: &[Callback]) -> &[Statement]
     }
 }
 
-/// The number of the routine that a call names; past all callbacks where there is none.
+/// The number of the routine that a call names; past all callbacks if the filter hasn't it.
 pub(crate) fn routine_of(callbacks: &[Callback], routine: &Routine) -> usize
     ensures number { result ≡ spec.routine_of callbacks.now routine.now }
     ensures within { result ≤ length callbacks.now }

@@ -5,7 +5,7 @@ ghost use Rattle.std.specs.Prelude.{◌≡◌, [], ◌∷◌, ◌++◌, OnOk};
 use flt_model::Event;
 use std::alloc::AllocError;
 
-/// One more event. Room is made first: `push` would hand the event back where memory is refused, and takes longer for that.
+/// Adds an event. Room is made first: `push` would hand the event back if memory is refused, and takes longer for that.
 #[inline(always)]
 pub fn push_event(events: &mut Vec<Event>, event: Event) -> Result<(), AllocError>
     ensures { OnOk result (events.new.items ≡ events.old.items ++ event ∷ []) }

@@ -1,4 +1,4 @@
-//! The monitor's world and the filters of a run: what is there at each number, and the changes of one thing at a time.
+//! The monitor's world and the filters of a run: reads by number, and changes of one thing at a time.
 //!
 //! Contracts see `World` as the machine's world and `Stack` as the list of filters, so that each function here is a definition of
 //! `flt_model/specs` or a change that those make.

@@ -9,7 +9,7 @@ use flt_model::Event;
 use std::alloc::AllocError;
 
 impl<'a> World<'a> {
-    /// Pushes the event of a context's end before a reference is dropped, where it is the last.
+    /// Pushes the event of a context's end before a reference is dropped, if it is the last.
     pub fn tell_drop(&self, x: usize, events: &mut Vec<Event>) -> Result<(), AllocError>
         ensures { OnOk result (events.new.items ≡ events.old.items ++ effects.freed_by_drop self.now.store x) }
     {

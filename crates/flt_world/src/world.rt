@@ -1,4 +1,4 @@
-//! The world of the monitor, and what is there at a number: what isn't there has ended, is settled and counts nothing.
+//! The world of the monitor, and reads of it by number: an object that isn't there has ended, is settled and counts nothing.
 
 ghost use Rattle.std.specs.Prelude.{◌≡◌, ◌+◌, true, get_or, set, replicate, sum_by, find, filter, ◌==◌, is_some, length, Some, None, [], ◌∷◌, ◌++◌, OnOk, IfOk, MatchOption};
 ghost use Rattle.flt_model.specs.Effects.{onward};
@@ -25,7 +25,7 @@ use sqlite_items::{Items, at};
 use std::alloc::{AllocError, Global};
 use std::marker::Model;
 
-/// What activations share. Presences, queues and lock holders are by filter.
+/// The monitor's world: the activations and all that they share. Presences, queues and lock holders are by filter.
 #[derive(Drop)]
 pub struct World<'a> {
     pub actors: Vec<Actor>,
@@ -128,7 +128,7 @@ impl<'a> World<'a> {
         matches!(self.presence(filter), Presence::Detaching)
     }
 
-    /// What an operation asks for; a read where it isn't there.
+    /// The kind of an operation; a read if it isn't there.
     #[tactic(auto, using(crate::proofs::Reading::found, crate::proofs::Reading::missing))]
     pub fn kind(&self, operation: usize) -> Operation
         ensures { result ≡ (spec.arrival_at self.now.store operation).kind }
@@ -139,7 +139,7 @@ impl<'a> World<'a> {
         }
     }
 
-    /// How an operation was sent; as a packet where it isn't there.
+    /// How an operation was sent; as a packet if it isn't there.
     #[tactic(auto, using(crate::proofs::Reading::found, crate::proofs::Reading::missing))]
     pub fn mode(&self, operation: usize) -> Mode
         ensures { result ≡ (spec.arrival_at self.now.store operation).mode }
@@ -150,7 +150,7 @@ impl<'a> World<'a> {
         }
     }
 
-    /// The number of an operation's file; 0 where it isn't there.
+    /// The number of an operation's file; 0 if it isn't there.
     #[tactic(auto, using(crate::proofs::Reading::found, crate::proofs::Reading::missing))]
     pub fn file(&self, operation: usize) -> u32
         ensures { result ≡ (spec.arrival_at self.now.store operation).file }
@@ -161,7 +161,7 @@ impl<'a> World<'a> {
         }
     }
 
-    /// Where an operation stands; up where it isn't there.
+    /// The position of an operation; up if it isn't there.
     #[tactic(auto, using(crate::proofs::Reading::found, crate::proofs::Reading::missing))]
     pub fn position(&self, operation: usize) -> Position
         ensures { position_of result ≡ (spec.route_at self.now.store operation).position }
@@ -172,7 +172,7 @@ impl<'a> World<'a> {
         }
     }
 
-    /// Whether an operation was cancelled; so is one that isn't there.
+    /// Whether an operation was cancelled; true of one that isn't there.
     #[tactic(auto, using(crate::proofs::Reading::found, crate::proofs::Reading::missing))]
     pub fn is_cancelled(&self, operation: usize) -> bool
         ensures { result ≡ (spec.route_at self.now.store operation).cancelled }
@@ -218,7 +218,7 @@ impl<'a> World<'a> {
         self.visits.are_settled(operation)
     }
 
-    /// How often a visit stands in an entry or in a work item.
+    /// How often a visit is in an entry or in a work item.
     pub fn waiting(&self, visit: usize) -> u64
         ensures { result ≡ sum_by (in_queue visit) self.now.store.queues + sum_by (in_item visit) self.now.store.items }
     {
@@ -254,7 +254,7 @@ impl<'a> World<'a> {
         }
     }
 
-    /// Whether a visit is before or after the filters below; after where it isn't there.
+    /// Whether a visit is before or after the filters below; after if it isn't there.
     #[tactic(auto, using(crate::proofs::Reading::found, crate::proofs::Reading::missing))]
     pub fn stage(&self, visit: usize) -> Stage
         ensures { result ≡ (spec.visit_at self.now.store visit).stage }
@@ -265,7 +265,7 @@ impl<'a> World<'a> {
         }
     }
 
-    /// Whether a visit is one of a teardown; so is one that isn't there.
+    /// Whether a visit is one of a teardown; true of one that isn't there.
     #[tactic(auto, using(crate::proofs::Reading::found, crate::proofs::Reading::missing))]
     pub fn is_draining(&self, visit: usize) -> bool
         ensures { result ≡ (spec.visit_at self.now.store visit).draining }
@@ -276,7 +276,7 @@ impl<'a> World<'a> {
         }
     }
 
-    /// Whether the filter's part in the operation is over; so it is of a visit that isn't there.
+    /// Whether the filter's part in the operation is over; true of a visit that isn't there.
     #[tactic(auto, using(crate::proofs::Reading::found, crate::proofs::Reading::missing))]
     pub fn is_settled(&self, visit: usize) -> bool
         ensures { result ≡ spec.is_settled self.now.store visit }
@@ -287,7 +287,7 @@ impl<'a> World<'a> {
         }
     }
 
-    /// What the operation of a visit asks for.
+    /// The kind of a visit's operation.
     pub fn kind_of(&self, visit: usize) -> Operation
         ensures { result ≡ (spec.arrival_of self.now.store visit).kind }
     {
@@ -316,7 +316,7 @@ impl<'a> World<'a> {
         self.contexts.owner(context)
     }
 
-    /// The references of a context; 0 where it is freed or not there.
+    /// The references of a context; 0 if it is freed or not there.
     #[inline(always)]
     pub fn references(&self, context: usize) -> u64
         ensures { result ≡ (spec.context_at self.now.store context).references }
@@ -331,7 +331,7 @@ impl<'a> World<'a> {
         self.references(context) == 0
     }
 
-    /// The value of a context, which a freed one keeps; 0 where it isn't there.
+    /// The value of a context, which a freed one keeps; 0 if it isn't there.
     pub fn value(&self, context: usize) -> u64
         ensures { result ≡ (spec.context_at self.now.store context).value }
     {
@@ -345,7 +345,7 @@ impl<'a> World<'a> {
         self.contexts.link(context).is_some()
     }
 
-    /// The filter whose callback an activation runs; 0 where it isn't there.
+    /// The filter whose callback an activation runs; 0 if it isn't there.
     #[tactic(auto, using(crate::proofs::Reading::found, crate::proofs::Reading::missing))]
     pub fn filter(&self, activation: usize) -> usize
         ensures { result ≡ (spec.actor_at self.now activation).filter }
@@ -356,7 +356,7 @@ impl<'a> World<'a> {
         }
     }
 
-    /// What the callback of an activation is registered for.
+    /// The place for which the callback of an activation is registered.
     #[tactic(auto, using(crate::proofs::Reading::found, crate::proofs::Reading::missing))]
     pub fn place(&self, activation: usize) -> Place
         ensures { result ≡ (spec.actor_at self.now activation).place }
@@ -378,7 +378,7 @@ impl<'a> World<'a> {
         }
     }
 
-    /// Whether an activation may take a lock of a filter so, beside those that hold it.
+    /// Whether an activation may take a lock of a filter with this access, beside those that hold it.
     #[tactic(auto, using(crate::proofs::Reading::found, crate::proofs::Reading::missing))]
     pub fn is_free_for(
         &self,
@@ -395,7 +395,7 @@ impl<'a> World<'a> {
         }
     }
 
-    /// Whether an activation ended; so did one that isn't there.
+    /// Whether an activation ended; true of one that isn't there.
     #[tactic(auto, using(crate::proofs::Reading::found, crate::proofs::Reading::missing))]
     pub fn has_ended(&self, activation: usize) -> bool
         ensures { result ≡ (spec.activation_at self.now activation).ended }
@@ -416,7 +416,7 @@ impl<'a> World<'a> {
         }
     }
 
-    /// The context that a variable of an activation names; none where it is NULL or the activation isn't there.
+    /// The context that a variable of an activation names; none if it is NULL or the activation isn't there.
     pub fn context_in(&self, activation: usize, variable: ContextVariable) -> Option<usize>
         ensures { result ≡ variables.context_in (spec.activation_at self.now activation) variable }
     {
@@ -426,7 +426,7 @@ impl<'a> World<'a> {
         }
     }
 
-    /// What a variable names that a call need not have.
+    /// The context that an optional operand names; none if the call hasn't the operand.
     pub fn named_in(
         &self,
         activation: usize,
@@ -440,7 +440,7 @@ impl<'a> World<'a> {
         }
     }
 
-    /// The visit that a variable of an activation names; none where it is NULL or the activation isn't there.
+    /// The visit that a variable of an activation names; none if it is NULL or the activation isn't there.
     pub fn operation_in(&self, activation: usize, variable: OperationVariable) -> Option<usize>
         ensures { result ≡ variables.operation_in (spec.activation_at self.now activation) variable }
     {
@@ -450,7 +450,7 @@ impl<'a> World<'a> {
         }
     }
 
-    /// The value of a number or of a variable of an activation; 0 where that isn't there.
+    /// The value of a number or of a variable of an activation; 0 if that isn't there.
     pub fn atom_in(&self, activation: usize, atom: Atom) -> u64
         ensures { result ≡ variables.atom_value (spec.activation_at self.now activation) atom }
     {
@@ -492,7 +492,7 @@ impl<'a> World<'a> {
         }
     }
 
-    /// One more filter, which is there, has an empty queue and whose locks nobody holds.
+    /// Adds a filter, which is attached and has an empty queue, and whose locks nobody holds.
     pub fn add_filter(&mut self, alloc: Global) -> Result<(), AllocError>
         ensures { OnOk result (self.new ≡ record self.old {
           store =
@@ -511,7 +511,7 @@ impl<'a> World<'a> {
         Ok(())
     }
 
-    /// An activation goes on with a block in place of its first statement.
+    /// An activation continues with a block in place of its first statement.
     #[inline(always)]
     pub fn go_on(
         &mut self,
@@ -530,7 +530,7 @@ impl<'a> World<'a> {
         Ok(())
     }
 
-    /// The filter is so from now on.
+    /// Sets the presence of a filter.
     pub fn set_presence(&mut self, filter: usize, presence: Presence)
         ensures { self.new ≡ record self.old { store = spec.with_presence self.old.store filter (presence_of presence) } }
     {
@@ -539,7 +539,7 @@ impl<'a> World<'a> {
         }
     }
 
-    /// The operation stands there from now on.
+    /// Sets the position of an operation.
     pub fn set_position(&mut self, operation: usize, position: Position)
         ensures { self.new ≡ record self.old {
           store =
@@ -564,7 +564,7 @@ impl<'a> World<'a> {
         }
     }
 
-    /// One more holder of a lock of a filter.
+    /// Adds a holder of a lock of a filter.
     pub fn add_holder(
         &mut self,
         filter: usize,
@@ -588,7 +588,7 @@ impl<'a> World<'a> {
         }
     }
 
-    /// A new context, with the value 0 and one reference. It fails where the owner is 2^32 or greater.
+    /// A new context, with the value 0 and one reference. It fails if the owner is 2^32 or greater.
     pub fn add_context(&mut self, owner: usize) -> Result<usize, AllocError>
         ensures { IfOk result (λ x. (x ≡ length self.old.store.contexts)
             × (self.new ≡ record self.old {
@@ -611,14 +611,14 @@ impl<'a> World<'a> {
         self.contexts.set_value(context, value)
     }
 
-    /// One reference more; a freed context stays as it is. It fails where they would reach 2^32.
+    /// Adds a reference; a freed context stays as it is. It fails if the references would reach 2^32.
     pub fn add_reference(&mut self, context: usize) -> Result<(), AllocError>
         ensures { OnOk result (self.new ≡ record self.old { store = spec.add_reference self.old.store context }) }
     {
         self.contexts.add_reference(context)
     }
 
-    /// One reference less; a freed context stays as it is.
+    /// Drops a reference; a freed context stays as it is.
     pub fn drop_reference(&mut self, context: usize)
         ensures { self.new ≡ record self.old { store = spec.drop_reference self.old.store context } }
     {
@@ -639,7 +639,7 @@ impl<'a> World<'a> {
         self.contexts.clear_link(context);
     }
 
-    /// One more entry at the end of a filter's queue.
+    /// Adds an entry at the end of a filter's queue.
     pub fn add_entry(&mut self, filter: usize, entry: Entry) -> Result<(), AllocError>
         ensures { OnOk result (self.new ≡ record self.old {
           store =
@@ -716,7 +716,7 @@ impl<'a> World<'a> {
         Ok(self.waiting.take_entry(filter, visits.as_slice()))
     }
 
-    /// One more work item.
+    /// Adds a work item.
     pub fn add_item(&mut self, item: Item) -> Result<(), AllocError>
         ensures { OnOk result (self.new ≡ record self.old {
           store =

@@ -51,7 +51,7 @@ impl PairSet {
         let _ = self.set.remove(&(first, second));
     }
 
-    /// The least second number that stands with a first one.
+    /// The least second number of the pairs with a first one.
     pub fn least(&self, first: usize) -> Option<u32>
         ensures { MatchOption result ((b : ℕ) → has self.now first b ≡ false)
             (λ least. (has self.now first least ≡ true) × ((b : ℕ) → b < least → has self.now first b ≡ false)) }

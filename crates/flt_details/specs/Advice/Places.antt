@@ -42,14 +42,14 @@ abbrev pub completion_help : Place → Text
 completion_help (Pre o) =
     codes "a `pre` callback ends its operation by the status that it returns: `return COMPLETE STATUS_SUCCESS`"
 completion_help (Post o) = codes "the operation is completed already: return `FINISHED_PROCESSING`"
-completion_help DeferredPost = codes "`deferred_post` goes on with its operation by `FltCompletePendedPostOperation data`"
+completion_help DeferredPost = codes "`deferred_post` resumes its operation by `FltCompletePendedPostOperation data`"
 completion_help _ = codes "a generic routine has no operation: complete one that was removed from the queue"
 
 -- what to do in place of going on with an operation on its path up
 abbrev pub post_completion_help : Place → Text
 post_completion_help (Post o) = codes "return `FINISHED_PROCESSING`: only a deferred operation needs this call"
-post_completion_help Canceled = codes "an operation on its way down is completed by `FltCompletePendedPreOperation`"
-post_completion_help DeferredPre = codes "an operation on its way down is completed by `FltCompletePendedPreOperation`"
+post_completion_help Canceled = codes "an operation that goes down is completed by `FltCompletePendedPreOperation`"
+post_completion_help DeferredPre = codes "an operation that goes down is completed by `FltCompletePendedPreOperation`"
 post_completion_help _ = codes "only the routine of `FltQueueDeferredIoWorkItem` in a `post` callback needs this call"
 
 -- the same by the call
@@ -61,9 +61,9 @@ call_help _ p = codes "see `fltstack explain R08`"
 -- where a call may be made, by its places
 abbrev pub places_help : Places → Call → Place → Text
 places_help NotPreCreate c p =
-    codes "a create has no stream on its way down: make the call in `post create`, after the test of `draining`"
+    codes "a create has no stream while it goes down: make the call in `post create`, after the test of `draining`"
 places_help PreOrDeferredPre c p =
-    codes "an operation is queued on its way down alone: in a `pre` callback, or in `deferred_pre`"
+    codes "an operation is queued only while it goes down: in a `pre` callback, or in `deferred_pre`"
 places_help PreOrPost c p =
     codes "an operation is deferred by its `pre` or `post` callback alone: do the work here, or in the routine of a generic work item"
 places_help _ c p = call_help c p

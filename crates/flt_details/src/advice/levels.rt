@@ -67,7 +67,7 @@ fn first_raiser(case: &Case<'_>, above: Level, locks: &[HeldLock]) -> Option<Rai
     }
 }
 
-/// The first lock that raises the level above that which the call allows, where that is known.
+/// The first lock that raises the level above the greatest that the call allows, if it is known.
 #[tactic(auto, unfolding(crate::specs::Advice::Levels::raiser))]
 fn raiser(case: &Case<'_>) -> Option<RaisingLock>
     ensures { result ≡ spec.raiser (of_case case.now) }
@@ -105,7 +105,7 @@ fn tell_need(page: &mut Page, name: &str, greatest: Level) -> Result<(), AllocEr
     ])
 }
 
-/// Writes that a level is possible, where it is above the greatest that is allowed.
+/// Writes that a level is possible, if it is above the greatest that is allowed.
 fn tell_excess(page: &mut Page, greatest: Level, possible: Level) -> Result<(), AllocError>
     ensures { Writes result page.old page.new (spec.excess greatest possible) }
 {

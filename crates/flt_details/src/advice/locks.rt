@@ -13,7 +13,7 @@ use flt_graph::LockNumber;
 use flt_rules::HeldLock;
 use std::alloc::AllocError;
 
-/// What is wrong with the release of a lock.
+/// The mistake in the release of a lock.
 #[derive(Clone, Copy)]
 pub(crate) enum Release {
     /// It isn't held.
@@ -23,7 +23,7 @@ pub(crate) enum Release {
     Unknown,
 }
 
-/// What is wrong with the release of a lock that is among these.
+/// The mistake in the release of a lock that is among these.
 fn under_last(locks: &[HeldLock]) -> Release
     ensures { result ≡ spec.under_last locks.now }
 {
@@ -34,7 +34,7 @@ fn under_last(locks: &[HeldLock]) -> Release
     }
 }
 
-/// What is wrong with the release of a lock, by the locks that are held.
+/// The mistake in the release of a lock, by the locks that are held.
 #[tactic(auto, unfolding(crate::specs::Advice::Locks::release))]
 pub(crate) fn release_of(case: &Case<'_>) -> Release
     ensures { result ≡ spec.release (of_case case.now) }
@@ -52,7 +52,7 @@ pub(crate) fn release_of(case: &Case<'_>) -> Release
     }
 }
 
-/// What the title says of the release of a lock.
+/// The words of the title about the release of a lock.
 fn release_fault(release: Release) -> &'static str
     ensures { result.now ≡ spec.release_fault release }
 {
@@ -62,7 +62,7 @@ fn release_fault(release: Release) -> &'static str
     }
 }
 
-/// Writes what is wrong with the release of a lock (R09).
+/// Writes the title for the release of a lock (R09).
 pub(crate) fn tell_release_title(page: &mut Page, case: &Case<'_>) -> Result<(), AllocError>
     ensures { Writes result page.old page.new (spec.release_title (of_case case.now)) }
 {
@@ -102,7 +102,7 @@ pub(crate) fn tell_release_help(page: &mut Page, case: &Case<'_>) -> Result<(), 
     }
 }
 
-/// Writes how to fix that a lock is taken twice (R11): on a path, where it was taken first.
+/// Writes how to fix that a lock is taken twice (R11); if a path is known, with the line that took it first.
 #[tactic(auto, unfolding(crate::specs::Advice::Locks::twice_help))]
 pub(crate) fn tell_twice_help(page: &mut Page, case: &Case<'_>) -> Result<(), AllocError>
     ensures { Writes result page.old page.new (spec.twice_help (of_case case.now)) }

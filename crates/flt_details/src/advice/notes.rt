@@ -1,5 +1,5 @@
-//! What else is said of a finding: that the rule is this project's own there, and stricter than the driver kit; or that numbers rule out
-//! the path, which the rules don't trace.
+//! Notes on findings: that the rule is this project's own there, and stricter than the driver kit; or that numbers, which the rules don't
+//! trace, rule out the path.
 
 ghost use Rattle.std.specs.List.{find};
 ghost use Rattle.std.specs.Prelude.{◌≡◌, option_copied};
@@ -38,7 +38,7 @@ fn synchronizes(instruction: &Instruction) -> bool
     }
 }
 
-/// Whether some point of a callback does.
+/// Whether some point of a callback returns SYNCHRONIZE.
 #[tactic(auto, unfolding(crate::specs::Advice::Notes::returns_synchronize))]
 fn returns_synchronize(callback: &CallbackGraph) -> bool
     ensures { result ≡ spec.returns_synchronize callback.now }
@@ -118,7 +118,7 @@ fn order_note(is_other_order: bool) -> Option<&'static str>
     }
 }
 
-/// That the rule is stricter than the driver kit; none where it isn't.
+/// The note that the rule is stricter than the driver kit; none if it isn't.
 #[tactic(auto, unfolding(crate::specs::Advice::Notes::stricter))]
 fn stricter(case: &Case<'_>) -> Option<&'static str>
     ensures { option_copied result ≡ spec.stricter (of_case case.now) }
@@ -132,7 +132,7 @@ fn stricter(case: &Case<'_>) -> Option<&'static str>
 
 // ---- numbers that no statement stores
 
-/// Whether a number or a variable might be stored as this value. A variable has what was stored before, or 0.
+/// Whether an atom is this number. A variable has a value that was stored before, or 0, so it doesn't count.
 fn is_value(atom: Atom, value: u64) -> bool
     ensures { result ≡ spec.is_value atom value }
 {
@@ -191,7 +191,7 @@ fn is_stored(graph: &Graph, value: u64) -> bool
     callbacks.iter().any(|c| is_stored_in(value, c))
 }
 
-/// The number that an instruction asks for.
+/// The number for which an instruction tests.
 fn asked(instruction: &Instruction) -> Option<u64>
     ensures { result ≡ spec.asked instruction.now }
 {
@@ -212,7 +212,7 @@ fn missing_in(graph: &Graph, value: u64) -> Option<u64>
     }
 }
 
-/// The value for which a step asks and finds it, if no statement stores it.
+/// The value for which a step tests and which it finds, if no statement stores it.
 #[tactic(auto, unfolding(crate::specs::Advice::Notes::unstored))]
 fn unstored(case: &Case<'_>, step: Step) -> Option<u64>
     ensures { result ≡ spec.unstored (of_case case.now) step }
@@ -243,7 +243,7 @@ fn first_among(case: &Case<'_>, steps: &[Step]) -> Option<Step>
     None
 }
 
-/// The first step of the path that asks for a value that no statement stores, and finds it.
+/// The first step of the path that tests for a value that no statement stores, and finds it.
 #[tactic(auto, unfolding(crate::specs::Advice::Notes::first_unstored))]
 fn first_unstored(case: &Case<'_>) -> Option<Step>
     ensures { result ≡ spec.first_unstored (of_case case.now) }
@@ -254,7 +254,7 @@ fn first_unstored(case: &Case<'_>) -> Option<Step>
     }
 }
 
-/// Writes that no statement stores a value for which a line asks.
+/// Writes that no statement stores a value for which a line tests.
 fn tell_unstored(page: &mut Page, value: u64, line: usize) -> Result<(), AllocError>
     ensures { Writes result page.old page.new (spec.unstored_note value line) }
 {
@@ -269,7 +269,7 @@ fn tell_unstored(page: &mut Page, value: u64, line: usize) -> Result<(), AllocEr
     ])
 }
 
-/// Writes that a step asks for a value that no statement stores; nothing where there is no such step.
+/// Writes that a step tests for a value that no statement stores; nothing without such a step.
 fn tell_numbers(page: &mut Page, case: &Case<'_>, step: Option<Step>) -> Result<(), AllocError>
     ensures { Writes result page.old page.new (spec.step_note (of_case case.now) step) }
 {
@@ -282,7 +282,7 @@ fn tell_numbers(page: &mut Page, case: &Case<'_>, step: Option<Step>) -> Result<
     }
 }
 
-/// Writes what else is said of a finding; nothing where there is no more.
+/// Writes the note on a finding; nothing if there is none.
 #[tactic(auto, unfolding(crate::specs::Advice::Notes::note))]
 pub(crate) fn tell_note(page: &mut Page, case: &Case<'_>) -> Result<(), AllocError>
     ensures { Writes result page.old page.new (spec.note (of_case case.now)) }

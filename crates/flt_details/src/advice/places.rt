@@ -15,7 +15,7 @@ use std::alloc::AllocError;
 
 // ---- title
 
-/// The name of the call; that of the test where it is one.
+/// The name of the call, or of the test if it is one.
 fn name_of(call: Option<Invocation>) -> &'static str
     ensures { result.now ≡ spec.name_of call }
 {
@@ -25,7 +25,7 @@ fn name_of(call: Option<Invocation>) -> &'static str
     }
 }
 
-/// When it isn't legal, where that isn't always.
+/// The words for when a call isn't legal, if it is legal at other times.
 fn when_of(call: Option<Invocation>, subject: Subject) -> &'static str
     ensures { result.now ≡ spec.when_of call subject }
 {
@@ -53,7 +53,7 @@ fn tell_not_allowed<'a>(
     ])
 }
 
-/// Writes what isn't legal, and where.
+/// Writes which call or test isn't legal, and where.
 #[tactic(auto, unfolding(crate::specs::Advice::Places::title))]
 pub(crate) fn tell_title(page: &mut Page, case: &Case<'_>) -> Result<(), AllocError>
     ensures { Writes result page.old page.new (spec.title (of_case case.now)) }
@@ -69,7 +69,7 @@ pub(crate) fn tell_title(page: &mut Page, case: &Case<'_>) -> Result<(), AllocEr
 
 // ---- help
 
-/// What to do in place of completing the operation that the callback was given.
+/// The help for completing the operation that the callback was given, by the callback's place.
 fn completion_help(place: Place) -> &'static str
     ensures { result.now ≡ spec.completion_help place }
 {
@@ -78,25 +78,25 @@ fn completion_help(place: Place) -> &'static str
             "a `pre` callback ends its operation by the status that it returns: `return COMPLETE STATUS_SUCCESS`",
         Place::Post(_) => "the operation is completed already: return `FINISHED_PROCESSING`",
         Place::DeferredPost =>
-            "`deferred_post` goes on with its operation by `FltCompletePendedPostOperation data`",
+            "`deferred_post` resumes its operation by `FltCompletePendedPostOperation data`",
         _ => "a generic routine has no operation: complete one that was removed from the queue",
     }
 }
 
-/// What to do in place of going on with an operation on its path up.
+/// The help for continuing an operation on its path up, by the callback's place.
 fn post_completion_help(place: Place) -> &'static str
     ensures { result.now ≡ spec.post_completion_help place }
 {
     match place {
         Place::Post(_) => "return `FINISHED_PROCESSING`: only a deferred operation needs this call",
         Place::Canceled | Place::DeferredPre =>
-            "an operation on its way down is completed by `FltCompletePendedPreOperation`",
+            "an operation that goes down is completed by `FltCompletePendedPreOperation`",
         _ =>
             "only the routine of `FltQueueDeferredIoWorkItem` in a `post` callback needs this call",
     }
 }
 
-/// The same by the call.
+/// The help for a call, by the callback's place.
 fn call_help(call: Call, place: Place) -> &'static str
     ensures { result.now ≡ spec.call_help call place }
 {
@@ -107,22 +107,22 @@ fn call_help(call: Call, place: Place) -> &'static str
     }
 }
 
-/// Where a call may be made.
+/// The help for a call that is legal at `places` and is made at `place`.
 fn places_help(places: Places, call: Call, place: Place) -> &'static str
     ensures { result.now ≡ spec.places_help places call place }
 {
     match places {
         Places::NotPreCreate =>
-            "a create has no stream on its way down: make the call in `post create`, after the test of `draining`",
+            "a create has no stream while it goes down: make the call in `post create`, after the test of `draining`",
         Places::PreOrDeferredPre =>
-            "an operation is queued on its way down alone: in a `pre` callback, or in `deferred_pre`",
+            "an operation is queued only while it goes down: in a `pre` callback, or in `deferred_pre`",
         Places::PreOrPost =>
             "an operation is deferred by its `pre` or `post` callback alone: do the work here, or in the routine of a generic work item",
         _ => call_help(call, place),
     }
 }
 
-/// Where the call or the test is legal.
+/// The help that says where the call or the test is legal.
 fn help(call: Option<Invocation>, subject: Subject, place: Place) -> &'static str
     ensures { result.now ≡ spec.help_by call subject place }
 {

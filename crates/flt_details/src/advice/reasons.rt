@@ -1,4 +1,4 @@
-//! Why a variable isn't held: what made it so, in words.
+//! The reasons why a variable isn't held, in words.
 
 ghost use Rattle.std.specs.Prelude.{◌≡◌, option_copied};
 ghost use Rattle.flt_details.specs.Advice.Reasons as spec;
@@ -15,7 +15,7 @@ use flt_origins::VariableStatus;
 use flt_ways::Step;
 use std::alloc::AllocError;
 
-/// The step that made a variable what it is where the finding is.
+/// The step that gave a variable the status that it has where the finding is.
 #[derive(Clone, Copy)]
 pub(crate) enum Reason {
     /// It gave the variable away, released or completed it.
@@ -24,7 +24,7 @@ pub(crate) enum Reason {
     Emptied(Step),
 }
 
-/// Why a variable isn't held where the finding is; none where that isn't known.
+/// The reason why a variable isn't held where the finding is; none if it isn't known.
 #[tactic(auto, unfolding(crate::specs::Advice::Reasons::reason))]
 pub(crate) fn reason_of(case: &Case<'_>) -> Option<Reason>
     ensures { result ≡ spec.reason (of_case case.now) }
@@ -36,7 +36,7 @@ pub(crate) fn reason_of(case: &Case<'_>) -> Option<Reason>
     }
 }
 
-/// Who owns the context that a call hands over, and that it does.
+/// The words for the new owner of a context that a call hands over, with their verb.
 pub(crate) fn new_owner(call: Call) -> Option<&'static str>
     ensures { option_copied result ≡ spec.new_owner call }
 {
@@ -48,7 +48,7 @@ pub(crate) fn new_owner(call: Call) -> Option<&'static str>
     }
 }
 
-/// Who has the operation that a call gives away, and that it does.
+/// The words for the new holder of an operation that a call gives away, with their verb.
 fn new_holder(call: Call) -> Option<&'static str>
     ensures { option_copied result ≡ spec.new_holder call }
 {
@@ -102,7 +102,7 @@ fn tell_lost(page: &mut Page, case: &Case<'_>, step: Step) -> Result<(), AllocEr
     }
 }
 
-/// How a call comes out that gives none.
+/// The outcome of a call that gives nothing, in words.
 fn emptying_outcome(succeeds: bool) -> &'static str
     ensures { result.now ≡ spec.emptying_outcome succeeds }
 {
@@ -113,7 +113,7 @@ fn emptying_outcome(succeeds: bool) -> &'static str
     }
 }
 
-/// Writes that a call gives none.
+/// Writes that a call gives nothing.
 #[tactic(auto, unfolding(crate::specs::Advice::Reasons::emptied_by_call))]
 fn tell_emptied_by_call(
     page: &mut Page,

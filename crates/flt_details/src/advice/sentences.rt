@@ -8,7 +8,7 @@ use crate::case::Case;
 use crate::page::{Page, Part};
 use std::alloc::AllocError;
 
-/// Writes what the finding is about, between words.
+/// Writes the finding's subject between two texts.
 #[tactic(auto, unfolding(crate::specs::Advice::Sentences::around))]
 pub(crate) fn around<'a>(
     page: &mut Page,
@@ -25,7 +25,7 @@ pub(crate) fn around<'a>(
     ])
 }
 
-/// Writes what is so of it at the end of the callback.
+/// Writes the finding's subject, these words, and that the callback ends.
 #[tactic(auto, unfolding(crate::specs::Advice::Sentences::at_end))]
 pub(crate) fn at_end<'a>(page: &mut Page, case: &Case<'a>, words: &'a str) -> Result<(), AllocError>
     ensures { Writes result page.old page.new (spec.at_end (of_case case.now) words.now) }
@@ -38,7 +38,7 @@ pub(crate) fn at_end<'a>(page: &mut Page, case: &Case<'a>, words: &'a str) -> Re
     ])
 }
 
-/// Writes what a line does with it.
+/// Writes what a line does with the subject.
 #[tactic(auto, unfolding(crate::specs::Advice::Sentences::on_line))]
 pub(crate) fn on_line<'a>(
     page: &mut Page,
@@ -58,7 +58,7 @@ pub(crate) fn on_line<'a>(
     ])
 }
 
-/// Writes what somebody does with it since a line.
+/// Writes who has had the subject since a line.
 #[tactic(auto, unfolding(crate::specs::Advice::Sentences::since))]
 pub(crate) fn since<'a>(
     page: &mut Page,
@@ -76,7 +76,7 @@ pub(crate) fn since<'a>(
     ])
 }
 
-/// Writes what becomes of it in a line.
+/// Writes what becomes of the subject in a line.
 #[tactic(auto, unfolding(crate::specs::Advice::Sentences::in_line))]
 pub(crate) fn in_line<'a>(
     page: &mut Page,
@@ -93,7 +93,7 @@ pub(crate) fn in_line<'a>(
     ])
 }
 
-/// Writes what is so of the callback.
+/// Writes the head of the callback, and these words.
 #[tactic(auto, unfolding(crate::specs::Advice::Sentences::of_callback))]
 pub(crate) fn of_callback<'a>(
     page: &mut Page,

@@ -1,4 +1,4 @@
-//! Statuses that aren't legal (R06): each way to break the rule has its own sentence.
+//! Statuses that aren't legal (R06): each mistake has its own sentence.
 
 ghost use Rattle.std.specs.Prelude.{◌≡◌};
 ghost use Rattle.flt_details.specs.Advice.Statuses as spec;
@@ -15,7 +15,7 @@ use flt_graph::{Call, Graph, Instruction, Operation, OperationVariable, Place, S
 use flt_rules::{Possession, Stage, status_row};
 use std::alloc::AllocError;
 
-/// What is wrong with a status, or where a status would be refused.
+/// The mistake in a status, or in a call that R06 forbids.
 #[derive(Clone, Copy)]
 enum Wrong {
     /// STATUS_PENDING as a final status.
@@ -32,11 +32,11 @@ enum Wrong {
     Held,
     /// The operation was given away, and the status says that it is held.
     GivenAway,
-    /// The status asks for an IRP.
+    /// The status needs an IRP.
     FastIo,
-    /// The status asks for fast I/O.
+    /// The status needs fast I/O.
     Irp,
-    /// The operation is always an IRP, and the status asks for fast I/O.
+    /// The operation is always an IRP, and the status needs fast I/O.
     NeverFast(Operation),
     Draining,
     /// A fast I/O is put into the queue.
@@ -90,7 +90,7 @@ fn is_unpaired(graph: &Graph, operation: Operation) -> bool
     has_pre(graph, operation) && !has_post(graph, operation)
 }
 
-/// The first operation of which that is so.
+/// The first operation with a `pre` callback and no `post` callback.
 #[tactic(auto, unfolding(crate::specs::Advice::Statuses::unpaired))]
 fn unpaired(graph: &Graph) -> Option<Operation>
     ensures { result ≡ spec.unpaired graph.now }
@@ -110,7 +110,7 @@ fn unpaired(graph: &Graph) -> Option<Operation>
 
 // ---- what is wrong
 
-/// What is wrong with a status that the callback of an operation returns, whatever is so.
+/// The mistake in a status that the callback of an operation returns, if it is one in every situation.
 fn wrong_for(case: &Case<'_>, operation: Operation, status: Status) -> Option<Wrong>
     ensures { result ≡ spec.wrong_for (of_case case.now) operation status }
 {
@@ -126,7 +126,7 @@ fn wrong_for(case: &Case<'_>, operation: Operation, status: Status) -> Option<Wr
     }
 }
 
-/// What is wrong with a returned status whatever is so.
+/// The mistake in a returned status, if it is one in every situation.
 #[tactic(auto, unfolding(crate::specs::Advice::Statuses::wrong_anyhow))]
 fn wrong_anyhow(case: &Case<'_>, status: Status) -> Option<Wrong>
     ensures { result ≡ spec.wrong_anyhow (of_case case.now) status }
@@ -151,7 +151,7 @@ fn is_always_irp(operation: Operation) -> bool
     matches!(operation, Operation::Create | Operation::Cleanup)
 }
 
-/// What is wrong with a status that refuses fast I/O.
+/// The mistake in a status that refuses fast I/O.
 fn fast_io_refused(operation: Option<Operation>) -> Wrong
     ensures { result ≡ spec.fast_io_refused operation }
 {
@@ -161,7 +161,7 @@ fn fast_io_refused(operation: Option<Operation>) -> Wrong
     }
 }
 
-/// What is wrong with the mode in which a status is returned.
+/// The mistake in a status that is returned in the wrong mode.
 fn wrong_mode(status: Status, operation: Option<Operation>) -> Wrong
     ensures { result ≡ spec.wrong_mode status operation }
 {
@@ -171,7 +171,7 @@ fn wrong_mode(status: Status, operation: Option<Operation>) -> Wrong
     }
 }
 
-/// What is wrong with the operation, by what a status says of it.
+/// The mistake about the operation, by what a status says of it.
 fn wrong_possession(said: Possession) -> Wrong
     ensures { result ≡ spec.wrong_possession said }
 {
@@ -181,7 +181,7 @@ fn wrong_possession(said: Possession) -> Wrong
     }
 }
 
-/// What is wrong with a returned status in what is so.
+/// The mistake in a returned status, by the finding's subject.
 fn wrong_here(case: &Case<'_>, status: Status) -> Wrong
     ensures { result ≡ spec.wrong_here (of_case case.now) case.now.finding.subject status }
 {
@@ -195,7 +195,7 @@ fn wrong_here(case: &Case<'_>, status: Status) -> Wrong
     }
 }
 
-/// What is wrong with a returned status.
+/// The mistake in a returned status.
 fn wrong_return(case: &Case<'_>, status: Status) -> Wrong
     ensures { result ≡ spec.wrong_return (of_case case.now) status }
 {
@@ -205,7 +205,7 @@ fn wrong_return(case: &Case<'_>, status: Status) -> Wrong
     }
 }
 
-/// What is wrong where a status can be given, but for callbacks that aren't there.
+/// The mistake in a status that could be given if no callback were missing.
 fn wrong_pair(operation: Option<Operation>) -> Wrong
     ensures { result ≡ spec.wrong_pair operation }
 {
@@ -221,7 +221,7 @@ fn is_canceled(place: Place) -> bool
     matches!(place, Place::Canceled)
 }
 
-/// What is wrong with a status that a pended operation is given.
+/// The mistake in a status that a pended operation is given.
 #[tactic(auto, unfolding(crate::specs::Advice::Statuses::wrong_given))]
 fn wrong_given(case: &Case<'_>, status: Status) -> Wrong
     ensures { result ≡ spec.wrong_given (of_case case.now) status }
@@ -238,7 +238,7 @@ fn wrong_given(case: &Case<'_>, status: Status) -> Wrong
     }
 }
 
-/// The same of a status that may be missing.
+/// The mistake in the status, if any, that a pended operation is given.
 fn wrong_if_given(case: &Case<'_>, status: Option<Status>) -> Wrong
     ensures { result ≡ spec.wrong_if_given (of_case case.now) status }
 {
@@ -248,7 +248,7 @@ fn wrong_if_given(case: &Case<'_>, status: Option<Status>) -> Wrong
     }
 }
 
-/// What is wrong with a returned status that may be missing.
+/// The mistake in the returned status, if any.
 fn wrong_if_returned(case: &Case<'_>, status: Option<Status>) -> Wrong
     ensures { result ≡ spec.wrong_if_returned (of_case case.now) status }
 {
@@ -258,7 +258,7 @@ fn wrong_if_returned(case: &Case<'_>, status: Option<Status>) -> Wrong
     }
 }
 
-/// What is wrong at a call.
+/// The mistake in a call.
 fn wrong_call(case: &Case<'_>, call: Call, status: Option<Status>) -> Wrong
     ensures { result ≡ spec.wrong_call (of_case case.now) call status }
 {
@@ -293,7 +293,7 @@ fn word(case: &Case<'_>) -> &'static str
     }
 }
 
-/// Writes what is so of a status.
+/// Writes the word of the status, and these words.
 #[tactic(auto, unfolding(crate::specs::Advice::Statuses::of_word))]
 fn tell_of_word<'a>(page: &mut Page, case: &Case<'a>, words: &'a str) -> Result<(), AllocError>
     ensures { Writes result page.old page.new (spec.of_word (of_case case.now) words.now) }
@@ -313,7 +313,7 @@ fn tell_not_legal(page: &mut Page, case: &Case<'_>) -> Result<(), AllocError>
     ])
 }
 
-/// Writes that a status isn't legal for what it needs.
+/// Writes that a status isn't legal, and what it needs of an operation.
 #[tactic(auto, unfolding(crate::specs::Advice::Statuses::needing))]
 fn tell_needing(
     page: &mut Page,
@@ -329,7 +329,7 @@ fn tell_needing(
     Ok(())
 }
 
-/// Writes what is wrong with a status where this is.
+/// Writes the title for a mistake in a status.
 fn tell_title_by(page: &mut Page, case: &Case<'_>, wrong: Wrong) -> Result<(), AllocError>
     ensures { Writes result page.old page.new (spec.title_by (of_case case.now) wrong) }
 {
@@ -357,7 +357,7 @@ fn tell_title_by(page: &mut Page, case: &Case<'_>, wrong: Wrong) -> Result<(), A
     }
 }
 
-/// Writes what is wrong with a status.
+/// Writes the title of a finding about a status.
 #[tactic(auto, unfolding(crate::specs::Advice::Statuses::title))]
 pub(crate) fn tell_title(page: &mut Page, case: &Case<'_>) -> Result<(), AllocError>
     ensures { Writes result page.old page.new (spec.title (of_case case.now)) }
@@ -379,7 +379,7 @@ fn held_help(place: Place) -> &'static str
     }
 }
 
-/// What to return where the operation was given away.
+/// The words that say which status to return if the operation was given away.
 fn given_away_remedy(place: Place) -> &'static str
     ensures { result.now ≡ spec.given_away_remedy place }
 {
@@ -409,7 +409,7 @@ fn tell_given_away(page: &mut Page, case: &Case<'_>) -> Result<(), AllocError>
     Ok(())
 }
 
-/// How to fix what is wrong whatever the callback's operation is.
+/// How to fix a mistake, whatever the callback's operation is.
 fn plain_help(wrong: Wrong) -> &'static str
     ensures { result.now ≡ spec.plain_help wrong }
 {
@@ -461,7 +461,7 @@ fn tell_pairing(page: &mut Page, operation: Operation, verb: &'static str) -> Re
     ])
 }
 
-/// Writes how to fix what is wrong with a status where this is.
+/// Writes how to fix a mistake in a status.
 fn tell_help_by(page: &mut Page, case: &Case<'_>, wrong: Wrong) -> Result<(), AllocError>
     ensures { Writes result page.old page.new (spec.help_by (of_case case.now) wrong) }
 {
@@ -476,7 +476,7 @@ fn tell_help_by(page: &mut Page, case: &Case<'_>, wrong: Wrong) -> Result<(), Al
     }
 }
 
-/// Writes how to fix what is wrong with a status.
+/// Writes how to fix a finding about a status.
 #[tactic(auto, unfolding(crate::specs::Advice::Statuses::help))]
 pub(crate) fn tell_help(page: &mut Page, case: &Case<'_>) -> Result<(), AllocError>
     ensures { Writes result page.old page.new (spec.help (of_case case.now)) }

@@ -23,7 +23,7 @@ fn is_lost(case: &Case<'_>) -> bool
     matches!(case.variable_status(), Some(VariableStatus::Stale))
 }
 
-/// The call that made it so.
+/// The call that gave the variable its status.
 #[tactic(auto, unfolding(crate::specs::Advice::Variables::earlier))]
 fn earlier(case: &Case<'_>) -> Option<Invocation>
     ensures { result ≡ spec.earlier (of_case case.now) }
@@ -46,7 +46,7 @@ fn releases(call: Call) -> bool
     matches!(call, Call::ReleaseContext)
 }
 
-/// What two calls do twice.
+/// The words for a second release or completion, if both calls release or both complete.
 fn twice(earlier: Call, later: Call) -> Option<&'static str>
     ensures { option_copied result ≡ spec.twice earlier later }
 {
@@ -59,7 +59,7 @@ fn twice(earlier: Call, later: Call) -> Option<&'static str>
     }
 }
 
-/// What is done a second time where the variable is lost.
+/// The words for a second release or completion of a variable that is lost.
 #[tactic(auto, unfolding(crate::specs::Advice::Variables::repeated))]
 fn repeated(case: &Case<'_>) -> Option<&'static str>
     ensures { option_copied result ≡ spec.repeated (of_case case.now) }
@@ -73,7 +73,7 @@ fn repeated(case: &Case<'_>) -> Option<&'static str>
     }
 }
 
-/// Whether a generic routine asks for the operation, which it hasn't.
+/// Whether a generic routine uses the operation, which it doesn't have.
 #[tactic(auto, unfolding(crate::specs::Advice::Variables::is_without_operation))]
 fn is_without_operation(case: &Case<'_>) -> bool
     ensures { result ≡ spec.is_without_operation (of_case case.now) }
@@ -121,7 +121,7 @@ pub(crate) fn tell_use_title(page: &mut Page, case: &Case<'_>) -> Result<(), All
     around(page, case, "", fault)
 }
 
-/// What is so of an operation that isn't held.
+/// The words for an operation that isn't held.
 fn operation_fault(is_without: bool) -> &'static str
     ensures { result.now ≡ spec.operation_fault is_without }
 {
@@ -150,7 +150,7 @@ pub(crate) fn tell_end_title(page: &mut Page, case: &Case<'_>) -> Result<(), All
 
 // ---- what isn't held
 
-/// To use it while it is held.
+/// The remedy that uses the variable only while it is held.
 fn use_remedy(is_lost: bool) -> &'static str
     ensures { result.now ≡ spec.use_remedy is_lost }
 {
@@ -161,7 +161,7 @@ fn use_remedy(is_lost: bool) -> &'static str
     }
 }
 
-/// To release it once.
+/// The remedy that releases the variable once.
 fn release_remedy(is_handed_over: bool) -> &'static str
     ensures { result.now ≡ spec.release_remedy is_handed_over }
 {
@@ -172,7 +172,7 @@ fn release_remedy(is_handed_over: bool) -> &'static str
     }
 }
 
-/// What to do about a context that isn't held (R01), after the reason.
+/// The remedy for a context that isn't held (R01), which follows the reason.
 #[tactic(auto, unfolding(crate::specs::Advice::Variables::context_remedy))]
 pub(crate) fn context_remedy(case: &Case<'_>) -> &'static str
     ensures { result.now ≡ spec.context_remedy (of_case case.now) }
@@ -185,7 +185,7 @@ pub(crate) fn context_remedy(case: &Case<'_>) -> &'static str
     }
 }
 
-/// What to do about an operation that isn't held (R04), after the reason.
+/// The remedy for an operation that isn't held (R04), which follows the reason.
 #[tactic(auto, unfolding(crate::specs::Advice::Variables::operation_remedy))]
 pub(crate) fn operation_remedy(case: &Case<'_>) -> &'static str
     ensures { result.now ≡ spec.operation_remedy (of_case case.now) }
@@ -197,7 +197,7 @@ pub(crate) fn operation_remedy(case: &Case<'_>) -> &'static str
     }
 }
 
-/// Writes how to fix that a variable isn't held, where nothing says why.
+/// Writes how to fix that a variable isn't held, if no reason is known.
 fn tell_use_help(page: &mut Page, case: &Case<'_>) -> Result<(), AllocError>
     ensures { Writes result page.old page.new (spec.use_help (of_case case.now)) }
 {

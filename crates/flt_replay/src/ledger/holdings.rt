@@ -1,5 +1,5 @@
-//! How often each activation holds each context. Most contexts have one holder, which stands in place, while an activation may hold
-//! many of them.
+//! The number of times that each activation holds each context. Most contexts have one holder, which is in place, while an activation may
+//! hold many of them.
 
 ghost use Rattle.std.specs.Prelude.{◌≡◌, ◌+◌, ℕ, ◌<◌, OnOk, ◌↔◌, IsTrue};
 ghost use Rattle.flt_model.specs.Trace.{one_if, of_actor};
@@ -10,11 +10,11 @@ use flt_records::Counts;
 use std::alloc::{AllocError, Global};
 use std::marker::Model;
 
-/// By context how often each activation holds it.
+/// By context, the number of times that each activation holds it.
 #[derive(Drop)]
 pub(crate) struct Holdings {
     rows: Rows,
-    /// By activation, how often it holds contexts.
+    /// By activation, the number of times that it holds contexts.
     totals: Counts,
     /// The contexts from this number on were never held.
     known: usize,
@@ -60,7 +60,7 @@ impl Holdings {
         self.totals.count(activation) == 0
     }
 
-    /// Once more. It fails where a number or a count would reach 2^32.
+    /// Adds one to a count. It fails if a number or a count would reach 2^32.
     pub(crate) fn add(
         &mut self,
         alloc: Global,
@@ -84,7 +84,7 @@ impl Holdings {
         Ok(())
     }
 
-    /// Once less, of what counts.
+    /// Takes one off a count that is at least 1.
     #[tactic(auto, using(crate::proofs::Counting::Totals::times_more))]
     pub(crate) fn take(&mut self, activation: usize, context: usize)
         ensures { 0 < spec.times_held self.old activation context → (a x : ℕ) →

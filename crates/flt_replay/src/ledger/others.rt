@@ -1,5 +1,5 @@
-//! How often each number was counted of each activation, beside the one that stands in place. Most activations have none of
-//! these and take no memory here, so what looks for them stays out of its callers' code.
+//! The number of times that each number was counted for each activation, except the one in place. Most activations have none of these and
+//! take no memory here, so the code that looks for them is kept out of its callers.
 
 ghost use Rattle.std.specs.Prelude.{◌≡◌, ◌+◌, ℕ, ◌<◌, ◌≤◌, min, OnOk, OnErr, IsTrue};
 ghost use Rattle.flt_model.specs.Trace.{one_if, of_actor};
@@ -55,7 +55,7 @@ impl Others {
         }
     }
 
-    /// Once more of an activation.
+    /// Adds one to a number's count for an activation.
     #[inline(never)]
     #[tactic(auto, unfolding(crate::specs::Rows::count_among, flt_records::specs::Counts::count_in, flt_model::specs::Trace::of_actor))]
     pub(crate) fn add(
@@ -80,7 +80,7 @@ impl Others {
         }
     }
 
-    /// Once less of an activation, of what counts.
+    /// Takes one off a number's count for an activation, which is at least 1.
     #[inline(never)]
     #[tactic(auto, unfolding(crate::specs::Rows::count_among, flt_records::specs::Counts::count_in, flt_model::specs::Trace::of_actor))]
     pub(crate) fn take(&mut self, activation: usize, number: usize)
@@ -100,7 +100,7 @@ impl Others {
         }
     }
 
-    /// Counts each number that counts of an activation once more.
+    /// Adds one to the count in `holders` of each number that counts for an activation.
     #[inline(never)]
     #[tactic(auto, unfolding(crate::specs::Rows::count_among, flt_records::specs::Counts::count_in))]
     pub(crate) fn add_to(
@@ -118,7 +118,7 @@ impl Others {
         holders.add_each(numbers.as_slice())
     }
 
-    /// Counts each number that counts of an activation once less.
+    /// Takes one off the count in `holders` of each number that counts for an activation.
     #[inline(never)]
     #[tactic(auto, unfolding(crate::specs::Rows::count_among, flt_records::specs::Counts::count_in))]
     pub(crate) fn take_from(
@@ -138,7 +138,7 @@ impl Others {
         Ok(())
     }
 
-    /// Lists the numbers that count of an activation, each once.
+    /// Lists the numbers that count for an activation, each once.
     #[inline(never)]
     #[tactic(auto, unfolding(crate::specs::Rows::count_among, flt_records::specs::Counts::count_in))]
     pub(crate) fn list(

@@ -1,4 +1,5 @@
-//! How often each number was counted of each activation, or of each context, which mostly counts one: that one stands in place.
+//! The number of times that each number was counted for each activation, or for each context, which mostly counts one: that one is in
+//! place.
 
 ghost use Rattle.std.specs.Prelude.{◌≡◌, ◌+◌, ℕ, ◌<◌, ◌≤◌, length, get_or, set, min, OnOk, OnErr};
 ghost use Rattle.flt_model.specs.Trace.{one_if, of_actor};
@@ -18,7 +19,7 @@ struct First {
 }
 
 impl First {
-    /// Counts the number once more, where it counts.
+    /// Adds one to the count of the number in `holders`, if it counts.
     #[inline(always)]
     #[tactic(auto, using(crate::proofs::Counting::Rows::once, crate::proofs::Counting::Rows::never))]
     fn add_to(self, holders: &mut Counts) -> Result<(), AllocError>
@@ -30,7 +31,7 @@ impl First {
         Ok(())
     }
 
-    /// Counts the number once less, where it counts.
+    /// Takes one off the count of the number in `holders`, if it counts.
     #[inline(always)]
     #[tactic(auto, using(crate::proofs::Counting::Rows::once, crate::proofs::Counting::Rows::never, crate::proofs::Counting::Rows::some_holder_of))]
     fn take_from(self, holders: &mut Counts)
@@ -42,7 +43,7 @@ impl First {
         }
     }
 
-    /// Lists the number, where it counts.
+    /// Lists the number, if it counts.
     #[inline(always)]
     #[tactic(auto, using(crate::proofs::Counting::Rows::once, crate::proofs::Counting::Rows::never, crate::proofs::Counting::Rows::listed_once_more))]
     fn list(self, numbers: &mut Vec<usize>) -> Result<(), AllocError>
@@ -84,7 +85,7 @@ impl Rows {
         }
     }
 
-    /// The number of an activation that stands in place.
+    /// The number in place of an activation.
     #[inline(always)]
     fn first(&self, activation: usize) -> First
         ensures first { result ≡ get_or self.now.firsts activation spec.blank }
@@ -99,7 +100,7 @@ impl Rows {
         }
     }
 
-    /// How often a number that isn't in place was counted.
+    /// The number of times that a number that isn't in place was counted.
     #[inline(always)]
     fn count_beside(&self, activation: usize, number: usize) -> u64
         ensures { result ≡ spec.count_among self.now.others activation number }
@@ -123,7 +124,7 @@ impl Rows {
         self.count_beside(activation, number)
     }
 
-    /// Counts each number that counts of an activation once more.
+    /// Adds one to the count in `holders` of each number that counts for an activation.
     #[tactic(auto, using(crate::proofs::Counting::Rows::once_each), unfolding(crate::specs::Rows::count_of, crate::specs::Rows::in_place))]
     pub(crate) fn add_to(
         &self,
@@ -141,7 +142,7 @@ impl Rows {
         first.add_to(holders)
     }
 
-    /// Counts each number that counts of an activation once less.
+    /// Takes one off the count in `holders` of each number that counts for an activation.
     #[tactic(auto, using(crate::proofs::Counting::Rows::once_each), unfolding(crate::specs::Rows::count_of, crate::specs::Rows::in_place))]
     pub(crate) fn take_from(
         &self,
@@ -162,7 +163,7 @@ impl Rows {
         Ok(())
     }
 
-    /// Lists the numbers that count of an activation, each once.
+    /// Lists the numbers that count for an activation, each once.
     #[tactic(auto, using(crate::proofs::Counting::Rows::once_each), unfolding(crate::specs::Rows::count_of, crate::specs::Rows::in_place))]
     pub(crate) fn list(
         &self,
@@ -209,7 +210,7 @@ impl Rows {
         }
     }
 
-    /// Once more of an activation. It fails where a number in place or its count would reach 2^32.
+    /// Adds one to a number's count for an activation. It fails if a number in place or its count would reach 2^32.
     #[inline(always)]
     #[tactic(auto, using(crate::proofs::Counting::Rows::more_in_place, crate::proofs::Counting::Rows::again, crate::proofs::Counting::Rows::moved_in), unfolding(crate::specs::Rows::count_of))]
     pub(crate) fn add(
@@ -241,7 +242,7 @@ impl Rows {
         Ok(())
     }
 
-    /// Once less of an activation, of what counts.
+    /// Takes one off a number's count for an activation, which is at least 1.
     #[inline(always)]
     #[tactic(auto, using(crate::proofs::Counting::Rows::taken_in_place, crate::proofs::Counting::Rows::some_among), unfolding(crate::specs::Rows::count_of))]
     pub(crate) fn take(&mut self, activation: usize, number: usize)
