@@ -41,15 +41,14 @@ pub enum Unemitted {
 // ---- a part of a driver
 
 /// Adds the allocations of some statements.
-fn add_allocations(out: &mut Vec<Allocation>, mut spots: &[Spot]) -> Result<(), AllocError>
-    ensures { OnOk result (out.new.items ≡ out.old.items ++ map spec.allocation_of spots.entry.now) }
+fn add_allocations(out: &mut Vec<Allocation>, spots: &[Spot]) -> Result<(), AllocError>
+    ensures { OnOk result (out.new.items ≡ out.old.items ++ map spec.allocation_of spots.now) }
 {
-    while let [at, rest @ ..] = spots {
+    for at in spots {
         out.push(Allocation {
             callback: at.callback,
             point: at.point,
         })?;
-        spots = rest;
     }
     Ok(())
 }
