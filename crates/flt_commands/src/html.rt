@@ -98,7 +98,7 @@ impl Parsed {
     }
 
     /// Adds a text if it parses.
-    #[tactic(auto, using(crate::proofs::MoreParsed::one_parsed, crate::proofs::MoreParsed::one_failed))]
+    #[tactic(auto, using(crate::proofs::MoreParsed::tree_parsed, crate::proofs::MoreParsed::one_failed))]
     fn add(&mut self, alloc: Global, source: Source<'_>) -> Result<(), AllocError>
         ensures { OnOk result ((texts : List Text) → AreParsed texts (filters_of self.old.trees) →
             AreParsed (texts ++ source.text.now ∷ []) (filters_of self.new.trees)) }

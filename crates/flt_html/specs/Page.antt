@@ -7,12 +7,14 @@ use Rattle.flt_html.specs.Reports.{ending, rows_from}
 use Rattle.flt_html.specs.Texts.{links_from, texts_from}
 use Rattle.flt_html.specs.declared.texts.ShownText.{ShownText}
 
+-- the last row but one, where these two come before some rows
+abbrev pub last_from : Text → Text → List Text → Text
+last_from last next [] = last
+last_from last next (r ∷ rs) = last_from next r rs
+
 -- the last row but one, since nothing is behind the end of the last line; nothing where there are fewer
 abbrev pub last_row : List Text → Text
-last_row [] = []
-last_row (r ∷ []) = []
-last_row (r ∷ s ∷ []) = r
-last_row (r ∷ s ∷ t ∷ rs) = last_row (s ∷ t ∷ rs)
+last_row rows = last_from [] [] rows
 
 -- what is in front of the links to the texts
 unfoldable pub opening : Text → Text → Text
