@@ -13,6 +13,7 @@ body{margin:0;background:var(--ground);color:var(--words);font:15px/1.5 system-u
 header{padding:.7rem 1rem;border-bottom:1px solid var(--edge);background:var(--panel)}\
 h1{display:inline;margin:0 .8rem 0 0;font-size:1rem;color:var(--faint);font-weight:normal}\
 header p{display:inline;margin:0;font-weight:600}\
+header p a{color:inherit}\
 nav{margin-top:.3rem;max-height:5.5rem;overflow:auto}\
 nav a{margin-right:.9rem;white-space:nowrap}\
 a{color:var(--link);text-decoration:none}\
@@ -26,7 +27,7 @@ section span{display:block;min-width:max-content;padding-right:1rem;border-left:
 section span a{display:inline-block;width:3.2rem;margin-right:1rem;text-align:right;color:var(--faint);user-select:none}\
 section .place{background:var(--place);border-left-color:var(--error)}\
 section .place a{color:var(--error);font-weight:bold}\
-:target{background:var(--target)!important}\
+span:target,article a:target{background:var(--target)}\
 article{margin-bottom:1rem;padding:.7rem .9rem;border:1px solid var(--edge);border-left:4px solid var(--edge);border-radius:6px}\
 .error{border-left-color:var(--error)}\
 .warning{border-left-color:var(--warning)}\
@@ -37,6 +38,6 @@ article{margin-bottom:1rem;padding:.7rem .9rem;border:1px solid var(--edge);bord
 .run pre{flex:1 1 22rem;min-width:0}\
 figure{order:1;flex:0 1 auto;min-width:0;margin:.4rem 0;overflow-x:auto}\
 svg{display:block;border-radius:4px}\
-@media (min-width:75rem){body{display:flex;flex-direction:column;height:100vh}main{flex:1;display:grid;grid-template-columns:2fr 3fr;\
+@media screen and (min-width:75rem){body{display:flex;flex-direction:column;height:100vh}main{flex:1;display:grid;grid-template-columns:2fr 3fr;\
 gap:1rem;min-height:0;padding:0 1rem}.texts,.reports{overflow:auto;padding:1rem 0}}\
 ";
