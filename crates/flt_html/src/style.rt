@@ -9,6 +9,7 @@ pub(crate) const STYLE: &[u8] = b"\
 svg [fill=\"#ffffff\"]{fill:#1c2027}svg text[fill=\"#ffffff\"]{fill:#fff}svg [fill=\"#202020\"]{fill:#d9dee6}svg [fill=\"#808080\"]{fill:#9aa4b3}\
 svg [fill=\"#b00020\"]{fill:#ff8078}svg [fill=\"#fde3e6\"]{fill:#4a2226}}\
 *{box-sizing:border-box}\
+[id]{scroll-margin-top:2rem}\
 body{margin:0;background:var(--ground);color:var(--words);font:15px/1.5 system-ui,sans-serif}\
 header{padding:.7rem 1rem;border-bottom:1px solid var(--edge);background:var(--panel)}\
 h1{display:inline;margin:0 .8rem 0 0;font-size:1rem;color:var(--faint);font-weight:normal}\
