@@ -1,9 +1,10 @@
 -- The page on texts, byte by byte but for its style sheet. This project's own page; its elements are those of HTML.
-use Rattle.std.specs.Prelude.{◌≡◌, ℕ, ◌==◌, not, true, List, [], ◌∷◌, ◌++◌, codes}
-use Rattle.std.specs.List.{list_all, slice_split}
+use Rattle.std.specs.Prelude.{◌≡◌, ◌==◌, true, List, [], ◌∷◌, ◌++◌, codes}
+use Rattle.std.specs.List.{slice_split}
 use Rattle.flt_html.specs.Escaping.{Text, escaped}
 use Rattle.flt_html.specs.Places.{heads, places}
-use Rattle.flt_html.specs.Reports.{ending, rows_from}
+use Rattle.flt_html.specs.Read.{is_plain}
+use Rattle.flt_html.specs.Reports.{rows_from}
 use Rattle.flt_html.specs.Texts.{links_from, texts_from}
 use Rattle.flt_html.specs.declared.texts.ShownText.{ShownText}
 
@@ -37,5 +38,5 @@ page style texts rows pictures =
 -- the page on what is printed of texts, with some style sheet, which ends no element
 pub record IsPage (texts : List ShownText) (printed : Text) (pictures : List Text) (written : Text) : Type 0 where
   pub style : Text
-  pub quiet : list_all (λ b. not (b == 60)) style ≡ true
+  pub plain : is_plain style ≡ true
   pub whole : written ≡ page style texts (lines_in printed) pictures

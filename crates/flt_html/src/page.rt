@@ -6,7 +6,7 @@ ghost use Rattle.flt_html.specs.Page as spec;
 use crate::escaping::{put, put_escaped};
 use crate::places::{heads, places};
 use crate::reports::put_rows;
-use crate::style::STYLE;
+use crate::style::style;
 use crate::texts::{ShownText, put_links, put_texts};
 use flt_places::lines_of;
 use sqlite_items::Items;
@@ -27,7 +27,7 @@ fn last_row<'a>(rows: &[&'a [u8]]) -> &'a [u8]
 
 /// Everything before the links to the texts.
 #[tactic(auto, unfolding(crate::specs::Page::opening))]
-fn put_opening(out: &mut Vec<u8>, style: &[u8], summary: &[u8]) -> Result<(), AllocError>
+fn put_opening(out: &mut Vec<u8>, style: &str, summary: &[u8]) -> Result<(), AllocError>
     ensures { OnOk result (out.new.items ≡ out.old.items ++ spec.opening style.now summary.now) }
 {
     put(
@@ -39,7 +39,7 @@ fn put_opening(out: &mut Vec<u8>, style: &[u8], summary: &[u8]) -> Result<(), Al
         out,
         " - fltstack explain</title><meta name=\"viewport\" content=\"width=device-width\"><style>",
     )?;
-    out.extend_from_slice(style)?;
+    put(out, style)?;
     put(
         out,
         "</style></head><body><header><h1>fltstack explain</h1><p><a href=\"#reports\">",
@@ -53,7 +53,7 @@ fn put_opening(out: &mut Vec<u8>, style: &[u8], summary: &[u8]) -> Result<(), Al
 fn put_page(
     alloc: Global,
     out: &mut Vec<u8>,
-    style: &[u8],
+    style: &str,
     texts: &[ShownText],
     rows: &[&[u8]],
     pictures: &[Items<u8>],
@@ -88,6 +88,6 @@ pub fn html_page(
 {
     let rows = lines_of(alloc, printed)?;
     let mut out = Vec::new(alloc);
-    put_page(alloc, &mut out, STYLE, texts, rows.as_slice(), pictures)?;
+    put_page(alloc, &mut out, style(), texts, rows.as_slice(), pictures)?;
     Ok(out)
 }

@@ -1,7 +1,10 @@
 //! The style sheet of the page.
 
+ghost use Rattle.std.specs.Prelude.{◌≡◌, true};
+ghost use Rattle.flt_html.specs.Read.{is_plain};
+
 /// The style sheet: without fonts and pictures from elsewhere, in light and dark, for wide and narrow windows.
-pub(crate) const STYLE: &[u8] = b"\
+const STYLE: &str = "\
 :root{color-scheme:light dark;--ground:#fff;--panel:#f6f7f9;--words:#1d2026;--faint:#667080;--edge:#dde1e7;--error:#b3261e;\
 --warning:#8a5a00;--link:#0b57d0;--place:#fdeceb;--target:#fff4c2}\
 @media (prefers-color-scheme:dark){:root{--ground:#15181d;--panel:#1c2027;--words:#d9dee6;--faint:#8b95a5;--edge:#303742;--error:#ff8078;\
@@ -42,3 +45,10 @@ svg{display:block;border-radius:4px}\
 @media screen and (min-width:75rem){body{display:flex;flex-direction:column;height:100vh}main{flex:1;display:grid;grid-template-columns:2fr 3fr;\
 gap:1rem;min-height:0;padding:0 1rem}.texts,.reports{overflow:auto;padding:1rem 0}}\
 ";
+
+/// The style sheet, which ends no element.
+pub(crate) fn style() -> &'static str
+    ensures { is_plain result.now ≡ true }
+{
+    STYLE
+}
