@@ -1,8 +1,17 @@
 -- Escaped bytes are read as they were.
-use Rattle.std.proofs.Common.{◌≡◌, ℕ, zero, Bool, true, false, not, ◌==◌, ◌&&◌, List, [], ◌∷◌, ◌++◌, ap, sym, refl, ◌∙◌}
-use Rattle.std.proofs.lemmas.Bool.{eqb-true}
+use Rattle.std.proofs.Common.{◌≡◌, ℕ, zero, Bool, true, false, ◌==◌, List, [], ◌∷◌, ◌++◌, absurd, ap, sym, refl, ◌∙◌}
+use Rattle.std.proofs.lemmas.Bool.{eqb-false, eqb-true}
 use Rattle.flt_html.specs.Escaping.{Text, escaped, escaped_byte}
 use Rattle.flt_html.specs.Read.{is_plain, read_behind, unescaped}
+
+-- two numbers that differ do so the other way round
+turned : (a b : ℕ) (c : Bool) → (b == a) ≡ c → (a == b) ≡ false → (b == a) ≡ false
+turned a b false e f = e
+turned a b true e f = absurd (eqb-false a b f (sym (eqb-true b a e)))
+
+-- a byte that begins no name is read as it is
+first_plain : (b : ℕ) (z : Text) → (38 == b) ≡ false → read_behind zero (b ∷ z) ≡ b ∷ read_behind zero z
+first_plain b z e = rw e refl
 
 -- a byte is read behind its name, whatever comes next
 byte_read : (b : ℕ) (z : Text) (less greater and quote : Bool) → (b == 60) ≡ less → (b == 62) ≡ greater → (b == 38) ≡ and → (b == 34) ≡ quote →
@@ -11,7 +20,7 @@ byte_read b z true greater and quote e f g h = rw e (ap (λ x. x ∷ read_behind
 byte_read b z false true and quote e f g h = rw (e, f) (ap (λ x. x ∷ read_behind zero z) (sym (eqb-true b 62 f)))
 byte_read b z false false true quote e f g h = rw (e, f, g) (ap (λ x. x ∷ read_behind zero z) (sym (eqb-true b 38 g)))
 byte_read b z false false false true e f g h = rw (e, f, g, h) (ap (λ x. x ∷ read_behind zero z) (sym (eqb-true b 34 h)))
-byte_read b z false false false false e f g h = rw (e, f, g, h) refl
+byte_read b z false false false false e f g h = rw (e, f, g, h) (first_plain b z (turned b 38 (38 == b) refl g))
 
 pub all_read : (row : Text) → unescaped (escaped row) ≡ row
 all_read [] = refl

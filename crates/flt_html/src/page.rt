@@ -4,7 +4,7 @@ ghost use Rattle.std.specs.Prelude.{◌≡◌, ◌++◌, IfOk, OnOk, map};
 ghost use Rattle.flt_html.specs.Page as spec;
 
 use crate::escaping::{put, put_escaped};
-use crate::places::{heads, places};
+use crate::places::{Place, heads, places};
 use crate::reports::put_rows;
 use crate::style::style;
 use crate::texts::{ShownText, put_links, put_texts};
@@ -26,7 +26,6 @@ fn last_row<'a>(rows: &[&'a [u8]]) -> &'a [u8]
 }
 
 /// Everything before the links to the texts.
-#[tactic(auto, unfolding(crate::specs::Page::opening))]
 fn put_opening(out: &mut Vec<u8>, style: &str, summary: &[u8]) -> Result<(), AllocError>
     ensures { OnOk result (out.new.items ≡ out.old.items ++ spec.opening style.now summary.now) }
 {
@@ -45,11 +44,35 @@ fn put_opening(out: &mut Vec<u8>, style: &str, summary: &[u8]) -> Result<(), All
         "</style></head><body><header><h1>fltstack explain</h1><p><a href=\"#reports\">",
     )?;
     put_escaped(out, summary)?;
-    put(out, "</a></p><nav>")
+    put(out, "</a></p><nav>")?;
+    Ok(())
+}
+
+/// The page with a style sheet, given the beginnings of rows that name lines and the rows that do.
+fn put_parts(
+    alloc: Global,
+    out: &mut Vec<u8>,
+    style: &str,
+    texts: &[ShownText],
+    rows: &[&[u8]],
+    pictures: &[Items<u8>],
+    heads: &[Items<u8>],
+    places: &[Place],
+) -> Result<(), AllocError>
+    ensures { OnOk result (out.new.items ≡ out.old.items
+        ++ spec.parts style.now texts.now (map (λ row. row.now) rows.now) pictures.now heads.now places.now) }
+{
+    put_opening(out, style, last_row(rows))?;
+    put_links(alloc, out, texts)?;
+    put(out, "</nav></header><main><div class=\"texts\">")?;
+    put_texts(alloc, out, places, texts)?;
+    put(out, "</div><div class=\"reports\" id=\"reports\">")?;
+    put_rows(alloc, out, heads, pictures, rows)?;
+    put(out, "</pre></div></article></div></main></body></html>\n")?;
+    Ok(())
 }
 
 /// The page with a style sheet.
-#[tactic(auto, unfolding(crate::specs::Page::page))]
 fn put_page(
     alloc: Global,
     out: &mut Vec<u8>,
@@ -63,13 +86,17 @@ fn put_page(
 {
     let heads = heads(alloc, texts)?;
     let places = places(alloc, heads.as_slice(), rows)?;
-    put_opening(out, style, last_row(rows))?;
-    put_links(alloc, out, texts)?;
-    put(out, "</nav></header><main><div class=\"texts\">")?;
-    put_texts(alloc, out, places.as_slice(), texts)?;
-    put(out, "</div><div class=\"reports\" id=\"reports\">")?;
-    put_rows(alloc, out, heads.as_slice(), pictures, rows)?;
-    put(out, "</pre></div></article></div></main></body></html>\n")
+    put_parts(
+        alloc,
+        out,
+        style,
+        texts,
+        rows,
+        pictures,
+        heads.as_slice(),
+        places.as_slice(),
+    )?;
+    Ok(())
 }
 
 /// The page on texts and on what is printed of them for people: the texts with their lines, the print as it is, row by row, with links

@@ -20,13 +20,22 @@ fn put_beginning(out: &mut Vec<u8>, row: &[u8]) -> Result<(), AllocError>
 }
 
 /// The beginning of the rows of a run, after its picture.
-#[tactic(auto, unfolding(crate::specs::Reports::picture_before))]
 fn put_picture(out: &mut Vec<u8>, picture: &[u8]) -> Result<(), AllocError>
     ensures { OnOk result (out.new.items ≡ out.old.items ++ spec.picture_before picture.now) }
 {
     put(out, "</pre></div><div class=\"run\"><figure>")?;
     out.extend_from_slice(picture)?;
-    put(out, "</figure><pre>")
+    put(out, "</figure><pre>")?;
+    Ok(())
+}
+
+/// The end of a report, and the beginning of the next one.
+fn put_next(out: &mut Vec<u8>, row: &[u8]) -> Result<(), AllocError>
+    ensures { OnOk result (out.new.items ≡ out.old.items ++ spec.next_report row.now) }
+{
+    put(out, "</pre></div></article>")?;
+    put_beginning(out, row)?;
+    Ok(())
 }
 
 /// What is between a row and the row before it.
@@ -35,8 +44,7 @@ fn put_between(out: &mut Vec<u8>, row: &[u8], picture: &[u8]) -> Result<(), Allo
 {
     put(out, "\n")?;
     if begins(row) {
-        put(out, "</pre></div></article>")?;
-        put_beginning(out, row)
+        put_next(out, row)
     } else if is_run(row) {
         put_picture(out, picture)
     } else {

@@ -78,7 +78,6 @@ fn put_lines(
 }
 
 /// A text under its name.
-#[tactic(auto, unfolding(crate::specs::Texts::text))]
 fn put_text(
     alloc: Global,
     out: &mut Vec<u8>,
@@ -94,7 +93,8 @@ fn put_text(
     put_escaped(out, text.name.as_slice())?;
     put(out, "</h2><pre>")?;
     put_lines(alloc, out, places, number, text.lines.as_slice())?;
-    put(out, "</pre></section>")
+    put(out, "</pre></section>")?;
+    Ok(())
 }
 
 /// Texts, each under its name.
