@@ -5,7 +5,6 @@ ghost use Rattle.std.specs.Option.{option_copied};
 ghost use Rattle.std.specs.List.{slice_split};
 ghost use Rattle.flt_details.specs.Page.{shown as shown_as};
 ghost use Rattle.flt_details.specs.Reports.{texts_of};
-ghost use Rattle.flt_html.specs.Page.{IsPage};
 ghost use Rattle.flt_model.specs.Program.{filters_of};
 ghost use Rattle.flt_model.specs.declared.verdict.Verdict.TheVariants as verdicts;
 ghost use Rattle.flt_notes.specs.Noted.{schedule_of as schedule_in};
@@ -227,8 +226,7 @@ pub(crate) fn page_on(
     printed: &[u8],
     noted: &[Noted],
 ) -> Result<Vec<u8>, AllocError>
-    ensures { IfOk result (λ page. (pictures : List Text) × spec.HasPictures sources.now noted.now pictures
-        × IsPage (map spec.shown_text sources.now) printed.now pictures page.items) }
+    ensures { IfOk result (λ page. spec.HasPage sources.now noted.now printed.now page.items) }
 {
     let texts = shown_texts(alloc, sources)?;
     let pictures = pictures_of(alloc, sources, noted)?;
