@@ -60,21 +60,25 @@ pub record HasPictures (sources : List Source) (notes : List Noted) (pictures : 
 
 -- ---- the page
 
+-- a page on what is printed of texts, with the pictures of the runs of these findings
+pub record HasPage (sources : List Source) (notes : List Noted) (printed written : Text) : Type 0 where
+  pub pictures : List Text
+  pub drawn : HasPictures sources notes pictures
+  pub page : IsPage (map shown_text sources) printed pictures written
+
 -- a page on what is reported of texts
 pub record IsPageOn (options : WarningOptions) (sources : List Source) (written : Text) (status : ℕ) : Type 0 where
   pub printed : Text
-  pub pictures : List Text
+  pub notes : List Noted
   pub reports : AreReports options (texts_of sources) printed status
-  pub page : IsPage (map shown_text sources) printed pictures written
+  pub page : HasPage sources notes printed written
 
 -- without colours
 abbrev pub plain : Look → Look
 plain look = record { coloured = false; states = look.states; options = look.options }
 
--- a page on what is printed of texts without colours, with the pictures of the runs of these findings
+-- a page on what is printed of texts without colours
 pub record IsPaged (look : Look) (sources : List Source) (notes : List Noted) (written : Text) (status : ℕ) : Type 0 where
   pub printed : Text
   pub print : IsPrint (plain look) sources notes printed status
-  pub pictures : List Text
-  pub drawn : HasPictures sources notes pictures
-  pub page : IsPage (map shown_text sources) printed pictures written
+  pub page : HasPage sources notes printed written

@@ -5,7 +5,6 @@ ghost use Rattle.std.specs.Option.{option_copied};
 ghost use Rattle.std.specs.List.{slice_split};
 ghost use Rattle.flt_details.specs.Page.{shown as shown_as};
 ghost use Rattle.flt_details.specs.Reports.{texts_of};
-ghost use Rattle.flt_html.specs.Page.{IsPage};
 ghost use Rattle.flt_model.specs.Program.{filters_of};
 ghost use Rattle.flt_model.specs.declared.verdict.Verdict.TheVariants as verdicts;
 ghost use Rattle.flt_notes.specs.Noted.{schedule_of as schedule_in};
@@ -98,7 +97,7 @@ impl Parsed {
     }
 
     /// Adds a text if it parses.
-    #[tactic(auto, using(crate::proofs::MoreParsed::one_parsed, crate::proofs::MoreParsed::one_failed))]
+    #[tactic(auto, using(crate::proofs::MoreParsed::tree_parsed, crate::proofs::MoreParsed::one_failed))]
     fn add(&mut self, alloc: Global, source: Source<'_>) -> Result<(), AllocError>
         ensures { OnOk result ((texts : List Text) → AreParsed texts (filters_of self.old.trees) →
             AreParsed (texts ++ source.text.now ∷ []) (filters_of self.new.trees)) }
@@ -227,8 +226,7 @@ pub(crate) fn page_on(
     printed: &[u8],
     noted: &[Noted],
 ) -> Result<Vec<u8>, AllocError>
-    ensures { IfOk result (λ page. (pictures : List Text) × spec.HasPictures sources.now noted.now pictures
-        × IsPage (map spec.shown_text sources.now) printed.now pictures page.items) }
+    ensures { IfOk result (λ page. spec.HasPage sources.now noted.now printed.now page.items) }
 {
     let texts = shown_texts(alloc, sources)?;
     let pictures = pictures_of(alloc, sources, noted)?;

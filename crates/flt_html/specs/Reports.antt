@@ -11,9 +11,9 @@ use Rattle.flt_html.specs.Rows.{begins, is_run, kind_word}
 unfoldable pub beginning : Text → Text
 beginning row = codes "<article class=\"" ++ kind_word row ++ codes "\"><div><pre>"
 
--- the end of the rows of a report
-abbrev pub ending : Text
-ending = codes "</pre></div></article>"
+-- the end of a report, and the beginning of the next one
+unfoldable pub next_report : Text → Text
+next_report row = codes "</pre></div></article>" ++ beginning row
 
 -- the beginning of the rows of a run, behind its picture
 unfoldable pub picture_before : Text → Text
@@ -22,7 +22,7 @@ picture_before picture = codes "</pre></div><div class=\"run\"><figure>" ++ pict
 -- the tags between a row and the one before it, where the next picture is this one
 abbrev pub tags_between : Text → Text → Text
 tags_between row picture =
-    if begins row then ending ++ beginning row else (if is_run row then picture_before picture else [])
+    if begins row then next_report row else (if is_run row then picture_before picture else [])
 
 -- the end of the row before a row, and the tags between them
 abbrev pub between : Text → Text → Text

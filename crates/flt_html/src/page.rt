@@ -3,51 +3,80 @@
 ghost use Rattle.std.specs.Prelude.{◌≡◌, ◌++◌, IfOk, OnOk, map};
 ghost use Rattle.flt_html.specs.Page as spec;
 
-use crate::escaping::put_escaped;
-use crate::places::{heads, places};
+use crate::escaping::{put, put_escaped};
+use crate::places::{Place, heads, places};
 use crate::reports::put_rows;
-use crate::style::STYLE;
+use crate::style::style;
 use crate::texts::{ShownText, put_links, put_texts};
 use flt_places::lines_of;
 use sqlite_items::Items;
 use std::alloc::{AllocError, Global};
 
-/// The last row before the end of the reports, which says what is found of all texts; no bytes if there are no reports.
+/// The last row but one: after the last line feed is an empty row. No bytes if there are fewer rows.
 fn last_row<'a>(rows: &[&'a [u8]]) -> &'a [u8]
     ensures { result.now ≡ spec.last_row (map (λ row. row.now) rows.now) }
 {
-    match rows {
-        [.., last, _] => last,
-        _ => b"",
+    let mut last: &[u8] = b"";
+    let mut next: &[u8] = b"";
+    for row in rows {
+        last = next;
+        next = row;
     }
+    last
 }
 
 /// Everything before the links to the texts.
-#[tactic(auto, unfolding(crate::specs::Page::opening))]
-fn put_opening(out: &mut Vec<u8>, style: &[u8], summary: &[u8]) -> Result<(), AllocError>
+fn put_opening(out: &mut Vec<u8>, style: &str, summary: &[u8]) -> Result<(), AllocError>
     ensures { OnOk result (out.new.items ≡ out.old.items ++ spec.opening style.now summary.now) }
 {
-    out.extend_from_slice(
-        b"<!DOCTYPE html>\n<html lang=\"en\"><head><meta charset=\"utf-8\"><title>",
+    put(
+        out,
+        "<!DOCTYPE html>\n<html lang=\"en\"><head><meta charset=\"utf-8\"><title>",
     )?;
     put_escaped(out, summary)?;
-    out.extend_from_slice(
-        b" - fltstack explain</title><meta name=\"viewport\" content=\"width=device-width\"><style>",
+    put(
+        out,
+        " - fltstack explain</title><meta name=\"viewport\" content=\"width=device-width\"><style>",
     )?;
-    out.extend_from_slice(style)?;
-    out.extend_from_slice(
-        b"</style></head><body><header><h1>fltstack explain</h1><p><a href=\"#reports\">",
+    put(out, style)?;
+    put(
+        out,
+        "</style></head><body><header><h1>fltstack explain</h1><p><a href=\"#reports\">",
     )?;
     put_escaped(out, summary)?;
-    out.extend_from_slice(b"</a></p><nav>")
+    put(out, "</a></p><nav>")?;
+    Ok(())
+}
+
+/// The page with a style sheet, given the beginnings of rows that name lines and the rows that do.
+fn put_parts(
+    alloc: Global,
+    out: &mut Vec<u8>,
+    style: &str,
+    texts: &[ShownText],
+    rows: &[&[u8]],
+    pictures: &[Items<u8>],
+    heads: &[Items<u8>],
+    places: &[Place],
+) -> Result<(), AllocError>
+    ensures { OnOk result (out.new.items ≡ out.old.items
+        ++ spec.parts style.now texts.now (map (λ row. row.now) rows.now) pictures.now heads.now places.now) }
+{
+    put_opening(out, style, last_row(rows))?;
+    put_links(alloc, out, texts)?;
+    put(out, "</nav></header><main><div class=\"texts\">")?;
+    put_texts(alloc, out, places, texts)?;
+    put(out, "</div><div class=\"reports\" id=\"reports\">")?;
+    put_rows(alloc, out, heads, pictures, rows)?;
+    put(out, "</pre></div></article></div></main></body></html>\n")?;
+    Ok(())
 }
 
 /// The page with a style sheet.
-#[tactic(auto, unfolding(crate::specs::Page::page))]
 fn put_page(
     alloc: Global,
     out: &mut Vec<u8>,
-    style: &[u8],
+    style: &str,
     texts: &[ShownText],
     rows: &[&[u8]],
     pictures: &[Items<u8>],
@@ -57,13 +86,17 @@ fn put_page(
 {
     let heads = heads(alloc, texts)?;
     let places = places(alloc, heads.as_slice(), rows)?;
-    put_opening(out, style, last_row(rows))?;
-    put_links(alloc, out, texts)?;
-    out.extend_from_slice(b"</nav></header><main><div class=\"texts\">")?;
-    put_texts(alloc, out, places.as_slice(), texts)?;
-    out.extend_from_slice(b"</div><div class=\"reports\" id=\"reports\">")?;
-    put_rows(alloc, out, heads.as_slice(), pictures, rows)?;
-    out.extend_from_slice(b"</pre></div></article></div></main></body></html>\n")
+    put_parts(
+        alloc,
+        out,
+        style,
+        texts,
+        rows,
+        pictures,
+        heads.as_slice(),
+        places.as_slice(),
+    )?;
+    Ok(())
 }
 
 /// The page on texts and on what is printed of them for people: the texts with their lines, the print as it is, row by row, with links
@@ -82,6 +115,6 @@ pub fn html_page(
 {
     let rows = lines_of(alloc, printed)?;
     let mut out = Vec::new(alloc);
-    put_page(alloc, &mut out, STYLE, texts, rows.as_slice(), pictures)?;
+    put_page(alloc, &mut out, style(), texts, rows.as_slice(), pictures)?;
     Ok(out)
 }

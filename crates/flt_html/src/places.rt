@@ -3,7 +3,7 @@
 ghost use Rattle.std.specs.Prelude.{◌≡◌, ◌++◌, IfOk, OnOk, map};
 ghost use Rattle.flt_html.specs.Places as spec;
 
-use crate::escaping::put_number;
+use crate::escaping::{put, put_number};
 use crate::texts::ShownText;
 use sqlite_items::Items;
 use std::alloc::{AllocError, Global};
@@ -23,9 +23,9 @@ pub(crate) fn anchor(alloc: Global, text: usize, line: &[u8]) -> Result<Items<u8
     ensures { IfOk result (λ anchor. anchor ≡ spec.anchor text line.now) }
 {
     let mut anchor = Vec::new(alloc);
-    anchor.extend_from_slice(b"f")?;
+    put(&mut anchor, "f")?;
     put_number(alloc, &mut anchor, text)?;
-    anchor.extend_from_slice(b"-l")?;
+    put(&mut anchor, "-l")?;
     anchor.extend_from_slice(line)?;
     Ok(Items::from_vec(anchor))
 }
@@ -36,9 +36,9 @@ fn head(alloc: Global, name: &[u8]) -> Result<Items<u8>, AllocError>
     ensures { IfOk result (λ head. head ≡ spec.head name.now) }
 {
     let mut head = Vec::new(alloc);
-    head.extend_from_slice(b"  --> ")?;
+    put(&mut head, "  --> ")?;
     head.extend_from_slice(name)?;
-    head.extend_from_slice(b":")?;
+    put(&mut head, ":")?;
     Ok(Items::from_vec(head))
 }
 
@@ -58,8 +58,12 @@ pub(crate) fn heads(alloc: Global, texts: &[ShownText]) -> Result<Items<Items<u8
 fn digits_at(bytes: &[u8]) -> &[u8]
     ensures { result.now ≡ spec.digits_at bytes.now }
 {
-    let end = bytes.iter().position(|byte| !byte.is_ascii_digit());
-    &bytes[..end.unwrap_or(bytes.len())]
+    for (at, byte) in bytes.iter().enumerate() {
+        if !byte.is_ascii_digit() {
+            return &bytes[..at];
+        }
+    }
+    bytes
 }
 
 /// The anchor of the line that a row names, if it names one.

@@ -3,7 +3,7 @@
 ghost use Rattle.std.specs.Prelude.{◌≡◌, ◌++◌, OnOk, drop, map};
 ghost use Rattle.flt_html.specs.Reports as spec;
 
-use crate::escaping::{put_escaped, put_number};
+use crate::escaping::{put, put_escaped, put_number};
 use crate::places::anchor_in;
 use crate::rows::{begins, is_run, kind_word};
 use sqlite_items::Items;
@@ -14,29 +14,37 @@ use std::alloc::{AllocError, Global};
 fn put_beginning(out: &mut Vec<u8>, row: &[u8]) -> Result<(), AllocError>
     ensures { OnOk result (out.new.items ≡ out.old.items ++ spec.beginning row.now) }
 {
-    out.extend_from_slice(b"<article class=\"")?;
+    put(out, "<article class=\"")?;
     out.extend_from_slice(kind_word(row).as_bytes())?;
-    out.extend_from_slice(b"\"><div><pre>")
+    put(out, "\"><div><pre>")
 }
 
 /// The beginning of the rows of a run, after its picture.
-#[tactic(auto, unfolding(crate::specs::Reports::picture_before))]
 fn put_picture(out: &mut Vec<u8>, picture: &[u8]) -> Result<(), AllocError>
     ensures { OnOk result (out.new.items ≡ out.old.items ++ spec.picture_before picture.now) }
 {
-    out.extend_from_slice(b"</pre></div><div class=\"run\"><figure>")?;
+    put(out, "</pre></div><div class=\"run\"><figure>")?;
     out.extend_from_slice(picture)?;
-    out.extend_from_slice(b"</figure><pre>")
+    put(out, "</figure><pre>")?;
+    Ok(())
+}
+
+/// The end of a report, and the beginning of the next one.
+fn put_next(out: &mut Vec<u8>, row: &[u8]) -> Result<(), AllocError>
+    ensures { OnOk result (out.new.items ≡ out.old.items ++ spec.next_report row.now) }
+{
+    put(out, "</pre></div></article>")?;
+    put_beginning(out, row)?;
+    Ok(())
 }
 
 /// What is between a row and the row before it.
 fn put_between(out: &mut Vec<u8>, row: &[u8], picture: &[u8]) -> Result<(), AllocError>
     ensures { OnOk result (out.new.items ≡ out.old.items ++ spec.between row.now picture.now) }
 {
-    out.extend_from_slice(b"\n")?;
+    put(out, "\n")?;
     if begins(row) {
-        out.extend_from_slice(b"</pre></div></article>")?;
-        put_beginning(out, row)
+        put_next(out, row)
     } else if is_run(row) {
         put_picture(out, picture)
     } else {
@@ -70,13 +78,13 @@ fn put_link(
 ) -> Result<(), AllocError>
     ensures { OnOk result (out.new.items ≡ out.old.items ++ spec.link anchor.now number row.now) }
 {
-    out.extend_from_slice(b"<a id=\"r")?;
+    put(out, "<a id=\"r")?;
     put_number(alloc, out, number)?;
-    out.extend_from_slice(b"\" href=\"#")?;
+    put(out, "\" href=\"#")?;
     out.extend_from_slice(anchor)?;
-    out.extend_from_slice(b"\">")?;
+    put(out, "\">")?;
     put_escaped(out, row)?;
-    out.extend_from_slice(b"</a>")
+    put(out, "</a>")
 }
 
 /// A row that names no line.
@@ -86,9 +94,9 @@ fn put_plain(out: &mut Vec<u8>, row: &[u8]) -> Result<(), AllocError>
     if !begins(row) {
         return put_escaped(out, row);
     }
-    out.extend_from_slice(b"<b>")?;
+    put(out, "<b>")?;
     put_escaped(out, row)?;
-    out.extend_from_slice(b"</b>")
+    put(out, "</b>")
 }
 
 /// The words of a row.

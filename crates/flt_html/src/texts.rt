@@ -3,7 +3,7 @@
 ghost use Rattle.std.specs.Prelude.{◌≡◌, ◌++◌, OnOk};
 ghost use Rattle.flt_html.specs.Texts as spec;
 
-use crate::escaping::{digits, put_escaped, put_number};
+use crate::escaping::{digits, put, put_escaped, put_number};
 use crate::places::{Place, anchor, row_on};
 use sqlite_items::Items;
 use std::alloc::{AllocError, Global};
@@ -26,11 +26,11 @@ fn put_target(
 {
     match row {
         Some(row) => {
-            out.extend_from_slice(b"\" class=\"place\"><a href=\"#r")?;
+            put(out, "\" class=\"place\"><a href=\"#r")?;
             put_number(alloc, out, row)
         }
         None => {
-            out.extend_from_slice(b"\"><a href=\"#")?;
+            put(out, "\"><a href=\"#")?;
             out.extend_from_slice(anchor)
         }
     }
@@ -50,15 +50,15 @@ fn put_line(
 {
     let digits = digits(alloc, number)?;
     let anchor = anchor(alloc, text, digits.as_bytes())?;
-    out.extend_from_slice(b"<span id=\"")?;
+    put(out, "<span id=\"")?;
     out.extend_from_slice(anchor.as_slice())?;
     let row = row_on(places, anchor.as_slice());
     put_target(alloc, out, row, anchor.as_slice())?;
-    out.extend_from_slice(b"\">")?;
+    put(out, "\">")?;
     out.extend_from_slice(digits.as_bytes())?;
-    out.extend_from_slice(b"</a>")?;
+    put(out, "</a>")?;
     put_escaped(out, line)?;
-    out.extend_from_slice(b"\n</span>")
+    put(out, "\n</span>")
 }
 
 /// The lines of a text.
@@ -78,7 +78,6 @@ fn put_lines(
 }
 
 /// A text under its name.
-#[tactic(auto, unfolding(crate::specs::Texts::text))]
 fn put_text(
     alloc: Global,
     out: &mut Vec<u8>,
@@ -88,13 +87,14 @@ fn put_text(
 ) -> Result<(), AllocError>
     ensures { OnOk result (out.new.items ≡ out.old.items ++ spec.text places.now number text.now) }
 {
-    out.extend_from_slice(b"<section id=\"f")?;
+    put(out, "<section id=\"f")?;
     put_number(alloc, out, number)?;
-    out.extend_from_slice(b"\"><h2>")?;
+    put(out, "\"><h2>")?;
     put_escaped(out, text.name.as_slice())?;
-    out.extend_from_slice(b"</h2><pre>")?;
+    put(out, "</h2><pre>")?;
     put_lines(alloc, out, places, number, text.lines.as_slice())?;
-    out.extend_from_slice(b"</pre></section>")
+    put(out, "</pre></section>")?;
+    Ok(())
 }
 
 /// Texts, each under its name.
@@ -122,11 +122,11 @@ fn put_link(
 ) -> Result<(), AllocError>
     ensures { OnOk result (out.new.items ≡ out.old.items ++ spec.link number text.now) }
 {
-    out.extend_from_slice(b"<a href=\"#f")?;
+    put(out, "<a href=\"#f")?;
     put_number(alloc, out, number)?;
-    out.extend_from_slice(b"\">")?;
+    put(out, "\">")?;
     put_escaped(out, text.name.as_slice())?;
-    out.extend_from_slice(b"</a> ")
+    put(out, "</a> ")
 }
 
 /// Links to texts.
