@@ -1,5 +1,5 @@
 -- Escaped bytes are read as they were.
-use Rattle.std.proofs.Common.{◌≡◌, ℕ, zero, Bool, true, false, ◌==◌, List, [], ◌∷◌, ◌++◌, absurd, ap, sym, refl, ◌∙◌}
+use Rattle.std.proofs.Common.{◌≡◌, ℕ, zero, Bool, true, false, ◌==◌, [], ◌∷◌, ◌++◌, ap, sym, refl, ◌∙◌}
 use Rattle.std.proofs.lemmas.Bool.{eqb-false, eqb-true}
 use Rattle.flt_html.specs.Escaping.{Text, escaped, escaped_byte}
 use Rattle.flt_html.specs.Read.{is_plain, read_behind, unescaped}

@@ -21,9 +21,9 @@ last_row rows = last_from [] [] rows
 -- what is in front of the links to the texts
 unfoldable pub opening : Text → Text → Text
 opening style summary =
-    codes "<!DOCTYPE html>\n<html lang=\"en\"><head><meta charset=\"utf-8\"><title>" ++ escaped summary
-    ++ codes " - fltstack explain</title><meta name=\"viewport\" content=\"width=device-width\"><style>" ++ style
-    ++ codes "</style></head><body><header><h1>fltstack explain</h1><p><a href=\"#reports\">" ++ escaped summary ++ codes "</a></p><nav>"
+    codes "<!DOCTYPE html>\n<html lang=\"en\"><head><meta charset=\"utf-8\"><title>" ++ (escaped summary
+    ++ (codes " - fltstack explain</title><meta name=\"viewport\" content=\"width=device-width\"><style>" ++ (style
+    ++ (codes "</style></head><body><header><h1>fltstack explain</h1><p><a href=\"#reports\">" ++ (escaped summary ++ codes "</a></p><nav>")))))
 
 -- the lines of what is printed, without their ends
 abbrev pub lines_in : Text → List Text
@@ -32,9 +32,9 @@ lines_in printed = slice_split (λ b. b == 10) printed
 -- the page with a style sheet, where rows that name lines begin so, and these are the rows that do
 unfoldable pub parts : Text → List ShownText → List Text → List Text → List Text → List Place → Text
 parts style texts rows pictures heads places =
-    opening style (last_row rows) ++ links_from 0 texts ++ codes "</nav></header><main><div class=\"texts\">"
-    ++ texts_from places 0 texts ++ codes "</div><div class=\"reports\" id=\"reports\">"
-    ++ rows_from heads pictures 0 rows ++ codes "</pre></div></article></div></main></body></html>\n"
+    opening style (last_row rows) ++ (links_from 0 texts ++ (codes "</nav></header><main><div class=\"texts\">"
+    ++ (texts_from places 0 texts ++ (codes "</div><div class=\"reports\" id=\"reports\">"
+    ++ (rows_from heads pictures 0 rows ++ codes "</pre></div></article></div></main></body></html>\n")))))
 
 -- the page with a style sheet, where these are the rows of the reports
 abbrev pub page : Text → List ShownText → List Text → List Text → Text

@@ -1,5 +1,5 @@
 -- What is read of escaped bytes. The names are those of HTML.
-use Rattle.std.specs.Prelude.{ℕ, zero, suc, ◌==◌, not, Bool, true, false, List, [], ◌∷◌, codes, eqb}
+use Rattle.std.specs.Prelude.{ℕ, zero, suc, ◌==◌, not, Bool, true, false, [], ◌∷◌, codes, eqb}
 use Rattle.std.specs.List.{list_all, starts_with}
 use Rattle.flt_html.specs.Escaping.{Text}
 

@@ -1,5 +1,5 @@
 -- Rows of the reports. This project's own page.
-use Rattle.std.specs.Prelude.{ℕ, ◌==◌, Bool, false, true, not, ◌||◌, List, [], ◌∷◌, codes, eqb, if◌then◌else◌}
+use Rattle.std.specs.Prelude.{ℕ, ◌==◌, Bool, false, not, ◌||◌, [], ◌∷◌, codes, eqb, if◌then◌else◌}
 use Rattle.std.specs.Int.{is_in_range}
 use Rattle.std.specs.List.{starts_with}
 use Rattle.flt_html.specs.Escaping.{Text}

@@ -29,8 +29,8 @@ lines_from places text n (l ∷ ls) = line places text (suc n) l ++ lines_from p
 -- a text under its name
 unfoldable pub text : List Place → ℕ → ShownText → Text
 text places number t =
-    codes "<section id=\"f" ++ decimal number ++ codes "\"><h2>" ++ escaped t.name ++ codes "</h2><pre>"
-    ++ lines_from places number 0 t.lines ++ codes "</pre></section>"
+    codes "<section id=\"f" ++ (decimal number ++ (codes "\"><h2>" ++ (escaped t.name ++ (codes "</h2><pre>"
+    ++ (lines_from places number 0 t.lines ++ codes "</pre></section>")))))
 
 -- texts before which so many come
 abbrev pub texts_from : List Place → ℕ → List ShownText → Text

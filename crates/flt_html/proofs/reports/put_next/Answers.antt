@@ -1,4 +1,3 @@
-use Rattle.std.proofs.Common.{◌++◌}
 use Rattle.std.specs.Prelude.{codes}
 use Rattle.flt_html.specs.Reports.{beginning, next_report}
 use Rattle.flt_html.proofs.Written.{text_after}
