@@ -1,4 +1,3 @@
-use Rattle.std.proofs.Common.{◌≡◌, rules}
 use Rattle.flt_cert.specs.declared.cert.Cert.TheVariants.{Full}
 use Rattle.flt_commands.specs.Emit as spec
 use Rattle.flt_commands.proofs.emit.emit_analysed.Goals as goal
@@ -16,9 +15,9 @@ returns-in-Ok g c =
 
 pub returns-in-Err-Refused : goal.returns-in-Err-Refused
 returns-in-Err-Refused g c =
-    spec.refused _ (record {
+    rw c.in-Err-Refused.field-0-is (spec.refused c.in-Err-Refused.refusal (record {
       graph = c.in_ok-graph.graph;
       points = record { filter = c.in_ok-tree.tree.filter; spelled = c.in_ok-tree.ensures.spelled; lowered = c.in_ok-graph.ensures };
       none = rw c.in-Err-Refused.field-0-is at c.in-Err-Refused.ensures.none;
       named = rw c.in-Err-Refused.field-0-is at c.in-Err-Refused.ensures.named;
-    })
+    }))

@@ -1,4 +1,4 @@
-use Rattle.std.proofs.Common.{◌≡◌, IsOk, rules}
+use Rattle.std.proofs.Common.{refl}
 use Rattle.flt_commands.specs.Emit as spec
 use Rattle.flt_commands.proofs.emit.emit_checked.Goals as goal
 
@@ -9,7 +9,7 @@ returns-in-Ok g c =
       points = record { filter = c.in_ok-tree.tree.filter; spelled = c.in_ok-tree.ensures.spelled; lowered = c.in_ok-graph.ensures };
       cert = c.in_ok-cert.cert;
       is_given = record { certified = c.in_ok-cert.ensures.certificate; written = c.in_ok-cert.ensures.spelled };
-      covers = c.in-Ok.ensures.accepted.0 tt;
+      covers = c.in-Ok.ensures.accepted.0 refl;
       emits = c.in_ok-emit_filter-in-Ok.ensures;
     })
 
