@@ -23,4 +23,4 @@ pub returns-in_ok-contents-in-Some : goal.returns-in_ok-contents-in-Some
 returns-in_ok-contents-in-Some g c =
     rw c.in-Some.is (says_of_both _ _ _ _ _ _ c.index-in-Some.result.now c.index-in-Some-2.result.now
     c.in_ok-contents-in-Some.ensures.each c.index-in-Some.ensures c.index-in-Some-2.ensures c.in_ok-contents-in-Some.ensures.ok
-    (rw (c.as_slice-in-Some.ensures.value, c.as_slice-in-Some-2.ensures.value) at c.emit_checked.ensures))
+    (rw (c.as_slice.ensures.value, c.as_slice-in-Some.ensures.value) at c.emit_checked.ensures))
