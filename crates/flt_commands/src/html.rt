@@ -219,7 +219,7 @@ fn pictures_of(
 
 // ---- the page
 
-/// The page on what is printed of texts, with the pictures of the runs of their findings.
+/// The page on texts and on the print about them, with the pictures of the runs of their findings.
 pub(crate) fn page_on(
     alloc: Global,
     sources: &[Source<'_>],

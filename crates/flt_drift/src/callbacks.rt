@@ -8,14 +8,14 @@ use crate::mark::{Mark, MarkKind};
 use std::alloc::{AllocError, Global};
 use std::marker::Model;
 
-/// The marks of a file, and what is noted of the callbacks that they are about.
+/// The marks of a file, with flags for the callbacks that they are about.
 #[derive(Drop)]
 pub(crate) struct Callbacks<'a> {
     marks: &'a [Mark],
-    /// Of the first operations, whether entries register pre callbacks of them.
+    /// For each of the first operations, whether an entry registers a pre callback of it.
     pre_registered: Vec<bool>,
     post_registered: Vec<bool>,
-    /// Of the first operations, whether annotations begin pre callbacks of them.
+    /// For each of the first operations, whether an annotation begins a pre callback of it.
     pre_headed: Vec<bool>,
     post_headed: Vec<bool>,
     registers: bool,

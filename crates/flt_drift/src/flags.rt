@@ -8,7 +8,7 @@ use crate::mark::{Mark, MarkKind};
 use crate::names::{CALLS, OPERATIONS, STATUSES};
 use std::alloc::{AllocError, Global};
 
-/// Fewer marks are searched each time.
+/// Fewer marks than these are searched each time, without flags.
 const MANY: usize = 64;
 
 /// Something that a mark may say of a call, a status or an operation.
@@ -115,7 +115,7 @@ fn is_said(question: Question, number: usize, marks: &[Mark]) -> bool
     marks.iter().any(|mark| says(question, number, mark.kind))
 }
 
-/// How many numbers there are to ask of.
+/// The count of the numbers that a question can be about.
 #[tactic(auto, unfolding(crate::specs::Names::calls, crate::specs::Names::statuses, crate::specs::Names::operations))]
 fn count(question: Question) -> usize
     ensures { result ≡ spec.count question }
@@ -127,7 +127,7 @@ fn count(question: Question) -> usize
     }
 }
 
-/// Of how many it is noted, where there are so many marks.
+/// The count of the numbers that have flags: all `count` of them if the marks are many, and none if they are few.
 fn noted(count: usize, marks: usize) -> usize
     ensures { result ≡ spec.noted count marks }
 {
@@ -150,7 +150,7 @@ fn flags_below(
     Ok(found)
 }
 
-/// The same of each number that there is to ask of, where the marks are many.
+/// Whether some marks say something of each number that a question can be about; no flags if the marks are few.
 pub(crate) fn flags(
     alloc: Global,
     question: Question,
@@ -162,7 +162,7 @@ pub(crate) fn flags(
     Ok(found)
 }
 
-/// Whether some marks say something of a number, by what is noted of them.
+/// Whether some marks say something of a number, by its flag if it has one.
 pub(crate) fn is_noted(flags: &[bool], question: Question, number: usize, marks: &[Mark]) -> bool
     requires { flags.now ≡ spec.flags_of question marks.now }
     ensures { result ≡ spec.is_said question number marks.now }

@@ -9,15 +9,15 @@ use crate::mark::{Mark, MarkKind};
 use std::alloc::{AllocError, Global};
 use std::marker::Model;
 
-/// The marks of a stretch, and what is noted of them.
+/// The marks of a stretch, with flags for the calls and statuses that they are about.
 #[derive(Drop)]
 pub(crate) struct Stretch<'a> {
     marks: &'a [Mark],
-    /// Of the first calls, whether code has their names.
+    /// For each of the first calls, whether code has its name.
     called: Vec<bool>,
-    /// Of the first calls, whether annotations name them.
+    /// For each of the first calls, whether an annotation names it.
     named: Vec<bool>,
-    /// Of the first statuses, whether annotations return them.
+    /// For each of the first statuses, whether an annotation returns it.
     answered: Vec<bool>,
     has_note: bool,
     answer: Option<Span>,

@@ -37,7 +37,7 @@ fn first_of(bytes: &[u8], length: usize) -> &[u8]
     }
 }
 
-/// So many bytes of a file from one on, which counts from 0.
+/// The `length` bytes of a file from byte `start` on, counted from 0; fewer if the file ends before.
 fn word_at(file: &[u8], start: usize, length: usize) -> &[u8]
     ensures { result.now ≡ spec.word_at file.now start length }
 {
@@ -84,7 +84,7 @@ fn put_shown(out: &mut Vec<u8>, bytes: &[u8]) -> Result<(), AllocError>
     Ok(())
 }
 
-/// Adds so many times the same byte.
+/// Adds a byte `count` times.
 fn put_row(out: &mut Vec<u8>, byte: u8, count: usize) -> Result<(), AllocError>
     ensures { OnOk result (out.new.items ≡ out.old.items ++ spec.row_of byte count) }
 {
@@ -115,7 +115,7 @@ fn put_beside(out: &mut Vec<u8>, file: &[u8], other: Option<Span>) -> Result<(),
     Ok(())
 }
 
-/// Adds the code of a drift, and what is wrong.
+/// Adds the line with the code and the message of a drift.
 #[tactic(auto, unfolding(crate::specs::Report::message))]
 fn put_message(out: &mut Vec<u8>, file: &[u8], drift: Drift) -> Result<(), AllocError>
     ensures { OnOk result (out.new.items ≡ out.old.items ++ spec.message file.now drift) }
@@ -150,7 +150,7 @@ fn put_place(
     put(out, b"\n")
 }
 
-/// The line of a place, before whose byte so many are in the file, or its first thousand bytes; nothing if the place is after them.
+/// The line of a place, whose byte is `start` in the file, from 0, or its first thousand bytes; nothing if the place is after them.
 #[tactic(auto, unfolding(crate::specs::Report::shown_line))]
 fn shown_line(file: &[u8], start: usize, place: Position) -> &[u8]
     ensures { result.now ≡ spec.shown_line file.now start place }
@@ -173,7 +173,7 @@ fn put_numbered(out: &mut Vec<u8>, number: &[u8], line: &[u8]) -> Result<(), All
     put(out, b"\n")
 }
 
-/// Adds marks under so many bytes from a column on, after a number of this width.
+/// Adds marks under `marked` bytes from a column on, after a number of this width.
 #[tactic(auto, unfolding(crate::specs::Report::marks_line))]
 fn put_marks(
     out: &mut Vec<u8>,
@@ -190,7 +190,7 @@ fn put_marks(
     put(out, b"\n")
 }
 
-/// Adds a line with its number, and marks under so many bytes from a column on.
+/// Adds a line with its number, and marks under `marked` bytes from a column on.
 #[tactic(auto, unfolding(crate::specs::Report::marked_line))]
 fn put_marked(
     alloc: Global,
@@ -251,8 +251,8 @@ fn put_report(
     put_help(out, drift)
 }
 
-/// The reports of drifts of the C file of a name, one below the other: the code of each, what is wrong and where, the first thousand bytes
-/// of its line, and how to fix it. Whole lines. Bytes that a terminal would obey are shown as blanks.
+/// The reports of drifts of the C file of a name, one below the other: the code of each, its message and place, the first thousand bytes of
+/// its line, and how to fix it. They are whole lines. Bytes that a terminal would obey are shown as blanks.
 ///
 /// # Errors
 ///

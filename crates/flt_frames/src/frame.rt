@@ -10,23 +10,23 @@ use crate::incoming::Incoming;
 use std::alloc::{AllocError, Global};
 use std::cmp::min;
 
-/// What a stream has next.
+/// The next frame of a stream, or why there is none.
 #[derive(Drop)]
 pub enum Frame {
     /// A frame with this body.
     Body(Vec<u8>),
-    /// Nothing: it has ended.
+    /// The end of the stream.
     End,
     /// Bytes that aren't the header of a frame, or the header of one that is too long.
     Malformed,
-    /// A part of a frame, in which it has ended.
+    /// A part of a frame, in which the stream ends.
     Cut,
 }
 
 /// How many bytes of a body are read at once.
 const AT_ONCE: usize = 4_096;
 
-/// So many bytes; none where the stream ends before.
+/// The next `count` bytes of a stream; none if it ends before them.
 fn read_body<R: Incoming>(
     alloc: Global,
     reader: &mut R,

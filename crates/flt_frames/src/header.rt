@@ -10,23 +10,23 @@ use crate::incoming::{Incoming, next_byte};
 use crate::line::{Said, said_by};
 use std::alloc::{AllocError, Global};
 
-/// What is at the front of a stream.
+/// The header at the front of a stream, or why there is none.
 #[derive(Clone, Copy, Drop)]
 pub(crate) enum Head {
-    /// A header, which was read and says this length of the body after it.
+    /// A header that says this length of the body after it.
     Length(u32),
     /// The end of the stream.
     End,
-    /// No header.
+    /// Bytes that aren't a header, or a header that is too long.
     Malformed,
     /// A part of a header, in which the stream ends.
     Cut,
 }
 
-/// What is read of a header.
+/// The part of a header that was read so far.
 #[derive(Drop)]
 struct Part {
-    /// What is read of its line.
+    /// The bytes of its current line.
     line: Vec<u8>,
     /// The length, if an earlier line says it.
     length: Option<u32>,
@@ -36,7 +36,7 @@ struct Part {
 const MAX_HEADER: u32 = 8_192;
 
 impl Part {
-    /// The next line begins.
+    /// Begins the next line.
     fn next_line(&mut self, length: Option<u32>)
         ensures line { self.new.line.items ≡ [] }
         ensures length { self.new.length ≡ length }
@@ -45,7 +45,7 @@ impl Part {
         self.length = length;
     }
 
-    /// The line ends. What comes of the header, if it ends with it.
+    /// Ends the line. Returns the header, or why there is none, if that is now known.
     fn end_line(&mut self) -> Option<Head>
         ensures { (room : ℕ) (more : List ℕ) → Goes result self.new room more
             (spec.after_line (said_by_line self.old.line.items) self.old.length more (λ said. spec.in_header room [] said more)) }
@@ -59,7 +59,7 @@ impl Part {
         None
     }
 
-    /// One byte more. What comes of the header, if it ends with it.
+    /// Adds a byte. Returns the header, or why there is none, if that is now known.
     fn add(&mut self, byte: u8) -> Result<Option<Head>, AllocError>
         ensures { IfOk result (λ head. (room : ℕ) (more : List ℕ) → Goes head self.new room more
             (spec.in_header (suc room) self.old.line.items self.old.length (byte ∷ more))) }

@@ -14,7 +14,7 @@ pub trait Incoming {
     // The count of its failures.
     ghost failures: { Self → ℕ };
 
-    /// Puts the next bytes into the front of a buffer, and answers how many; 0 only at the end, or where the buffer has no room.
+    /// Puts the next bytes into the front of a buffer, and returns how many; 0 only at the end, or if the buffer has no room.
     fn take(&mut self, buffer: &mut [u8]) -> Result<usize, ReadFault>
         ensures bound { ReadsAtMost result buffer.new }
         ensures bytes { ReadConsumes (left self.old) (left self.new) result buffer.new }

@@ -3,7 +3,7 @@
 ghost use Rattle.flt_frames.specs.Line as spec;
 ghost use Rattle.std.specs.Prelude.{◌≡◌, option_map};
 
-/// What a line of a header says.
+/// The content of a line of a header.
 #[derive(Clone, Copy, Drop)]
 pub(crate) enum Said {
     /// Nothing: it is empty, and the header ends with it.
@@ -34,7 +34,7 @@ fn without_return(line: &[u8]) -> &[u8]
     }
 }
 
-/// What comes after a name in lower case at the front of a line, which may have its letters in either case.
+/// The rest of a line after a name, which is given in lower case and matches in either case; none if the line doesn't begin with it.
 fn after_name<'a>(mut name: &[u8], mut line: &'a [u8]) -> Option<&'a [u8]>
     ensures { option_map (λ rest. rest.now) result ≡ spec.after_name name.entry.now line.entry.now }
 {
@@ -56,7 +56,7 @@ fn is_blank(byte: u8) -> bool
     matches!(byte, b' ' | b'\t')
 }
 
-/// What comes after the blanks at the front.
+/// The rest after the blanks at the front.
 fn after_blanks(mut rest: &[u8]) -> &[u8]
     ensures { result.now ≡ spec.after_blanks rest.entry.now }
 {
@@ -69,7 +69,7 @@ fn after_blanks(mut rest: &[u8]) -> &[u8]
     rest
 }
 
-/// The number that some digits spell, and what comes after them; none if it is more than a body may have.
+/// The number that some digits spell, and the rest after them; none if it is more than a body may have.
 fn number(mut text: &[u8]) -> Option<(u32, &[u8])>
     ensures { option_map (λ found. (found.0, found.1.now)) result ≡ spec.number_after 0 text.entry.now }
 {
@@ -100,7 +100,7 @@ fn length_in(value: &[u8]) -> Option<u32>
     }
 }
 
-/// What a line says, without the line feed at its end.
+/// The content of a line, which is given without the line feed at its end.
 pub(crate) fn said_by(line: &[u8]) -> Said
     ensures { result ≡ spec.said_by line.now }
 {

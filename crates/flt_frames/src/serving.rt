@@ -56,14 +56,14 @@ fn answer<O: Sink, H: Handler>(
 }
 
 /// Reads frames one after the other, has the body of each answered by a handler, and sends the messages of the answer as frames: the
-/// response, if there is one, and the notifications after it. It ends with the exit status of the handler, once that ends; and with 1 where
+/// response, if there is one, and the notifications after it. It ends with the exit status of the handler, once that ends; and with 1 if
 /// no frame comes: at the end of the stream, in a frame that the stream's end cuts short, and at bytes that aren't a frame's header.
 /// Nothing is read after the last frame, and an answer goes out before the next frame is read.
 ///
 /// # Errors
 ///
-/// Memory ran out or a read failed; the whole answers to the first so many frames have gone out then, and nothing else. Or a write failed;
-/// how much of an answer went out then isn't known.
+/// `OutOfMemory` if memory is refused, `Read` if a read fails: the whole answers to some first frames were sent then, and nothing else.
+/// `Write` if a write fails: how much of an answer was sent then isn't known.
 pub fn serve<R: Incoming, O: Sink, H: Handler>(
     alloc: Global,
     reader: &mut R,

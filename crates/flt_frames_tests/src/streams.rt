@@ -1,4 +1,4 @@
-//! Streams in pieces, and what is read of them; a server over them, and what it sends.
+//! Tests of frames that are read from streams in pieces, and of a server's output over such streams.
 
 use flt_frames::{Answered, Frame, Handler, Incoming, ServeFault, push_frame, read_frame, serve};
 use flt_model::{ReadFault, Sink, WriteFault};
@@ -27,7 +27,7 @@ impl<'a> Given<'a> {
     }
 }
 
-/// The bytes are not known to a proof: what is read of them is tested here.
+/// A proof knows nothing of its bytes: the tests here compare the frames that are read.
 impl Incoming for Given<'_> {
     ghost use Rattle.std.specs.Prelude.{None};
 
@@ -96,7 +96,7 @@ impl Sink for Kept {
     }
 }
 
-/// What a stream comes to: its bodies, each after a `|`, and how it ends.
+/// The bodies of a stream and how it ends, each after a `|`.
 fn told(alloc: Global, stream: &[u8], at_once: usize) -> Result<Vec<u8>, ServeFault> {
     let mut reader = Given::new(stream, at_once, None);
     let mut out = Vec::new(alloc);
@@ -117,7 +117,7 @@ fn told(alloc: Global, stream: &[u8], at_once: usize) -> Result<Vec<u8>, ServeFa
     Ok(out)
 }
 
-/// Streams, and what they come to.
+/// Streams, each with its bodies and its end as `told` writes them.
 static STREAMS: [(&str, &str); 26] = [
     ("", "|end"),
     ("Content-Length: 0\r\n\r\n", "||end"),
@@ -159,7 +159,7 @@ static STREAMS: [(&str, &str); 26] = [
     ),
 ];
 
-/// The first stream that comes to something else, in pieces of some size.
+/// The first stream that, in pieces of some size, is read otherwise than its row says.
 fn first_wrong(alloc: Global, rows: &[(&str, &str)]) -> Result<Option<usize>, ServeFault> {
     let mut at = 0;
     for (stream, wanted) in rows {
@@ -173,7 +173,7 @@ fn first_wrong(alloc: Global, rows: &[(&str, &str)]) -> Result<Option<usize>, Se
     Ok(None)
 }
 
-/// What a header of so many bytes before its last line comes to, which a body of no bytes is after.
+/// The reading of a stream whose body is empty, and whose header has a second line of `count` bytes.
 fn told_of_long(alloc: Global, count: usize) -> Result<Vec<u8>, ServeFault> {
     let mut stream = Vec::new(alloc);
     stream.extend_from_slice(b"Content-Length: 0\n")?;
@@ -242,7 +242,7 @@ impl Handler for Echo {
     }
 }
 
-/// A stream, what a server of it sends, and its exit status.
+/// A stream, the bytes that a server of it sends, and its exit status.
 type Session = (&'static str, &'static str, u8);
 
 static SESSIONS: [Session; 7] = [
@@ -267,7 +267,7 @@ static SESSIONS: [Session; 7] = [
     ("hear\r\n\r\n", "", 1),
 ];
 
-/// Whether a server sends this and ends so.
+/// Whether a server of the session's stream sends its bytes and ends with its status.
 fn serves(alloc: Global, session: &Session) -> Result<bool, ServeFault> {
     let mut reader = Given::new(session.0.as_bytes(), 3, None);
     let mut out = Kept::new(alloc, None);
@@ -275,7 +275,7 @@ fn serves(alloc: Global, session: &Session) -> Result<bool, ServeFault> {
     Ok(status == session.2 && out.bytes.as_slice() == session.1.as_bytes())
 }
 
-/// The first session that goes otherwise.
+/// The first session for which that is false.
 fn first_other(alloc: Global, sessions: &[Session]) -> Result<Option<usize>, ServeFault> {
     let mut at = 0;
     for session in sessions {
@@ -297,7 +297,7 @@ fn fault_of(alloc: Global, read: Option<u64>, write: Option<u64>) -> Option<Serv
     serve(alloc, &mut reader, &mut out, &mut Echo { bodies: 0 }).err()
 }
 
-/// Whether each failure of a stream is told.
+/// Whether each failure of a stream is reported.
 fn are_told(alloc: Global) -> bool {
     fault_of(alloc, None, None).is_none()
         && fault_of(alloc, Some(0), None) == Some(ServeFault::Read)

@@ -99,8 +99,8 @@ fn put_page(
     Ok(())
 }
 
-/// The page on texts and on what is printed of them for people: the texts with their lines, the print as it is, row by row, with links
-/// between a row that names a line and that line, and before the rows of each run its picture, the pictures in the order of the runs.
+/// The page on texts and on the print about them for people: the texts with their lines, the print as it is, row by row, with links between
+/// a row that names a line and that line, and before the rows of each run its picture, the pictures in the order of the runs.
 ///
 /// # Errors
 ///

@@ -38,7 +38,7 @@ fn put_next(out: &mut Vec<u8>, row: &[u8]) -> Result<(), AllocError>
     Ok(())
 }
 
-/// What is between a row and the row before it.
+/// The bytes between a row and the row before it.
 fn put_between(out: &mut Vec<u8>, row: &[u8], picture: &[u8]) -> Result<(), AllocError>
     ensures { OnOk result (out.new.items ≡ out.old.items ++ spec.between row.now picture.now) }
 {
@@ -52,7 +52,7 @@ fn put_between(out: &mut Vec<u8>, row: &[u8], picture: &[u8]) -> Result<(), Allo
     }
 }
 
-/// What is before a row of some number, from 0.
+/// The bytes before a row of some number, from 0.
 fn put_before(
     out: &mut Vec<u8>,
     number: usize,

@@ -1,4 +1,4 @@
-//! What the server can do, as it says at first.
+//! The capabilities of the server, as its response to `initialize` lists them.
 
 use crate::language::Encoding;
 
@@ -8,7 +8,7 @@ const UTF8: &[u8] =
 const UTF16: &[u8] =
     b"{\"capabilities\":{\"positionEncoding\":\"utf-16\",\"textDocumentSync\":{\"openClose\":true,\"change\":1},\"hoverProvider\":true,\"completionProvider\":{},\"definitionProvider\":true,\"referencesProvider\":true,\"documentSymbolProvider\":true,\"foldingRangeProvider\":true,\"codeActionProvider\":{\"codeActionKinds\":[\"quickfix\"]}},\"serverInfo\":{\"name\":\"fltstack\"}}";
 
-/// The result of `initialize`: texts are sent whole, and columns are counted so.
+/// The result of `initialize`: texts are sent whole, and columns are counted in this encoding.
 pub(crate) fn capabilities(encoding: Encoding) -> &'static [u8] {
     match encoding {
         Encoding::Utf8 => UTF8,

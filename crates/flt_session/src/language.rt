@@ -1,8 +1,8 @@
-//! What a session asks of a language.
+//! The trait of a language, and the questions that a session asks it.
 
 use std::alloc::{AllocError, Global};
 
-/// In what columns are counted.
+/// The unit in which columns are counted.
 #[derive(Clone, Copy)]
 pub enum Encoding {
     /// Bytes of UTF-8.
@@ -26,13 +26,13 @@ pub struct OpenText<'a> {
     pub encoding: Encoding,
 }
 
-/// What is asked about a document.
+/// A question about a document.
 #[derive(Clone, Copy)]
 pub enum Question {
     Hover(Spot),
     Completion(Spot),
     Definition(Spot),
-    /// Whether the declaration is asked for, too.
+    /// The references at a place, with the declaration if the flag is true.
     References(Spot, bool),
     Symbols,
     Folds,

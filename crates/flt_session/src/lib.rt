@@ -1,8 +1,8 @@
-//! A session of the Language Server Protocol, whatever the language: which bodies are requests, what each is answered, and the documents
-//! that the client has open. It exports `Session`, and the trait `Language`, which says what is asked of a language.
+//! A session of the Language Server Protocol, whatever the language: which bodies are requests, how each is answered, and the documents
+//! that the client has open. It exports `Session`, and the trait `Language` with the questions that a language answers.
 //!
-//! `specs/Answers.antt` says what is proved of an answer: whether there is a response, to which request, and which error it is; whether the
-//! server ends; and what the session is afterwards. What a language writes as a result is in no contract here.
+//! `specs/Answers.antt` has the properties that are proved of an answer: whether there is a response, to which request, and which error it
+//! is; whether the server ends; and the state of the session afterwards. No contract here is about the results that a language writes.
 #![tactic(auto)]
 
 mod capabilities;

@@ -15,9 +15,9 @@ pub enum Message<'v, 'a> {
     Malformed,
     /// A response: this server asks nothing.
     Response,
-    /// What is notified.
+    /// A notification, by its method.
     Notification(&'a str),
-    /// The number or the text by which the request is answered, and what is asked.
+    /// A request, by its id, a number or a text that its response repeats, and its method.
     Request(&'v Value<'a>, &'a str),
 }
 

@@ -3,7 +3,7 @@
 ghost use Rattle.std.specs.Prelude.{◌≡◌, is_some};
 ghost use Rattle.flt_session.specs.Answers as spec;
 
-/// What is asked about a document.
+/// The topic of a question about a document.
 #[derive(Clone, Copy)]
 pub(crate) enum Topic {
     Hover,
@@ -15,7 +15,7 @@ pub(crate) enum Topic {
     Actions,
 }
 
-/// What is notified of a document.
+/// The event of a notification about a document.
 #[derive(Clone, Copy)]
 pub(crate) enum Notice {
     Opened,

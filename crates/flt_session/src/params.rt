@@ -1,4 +1,4 @@
-//! What clients give with messages.
+//! The parameters of messages.
 
 use crate::language::{Question, Spot};
 use crate::method::Topic;
@@ -72,7 +72,7 @@ fn end_in(params: &Value<'_>, name: &str) -> Option<Spot> {
     spot_of(inner(params, "range", name)?)
 }
 
-/// Whether references are asked for with the declaration, as they are unless a client says otherwise.
+/// Whether a client wants the declaration among the references, as it does unless it says otherwise.
 fn wants_declaration(params: &Value<'_>) -> bool {
     match inner(params, "context", "includeDeclaration") {
         Some(asked) => asked.as_bool().unwrap_or(true),
@@ -80,7 +80,7 @@ fn wants_declaration(params: &Value<'_>) -> bool {
     }
 }
 
-/// What is asked about a place.
+/// The question of a topic about a place.
 fn at_place(topic: Topic, params: &Value<'_>, spot: Spot) -> Question {
     match topic {
         Topic::Hover => Question::Hover(spot),
@@ -90,7 +90,7 @@ fn at_place(topic: Topic, params: &Value<'_>, spot: Spot) -> Question {
     }
 }
 
-/// What is asked; none if the place isn't given.
+/// The question of a topic; none if it needs a place that isn't given.
 pub(crate) fn question_in(topic: Topic, params: &Value<'_>) -> Option<Question> {
     match topic {
         Topic::Symbols => Some(Question::Symbols),

@@ -5,14 +5,14 @@ ghost use Rattle.flt_session.specs.Replies as spec;
 
 use std::alloc::{AllocError, Global};
 
-/// What each response begins with.
+/// The beginning of each response, up to its id.
 const HEAD: &[u8] = b"{\"jsonrpc\":\"2.0\",\"id\":";
 
 /// Why a message isn't answered by a result.
 #[derive(Clone, Copy)]
 pub enum Refusal {
     NotJson,
-    /// JSON that is no request, or a request that may not be made now.
+    /// JSON that is no message, or a request that can't be made now.
     NoRequest,
     UnknownMethod,
     /// A request before `initialize`.
@@ -20,7 +20,7 @@ pub enum Refusal {
 }
 
 impl Refusal {
-    /// What comes after the id.
+    /// The end of the response, after the id.
     fn tail(self) -> &'static [u8]
         ensures { result.now ≡ spec.refusal_tail self }
     {

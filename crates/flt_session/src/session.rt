@@ -1,4 +1,4 @@
-//! The session of a client: what it has been told so far, and how it answers a body.
+//! The session of a client: its state, and how it answers a body.
 
 ghost use Rattle.std.specs.Prelude.{◌≡◌, ◌≤◌, ◌<◌, [], codes, length, None, Some, IfOk, OnOk, OnErr, option_map};
 ghost use Rattle.flt_frames.specs.Handling.{reply_of};
