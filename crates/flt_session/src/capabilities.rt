@@ -1,4 +1,4 @@
-//! The capabilities of the server, as its first response lists them.
+//! The capabilities of the server, as its response to `initialize` lists them.
 
 use crate::language::Encoding;
 

@@ -32,7 +32,7 @@ pub enum Question {
     Hover(Spot),
     Completion(Spot),
     Definition(Spot),
-    /// The references at a place, with the declaration or without it.
+    /// The references at a place, with the declaration if the flag is true.
     References(Spot, bool),
     Symbols,
     Folds,
