@@ -8,6 +8,7 @@ pub mod Firsts
 pub mod Formatting
 pub mod InTurn
 pub mod Lengths
+pub mod MoreDrawn
 pub mod MoreParsed
 pub mod OneAnalysis
 pub mod OneAnnotation

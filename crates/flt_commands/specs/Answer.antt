@@ -56,12 +56,16 @@ verdict_line Legal = codes "legal"
 verdict_line (NotARun n) = codes "not a run at " ++ decimal n
 verdict_line (Breaks v n) = codes "breaks V" ++ decimal (violation_number v) ++ codes " at " ++ decimal n
 
+-- a context that is set in these two lines
+abbrev pub mixture : ℕ → ℕ → List ℕ
+mixture stream instance =
+    codes "a context that may be set on a stream (line " ++ decimal stream ++ codes ") and on the instance (line " ++ decimal instance
+    ++ codes ")"
+
 -- why a text can't be emitted
 abbrev pub unemitted_line : Unemitted → List ℕ
-unemitted_line (Kinds line stream instance) =
-    codes "not emitted line " ++ decimal line ++ codes " a context that may be set on a stream (line " ++ decimal stream
-    ++ codes ") and on the instance (line " ++ decimal instance ++ codes ")"
-unemitted_line (Create line) = codes "not emitted line " ++ decimal line ++ codes " a pre create that completes with STATUS_SUCCESS"
+unemitted_line (Kinds line stream instance) = codes "not emitted line " ++ (decimal line ++ (codes " " ++ mixture stream instance))
+unemitted_line (Create line) = codes "not emitted line " ++ (decimal line ++ codes " a pre create that completes with STATUS_SUCCESS")
 
 -- what stands on the standard output: the certificate, a text or its map, a layout or which files differ from theirs, reports, pages with
 -- an empty line between them, the journal, a part of a driver, or a line and a line feed; of a journal that is shown, rows before that line

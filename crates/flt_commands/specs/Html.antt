@@ -47,9 +47,9 @@ IsDrawn trees n run picture =
 -- a picture for each finding that has a run, in their order; these are the trees of the texts that parse
 pub data AreDrawn (trees : List Tree) : List Noted → List Text → Type 0 where
   no_note : AreDrawn trees [] []
-  drawn : {notes : List Noted} {pictures : List Text} {n : Noted} {run : Broken} {picture : Text} → AreDrawn trees notes pictures →
+  drawn : {notes : List Noted} {pictures : List Text} (n : Noted) (run : Broken) (picture : Text) → AreDrawn trees notes pictures →
       run_of n ≡ Some run → IsDrawn trees n run picture → AreDrawn trees (notes ++ n ∷ []) (pictures ++ picture ∷ [])
-  undrawn : {notes : List Noted} {pictures : List Text} {n : Noted} → AreDrawn trees notes pictures → run_of n ≡ None →
+  undrawn : {notes : List Noted} {pictures : List Text} (n : Noted) → AreDrawn trees notes pictures → run_of n ≡ None →
       AreDrawn trees (notes ++ n ∷ []) pictures
 
 -- the same, where the trees are those of the texts that parse

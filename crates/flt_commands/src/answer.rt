@@ -1,6 +1,6 @@
 //! The answers of commands, and how they are written.
 
-ghost use Rattle.std.specs.Prelude.{◌≡◌, ◌≢◌, [], ◌∷◌, ◌++◌, Some, IfOk};
+ghost use Rattle.std.specs.Prelude.{◌≡◌, ◌≢◌, [], ◌∷◌, ◌++◌, Some, IfOk, string_bytes};
 ghost use Rattle.flt_commands.specs.Answer as spec;
 
 use crate::emit::Unemitted;
@@ -127,7 +127,7 @@ impl Answer {
                 format!(in alloc; "{line}\n")?
             }
             Answer::NotEmitted(why) => {
-                let line = UnemittedLine(why);
+                let line = unemitted_line(alloc, why)?;
                 format!(in alloc; "{line}\n")?
             }
         };
@@ -272,27 +272,40 @@ impl fmt::Display for VerdictLine {
     }
 }
 
-/// Why a text can't be emitted, as it is printed.
+/// The words on a context that is set in these two lines: on a stream, and on the instance.
 #[derive(Drop)]
-struct UnemittedLine(Unemitted);
+struct Mixture(usize, usize);
 
-impl fmt::Display for UnemittedLine {
-    ghost output = { λ u. Some (spec.unemitted_line u.0) };
+impl fmt::Display for Mixture {
+    ghost output = { λ m. Some (spec.mixture m.0 m.1) };
 
     fn fmt<W: fmt::Write>(&self, f: &mut fmt::Formatter<W>) -> fmt::Result {
-        match self.0 {
-            Unemitted::Kinds {
-                line,
-                stream,
-                instance,
-            } => write!(
-                f,
-                "not emitted line {line} a context that may be set on a stream (line {stream}) and on the instance (line {instance})"
-            ),
-            Unemitted::Create { line } => write!(
-                f,
+        let stream = self.0;
+        let instance = self.1;
+        write!(
+            f,
+            "a context that may be set on a stream (line {stream}) and on the instance (line {instance})"
+        )
+    }
+}
+
+/// The line that says why a text can't be emitted, without its end.
+fn unemitted_line(alloc: Global, why: Unemitted) -> Result<String, AllocError>
+    ensures { IfOk result (λ line. string_bytes line ≡ spec.unemitted_line why) }
+{
+    match why {
+        Unemitted::Kinds {
+            line,
+            stream,
+            instance,
+        } => {
+            let mixture = Mixture(stream, instance);
+            format!(in alloc; "not emitted line {line} {mixture}")
+        }
+        Unemitted::Create { line } => {
+            format!(in alloc;
                 "not emitted line {line} a pre create that completes with STATUS_SUCCESS"
-            ),
+            )
         }
     }
 }

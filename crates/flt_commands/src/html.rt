@@ -52,7 +52,7 @@ fn shown_lines(alloc: Global, lines: &[&[u8]]) -> Result<Items<Items<u8>>, Alloc
 
 /// A text as reports show it.
 fn shown_text(alloc: Global, source: Source<'_>) -> Result<ShownText, AllocError>
-    ensures { IfOk result (λ text. text ≡ spec.shown_text source) }
+    ensures { IfOk result (λ text. text ≡ spec.shown_text source.entry) }
 {
     let lines = lines_of(alloc, source.text)?;
     let name = shown(alloc, source.name.as_bytes())?;
@@ -100,7 +100,7 @@ impl Parsed {
     #[tactic(auto, using(crate::proofs::MoreParsed::tree_parsed, crate::proofs::MoreParsed::one_failed))]
     fn add(&mut self, alloc: Global, source: Source<'_>) -> Result<(), AllocError>
         ensures { OnOk result ((texts : List Text) → AreParsed texts (filters_of self.old.trees) →
-            AreParsed (texts ++ source.text.now ∷ []) (filters_of self.new.trees)) }
+            AreParsed (texts ++ source.entry.text.now ∷ []) (filters_of self.new.trees)) }
     {
         match parse(alloc, source.text) {
             Ok(tree) => {

@@ -3,7 +3,7 @@ use Rattle.flt_commands.specs.Emit as spec
 use Rattle.flt_commands.proofs.emit.emit_checked.Goals as goal
 
 pub returns-in-Ok : goal.returns-in-Ok
-returns-in-Ok g c =
+returns-in-Ok c =
     spec.emits _ (record {
       graph = c.in_ok-graph.graph;
       points = record { filter = c.in_ok-tree.tree.filter; spelled = c.in_ok-tree.ensures.spelled; lowered = c.in_ok-graph.ensures };
@@ -14,7 +14,7 @@ returns-in-Ok g c =
     })
 
 pub returns : goal.returns
-returns g c =
+returns c =
     spec.refused _ (record {
       graph = c.in_ok-graph.graph;
       points = record { filter = c.in_ok-tree.tree.filter; spelled = c.in_ok-tree.ensures.spelled; lowered = c.in_ok-graph.ensures };
