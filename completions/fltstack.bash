@@ -45,7 +45,7 @@ _fltstack() {
         if [[ $word == -* ]]; then
             _fltstack_words --help --version
         else
-            _fltstack_words check analyse thin explain run replay extract format help
+            _fltstack_words check analyse thin explain run replay extract format emit compare help
         fi
         return
     fi
@@ -91,6 +91,13 @@ _fltstack() {
         options='--check --write --help'
         exclusive='--check --write'
         ;;
+    emit)
+        options='--part --help'
+        valued='--part'
+        ;;
+    compare)
+        options='--help'
+        ;;
     esac
     # bash takes `--form=short` for three words
     while ((at < COMP_CWORD)); do
@@ -110,12 +117,13 @@ _fltstack() {
     if ((at > COMP_CWORD)); then
         [[ $word != = ]] || word=
         case "$command $it" in
-        'explain --form') _fltstack_words human lines sarif short ;;
+        'explain --form') _fltstack_words html human lines sarif short ;;
         'explain --color') _fltstack_words auto always never ;;
         'explain --journal') _fltstack_files .journal ;;
         'explain --allow') _fltstack_words W00 W01 W02 W03 W04 W05 W06 W07 ;;
         'run --workers') _fltstack_words 1 2 3 4 5 6 7 8 9 10 11 12 13 14 15 16 ;;
         'replay --svg') _fltstack_files .svg ;;
+        'emit --part') _fltstack_words source user inf ;;
         esac
     elif [[ -z $is_operand && $word == -* ]]; then
         _fltstack_options
@@ -133,7 +141,10 @@ _fltstack() {
         'replay '*) _fltstack_files .flt ;;
         'extract '*) _fltstack_files .c .h .cc .cpp ;;
         'format '*) _fltstack_files .flt ;;
-        'help 0') _fltstack_words check analyse thin explain run replay extract format help ;;
+        'emit 0') _fltstack_files .flt ;;
+        'emit 1') _fltstack_files .cert ;;
+        'compare '*) _fltstack_files .c .h .cc .cpp ;;
+        'help 0') _fltstack_words check analyse thin explain run replay extract format emit compare help ;;
         esac
     fi
 }

@@ -13,7 +13,7 @@ function __fltstack_operands --argument-names command
             echo -- $word
         else if test $word = --
             set is_operand yes
-        else if contains -- $word --form --color --states --journal --allow --workers --svg
+        else if contains -- $word --form --color --states --journal --allow --workers --svg --part
             set is_value yes
         end
     end
@@ -34,7 +34,7 @@ function __fltstack_after --argument-names command
     set -l words (string replace -r -- '=.*' '' (commandline -opc))
     test "$words[2]" = "$command"; or return 1
     # The value of the last word may be at the cursor.
-    contains -- $words[-1] --form --color --states --journal --allow --workers --svg; and set -e words[-1]
+    contains -- $words[-1] --form --color --states --journal --allow --workers --svg --part; and set -e words[-1]
     for option in $argv[2..]
         contains -- $option $words; and return 1
     end
@@ -152,6 +152,9 @@ complete -c fltstack -n '__fltstack_first' -a run -d 'Drives filters by a script
 complete -c fltstack -n '__fltstack_first' -a replay -d 'Says whether a journal is a run of the machine on some filters that breaks nothing'
 complete -c fltstack -n '__fltstack_first' -a extract -d 'Prints the text that the annotations of C files make'
 complete -c fltstack -n '__fltstack_first' -a format -d 'Lays out filters\' texts, with their comments and blank lines'
+complete -c fltstack -n '__fltstack_first' -a emit \
+    -d 'Prints the C source of the driver that a filter\'s text is, its user\'s header or its INF file'
+complete -c fltstack -n '__fltstack_first' -a compare -d 'Reports where the code of C files and their annotations differ'
 complete -c fltstack -n '__fltstack_first' -a help -d 'Print this message or the help of the given subcommand(s)'
 complete -c fltstack -n '__fltstack_first' -s h -l help -d 'Print help'
 complete -c fltstack -n '__fltstack_first' -s V -l version -d 'Print version'
@@ -171,7 +174,7 @@ complete -c fltstack -n '__fltstack_at thin 0' -a '(__fltstack_files .flt)'
 complete -c fltstack -n '__fltstack_at thin 1' -a '(__fltstack_files .cert)'
 
 # explain
-complete -c fltstack -n '__fltstack_after explain --form' -l form -x -a 'human lines sarif short' -d 'How it is reported'
+complete -c fltstack -n '__fltstack_after explain --form' -l form -x -a 'html human lines sarif short' -d 'How it is reported'
 complete -c fltstack -n '__fltstack_after explain --color' -l color -x -a 'auto always never' -d 'When reports have colours'
 complete -c fltstack -n '__fltstack_after explain --states' -l states -x \
     -d 'How many states the search for runs of a FILE continues from at most'
@@ -211,5 +214,15 @@ complete -c fltstack -n '__fltstack_after format --check --write' -l write -d 'W
 complete -c fltstack -n '__fltstack_after format --help' -s h -l help -d 'Print help'
 complete -c fltstack -n '__fltstack_at format 0+' -a '(__fltstack_files .flt)'
 
+# emit
+complete -c fltstack -n '__fltstack_after emit --part' -l part -x -a 'source user inf' -d 'The part that is printed'
+complete -c fltstack -n '__fltstack_after emit --help' -s h -l help -d 'Print help'
+complete -c fltstack -n '__fltstack_at emit 0' -a '(__fltstack_files .flt)'
+complete -c fltstack -n '__fltstack_at emit 1' -a '(__fltstack_files .cert)'
+
+# compare
+complete -c fltstack -n '__fltstack_after compare --help' -s h -l help -d 'Print help'
+complete -c fltstack -n '__fltstack_at compare 0+' -a '(__fltstack_files .c .h .cc .cpp)'
+
 # help
-complete -c fltstack -n '__fltstack_at help 0' -a 'check analyse thin explain run replay extract format help'
+complete -c fltstack -n '__fltstack_at help 0' -a 'check analyse thin explain run replay extract format emit compare help'

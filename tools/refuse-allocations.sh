@@ -88,7 +88,7 @@ has_first_parts() {
     size=$(stat -c %s "$work/out")
     [ "${1:-}" = explain ] && [ "$size" -lt "$(stat -c %s "$work/wanted-out")" ] && cmp -s -n "$size" "$work/out" "$work/wanted-out" || return 1
     case " $* " in
-    *" --journal "* | *" sarif "*) return 1 ;;
+    *" --journal "* | *" sarif "* | *" html "*) return 1 ;;
     *" --form lines "* | *" --form short "*)
         [ "$(tail -n 1 "$work/out" | file_of)" != "$(tail -c "+$((size + 1))" "$work/wanted-out" | head -n 1 | file_of)" ] ;;
     *) [ -z "$(tail -n 1 "$work/out")" ] && tail -n 2 "$work/out" | head -n 1 | grep -qE "$closing" ;;
@@ -99,7 +99,7 @@ has_first_parts() {
 has_several_parts() {
     [ "${1:-}" = explain ] || return 1
     case " $* " in
-    *" --journal "* | *" sarif "*) return 1 ;;
+    *" --journal "* | *" sarif "* | *" html "*) return 1 ;;
     *" --form lines "* | *" --form short "*) [ "$(file_of <"$work/wanted-out" | uniq | wc -l)" -gt 1 ] ;;
     *) tail -n 1 "$work/wanted-out" | grep -qE ' (in|of) [0-9]+ files$' ;;
     esac
@@ -194,6 +194,7 @@ runs=(
     "explain --form short no_fast_io_broken.flt stream_context_broken.flt"
     "explain --journal /dev/null no_fast_io_broken.flt pass_through.flt"
     "explain --form sarif stream_context_broken.flt"
+    "explain --form html stream_context_broken.flt pass_through.flt"
     "explain warnings/w01_three_locks.flt"
     "explain --states 1 warnings/w01_turned_locks.flt"
     "explain c/ctx_broken.c c/kit.h"

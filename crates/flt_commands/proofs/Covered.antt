@@ -30,8 +30,9 @@ use Rattle.flt_warning_details.specs.Options.{warned_status}
 use Rattle.flt_warning_details.specs.declared.detail.WarningDetail.{WarningDetail}
 use Rattle.flt_warning_details.specs.declared.options.WarningOptions.{WarningOptions}
 use Rattle.flt_words.specs.declared.request.Colour.{Colour}
+use Rattle.flt_words.specs.declared.request.Part.{Part}
 use Rattle.flt_words.specs.declared.request.Form.{Form}
-use Rattle.flt_words.specs.declared.request.Form.TheVariants.{Human, Lines, Sarif, Short}
+use Rattle.flt_words.specs.declared.request.Form.TheVariants.{Html, Human, Lines, Sarif, Short}
 use Rattle.json.specs.Token.{Token}
 use Rattle.flt_details.specs.declared.judged.Judged.{Judged as Found}
 use Rattle.flt_details.specs.declared.judged.Judged.TheVariants.{Unread, Known}
@@ -46,13 +47,15 @@ use Rattle.flt_commands.specs.Answer.{status_of, told_status}
 use Rattle.flt_commands.specs.Check.{Decides, HasPoints, IsAnswer, IsChecked}
 use Rattle.flt_commands.specs.Clean.{BreakNothing, BreaksNothing, EachBreaksNothing, IsClean}
 use Rattle.flt_commands.specs.Commands.{IsSaid, IsReported}
+use Rattle.flt_commands.specs.Emit as emit
+use Rattle.flt_commands.specs.Emit.{IsEmission, IsEmitted}
 use Rattle.flt_commands.specs.Explain.{IsExplained, IsTold, look_in}
 use Rattle.flt_commands.specs.Inputs.{Giving, given, Says, Text, unread}
 use Rattle.flt_commands.specs.Running.{IsRan}
 use Rattle.flt_commands.specs.Thin.{IsThinned, Decides as DecidesThin}
-use Rattle.flt_words.specs.Request.{Asked, Choice, Check, Analyse, Thin, Run, Replay, Show, Explain, Extract, Format, Pages}
+use Rattle.flt_words.specs.Request.{Asked, Choice, Check, Analyse, Thin, Run, Replay, Show, Explain, Extract, Format, Pages, Emit, Compare}
 use Rattle.flt_commands.specs.declared.answer.Answer.{Answer}
-use Rattle.flt_commands.specs.declared.answer.Answer.TheVariants.{Accepted, Refused, Certificate as Written, Judged, Ran as has_run, FileRefused, Explained, Extracted as has_text, Formatted as has_layouts, Pages as has_pages, Shown}
+use Rattle.flt_commands.specs.declared.answer.Answer.TheVariants.{Accepted, Refused, Certificate as Written, Judged, Ran as has_run, FileRefused, Explained, Extracted as has_text, Formatted as has_layouts, Pages as has_pages, Shown, Emitted, NotEmitted, Compared}
 use Rattle.flt_commands.specs.declared.failure.Failure.{Failure}
 
 -- the laws' clauses
@@ -102,6 +105,9 @@ module _ (law : Law) (runs : LawOfRuns) (nowhere : SpelledFailsNowhere) where
   judged text certificate (has_text b) said good = absurd said.decided
   judged text certificate (has_layouts mode outcomes) said good = absurd said.decided
   judged text certificate (has_pages t) said good = absurd said.decided
+  judged text certificate (Emitted b) said good = absurd said.decided
+  judged text certificate (NotEmitted w) said good = absurd said.decided
+  judged text certificate (Compared w) said good = absurd said.decided
 
   checked : (texts : List Text) (answer : Answer) (file : Text) (cert : Option Text) → IsChecked texts (Ok answer) →
       status_of answer ≡ 0 → IsClean (Check file cert) texts
@@ -123,6 +129,9 @@ module _ (law : Law) (runs : LawOfRuns) (nowhere : SpelledFailsNowhere) where
   left text certificate (has_text b) said good = absurd said.decided
   left text certificate (has_layouts mode outcomes) said good = absurd said.decided
   left text certificate (has_pages t) said good = absurd said.decided
+  left text certificate (Emitted b) said good = absurd said.decided
+  left text certificate (NotEmitted w) said good = absurd said.decided
+  left text certificate (Compared w) said good = absurd said.decided
 
   thinned : (texts : List Text) (answer : Answer) (file : Text) (cert : Option Text) → IsThinned texts (Ok answer) →
       status_of answer ≡ 0 → IsClean (Thin file cert) texts
@@ -145,6 +154,9 @@ module _ (law : Law) (runs : LawOfRuns) (nowhere : SpelledFailsNowhere) where
   analysed (text ∷ []) (has_text b) file said good = absurd said
   analysed (text ∷ []) (has_layouts mode outcomes) file said good = absurd said
   analysed (text ∷ []) (has_pages t) file said good = absurd said
+  analysed (text ∷ []) (Emitted b) file said good = absurd said
+  analysed (text ∷ []) (NotEmitted w) file said good = absurd said
+  analysed (text ∷ []) (Compared w) file said good = absurd said
   analysed (text ∷ more ∷ texts) answer file said good = said
 
   driven : (texts : List Text) (answer : Answer) (workers : ℕ) (quiet : Bool) (script : Text) (files : List Text) →
@@ -158,6 +170,9 @@ module _ (law : Law) (runs : LawOfRuns) (nowhere : SpelledFailsNowhere) where
   driven (bytes ∷ texts) (has_text b) workers quiet script files said good = absurd said
   driven (bytes ∷ texts) (has_layouts mode outcomes) workers quiet script files said good = absurd said
   driven (bytes ∷ texts) (has_pages t) workers quiet script files said good = absurd said
+  driven (bytes ∷ texts) (Emitted b) workers quiet script files said good = absurd said
+  driven (bytes ∷ texts) (NotEmitted w) workers quiet script files said good = absurd said
+  driven (bytes ∷ texts) (Compared w) workers quiet script files said good = absurd said
   driven (bytes ∷ texts) (Refused f) workers quiet script files said good = absurd said
   driven (bytes ∷ texts) (Written c) workers quiet script files said good = absurd said
   driven (bytes ∷ texts) (Judged v) workers quiet script files said good = absurd said
@@ -250,6 +265,7 @@ module _ (law : Law) (runs : LawOfRuns) (nowhere : SpelledFailsNowhere) where
   told_well Short options sources missed e told good = in_lines Sentence options sources [] e.output.items e.status told good
   told_well Lines options sources missed e told good = in_lines Object options sources [] e.output.items e.status told good
   told_well Sarif options sources missed e told good = in_document options sources missed e.output.items e.status told good
+  told_well Html options sources missed e told good = all_reported options told.reports.filters (texts_of sources) told.printed e.status told.reports.are good
 
   -- where a file isn't read, the status isn't 0
   own_zero : (status : ℕ) (missed : List UnreadFile) → told_status status missed ≡ 0 → status ≡ 0
@@ -266,12 +282,28 @@ module _ (law : Law) (runs : LawOfRuns) (nowhere : SpelledFailsNowhere) where
   explained gives form colour states look journal warnings files texts (has_text b) said good = absurd said
   explained gives form colour states look journal warnings files texts (has_layouts mode outcomes) said good = absurd said
   explained gives form colour states look journal warnings files texts (has_pages t) said good = absurd said
+  explained gives form colour states look journal warnings files texts (Emitted b) said good = absurd said
+  explained gives form colour states look journal warnings files texts (NotEmitted w) said good = absurd said
+  explained gives form colour states look journal warnings files texts (Compared w) said good = absurd said
   explained gives form colour states look journal warnings files texts (has_run ran) said good = absurd said
   explained gives form colour states look journal warnings files texts (FileRefused n f) said good = absurd said
   explained gives form colour states look journal warnings files texts Accepted said good = absurd said
   explained gives form colour states look journal warnings files texts (Refused f) said good = absurd said
   explained gives form colour states look journal warnings files texts (Written c) said good = absurd said
   explained gives form colour states look journal warnings files texts (Judged v) said good = absurd said
+
+  -- what is emitted is covered
+  covered : (part : Part) (has : Cert → Type 0) (refuses : Answer → Type 0) (text : Text) (answer : Answer) →
+      emit.IsAnswer part has refuses text answer → status_of answer ≡ 0 → BreaksNothing text
+  covered part has refuses text _ (emit.refused f is) good = absurd (omega (arith, good))
+  covered part has refuses text _ (emit.emits answer is) good = law text is.graph is.cert is.points is.covers
+
+  emitted : (texts : List Text) (answer : Answer) (part : Part) (file : Text) (cert : Option Text) → IsEmitted part texts (Ok answer) →
+      status_of answer ≡ 0 → IsClean (Emit part file cert) texts
+  emitted [] answer part file cert said good = said
+  emitted (text ∷ []) answer part file cert said good = covered part _ _ text answer said good
+  emitted (text ∷ certificate ∷ []) answer part file cert said good = covered part _ _ text answer said good
+  emitted (text ∷ certificate ∷ more ∷ texts) answer part file cert said good = said
 
   -- where this is said of what the names give, and reported with the status 0, that holds which it says of an answer with that status
   says_clean : (gives : Giving) (names texts : List Text) (IsSaidOf : List Text → Result Answer Failure → Type 0) (P : Type 0)
@@ -310,3 +342,6 @@ module _ (law : Law) (runs : LawOfRuns) (nowhere : SpelledFailsNowhere) where
   clean_of shown gives (Extract of_map files) texts said bytes status is reported good = tt
   clean_of shown gives (Format mode files) texts said bytes status is reported good = tt
   clean_of shown gives (Pages names) texts said bytes status is reported good = tt
+  clean_of shown gives (Compare files) texts said bytes status is reported good = tt
+  clean_of shown gives (Emit part file cert) texts said bytes status is reported good =
+      says_clean gives _ texts (IsEmitted part) _ said bytes status (λ answer is well. emitted texts answer part file cert is well) is reported good

@@ -8,10 +8,13 @@ pub mod Firsts
 pub mod Formatting
 pub mod InTurn
 pub mod Lengths
+pub mod MoreDrawn
+pub mod MoreParsed
 pub mod OneAnalysis
 pub mod OneAnnotation
 pub mod OneAnswer
 pub mod OneCheck
+pub mod OneComparison
 pub mod OneDecision
 pub mod OneExtraction
 pub mod OneLayout

@@ -2,6 +2,7 @@
 use Rattle.std.proofs.Common.{◌≡◌, ◌≢◌, ℕ, Bool, true, false, List, Option, Some, None, Result, Ok, Err, refl, sym, ap, unwrap_or, ◌∙◌}
 use Rattle.std.specs.Str.{bytes_eq}
 use Rattle.flt_commands.proofs.OneAnnotation.{annotations_once}
+use Rattle.flt_commands.proofs.OneComparison.{compares_once}
 use Rattle.flt_commands.proofs.OneExtraction.{extracts_once}
 use Rattle.flt_commands.proofs.OneLayout.{layouts_said_once}
 use Rattle.flt_commands.proofs.OneReading.{says_once}
@@ -9,13 +10,14 @@ use Rattle.flt_commands.specs.Analyse.{IsAnalysed}
 use Rattle.flt_commands.specs.Answer.{output, status_of}
 use Rattle.flt_commands.specs.Check.{IsChecked}
 use Rattle.flt_commands.specs.Commands.{AnswersFor, IsReported, IsSaid, giving_for}
+use Rattle.flt_commands.specs.Compare.{IsCompared}
 use Rattle.flt_commands.specs.Extract.{IsExtracted}
 use Rattle.flt_commands.specs.Inputs.{Giving, Text, gives_but, gives_if, gives_text, kept}
 use Rattle.flt_commands.specs.Names.{names_of}
 use Rattle.flt_commands.specs.Replay.{IsReplayed}
 use Rattle.flt_commands.specs.Single.{AreSame, AskForOne, GivesOne, HasOneAnswer, SaysOne, seen, told}
 use Rattle.flt_commands.specs.Thin.{IsThinned}
-use Rattle.flt_words.specs.Request.{Asked, Check, Analyse, Thin, Run, Replay, Show, Explain, Extract, Format, Pages}
+use Rattle.flt_words.specs.Request.{Asked, Check, Analyse, Thin, Run, Replay, Show, Explain, Extract, Format, Pages, Emit, Compare}
 use Rattle.flt_commands.specs.declared.answer.Answer.{Answer}
 use Rattle.flt_commands.specs.declared.failure.Failure.{Failure}
 use Rattle.flt_commands.specs.declared.failure.Failure.TheVariants.{OutOfMemory}
@@ -87,6 +89,8 @@ module _ (gives : Giving) (one : GivesOne gives) where
   gives_one (Extract of_map files) = one
   gives_one (Format mode files) = one
   gives_one (Pages names) = one
+  gives_one (Emit part file cert) = but_once cert
+  gives_one (Compare files) = one
 
 module _ (checked : SaysOne IsChecked) (analysed : SaysOne IsAnalysed) (thinned : SaysOne IsThinned) (replayed : SaysOne IsReplayed)
     (nowhere : SpelledFailsNowhere) where
@@ -112,6 +116,9 @@ module _ (checked : SaysOne IsChecked) (analysed : SaysOne IsAnalysed) (thinned 
       layouts_said_once nowhere gives one modes.Check (λ e. cc) files texts more a b x y
   said_once gives shown showing (Format modes.Write files) texts more a b has one x y = absurd has
   said_once gives shown showing (Pages names) texts more a b has one x y = absurd has
+  said_once gives shown showing (Emit part file cert) texts more a b has one x y = absurd has
+  said_once gives shown showing (Compare files) texts more a b has one x y =
+      says_once gives one (names_of (Compare files)) (IsCompared files) (compares_once files) texts more a b x y
 
   -- one thing is printed at most, with one exit status
   pub printed_once : (gives : Giving) (written others : Text → Text → Type 0) (untouched kept : Type 0) (shown showing : Bool) (request : Option Asked)

@@ -15,7 +15,9 @@ use Rattle.flt_model.specs.declared.verdict.Violation.TheVariants.{V1, V2, V3, V
 use Rattle.flt_commands.specs.Outcomes.{files_status, printed}
 use Rattle.flt_commands.specs.declared.failure.Failure.{Failure}
 use Rattle.flt_commands.specs.declared.answer.Answer.{Answer}
-use Rattle.flt_commands.specs.declared.answer.Answer.TheVariants.{Accepted, Refused, Certificate, Judged, Explained, Extracted, Formatted, Pages, Ran, FileRefused, Shown}
+use Rattle.flt_commands.specs.declared.answer.Answer.TheVariants.{Accepted, Refused, Certificate, Judged, Explained, Extracted, Formatted, Pages, Ran, FileRefused, Shown, Emitted, NotEmitted, Compared}
+use Rattle.flt_commands.specs.declared.emit.Unemitted.{Unemitted}
+use Rattle.flt_commands.specs.declared.emit.Unemitted.TheVariants.{Kinds, Create}
 
 -- `R01` to `R15`
 abbrev pub rule_name : Rule → List ℕ
@@ -54,8 +56,19 @@ verdict_line Legal = codes "legal"
 verdict_line (NotARun n) = codes "not a run at " ++ decimal n
 verdict_line (Breaks v n) = codes "breaks V" ++ decimal (violation_number v) ++ codes " at " ++ decimal n
 
+-- a context that is set in these two lines
+abbrev pub mixture : ℕ → ℕ → List ℕ
+mixture stream instance =
+    codes "a context that may be set on a stream (line " ++ decimal stream ++ codes ") and on the instance (line " ++ decimal instance
+    ++ codes ")"
+
+-- why a text can't be emitted
+abbrev pub unemitted_line : Unemitted → List ℕ
+unemitted_line (Kinds line stream instance) = codes "not emitted line " ++ (decimal line ++ (codes " " ++ mixture stream instance))
+unemitted_line (Create line) = codes "not emitted line " ++ (decimal line ++ codes " a pre create that completes with STATUS_SUCCESS")
+
 -- what stands on the standard output: the certificate, a text or its map, a layout or which files differ from theirs, reports, pages with
--- an empty line between them, the journal, or a line and a line feed; of a journal that is shown, rows before that line
+-- an empty line between them, the journal, a part of a driver, or a line and a line feed; of a journal that is shown, rows before that line
 abbrev pub output : Answer → List ℕ
 output Accepted = codes "accepted" ++ 10 ∷ []
 output (Refused f) = refusal_line f ++ 10 ∷ []
@@ -68,6 +81,9 @@ output (Pages pages) = join_by (λ page. page.now) (10 ∷ []) pages.items
 output (Ran ran) = ran.journal.items
 output (Shown rows v) = rows.items ++ (verdict_line v ++ 10 ∷ [])
 output (FileRefused file f) = file_refusal_line file f ++ 10 ∷ []
+output (Emitted bytes) = bytes.items
+output (NotEmitted why) = unemitted_line why ++ 10 ∷ []
+output (Compared reports) = reports.items
 
 -- how many of these bytes went out before the end; only of reports some do
 abbrev pub sent_of : Answer → ℕ
@@ -85,12 +101,17 @@ abbrev pub ended_status : Ending → ℕ
 ended_status Whole = 0
 ended_status _ = 2
 
+-- the exit status of reports on C files: 1 if there is one
+abbrev pub compared_status : List ℕ → ℕ
+compared_status [] = 0
+compared_status (b ∷ more) = 1
+
 -- the exit status of reports, or of what files come to: their own, or 2 where a file isn't read
 abbrev pub told_status : ℕ → List UnreadFile → ℕ
 told_status status [] = status
 told_status status (file ∷ files) = 2
 
--- the exit status: 0 where the certificate covers or is found, or nothing is broken, and of a page; of a journal, by how its run ended; of
+-- the exit status: 0 where the certificate covers or is found, or nothing is broken, of a page, and of a part of a driver; of a journal, by how its run ended; of
 -- reports and of layouts, their own, where each file is read; 1 for any other answer
 abbrev pub status_of : Answer → ℕ
 status_of Accepted = 0
@@ -106,6 +127,9 @@ status_of (Ran ran) = ended_status ran.ending
 status_of (FileRefused file f) = 1
 status_of (Shown rows Legal) = 0
 status_of (Shown rows _) = 1
+status_of (Emitted bytes) = 0
+status_of (NotEmitted why) = 1
+status_of (Compared reports) = compared_status reports.items
 
 -- how the run ended of which an answer is the journal; all other answers are whole
 abbrev pub ending_of : Answer → Ending

@@ -8,7 +8,7 @@ use Rattle.flt_model.specs.Steps.{Transition}
 use Rattle.flt_commands.specs.Inputs.{Text}
 use Rattle.flt_driven.specs.Texts.{AreSpelled}
 use Rattle.flt_commands.specs.Split.{IsCertificateStart}
-use Rattle.flt_words.specs.Request.{Asked, Check, Analyse, Thin, Run, Replay, Show, Explain, Extract, Format, Pages}
+use Rattle.flt_words.specs.Request.{Asked, Check, Analyse, Thin, Run, Replay, Show, Explain, Extract, Format, Pages, Emit, Compare}
 
 -- the filter that the text spells breaks nothing: whatever transitions are tried on it, in whatever order and however many
 abbrev pub BreaksNothing : Text → Type 0
@@ -24,8 +24,8 @@ abbrev pub EachBreaksNothing : List Text → Type 0
 EachBreaksNothing [] = Unit {0}
 EachBreaksNothing (text ∷ texts) = BreaksNothing text × EachBreaksNothing texts
 
--- so does the text in what was read: the bytes of FILE up to its certificate, or FILE with CERT beside it, or FILE that was analysed; or
--- each FILE behind a script, all in one stack; or each FILE that was explained. Of a journal nothing is said: its own verdict says it;
+-- so does the text in what was read: the bytes of FILE up to its certificate, or FILE with CERT beside it, or FILE that was analysed or is
+-- emitted; or each FILE behind a script, all in one stack; or each FILE that was explained. Of a journal nothing is said: its own verdict says it;
 -- nor is there of a page, of C files, or of a text that is laid out
 abbrev pub IsClean : Asked → List Text → Type 0
 IsClean (Check file cert) (bytes ∷ []) = (start : ℕ) × IsCertificateStart bytes start × BreaksNothing (take start bytes)
@@ -40,4 +40,7 @@ IsClean (Explain form colour states journal warnings files) texts = EachBreaksNo
 IsClean (Extract of_map files) texts = Unit {0}
 IsClean (Format mode files) texts = Unit {0}
 IsClean (Pages names) texts = Unit {0}
+IsClean (Compare files) texts = Unit {0}
+IsClean (Emit part file cert) (text ∷ []) = BreaksNothing text
+IsClean (Emit part file cert) (text ∷ certificate ∷ []) = BreaksNothing text
 IsClean _ _ = ⊥

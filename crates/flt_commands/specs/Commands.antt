@@ -8,7 +8,9 @@ use Rattle.flt_commands.specs.Annotated.{gives_annotations}
 use Rattle.flt_commands.specs.Answer.{ending_of, output, remark, status_of}
 use Rattle.flt_commands.specs.Check.{IsChecked}
 use Rattle.flt_commands.specs.Clean.{IsClean}
+use Rattle.flt_commands.specs.Compare.{IsCompared}
 use Rattle.flt_commands.specs.Drawn.{IsDrawn}
+use Rattle.flt_commands.specs.Emit.{IsEmitted}
 use Rattle.flt_commands.specs.Explain as explain
 use Rattle.flt_commands.specs.Explain.{ArePaged, IsExplained, IsWritten, look_in}
 use Rattle.flt_commands.specs.Extract.{IsExtracted}
@@ -21,7 +23,7 @@ use Rattle.flt_commands.specs.Replay.{IsReplayed, IsShown}
 use Rattle.flt_commands.specs.Running.{IsRan}
 use Rattle.flt_commands.specs.Thin.{IsThinned}
 use Rattle.flt_model.specs.JournalText.{Entries, spelling}
-use Rattle.flt_words.specs.Request.{Asked, Check, Analyse, Thin, Run, Replay, Show, Explain, Extract, Format, Pages}
+use Rattle.flt_words.specs.Request.{Asked, Check, Analyse, Thin, Run, Replay, Show, Explain, Extract, Format, Pages, Emit, Compare}
 use Rattle.flt_words.specs.Words.{asked}
 use Rattle.flt_words.specs.declared.request.FormatMode.TheVariants.{Write}
 use Rattle.flt_commands.specs.declared.answer.Answer.{Answer}
@@ -41,6 +43,7 @@ giving_for (Run workers quiet script files) = gives_but (Some script)
 giving_for (Replay journal files) = gives_but (Some journal)
 giving_for (Show timeline picture journal files) = gives_but (Some journal)
 giving_for (Explain form colour states journal warnings files) = gives_annotations
+giving_for (Emit part file cert) = gives_but cert
 giving_for request = λ gives. gives
 
 -- what is said of what is asked for, an answer or why there is none, where the names give these texts; `explain` alone says something of
@@ -57,6 +60,8 @@ IsSaid shown gives (Explain form colour states journal warnings files) = IsExpla
 IsSaid shown gives (Extract of_map files) = Says gives (names_of (Extract of_map files)) (IsExtracted of_map files)
 IsSaid shown gives (Format mode files) = IsFormatSaid gives mode files
 IsSaid shown gives (Pages names) = Says gives (names_of (Pages names)) (λ texts. ArePaged names)
+IsSaid shown gives (Emit part file cert) = Says gives (names_of (Emit part file cert)) (IsEmitted part)
+IsSaid shown gives (Compare files) = Says gives (names_of (Compare files)) (IsCompared files)
 
 -- ---- how that is printed
 

@@ -22,13 +22,14 @@ use Rattle.flt_words.specs.declared.request.Colour.{Colour}
 use Rattle.flt_words.specs.declared.request.Colour.TheVariants.{Auto, Always, Never}
 use Rattle.flt_words.specs.declared.request.Form.{Form}
 use Rattle.flt_words.specs.Shown.{visible}
-use Rattle.flt_words.specs.declared.request.Form.TheVariants.{Human, Lines, Sarif, Short}
+use Rattle.flt_words.specs.declared.request.Form.TheVariants.{Html, Human, Lines, Sarif, Short}
 use Rattle.flt_warning_details.specs.declared.options.WarningOptions.{WarningOptions}
 use Rattle.flt_words.specs.Request.{Choice}
 use Rattle.flt_commands.specs.Allowed.{options_of}
 use Rattle.flt_commands.specs.InTurn.{AreFirstLines}
 use Rattle.flt_commands.specs.Inputs.{AreRead, Giving, Text, unread_names}
 use Rattle.flt_commands.specs.Answer.{output, sent_of}
+use Rattle.flt_commands.specs.Html.{IsPageOn, IsPaged}
 use Rattle.flt_commands.specs.declared.answer.Answer.{Answer}
 use Rattle.flt_commands.specs.declared.answer.Answer.TheVariants.{Explained, Pages}
 use Rattle.flt_commands.specs.declared.explain.Asked.{Asked}
@@ -46,19 +47,21 @@ abbrev pub told_name : Form → Text → Text
 told_name Short name = visible name
 told_name form name = name
 
--- what is told in a form: reports, a sentence or a JSON object for each finding, or a SARIF document, which tells of these files that
--- they aren't read
+-- what is told in a form: reports, a sentence or a JSON object for each finding, a SARIF document, which tells of these files that they
+-- aren't read, or a page on reports
 abbrev pub IsTold : Form → WarningOptions → List Source → List UnreadFile → Reported → Type 0
 IsTold Human options sources unread e = AreReports options (texts_of sources) e.output.items e.status
 IsTold Short options sources unread e = AreLines Sentence options sources [] e.output.items e.status
 IsTold Lines options sources unread e = AreLines Object options sources [] e.output.items e.status
 IsTold Sarif options sources unread e = IsSarif options sources unread e.output.items e.status
+IsTold Html options sources unread e = IsPageOn options sources e.output.items e.status
 
 -- what came of the findings of these texts in runs, of each that is reported by itself; nothing is looked for where that is neither told
 -- nor written into a file
 abbrev pub AreNotedFor : Form → Option Text → List Text → List Noted → Type 0
 AreNotedFor form (Some name) texts noted = AreNotes texts noted
 AreNotedFor Human None texts noted = AreNotes texts noted
+AreNotedFor Html None texts noted = AreNotes texts noted
 AreNotedFor form None texts noted = noted ≡ []
 
 -- for people it is also told what came of findings in runs: in the notes' lines, and in no others
@@ -70,9 +73,10 @@ IsNoteTold _ texts states e = Unit {0}
 abbrev pub look_of : Asked → Look
 look_of asked = record { coloured = asked.coloured; states = asked.states; options = asked.options }
 
--- for people all of what is printed is the reports with the notes, to the letter
+-- for people all of what is printed is the reports with the notes, to the letter; a page has these without colours, with pictures
 abbrev pub IsPrintTold : Form → Look → List Source → Told → Type 0
 IsPrintTold Human look sources e = IsPrint look sources e.noted e.explained.output.items e.explained.status
+IsPrintTold Html look sources e = IsPaged look sources e.noted e.explained.output.items e.explained.status
 IsPrintTold _ look sources e = Unit {0}
 
 -- the same of names and what they give, beside these files, with what came of the findings of these texts
@@ -145,6 +149,7 @@ IsWritten written untouched _ answer = untouched
 abbrev pub HoldsBack : Form → Option Text → Type 0
 HoldsBack form (Some name) = Unit {0}
 HoldsBack Sarif None = Unit {0}
+HoldsBack Html None = Unit {0}
 HoldsBack form None = ⊥
 
 -- what goes out before the end where nothing is held back: for people the reports of all texts but the last, else all lines
@@ -153,6 +158,7 @@ GoesOutEarly Human options texts states e = IsAllButLast options texts states (t
 GoesOutEarly Short options texts states e = e.sent ≡ length e.explained.output.items
 GoesOutEarly Lines options texts states e = e.sent ≡ length e.explained.output.items
 GoesOutEarly Sarif options texts states e = Unit {0}
+GoesOutEarly Html options texts states e = Unit {0}
 
 -- what went out of an answer; where there is none, nothing did
 abbrev pub IsSent : Option Text → Option Text → Result Answer Failure → Type 0
@@ -165,6 +171,7 @@ IsCutIn Human options states sources old new = IsCut options (texts_of sources) 
 IsCutIn Short options states sources old new = AreFirstLines Sentence options sources old new
 IsCutIn Lines options states sources old new = AreFirstLines Object options sources old new
 IsCutIn Sarif options states sources old new = Appends old new []
+IsCutIn Html options states sources old new = Appends old new []
 
 -- the same of names and what they give; or nothing went out
 pub data IsCutUnder (form : Form) (options : WarningOptions) (states : ℕ) (names texts : List Text) (old new : Option Text) : Type 0 where

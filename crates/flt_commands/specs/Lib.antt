@@ -5,13 +5,16 @@ pub mod Answer
 pub mod Check
 pub mod Clean
 pub mod Commands
+pub mod Compare
 pub mod Drawn
+pub mod Emit
 pub mod Explain
 pub mod Extract
 pub mod Failure
 pub mod Fault
 pub mod Flaws
 pub mod Format
+pub mod Html
 pub mod InTurn
 pub mod Inputs
 pub mod Names

@@ -1,6 +1,6 @@
 -- What is one at most, where the inputs give one thing for each name. This project's own program.
 use Rattle.std.specs.Prelude.{◌≡◌, ◌≢◌, ℕ, List, Option, Some, None, Result, Ok, Err}
-use Rattle.flt_words.specs.Request.{Asked, Run, Show, Explain, Format, Pages}
+use Rattle.flt_words.specs.Request.{Asked, Run, Show, Explain, Format, Pages, Emit}
 use Rattle.flt_words.specs.declared.request.FormatMode.TheVariants.{Write}
 use Rattle.flt_commands.specs.Answer.{output, status_of}
 use Rattle.flt_commands.specs.Inputs.{Giving, Text}
@@ -27,15 +27,18 @@ seen (Err f) = Err (told f)
 abbrev pub AreSame : Result Answer Failure → Result Answer Failure → Type 0
 AreSame a b = a ≢ Err OutOfMemory → b ≢ Err OutOfMemory → seen a ≡ seen b
 
--- of what is asked for one thing is said at most: of all but a run, a journal that is shown, reports, pages and layouts that are written. A
+-- of what is asked for one thing is said at most: of all but a run, a journal that is shown, reports, pages, layouts that are written and a
+-- part of a driver. A
 -- run's journal is legal, but which journal it is stands in no clause; nor is it said which of several runs a report shows, and there is no
--- more of rows than what stands below them, and of a page than how it begins
+-- more of rows than what stands below them, and of a page than how it begins. Of a driver it isn't said in which order the contexts of the
+-- instance are listed, nor which of several contexts with two kinds is named
 abbrev pub HasOneAnswer : Asked → Type 0
 HasOneAnswer (Run workers quiet script files) = ⊥
 HasOneAnswer (Show timeline picture journal files) = ⊥
 HasOneAnswer (Explain form colour states journal warnings files) = ⊥
 HasOneAnswer (Format Write files) = ⊥
 HasOneAnswer (Pages names) = ⊥
+HasOneAnswer (Emit part file cert) = ⊥
 HasOneAnswer _ = Unit {0}
 
 -- the same of words; those that ask for nothing print nothing

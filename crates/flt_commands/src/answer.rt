@@ -1,8 +1,9 @@
 //! The answers of commands, and how they are written.
 
-ghost use Rattle.std.specs.Prelude.{◌≡◌, ◌≢◌, [], ◌∷◌, ◌++◌, Some, IfOk};
+ghost use Rattle.std.specs.Prelude.{◌≡◌, ◌≢◌, [], ◌∷◌, ◌++◌, Some, IfOk, string_bytes};
 ghost use Rattle.flt_commands.specs.Answer as spec;
 
+use crate::emit::Unemitted;
 use crate::outcomes::{Outcomes, files_status, printed_files};
 use flt_check::Refusal;
 use flt_crew::{Ending, Ran};
@@ -39,6 +40,22 @@ pub enum Answer {
     Shown(Vec<u8>, Verdict),
     /// A point of the text of one of several files, numbered from 0, is refused.
     FileRefused(usize, Refusal),
+    /// A part of the driver that an accepted text is.
+    Emitted(Vec<u8>),
+    /// Why an accepted text can't be emitted.
+    NotEmitted(Unemitted),
+    /// The reports on C files that differ from their annotations.
+    Compared(Vec<u8>),
+}
+
+/// The exit status of reports on C files: 1 if there is one.
+fn compared_status(reports: &[u8]) -> u8
+    ensures { result ≡ spec.compared_status reports.now }
+{
+    match reports {
+        [] => 0,
+        [_, ..] => 1,
+    }
 }
 
 impl Answer {
@@ -50,6 +67,7 @@ impl Answer {
         match self {
             Answer::Accepted | Answer::Certificate(_) | Answer::Judged(Verdict::Legal) => 0,
             Answer::Extracted(_) | Answer::Pages(_) | Answer::Shown(_, Verdict::Legal) => 0,
+            Answer::Emitted(_) => 0,
             Answer::Explained(told, unread) => {
                 told_status(told.explained.status, unread.as_slice())
             }
@@ -58,7 +76,8 @@ impl Answer {
                 told_status(status, found.unread.as_slice())
             }
             Answer::Refused(_) | Answer::FileRefused(_, _) | Answer::Judged(_) => 1,
-            Answer::Shown(_, _) => 1,
+            Answer::Shown(_, _) | Answer::NotEmitted(_) => 1,
+            Answer::Compared(reports) => compared_status(reports.as_slice()),
             Answer::Ran(ran) => ended_status(ran.ending),
         }
     }
@@ -74,6 +93,7 @@ impl Answer {
             Answer::Judged(_) | Answer::Explained(_, _) | Answer::Pages(_) => Ending::Whole,
             Answer::FileRefused(_, _) | Answer::Shown(_, _) => Ending::Whole,
             Answer::Extracted(_) | Answer::Formatted(_, _) => Ending::Whole,
+            Answer::Emitted(_) | Answer::NotEmitted(_) | Answer::Compared(_) => Ending::Whole,
         }
     }
 
@@ -84,6 +104,8 @@ impl Answer {
         let line = match self {
             Answer::Certificate(bytes) => return Ok(bytes),
             Answer::Extracted(bytes) => return Ok(bytes),
+            Answer::Emitted(bytes) => return Ok(bytes),
+            Answer::Compared(reports) => return Ok(reports),
             Answer::Formatted(mode, found) => {
                 return printed_files(alloc, mode, found.files.as_slice());
             }
@@ -102,6 +124,10 @@ impl Answer {
             }
             Answer::Judged(verdict) => {
                 let line = VerdictLine(verdict);
+                format!(in alloc; "{line}\n")?
+            }
+            Answer::NotEmitted(why) => {
+                let line = unemitted_line(alloc, why)?;
                 format!(in alloc; "{line}\n")?
             }
         };
@@ -242,6 +268,44 @@ impl fmt::Display for VerdictLine {
                 let number = violation_number(violation);
                 write!(f, "breaks V{number} at {entry}")
             }
+        }
+    }
+}
+
+/// The words on a context that is set in these two lines: on a stream, and on the instance.
+#[derive(Drop)]
+struct Mixture(usize, usize);
+
+impl fmt::Display for Mixture {
+    ghost output = { λ m. Some (spec.mixture m.0 m.1) };
+
+    fn fmt<W: fmt::Write>(&self, f: &mut fmt::Formatter<W>) -> fmt::Result {
+        let stream = self.0;
+        let instance = self.1;
+        write!(
+            f,
+            "a context that may be set on a stream (line {stream}) and on the instance (line {instance})"
+        )
+    }
+}
+
+/// The line that says why a text can't be emitted, without its end.
+fn unemitted_line(alloc: Global, why: Unemitted) -> Result<String, AllocError>
+    ensures { IfOk result (λ line. string_bytes line ≡ spec.unemitted_line why) }
+{
+    match why {
+        Unemitted::Kinds {
+            line,
+            stream,
+            instance,
+        } => {
+            let mixture = Mixture(stream, instance);
+            format!(in alloc; "not emitted line {line} {mixture}")
+        }
+        Unemitted::Create { line } => {
+            format!(in alloc;
+                "not emitted line {line} a pre create that completes with STATUS_SUCCESS"
+            )
         }
     }
 }

@@ -10,7 +10,9 @@ use crate::allowed::options_of;
 use crate::analyse::analyse_file;
 use crate::check::check_files;
 use crate::clean::{covered_texts_break_nothing, driven_texts_break_nothing};
+use crate::compare::compare_files;
 use crate::deadlock::tell_deadlock;
+use crate::emit::emit_files;
 use crate::explain::{Asked, pages_of};
 use crate::explained::report_on_files;
 use crate::extract::extract_files;
@@ -198,6 +200,22 @@ fn report_of<'a, R: Threads + Wait + Sync, I: Inputs, P: Pictures, O: Sink, W: W
         }
         Request::Pages { names } => {
             let said = pages_of(alloc, names.as_slice());
+            report_on(alloc, Vec::new(alloc), said, contents)
+        }
+        Request::Emit { part, file, cert } => {
+            let whole = cert;
+            let said = emit_files(
+                alloc,
+                &Texts { inputs, whole },
+                part,
+                file,
+                cert,
+                &mut contents,
+            );
+            report_on(alloc, Vec::new(alloc), said, contents)
+        }
+        Request::Compare { files } => {
+            let said = compare_files(alloc, inputs, files.as_slice(), &mut contents);
             report_on(alloc, Vec::new(alloc), said, contents)
         }
     }

@@ -3,6 +3,7 @@
 ghost use Rattle.std.specs.Io.KnownBytes.{Appends};
 ghost use Rattle.std.specs.Prelude.{◌≡◌, ◌≢◌, [], None, IfErr, IfOk, OnErr, OnOk, length, map, option_map, string_bytes, take};
 ghost use Rattle.flt_commands.specs.Explain as spec;
+ghost use Rattle.flt_commands.specs.Html.{IsPageOn, IsPaged};
 ghost use Rattle.flt_commands.specs.Remarks.{unread_in};
 ghost use Rattle.flt_notes.specs.Noted.{AreNotes, first_journal};
 ghost use Rattle.flt_details.specs.Reports.{texts_of};
@@ -10,6 +11,7 @@ ghost use Rattle.flt_details.specs.Reports.{texts_of};
 use crate::answer::Answer;
 use crate::failure::Failure;
 use crate::fault::CommandFault;
+use crate::html::page_on;
 use crate::in_turn::lines_in_turn;
 use crate::inputs::{Inputs, Pictures, read_each};
 use crate::remarks::unread_lines;
@@ -132,6 +134,34 @@ fn unsent(explained: Explained, noted: Items<Noted>) -> Told
     }
 }
 
+/// The page on some texts, of which nothing has gone out.
+fn told_page<O: Sink, W: SearchWatch>(
+    alloc: Global,
+    asked: Asked<'_>,
+    sources: &[Source<'_>],
+    out: &mut O,
+    watch: &mut W,
+) -> Result<Told, CommandFault>
+    ensures page { IfOk result (λ t. IsPageOn asked.entry.options sources.now t.explained.output.items t.explained.status) }
+    ensures paged { IfOk result (λ t. IsPaged (spec.look_of asked.entry) sources.now t.noted t.explained.output.items t.explained.status) }
+    ensures noted { IfOk result (λ t. AreNotes (texts_of sources.now) t.noted) }
+    ensures sent { IfOk result (λ t. t.sent ≡ 0) }
+    ensures held { out.new ≡ out.old }
+    ensures err { IfErr result (λ e. e ≡ CommandFault.OutOfMemory) }
+{
+    let plain = Asking {
+        coloured: false,
+        states: asked.states,
+        is_held: true,
+        options: asked.options,
+    };
+    let told = explain(alloc, plain, sources, out, watch)?;
+    let printed = told.explained.output.as_slice();
+    let output = page_on(alloc, sources, printed, told.noted.as_slice())?;
+    let status = told.explained.status;
+    Ok(unsent(Explained { output, status }, told.noted))
+}
+
 /// The output for some texts, in a form, with files that aren't read. Each text's part is written as soon as it is made, unless the form is
 /// one document.
 #[tactic(auto, using(crate::proofs::Sent::none_sent, crate::proofs::Faults::write_of, crate::proofs::Faults::memory_of))]
@@ -167,6 +197,7 @@ fn told_in_turn<O: Sink, W: SearchWatch>(
             lines_in_turn(alloc, Style::Object, options, sources, out)?,
         )),
         Form::Sarif => Ok(unsent(sarif(alloc, options, sources, unread)?, Items::new(alloc))),
+        Form::Html => told_page(alloc, asked, sources, out, watch),
     }
 }
 
@@ -194,6 +225,7 @@ fn told_whole<O: Sink, W: SearchWatch>(
         Form::Short => lines(alloc, Style::Sentence, asked.options, sources)?,
         Form::Lines => lines(alloc, Style::Object, asked.options, sources)?,
         Form::Sarif => sarif(alloc, asked.options, sources, unread)?,
+        Form::Html => return told_page(alloc, asked, sources, out, watch),
     };
     let told = explain(alloc, held, sources, out, watch)?;
     Ok(unsent(explained, told.noted))

@@ -103,7 +103,7 @@ pub(crate) fn place_flaw_words(alloc: Global, flaw: PlaceFlaw) -> Result<String,
 // ---- where the lines of the text begin
 
 /// The name of the file of a number.
-fn name_of<'a>(names: &[&'a str], file: usize) -> &'a str
+pub(crate) fn name_of<'a>(names: &[&'a str], file: usize) -> &'a str
     ensures { result.now ≡ slice_index_or (Prelude.map (λ name. name.now) names.now) file [] }
 {
     match names.get(file) {

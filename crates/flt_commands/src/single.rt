@@ -77,8 +77,8 @@ fn one_verdict_at_most()
 }
 
 /// A command line has at most one answer if the inputs give one thing for each name and it asks for no run, no journal that is shown, no
-/// reports, no page and no layout that is written. It has one output and one exit status at most, and one reason why there is no answer,
-/// unless memory ran out. It does nothing at run time: its clauses are the law.
+/// reports, no page, no layout that is written and no part of a driver. It has one output and one exit status at most, and one reason why
+/// there is no answer, unless memory ran out. It does nothing at run time: its clauses are the law.
 pub fn one_answer_at_most<I: Inputs, P: Pictures>()
     ensures one { (inputs : I) (before pictures past others : P) (shown showing : Bool) (words : List (List ℕ)) (a b : Report) → spec.AskForOne (asked words) →
         spec.GivesOne (I.gives inputs) → Answers shown (I.gives inputs) (P.written pictures) (pictures ≡ before) words a →

@@ -1,0 +1,2 @@
+mod Flagged
+mod Wrapped

@@ -186,11 +186,11 @@ drifts_from all stretch (mark ∷ marks) =
 abbrev pub drifts_of_marks : List Mark → List Drift
 drifts_of_marks all = drifts_from all [] all
 
--- the drifts of a file's letters; a file that can't be read has none
-abbrev pub drifts_among : Result (List Letter) Flaw → List Drift
-drifts_among (Ok found) = drifts_of_marks (marks_of found)
-drifts_among (Err flaw) = []
+-- the drifts of a file's letters, or why it has none
+abbrev pub drifts_among : Result (List Letter) Flaw → Result (List Drift) Flaw
+drifts_among (Ok found) = Ok (drifts_of_marks (marks_of found))
+drifts_among (Err flaw) = Err flaw
 
--- the drifts of a C file, in order
-abbrev pub drifts : List ℕ → List Drift
+-- the drifts of a C file, in order, or why it can't be read
+abbrev pub drifts : List ℕ → Result (List Drift) Flaw
 drifts file = drifts_among (letters file)

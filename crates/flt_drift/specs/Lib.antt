@@ -1,4 +1,5 @@
 pub mod Drifts
+pub mod Flags
 pub mod Marks
 pub mod Names
 pub mod Reading

@@ -1,5 +1,5 @@
 -- How the marks of a file are found, letter by letter. This project's own rule.
-use Rattle.std.specs.Prelude.{ℕ, ◌+◌, Bool, true, false, not, ◌&&◌, ◌||◌, if◌then◌else◌, ◌==◌, List, [], ◌∷◌, ◌++◌, length, codes, map, Option, Some, None}
+use Rattle.std.specs.Prelude.{ℕ, ◌+◌, Bool, true, false, not, ◌&&◌, ◌||◌, if◌then◌else◌, ◌==◌, List, [], ◌∷◌, ◌++◌, length, codes, Option, Some, None}
 use Rattle.std.specs.Char.{is_ascii_alphanumeric}
 use Rattle.std.specs.Str.{bytes_eq}
 use Rattle.flt_c.specs.declared.letter.Letter.{Letter}
@@ -7,7 +7,7 @@ use Rattle.flt_c.specs.declared.letter.Part.{Part}
 use Rattle.flt_c.specs.declared.letter.Part.TheVariants as part
 use Rattle.flt_drift.specs.Marks.{before_of, said_by_code, said_by_note}
 use Rattle.flt_drift.specs.Names.{c_operation_of, call_of}
-use Rattle.flt_drift.specs.Wrappers.{Wrapping, wrapping_of}
+use Rattle.flt_drift.specs.Wrappers.{Wrapping, with_wrapping}
 use Rattle.flt_drift.specs.declared.mark.Mark.{Mark}
 use Rattle.flt_drift.specs.declared.mark.MarkKind.{MarkKind}
 use Rattle.flt_drift.specs.declared.mark.MarkKind.TheVariants as k
@@ -45,7 +45,7 @@ state_in r = record {
   stage = r.stage;
   opened = r.opened;
   function = r.function.items;
-  wrappings = map wrapping_of r.wrappers.items;
+  wrappings = r.wrappers;
   marks = r.marks.items;
 }
 
@@ -177,7 +177,7 @@ at_stage to opened function s = record {
   marks = s.marks;
 }
 
--- the function makes this call
+-- the function makes this call, unless one of its name is declared already
 abbrev pub wrapped : ℕ → State → State
 wrapped call s = record {
   word = s.word;
@@ -187,7 +187,7 @@ wrapped call s = record {
   stage = stage.Nothing;
   opened = s.opened;
   function = s.function;
-  wrappings = s.wrappings ++ (record { name = s.function; call = call } ∷ []);
+  wrappings = with_wrapping s.wrappings s.function call;
   marks = s.marks;
 }
 

@@ -1,44 +1,45 @@
 //! Whether the callbacks that a file registers are those that its annotations begin.
 
-ghost use Rattle.std.specs.Prelude.{◌≡◌};
+ghost use Rattle.std.specs.Prelude.{◌≡◌, IfOk};
 ghost use Rattle.flt_drift.specs.Drifts as spec;
 
+use crate::flags::{Question, flags, is_noted};
 use crate::mark::{Mark, MarkKind};
+use std::alloc::{AllocError, Global};
+use std::marker::Model;
 
-fn registers_pre(operation: usize, kind: MarkKind) -> bool
-    ensures { result ≡ spec.registers_pre operation kind }
-{
-    match kind {
-        MarkKind::RegistersPre(other) => other == operation,
-        _ => false,
-    }
+/// The marks of a file, with flags for the callbacks that they are about.
+#[derive(Drop)]
+pub(crate) struct Callbacks<'a> {
+    marks: &'a [Mark],
+    /// For each of the first operations, whether an entry registers a pre callback of it.
+    pre_registered: Vec<bool>,
+    post_registered: Vec<bool>,
+    /// For each of the first operations, whether an annotation begins a pre callback of it.
+    pre_headed: Vec<bool>,
+    post_headed: Vec<bool>,
+    registers: bool,
+    heads: bool,
 }
 
-fn registers_post(operation: usize, kind: MarkKind) -> bool
-    ensures { result ≡ spec.registers_post operation kind }
-{
-    match kind {
-        MarkKind::RegistersPost(other) => other == operation,
-        _ => false,
-    }
-}
+impl<'a> Model for Callbacks<'a> {
+    ghost use Rattle.std.specs.Prelude.{◌≡◌, List};
+    ghost use Rattle.flt_drift.specs.Drifts.{has_table, has_heads};
+    ghost use Rattle.flt_drift.specs.Flags.{flags_of};
+    ghost use Rattle.flt_drift.specs.declared.flags.Question.TheVariants as ask;
+    ghost use Rattle.flt_drift.specs.declared.mark.Mark.{Mark};
 
-fn heads_pre(operation: usize, kind: MarkKind) -> bool
-    ensures { result ≡ spec.heads_pre operation kind }
-{
-    match kind {
-        MarkKind::HeadsPre(other) => other == operation,
-        _ => false,
-    }
-}
+    ghost Value = { List Mark };
 
-fn heads_post(operation: usize, kind: MarkKind) -> bool
-    ensures { result ≡ spec.heads_post operation kind }
-{
-    match kind {
-        MarkKind::HeadsPost(other) => other == operation,
-        _ => false,
-    }
+    ghost view = { λ c. c.marks.now };
+
+    ghost invariant = { λ c.
+        (c.pre_registered.items ≡ flags_of ask.PreRegistered c.marks.now)
+        × (c.post_registered.items ≡ flags_of ask.PostRegistered c.marks.now)
+        × (c.pre_headed.items ≡ flags_of ask.PreHeaded c.marks.now)
+        × (c.post_headed.items ≡ flags_of ask.PostHeaded c.marks.now)
+        × (c.registers ≡ has_table c.marks.now)
+        × (c.heads ≡ has_heads c.marks.now) };
 }
 
 fn is_registration(kind: MarkKind) -> bool
@@ -53,44 +54,83 @@ fn is_head(kind: MarkKind) -> bool
     matches!(kind, MarkKind::HeadsPre(_) | MarkKind::HeadsPost(_))
 }
 
-/// Whether an entry registers a pre callback of an operation.
-pub(crate) fn is_pre_registered(operation: usize, all: &[Mark]) -> bool
-    ensures { result ≡ spec.is_pre_registered operation all.now }
-{
-    all.iter().any(|mark| registers_pre(operation, mark.kind))
-}
-
-/// Whether an entry registers a post callback of an operation.
-pub(crate) fn is_post_registered(operation: usize, all: &[Mark]) -> bool
-    ensures { result ≡ spec.is_post_registered operation all.now }
-{
-    all.iter().any(|mark| registers_post(operation, mark.kind))
-}
-
-/// Whether an annotation begins a pre callback of an operation.
-pub(crate) fn is_pre_headed(operation: usize, all: &[Mark]) -> bool
-    ensures { result ≡ spec.is_pre_headed operation all.now }
-{
-    all.iter().any(|mark| heads_pre(operation, mark.kind))
-}
-
-/// Whether an annotation begins a post callback of an operation.
-pub(crate) fn is_post_headed(operation: usize, all: &[Mark]) -> bool
-    ensures { result ≡ spec.is_post_headed operation all.now }
-{
-    all.iter().any(|mark| heads_post(operation, mark.kind))
-}
-
 /// Whether an entry registers a callback of one of the operations.
-pub(crate) fn has_table(all: &[Mark]) -> bool
+fn has_table(all: &[Mark]) -> bool
     ensures { result ≡ spec.has_table all.now }
 {
     all.iter().any(|mark| is_registration(mark.kind))
 }
 
 /// Whether an annotation begins a callback.
-pub(crate) fn has_heads(all: &[Mark]) -> bool
+fn has_heads(all: &[Mark]) -> bool
     ensures { result ≡ spec.has_heads all.now }
 {
     all.iter().any(|mark| is_head(mark.kind))
+}
+
+impl<'a> Callbacks<'a> {
+    /// The callbacks of a file that has these marks.
+    pub(crate) fn new(alloc: Global, marks: &'a [Mark]) -> Result<Callbacks<'a>, AllocError>
+        ensures { IfOk result (λ callbacks. callbacks ≡ marks.now) }
+    {
+        let pre_registered = flags(alloc, Question::PreRegistered, marks)?;
+        let post_registered = flags(alloc, Question::PostRegistered, marks)?;
+        let pre_headed = flags(alloc, Question::PreHeaded, marks)?;
+        let post_headed = flags(alloc, Question::PostHeaded, marks)?;
+        Ok(Callbacks {
+            marks,
+            pre_registered,
+            post_registered,
+            pre_headed,
+            post_headed,
+            registers: has_table(marks),
+            heads: has_heads(marks),
+        })
+    }
+
+    /// Whether an entry registers a pre callback of an operation.
+    pub(crate) fn is_pre_registered(&self, operation: usize) -> bool
+        ensures { result ≡ spec.is_pre_registered operation self.now }
+    {
+        let flags = self.pre_registered.as_slice();
+        is_noted(flags, Question::PreRegistered, operation, self.marks)
+    }
+
+    /// Whether an entry registers a post callback of an operation.
+    pub(crate) fn is_post_registered(&self, operation: usize) -> bool
+        ensures { result ≡ spec.is_post_registered operation self.now }
+    {
+        let flags = self.post_registered.as_slice();
+        is_noted(flags, Question::PostRegistered, operation, self.marks)
+    }
+
+    /// Whether an annotation begins a pre callback of an operation.
+    pub(crate) fn is_pre_headed(&self, operation: usize) -> bool
+        ensures { result ≡ spec.is_pre_headed operation self.now }
+    {
+        let flags = self.pre_headed.as_slice();
+        is_noted(flags, Question::PreHeaded, operation, self.marks)
+    }
+
+    /// Whether an annotation begins a post callback of an operation.
+    pub(crate) fn is_post_headed(&self, operation: usize) -> bool
+        ensures { result ≡ spec.is_post_headed operation self.now }
+    {
+        let flags = self.post_headed.as_slice();
+        is_noted(flags, Question::PostHeaded, operation, self.marks)
+    }
+
+    /// Whether an entry registers a callback of one of the operations.
+    pub(crate) fn has_table(&self) -> bool
+        ensures { result ≡ spec.has_table self.now }
+    {
+        self.registers
+    }
+
+    /// Whether an annotation begins a callback.
+    pub(crate) fn has_heads(&self) -> bool
+        ensures { result ≡ spec.has_heads self.now }
+    {
+        self.heads
+    }
 }

@@ -1,15 +1,14 @@
 //! The drifts of a C file: the points in which it and its annotations differ.
 
-ghost use Rattle.std.specs.Prelude.{◌≡◌, ◌++◌, [], IfOk, OnOk};
+ghost use Rattle.std.specs.Prelude.{◌≡◌, ◌++◌, [], Err, IfOk, MatchResult, Ok, OnOk};
 ghost use Rattle.flt_drift.specs.Drifts as spec;
 ghost use Rattle.flt_drift.specs.Reading as reading;
 
-use crate::callbacks::{
-    has_heads, has_table, is_post_headed, is_post_registered, is_pre_headed, is_pre_registered,
-};
+use crate::callbacks::Callbacks;
 use crate::mark::{Mark, MarkKind};
 use crate::reader::marks;
-use flt_c::letters;
+use crate::stretch::Stretch;
+use flt_c::{Flaw, letters};
 use std::alloc::{AllocError, Global};
 
 /// The kinds of drift, with their codes.
@@ -52,96 +51,10 @@ pub struct Drift {
     pub other: Option<Span>,
 }
 
-fn calls(call: usize, kind: MarkKind) -> bool
-    ensures { result ≡ spec.calls call kind }
-{
-    match kind {
-        MarkKind::Calls(other) => other == call,
-        _ => false,
-    }
-}
-
-fn names(call: usize, kind: MarkKind) -> bool
-    ensures { result ≡ spec.names call kind }
-{
-    match kind {
-        MarkKind::Names(other) => other == call,
-        _ => false,
-    }
-}
-
-fn answers(status: usize, kind: MarkKind) -> bool
-    ensures { result ≡ spec.answers status kind }
-{
-    match kind {
-        MarkKind::Answers(other) => other == status,
-        _ => false,
-    }
-}
-
-fn is_noted(kind: MarkKind) -> bool
-    ensures { result ≡ spec.is_noted kind }
-{
-    matches!(kind, MarkKind::Noted)
-}
-
 fn is_cut(kind: MarkKind) -> bool
     ensures { result ≡ spec.is_cut kind }
 {
     matches!(kind, MarkKind::Cut)
-}
-
-/// Whether the code of a stretch has the name of a call.
-fn is_called(call: usize, stretch: &[Mark]) -> bool
-    ensures { result ≡ spec.is_called call stretch.now }
-{
-    stretch.iter().any(|mark| calls(call, mark.kind))
-}
-
-/// Whether the annotations of a stretch name a call.
-fn is_named(call: usize, stretch: &[Mark]) -> bool
-    ensures { result ≡ spec.is_named call stretch.now }
-{
-    stretch.iter().any(|mark| names(call, mark.kind))
-}
-
-/// Whether a stretch has an annotation.
-fn is_annotated(stretch: &[Mark]) -> bool
-    ensures { result ≡ spec.is_annotated stretch.now }
-{
-    stretch.iter().any(|mark| is_noted(mark.kind))
-}
-
-/// Whether the annotations of a stretch return a status.
-fn is_answered(status: usize, stretch: &[Mark]) -> bool
-    ensures { result ≡ spec.is_answered status stretch.now }
-{
-    stretch.iter().any(|mark| answers(status, mark.kind))
-}
-
-/// The bytes of a return in an annotation.
-fn answer_of(mark: Mark) -> Option<Span>
-    ensures { result ≡ spec.answer_of mark mark.kind }
-{
-    match mark.kind {
-        MarkKind::Answers(_) => Some(Span {
-            start: mark.start,
-            length: mark.length,
-        }),
-        _ => None,
-    }
-}
-
-/// The bytes of the first return in the annotations of a stretch.
-fn first_answer(stretch: &[Mark]) -> Option<Span>
-    ensures { result ≡ spec.first_answer stretch.now }
-{
-    for mark in stretch {
-        if let Some(answer) = answer_of(*mark) {
-            return Some(answer);
-        }
-    }
-    None
 }
 
 /// Adds a drift at the place of a mark.
@@ -192,24 +105,28 @@ fn put_unless(
 }
 
 /// Adds the drift of a callback that an entry registers or an annotation begins, if it has one.
-fn put_callback(out: &mut Vec<Drift>, all: &[Mark], mark: Mark) -> Result<(), AllocError>
-    ensures { OnOk result (out.new.items ≡ out.old.items ++ spec.callback_drift all.now mark mark.kind) }
+fn put_callback(
+    out: &mut Vec<Drift>,
+    callbacks: &Callbacks<'_>,
+    mark: Mark,
+) -> Result<(), AllocError>
+    ensures { OnOk result (out.new.items ≡ out.old.items ++ spec.callback_drift callbacks.now mark mark.kind) }
 {
     match mark.kind {
         MarkKind::RegistersPre(operation) => {
-            let holds = is_pre_headed(operation, all) || !has_heads(all);
+            let holds = callbacks.is_pre_headed(operation) || !callbacks.has_heads();
             put_unless(out, holds, DriftKind::NotAnnotated, mark)
         }
         MarkKind::RegistersPost(operation) => {
-            let holds = is_post_headed(operation, all) || !has_heads(all);
+            let holds = callbacks.is_post_headed(operation) || !callbacks.has_heads();
             put_unless(out, holds, DriftKind::NotAnnotated, mark)
         }
         MarkKind::HeadsPre(operation) => {
-            let holds = is_pre_registered(operation, all) || !has_table(all);
+            let holds = callbacks.is_pre_registered(operation) || !callbacks.has_table();
             put_unless(out, holds, DriftKind::NotRegistered, mark)
         }
         MarkKind::HeadsPost(operation) => {
-            let holds = is_post_registered(operation, all) || !has_table(all);
+            let holds = callbacks.is_post_registered(operation) || !callbacks.has_table();
             put_unless(out, holds, DriftKind::NotRegistered, mark)
         }
         _ => Ok(()),
@@ -219,83 +136,104 @@ fn put_callback(out: &mut Vec<Drift>, all: &[Mark], mark: Mark) -> Result<(), Al
 /// Adds the drift of a status that code returns, if it has one.
 fn put_return(
     out: &mut Vec<Drift>,
-    stretch: &[Mark],
+    stretch: &Stretch<'_>,
     mark: Mark,
     status: usize,
 ) -> Result<(), AllocError>
     ensures { OnOk result (out.new.items ≡ out.old.items ++ spec.return_drift stretch.now mark status) }
 {
-    if !is_answered(status, stretch) {
-        put_other_status(out, mark, first_answer(stretch))?;
+    if !stretch.is_answered(status) {
+        put_other_status(out, mark, stretch.first_answer())?;
     }
     Ok(())
 }
 
-/// Adds the drift of a mark of a stretch, if it has one, in a file that has all these marks.
+/// Adds the drift of a mark of a stretch, if it has one, in a file that has these callbacks.
 fn put_drift(
     out: &mut Vec<Drift>,
-    all: &[Mark],
-    stretch: &[Mark],
+    callbacks: &Callbacks<'_>,
+    stretch: &Stretch<'_>,
     mark: Mark,
 ) -> Result<(), AllocError>
-    ensures { OnOk result (out.new.items ≡ out.old.items ++ spec.drift_by all.now stretch.now mark mark.kind) }
+    ensures { OnOk result (out.new.items ≡ out.old.items ++ spec.drift_by callbacks.now stretch.now mark mark.kind) }
 {
     match mark.kind {
         MarkKind::Names(call) => {
-            put_unless(out, is_called(call, stretch), DriftKind::NotCalled, mark)
+            put_unless(out, stretch.is_called(call), DriftKind::NotCalled, mark)
         }
         MarkKind::Calls(call) => {
-            let holds = is_named(call, stretch) || !is_annotated(stretch);
+            let holds = stretch.is_named(call) || !stretch.is_annotated();
             put_unless(out, holds, DriftKind::NotNamed, mark)
         }
         MarkKind::Returns(status) => put_return(out, stretch, mark, status),
         MarkKind::Malformed => put(out, DriftKind::Malformed, mark, None),
-        _ => put_callback(out, all, mark),
+        _ => put_callback(out, callbacks, mark),
     }
 }
 
-/// Adds the drifts of a stretch.
-fn put_stretch(out: &mut Vec<Drift>, all: &[Mark], stretch: &[Mark]) -> Result<(), AllocError>
-    ensures { OnOk result (out.new.items ≡ out.old.items ++ spec.drifts_of all.now stretch.now) }
+/// Adds the drifts of some marks of a stretch.
+fn put_marks(
+    out: &mut Vec<Drift>,
+    callbacks: &Callbacks<'_>,
+    stretch: &Stretch<'_>,
+    marks: &[Mark],
+) -> Result<(), AllocError>
+    ensures { OnOk result (out.new.items ≡ out.old.items ++ spec.drifts_in callbacks.now stretch.now marks.now) }
 {
-    for mark in stretch {
-        put_drift(out, all, stretch, *mark)?;
+    for mark in marks {
+        put_drift(out, callbacks, stretch, *mark)?;
     }
     Ok(())
+}
+
+/// Adds the drifts of a stretch.
+fn put_stretch(
+    alloc: Global,
+    out: &mut Vec<Drift>,
+    callbacks: &Callbacks<'_>,
+    marks: &[Mark],
+) -> Result<(), AllocError>
+    ensures { OnOk result (out.new.items ≡ out.old.items ++ spec.drifts_of callbacks.now marks.now) }
+{
+    let stretch = Stretch::new(alloc, marks)?;
+    put_marks(out, callbacks, &stretch, marks)
 }
 
 /// The drifts of the marks of a file.
 fn drifts_of(alloc: Global, all: &[Mark]) -> Result<Vec<Drift>, AllocError>
     ensures { IfOk result (λ found. found.items ≡ spec.drifts_of_marks all.now) }
 {
+    let callbacks = Callbacks::new(alloc, all)?;
     let mut found = Vec::new(alloc);
     let mut stretch: Vec<Mark> = Vec::new(alloc);
     for mark in all {
         if is_cut(mark.kind) {
-            put_stretch(&mut found, all, stretch.as_slice())?;
+            put_stretch(alloc, &mut found, &callbacks, stretch.as_slice())?;
             stretch.clear();
         } else {
             stretch.push(*mark)?;
         }
     }
-    put_stretch(&mut found, all, stretch.as_slice())?;
+    put_stretch(alloc, &mut found, &callbacks, stretch.as_slice())?;
     Ok(found)
 }
 
-/// The points in which a C file and its annotations differ, in the order of their places. A file that can't be read has none: `flt_c`
-/// reports its fault.
+/// The points in which a C file and its annotations differ, in the order of their places, or why the file can't be read.
 ///
 /// # Errors
 ///
 /// `AllocError` if a growth is refused.
-pub fn drifts(alloc: Global, file: &[u8]) -> Result<Vec<Drift>, AllocError>
-    ensures { IfOk result (λ found. found.items ≡ spec.drifts file.now) }
+pub fn drifts(alloc: Global, file: &[u8]) -> Result<Result<Vec<Drift>, Flaw>, AllocError>
+    ensures { IfOk result (λ done. MatchResult done
+        (λ found. spec.drifts file.now ≡ Ok found.items)
+        (λ flaw. spec.drifts file.now ≡ Err flaw)) }
 {
     match letters(alloc, file)? {
         Ok(letters) => {
             let marks = marks(alloc, letters.as_slice())?;
-            drifts_of(alloc, marks.as_slice())
+            let found = drifts_of(alloc, marks.as_slice())?;
+            Ok(Ok(found))
         }
-        Err(_) => Ok(Vec::new(alloc)),
+        Err(flaw) => Ok(Err(flaw)),
     }
 }

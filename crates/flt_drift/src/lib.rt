@@ -8,10 +8,12 @@
 
 mod callbacks;
 mod drift;
+mod flags;
 mod mark;
 mod names;
 mod part;
 mod reader;
+mod stretch;
 mod word;
 mod wrapper;
 

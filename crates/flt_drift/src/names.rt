@@ -3,7 +3,7 @@
 ghost use Rattle.std.specs.Prelude.{◌≡◌, map};
 ghost use Rattle.flt_drift.specs.Names as spec;
 
-const CALLS: [&[u8]; 23] = [
+pub(crate) const CALLS: [&[u8]; 23] = [
     b"FltAllocateContext",
     b"FltGetStreamContext",
     b"FltGetInstanceContext",
@@ -29,7 +29,7 @@ const CALLS: [&[u8]; 23] = [
     b"FltCompletePendedPostOperation",
 ];
 
-const STATUSES: [&[u8]; 8] = [
+pub(crate) const STATUSES: [&[u8]; 8] = [
     b"WITH_CALLBACK",
     b"SYNCHRONIZE",
     b"NO_CALLBACK",
@@ -51,7 +51,7 @@ const C_STATUSES: [&[u8]; 8] = [
     b"FLT_POSTOP_MORE_PROCESSING_REQUIRED",
 ];
 
-const OPERATIONS: [&[u8]; 4] = [b"create", b"read", b"write", b"cleanup"];
+pub(crate) const OPERATIONS: [&[u8]; 4] = [b"create", b"read", b"write", b"cleanup"];
 
 const C_OPERATIONS: [&[u8]; 4] = [
     b"IRP_MJ_CREATE",

@@ -1,14 +1,13 @@
 //! The search for the marks of a file, letter by letter.
 
-ghost use Rattle.std.specs.Prelude.{◌≡◌, ◌++◌, [], ◌∷◌, map, IfOk, OnOk};
+ghost use Rattle.std.specs.Prelude.{◌≡◌, ◌++◌, [], ◌∷◌, IfOk, OnOk};
 ghost use Rattle.flt_drift.specs.Reading as spec;
-ghost use Rattle.flt_drift.specs.Wrappers.{wrapping_of};
 
 use crate::mark::{Mark, MarkKind};
 use crate::names::{c_operation_of, call_of};
 use crate::part::{is_aside, is_blank, is_code, is_note, is_of_word, same_part};
 use crate::word::{Before, Entry, before_of, said_by_code, said_by_note};
-use crate::wrapper::Wrapper;
+use crate::wrapper::Wrappers;
 use flt_c::{Letter, Part};
 use std::alloc::{AllocError, Global};
 
@@ -77,7 +76,7 @@ pub(crate) struct Reader {
     opened: usize,
     /// Its function.
     function: Vec<u8>,
-    wrappers: Vec<Wrapper>,
+    wrappers: Wrappers,
     marks: Vec<Mark>,
 }
 
@@ -245,7 +244,7 @@ impl Reader {
             stage: Stage::Nothing,
             opened: 0,
             function: Vec::new(alloc),
-            wrappers: Vec::new(alloc),
+            wrappers: Wrappers::new(alloc),
             marks: Vec::new(alloc),
         }
     }
@@ -257,7 +256,7 @@ impl Reader {
         let before = before_word(self.spoken);
         match self.spoken.part {
             Part::Code => said_by_code(
-                self.wrappers.as_slice(),
+                &self.wrappers,
                 self.code.entry,
                 before,
                 self.word.as_slice(),
@@ -309,10 +308,8 @@ impl Reader {
         ensures { OnOk result (spec.state_in self.new ≡ spec.wrapped call (spec.state_in self.old)) }
     {
         self.stage = Stage::Nothing;
-        let mut name = Vec::new(self.alloc);
-        name.extend_from_slice(self.function.as_slice())?;
-        self.wrappers.push(Wrapper { name, call })?;
-        Ok(())
+        self.wrappers
+            .add(self.alloc, self.function.as_slice(), call)
     }
 
     /// Keeps the word as the function of the comment.

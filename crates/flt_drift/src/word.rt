@@ -1,12 +1,11 @@
 //! The statements of words: of code, or of annotations.
 
-ghost use Rattle.std.specs.Prelude.{◌≡◌, map};
+ghost use Rattle.std.specs.Prelude.{◌≡◌};
 ghost use Rattle.flt_drift.specs.Marks as spec;
-ghost use Rattle.flt_drift.specs.Wrappers.{wrapping_of};
 
 use crate::mark::MarkKind;
 use crate::names::{c_operation_of, c_status_of, call_of, operation_of, status_of};
-use crate::wrapper::{Wrapper, call_in};
+use crate::wrapper::Wrappers;
 
 /// The role of a word for the word after it.
 #[derive(Clone, Copy)]
@@ -99,19 +98,19 @@ fn or_said(first: Option<MarkKind>, said: Option<MarkKind>) -> Option<MarkKind>
 
 /// The statement of a word of code.
 pub(crate) fn said_by_code(
-    wrappers: &[Wrapper],
+    wrappers: &Wrappers,
     entry: Entry,
     before: Before,
     word: &[u8],
 ) -> Option<MarkKind>
-    ensures { result ≡ spec.said_by_code (map wrapping_of wrappers.now) entry before word.now }
+    ensures { result ≡ spec.said_by_code wrappers.now entry before word.now }
 {
     let first = if is_null(word) {
         None
     } else {
         registered(entry)
     };
-    let second = or_called(returned(before, word), call_in(wrappers, word));
+    let second = or_called(returned(before, word), wrappers.call_in(word));
     or_said(first, second)
 }
 

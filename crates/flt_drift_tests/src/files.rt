@@ -162,10 +162,24 @@ fn are_drifts(file: &[u8], found: &[Drift], wanted: &[(DriftKind, &str, &str)]) 
     true
 }
 
+/// The drifts of a file; none if it can't be read.
+fn found_in(alloc: Global, file: &[u8]) -> Result<Vec<Drift>, AllocError> {
+    match drifts(alloc, file)? {
+        Ok(found) => Ok(found),
+        Err(_) => Ok(Vec::new(alloc)),
+    }
+}
+
+/// Whether a file can't be read.
+fn is_unread(alloc: Global, file: &[u8]) -> Result<bool, AllocError> {
+    let found = drifts(alloc, file)?;
+    Ok(found.is_err())
+}
+
 /// The first file that has a drift.
 fn first_drifting(alloc: Global, files: &[&str]) -> Result<Option<usize>, AllocError> {
     for (at, file) in files.iter().enumerate() {
-        let found = drifts(alloc, file.as_bytes())?;
+        let found = found_in(alloc, file.as_bytes())?;
         if !found.is_empty() {
             return Ok(Some(at));
         }
@@ -177,7 +191,7 @@ fn first_drifting(alloc: Global, files: &[&str]) -> Result<Option<usize>, AllocE
 fn first_wrong(alloc: Global, cases: &[Case]) -> Result<Option<usize>, AllocError> {
     for (at, case) in cases.iter().enumerate() {
         let file = case.0.as_bytes();
-        let found = drifts(alloc, file)?;
+        let found = found_in(alloc, file)?;
         if !are_drifts(file, found.as_slice(), case.1) {
             return Ok(Some(at));
         }
@@ -195,6 +209,89 @@ fn files_that_agree_have_no_drift_within_memory(rt: HostRuntime) -> Result<(), F
 #[test]
 fn drifts_are_found_within_memory(rt: HostRuntime) -> Result<(), Fail> {
     let wrong = first_wrong(rt.alloc(), DRIFTING.as_slice())?;
+    assert!(rt; wrong.is_none());
+    Ok(())
+}
+
+#[test]
+fn file_without_end_of_a_comment_is_not_read_within_memory(rt: HostRuntime) -> Result<(), Fail> {
+    let unread = is_unread(rt.alloc(), b"/* FltReleaseContext")?;
+    assert!(rt; unread);
+    let read = is_unread(rt.alloc(), b"/* FltReleaseContext */")?;
+    assert!(rt; !read);
+    Ok(())
+}
+
+/// A part of a file again and again, and its end.
+fn repeated(alloc: Global, part: &str, times: usize, end: &str) -> Result<Vec<u8>, AllocError> {
+    let mut file = Vec::new(alloc);
+    for _ in 0..times {
+        file.extend_from_slice(part.as_bytes())?;
+    }
+    file.extend_from_slice(end.as_bytes())?;
+    Ok(file)
+}
+
+/// Of a part of a file, how often it is repeated, and the file's end: how many drifts there are.
+static REPEATED: [(&str, usize, &str, usize); 8] = [
+    (
+        "FltReleaseContext(c);\n",
+        80,
+        "//@flt FltReleaseContext c0\n",
+        0,
+    ),
+    (
+        "FltReleaseContext(c);\n",
+        80,
+        "//@flt FltReferenceContext c0\n",
+        81,
+    ),
+    ("FltReleaseContext(c);\n", 80, "", 0),
+    (
+        "return FLT_PREOP_PENDING;\n",
+        80,
+        "//@flt return PENDING\n",
+        0,
+    ),
+    (
+        "return FLT_PREOP_PENDING;\n",
+        80,
+        "//@flt return COMPLETE\n",
+        80,
+    ),
+    ("{ IRP_MJ_READ, 0, A, B },\n", 80, "//@flt pre read {\n", 80),
+    (
+        "{ IRP_MJ_READ, 0, A, B },\n",
+        80,
+        "//@flt pre write {\n",
+        161,
+    ),
+    (
+        "//@flt-call F FltReleaseContext\n//@flt-call F FltReferenceContext\n",
+        80,
+        "F(c); //@flt FltReleaseContext c0\n",
+        0,
+    ),
+];
+
+/// The first of them that has another number of drifts.
+fn first_miscounted(
+    alloc: Global,
+    cases: &[(&str, usize, &str, usize)],
+) -> Result<Option<usize>, AllocError> {
+    for (at, case) in cases.iter().enumerate() {
+        let file = repeated(alloc, case.0, case.1, case.2)?;
+        let found = found_in(alloc, file.as_slice())?;
+        if found.len() != case.3 {
+            return Ok(Some(at));
+        }
+    }
+    Ok(None)
+}
+
+#[test]
+fn many_marks_are_compared_within_memory(rt: HostRuntime) -> Result<(), Fail> {
+    let wrong = first_miscounted(rt.alloc(), REPEATED.as_slice())?;
     assert!(rt; wrong.is_none());
     Ok(())
 }

@@ -93,7 +93,7 @@ pub(crate) fn queue_fields(out: &mut Vec<u8>) -> Result<(), AllocError>
     )
 }
 
-/// The end of what all callbacks have in common.
+/// The end of the declarations that all callbacks share.
 #[tactic(auto, unfolding(crate::specs::Fixed::globals_end))]
 pub(crate) fn globals_end(out: &mut Vec<u8>) -> Result<(), AllocError>
     ensures { OnOk result (out.new.items ≡ out.old.items ++ spec.globals_end) }

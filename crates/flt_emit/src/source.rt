@@ -194,7 +194,7 @@ fn front(out: &mut Vec<u8>, filter: &Filter) -> Result<(), AllocError>
     included(out, filter)
 }
 
-/// Contexts, and what all callbacks have in common.
+/// The contexts, and the declarations that all callbacks share.
 #[tactic(auto, unfolding(crate::specs::Source::globals))]
 fn globals(out: &mut Vec<u8>, locks: &[Lock], queue: bool) -> Result<(), AllocError>
     ensures { OnOk result (out.new.items ≡ out.old.items ++ spec.globals locks.now queue) }

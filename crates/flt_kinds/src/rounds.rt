@@ -14,7 +14,8 @@ use flt_graph::Graph;
 use flt_rules::Anchor;
 use std::alloc::{AllocError, Global};
 
-/// Brings back what the cell has that a flow of a statement leads to, and says whether a cell is filled by it.
+/// Fills the cell from which a flow of a statement leads, if it is empty, with the content of the cell to which it leads. Returns whether
+/// it did.
 fn carry(callbacks: usize, at: Spot, cells: &mut [Option<Spot>], flow: &Flow) -> bool
     requires within { at.callback < callbacks }
     requires narrow { at.point < 513 }

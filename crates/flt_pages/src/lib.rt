@@ -1,4 +1,4 @@
-//! What `explain` prints of a rule, a warning, a violation, a fault of a text, a call or a status: its page. It exports `page`.
+//! The pages that `explain` prints on rules, warnings, violations, faults of texts, calls and statuses. It exports `page`.
 #![tactic(auto)]
 
 mod calls;

@@ -160,7 +160,7 @@ fn word_page(name: &str) -> Option<&'static str>
     status_page(name)
 }
 
-/// The page of what is said of a text: of a rule, a warning, a violation or a fault.
+/// The page of a code: of a rule, a warning, a violation or a fault of a text.
 fn code_page(name: &str) -> Option<&'static str>
     ensures known { is_some result ≡ spec.is_code name.now }
     ensures begins { IfSome result (λ found. StartsWith found.now name.now) }
@@ -273,7 +273,7 @@ fn small_page(name: &str) -> Option<&'static str>
     small_fault_page(name)
 }
 
-/// The page of a name as it stands.
+/// The page of exactly this name.
 fn named_page(name: &str) -> Option<&'static str>
     ensures known { is_some result ≡ spec.is_code name.now || spec.is_word name.now }
     ensures begins { IfSome result (λ found. StartsWith found.now name.now) }
@@ -285,7 +285,8 @@ fn named_page(name: &str) -> Option<&'static str>
 }
 
 /// The page of `R01` to `R15` (a rule), `W00` to `W07` (a warning), `V1` to `V8` (a violation), `E01` to `E08` (a fault of a text), a call
-/// or a status: lines of text for people, which begin with that name. The letter before a number may be a small one. No other name has a page.
+/// or a status: lines of text for people, which begin with that name. The letter before a number may be a small one. No other name has a
+/// page.
 #[tactic(auto, unfolding(crate::specs::Pages::has_page))]
 pub fn page(name: &str) -> Option<&'static str>
     ensures known { is_some result ≡ spec.has_page name.now }

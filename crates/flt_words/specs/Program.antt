@@ -93,6 +93,10 @@ check_rule = record (new_rule (codes "check")) { long = Some (codes "check"); ac
 abbrev pub write_rule : Rule
 write_rule = record (new_rule (codes "write")) { long = Some (codes "write"); action = Some SetTrue }
 
+-- `--part PART`
+abbrev pub part_rule : Rule
+part_rule = record (new_rule (codes "part")) { long = Some (codes "part"); value_names = 1 }
+
 -- ---- commands
 
 abbrev pub bare_check_app : App
@@ -150,6 +154,20 @@ bare_format_app = new_app (codes "format")
 abbrev pub format_app : App
 format_app = with_rule (with_rule (with_rule bare_format_app check_rule) write_rule) texts_rule
 
+abbrev pub bare_emit_app : App
+bare_emit_app = new_app (codes "emit")
+
+-- `emit [--part PART] FILE [CERT]`
+abbrev pub emit_app : App
+emit_app = with_rule (with_rule (with_rule bare_emit_app part_rule) text_rule) cert_rule
+
+abbrev pub bare_compare_app : App
+bare_compare_app = new_app (codes "compare")
+
+-- `compare FILE..`
+abbrev pub compare_app : App
+compare_app = with_rule bare_compare_app texts_rule
+
 -- the program without its commands: one is asked for, the program's own name is left out, and `--version` answers
 abbrev pub bare_app : App
 bare_app = let a = new_app (codes "fltstack") in
@@ -158,8 +176,9 @@ bare_app = let a = new_app (codes "fltstack") in
 -- the program
 abbrev pub program_app : App
 program_app =
-    with_subcommand (with_subcommand (with_subcommand (with_subcommand (with_subcommand (with_subcommand (with_subcommand (with_subcommand bare_app
-    check_app.top) analyse_app.top) thin_app.top) explain_app.top) run_app.top) replay_app.top) extract_app.top) format_app.top
+    with_subcommand (with_subcommand (with_subcommand (with_subcommand (with_subcommand (with_subcommand (with_subcommand (with_subcommand
+    (with_subcommand (with_subcommand bare_app check_app.top) analyse_app.top) thin_app.top) explain_app.top) run_app.top) replay_app.top)
+    extract_app.top) format_app.top) emit_app.top) compare_app.top
 
 -- ---- what of it words need
 
@@ -177,4 +196,6 @@ app_for word =
     else (if bytes_eq word (codes "run") then program_with run_app
     else (if bytes_eq word (codes "replay") then program_with replay_app
     else (if bytes_eq word (codes "extract") then program_with extract_app
-    else (if bytes_eq word (codes "format") then program_with format_app else program_app)))))))
+    else (if bytes_eq word (codes "format") then program_with format_app
+    else (if bytes_eq word (codes "emit") then program_with emit_app
+    else (if bytes_eq word (codes "compare") then program_with compare_app else program_app)))))))))

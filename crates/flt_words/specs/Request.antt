@@ -4,6 +4,7 @@ use Rattle.clap.specs.Walk.{Text}
 use Rattle.flt_words.specs.declared.request.Colour.{Colour}
 use Rattle.flt_words.specs.declared.request.Form.{Form}
 use Rattle.flt_words.specs.declared.request.FormatMode.{FormatMode}
+use Rattle.flt_words.specs.declared.request.Part.{Part}
 use Rattle.flt_words.specs.declared.request.Request.{Request}
 use Rattle.flt_words.specs.declared.request.Request.TheVariants as request
 use Rattle.flt_words.specs.declared.request.WarningChoice.{WarningChoice}
@@ -28,6 +29,8 @@ pub data Asked : Type 0 where
   Extract : (map : Bool) (files : List Text) → Asked
   Format : (mode : FormatMode) (files : List Text) → Asked
   Pages : (names : List Text) → Asked
+  Emit : (part : Part) (file : Text) (cert : Option Text) → Asked
+  Compare : (files : List Text) → Asked
 
 -- what a request asks for, none where it is for a text of the program's own: its use, or its version
 abbrev pub asked_of : Request → Option Asked
@@ -44,3 +47,5 @@ asked_of (request.Extract of_map files) = Some (Extract of_map (map (λ name. na
 asked_of (request.Format mode files) = Some (Format mode (map (λ name. name.now) files.items))
 asked_of (request.Pages names) = Some (Pages (map (λ name. name.now) names.items))
 asked_of (request.Usage text) = None
+asked_of (request.Emit part file cert) = Some (Emit part file.now (option_map (λ name. name.now) cert))
+asked_of (request.Compare files) = Some (Compare (map (λ name. name.now) files.items))

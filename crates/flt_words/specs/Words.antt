@@ -14,12 +14,14 @@ use Rattle.clap.specs.declared.error.kind.ErrorKind.TheVariants.{OutOfMemory}
 use Rattle.flt_words.specs.Program.{program_app}
 use Rattle.flt_pages.specs.Pages.{has_page}
 use Rattle.flt_words.specs.declared.request.Form.{Form}
-use Rattle.flt_words.specs.declared.request.Form.TheVariants.{Human, Lines, Sarif, Short}
+use Rattle.flt_words.specs.declared.request.Form.TheVariants.{Html, Human, Lines, Sarif, Short}
 use Rattle.flt_words.specs.declared.request.FormatMode.TheVariants.{Print, Check as CheckOnly, Write}
+use Rattle.flt_words.specs.declared.request.Part.{Part}
+use Rattle.flt_words.specs.declared.request.Part.TheVariants.{Source, User, Inf}
 use Rattle.flt_words.specs.declared.request.Colour.{Colour}
 use Rattle.flt_words.specs.declared.request.Colour.TheVariants.{Auto, Always, Never}
 use Rattle.flt_words.specs.Workers.{within}
-use Rattle.flt_words.specs.Request.{Asked, Choice, Check, Analyse, Thin, Run, Replay, Show, Explain, Extract, Format, Pages}
+use Rattle.flt_words.specs.Request.{Asked, Choice, Check, Analyse, Thin, Run, Replay, Show, Explain, Extract, Format, Pages, Emit, Compare}
 
 -- ---- values
 
@@ -57,10 +59,11 @@ is_set id rows = option_map_or (λ text. bytes_eq text (codes "true")) (first_of
 -- the form of a name
 abbrev pub form_named : Text → Option Form
 form_named name =
-    if bytes_eq name (codes "human") then Some Human
+    if bytes_eq name (codes "html") then Some Html
+    else (if bytes_eq name (codes "human") then Some Human
     else (if bytes_eq name (codes "lines") then Some Lines
     else (if bytes_eq name (codes "sarif") then Some Sarif
-    else (if bytes_eq name (codes "short") then Some Short else None)))
+    else (if bytes_eq name (codes "short") then Some Short else None))))
 
 -- the form behind `--form`, that for people where there is none
 abbrev pub form_of : List Row → Option Form
@@ -76,6 +79,17 @@ colour_named name =
 -- the time behind `--color`, that of a terminal where there is none
 abbrev pub colour_of : List Row → Option Colour
 colour_of rows = option_map_or colour_named (first_of (codes "color") rows) (Some Auto)
+
+-- the part of a driver of a name
+abbrev pub part_named : Text → Option Part
+part_named name =
+    if bytes_eq name (codes "source") then Some Source
+    else (if bytes_eq name (codes "user") then Some User
+    else (if bytes_eq name (codes "inf") then Some Inf else None))
+
+-- the part behind `--part`, the source where there is none
+abbrev pub part_of : List Row → Option Part
+part_of rows = option_map_or part_named (first_of (codes "part") rows) (Some Source)
 
 -- the name of a kind of warning
 abbrev pub is_kind : Text → Bool
@@ -177,6 +191,16 @@ explain_as rows form = option_and_then (explain_in rows form) (colour_of rows)
 abbrev pub explain_by : List Row → Option Asked
 explain_by rows = option_and_then (explain_as rows) (form_of rows)
 
+abbrev pub emit_with : List Row → Part → Asked
+emit_with rows part = Emit part (text_of (codes "FILE") rows) (first_of (codes "CERT") rows)
+
+-- a part that there isn't asks for nothing
+abbrev pub emit_of : List Row → Option Asked
+emit_of rows = option_map (emit_with rows) (part_of rows)
+
+abbrev pub compare_of : List Row → Asked
+compare_of rows = Compare (files_of rows)
+
 -- what a subcommand with its arguments asks for
 abbrev pub asked_by : Text × List Row → Option Asked
 asked_by (name, rows) =
@@ -187,7 +211,9 @@ asked_by (name, rows) =
     else (if bytes_eq name (codes "run") then run_of rows
     else (if bytes_eq name (codes "replay") then replay_of rows
     else (if bytes_eq name (codes "extract") then Some (extract_of rows)
-    else (if bytes_eq name (codes "format") then format_of rows else None)))))))
+    else (if bytes_eq name (codes "format") then format_of rows
+    else (if bytes_eq name (codes "emit") then emit_of rows
+    else (if bytes_eq name (codes "compare") then Some (compare_of rows) else None)))))))))
 
 -- ---- all of it
 

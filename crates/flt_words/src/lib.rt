@@ -7,7 +7,7 @@ mod shown;
 mod words;
 mod workers;
 
-pub use request::{Colour, Form, FormatMode, Request, WarningChoice};
+pub use request::{Colour, Form, FormatMode, Part, Request, WarningChoice};
 pub use shown::visible;
 pub use words::{DEFAULT_STATES, read_words};
 pub use workers::Workers;

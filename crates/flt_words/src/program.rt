@@ -36,6 +36,14 @@ fn cert_argument<'a>(alloc: Global) -> Arg<'a>
     )
 }
 
+/// The argument CERT of a command that analyses a text where none is given.
+fn certificate_argument<'a>(alloc: Global) -> Arg<'a>
+    ensures rule { rule_of result ≡ spec.cert_rule }
+    ensures own { result.global ≡ false }
+{
+    Arg::new(alloc, "CERT").help("Its certificate; without it, the text is analysed")
+}
+
 /// The argument FILE.. of a command on several texts, with what its help says.
 fn texts_argument<'a>(alloc: Global, help: &'a str) -> Arg<'a>
     ensures rule { rule_of result ≡ spec.texts_rule }
@@ -96,7 +104,7 @@ fn form_argument<'a>(alloc: Global) -> Arg<'a>
     ensures own { result.global ≡ false }
 {
     Arg::new(alloc, "form").long("form").value_name("FORM").help(
-        "How it is reported: `human`, `short` (a line a finding), or `lines` (JSON) or `sarif` for other programs",
+        "How it is reported: `human`, `html` (a page), `short` (a line a finding), or `lines` (JSON) or `sarif` for other programs",
     )
 }
 
@@ -214,6 +222,16 @@ fn write_argument<'a>(alloc: Global) -> Arg<'a>
         .long("write")
         .action(ArgAction::SetTrue)
         .help("Write the layouts into the files that differ from them")
+}
+
+/// The option `--part`.
+fn part_argument<'a>(alloc: Global) -> Arg<'a>
+    ensures rule { rule_of result ≡ spec.part_rule }
+    ensures own { result.global ≡ false }
+{
+    Arg::new(alloc, "part").long("part").value_name("PART").help(
+        "The part that is printed: `source`, `user` (the user's header) or `inf`; `source` if none is named",
+    )
 }
 
 // ---- commands
@@ -337,7 +355,7 @@ fn bare_explain<'a>(alloc: Global) -> Command<'a>
             "fltstack explain [--form <FORM>] [--color <WHEN>] [--states <N>] [--journal <JOURNAL>] [--strict] [--allow <KIND>]... <FILE>...\n       fltstack explain <R01 to R15, W00 to W07, V1 to V8, E01 to E08, a call or a status>...",
         )
         .after_help(
-            "Prints a report for each finding, with a run that breaks something because of it, and last what `analyse`\nsays (exit 1), or a report for each warning and `nothing found` (exit 0; with `--strict` warnings make it 1).\nWhere a text doesn't parse, it says where and why (exit 2). `--form short` prints a line for each of them,\n`--form lines` a JSON object, `--form sarif` a SARIF document. A comment `# allow W03: why`, alone on the line\nbefore a statement, leaves a warning out there. Of rules, warnings, violations, faults of a text, calls or\nstatuses it prints the pages (exit 0); `./R02` is a file of that name. Of a C file (`.c`, `.h`, `.cc`, `.cpp`) it reads\nthe annotations, and its places are those of the C file. Errors go to the standard error with exit 2.\n\nExample: fltstack explain examples/leaked_context.flt",
+            "Prints a report for each finding, with a run that breaks something because of it, and last what `analyse`\nsays (exit 1), or a report for each warning and `nothing found` (exit 0; with `--strict` warnings make it 1).\nWhere a text doesn't parse, it says where and why (exit 2). `--form short` prints a line for each of them,\n`--form lines` a JSON object, `--form sarif` a SARIF document. `--form html` is a page with the texts, the reports and\npictures. A comment `# allow W03: why`, alone on the line before a statement, leaves a warning out there. Of rules,\nwarnings, violations, faults of a text, calls or statuses it prints the pages (exit 0); `./R02` is a file of that name.\nOf a C file (`.c`, `.h`, `.cc`, `.cpp`) it reads the annotations, and its places are those of the C file. Errors go to\nthe standard error with exit 2.\n\nExample: fltstack explain examples/leaked_context.flt",
         )
 }
 
@@ -406,6 +424,49 @@ fn format_command<'a>(alloc: Global) -> Result<Command<'a>, AllocError>
     )
 }
 
+/// The command `emit` without its arguments.
+fn bare_emit<'a>(alloc: Global) -> Command<'a>
+    ensures { spec.IsCommand result spec.bare_emit_app }
+{
+    Command::new(alloc, "emit")
+        .about(
+            "Prints the C source of the driver that a filter's text is, its user's header or its INF file",
+        )
+        .override_usage("fltstack emit [--part <PART>] <FILE> [CERT]")
+        .after_help(
+            "Analyses the text, or checks CERT. Prints the part (exit 0); or the point and rule for which there is no\ncertificate, or `not emitted`, the line and why (exit 1). Errors go to the standard error with exit 2.\n\n`docs/EMIT.md` has the form of each line, and says which parts you must fill in.\n\nExample: fltstack emit examples/pending_reads.flt",
+        )
+}
+
+fn emit_command<'a>(alloc: Global) -> Result<Command<'a>, AllocError>
+    ensures { IfOk result (λ c. spec.IsCommand c spec.emit_app) }
+{
+    let command = with_argument(Ok(bare_emit(alloc)), part_argument(alloc));
+    let command = with_argument(command, text_argument(alloc));
+    with_argument(command, certificate_argument(alloc))
+}
+
+/// The command `compare` without its arguments.
+fn bare_compare<'a>(alloc: Global) -> Command<'a>
+    ensures { spec.IsCommand result spec.bare_compare_app }
+{
+    Command::new(alloc, "compare")
+        .about("Reports where the code of C files and their annotations differ")
+        .override_usage("fltstack compare <FILE>...")
+        .after_help(
+            "Prints a report for each annotated call that the code beside it doesn't make, each call that isn't annotated,\neach other status and each callback that only the code or only the annotations have (exit 1), or nothing (exit 0).\nIt compares words, and doesn't read the C. Errors go to the standard error with exit 2.\n\nExample: fltstack compare examples/c/ctx.c",
+        )
+}
+
+fn compare_command<'a>(alloc: Global) -> Result<Command<'a>, AllocError>
+    ensures { IfOk result (λ c. spec.IsCommand c spec.compare_app) }
+{
+    with_argument(
+        Ok(bare_compare(alloc)),
+        texts_argument(alloc, "The C files; `-` is the standard input"),
+    )
+}
+
 // ---- the program
 
 /// The program without its commands.
@@ -418,7 +479,7 @@ fn bare_program<'a>(alloc: Global) -> Command<'a>
             "A static verifier for Windows file-system minifilters, and the stack that runs what it accepts",
         )
         .after_help(
-            "With no words it acts as `check -`. `fltstack <COMMAND> --help` says more of a command.\n\nExit status: 0 for `accepted`, a certificate, a journal, a text, `legal` or nothing found; 1 for any other answer;\n2 if there is none, and the standard error says why.\n\nExample: fltstack analyse examples/pending_reads.flt",
+            "With no words it acts as `check -`. `fltstack <COMMAND> --help` says more of a command.\n\nExit status: 0 for `accepted`, a certificate, a journal, a text, a source, `legal` or nothing found; 1 for any other answer;\n2 if there is none, and the standard error says why.\n\nExample: fltstack analyse examples/pending_reads.flt",
         )
         .subcommand_required(true)
         .no_binary_name(true)
@@ -447,7 +508,9 @@ pub(crate) fn program<'a>(alloc: Global) -> Result<Command<'a>, AllocError>
     let program = with_command(program, run_command(alloc));
     let program = with_command(program, replay_command(alloc));
     let program = with_command(program, extract_command(alloc));
-    with_command(program, format_command(alloc))
+    let program = with_command(program, format_command(alloc));
+    let program = with_command(program, emit_command(alloc));
+    with_command(program, compare_command(alloc))
 }
 
 /// The program with one of its commands alone.
@@ -476,6 +539,8 @@ pub(crate) fn program_for<'a>(alloc: Global, word: &str) -> Result<Command<'a>, 
         "replay" => program_with(alloc, replay_command(alloc)),
         "extract" => program_with(alloc, extract_command(alloc)),
         "format" => program_with(alloc, format_command(alloc)),
+        "emit" => program_with(alloc, emit_command(alloc)),
+        "compare" => program_with(alloc, compare_command(alloc)),
         _ => program(alloc),
     }
 }

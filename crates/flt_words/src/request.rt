@@ -5,6 +5,8 @@ use crate::workers::Workers;
 /// The form of a report of findings.
 #[derive(Clone, Copy, Debug)]
 pub enum Form {
+    /// A page in HTML.
+    Html,
     /// For people.
     Human,
     /// A JSON object a line.
@@ -42,6 +44,17 @@ pub enum FormatMode {
     Check,
     /// Into the files.
     Write,
+}
+
+/// A part of a driver that `emit` prints.
+#[derive(Clone, Copy, Debug)]
+pub enum Part {
+    /// The C source.
+    Source,
+    /// The header in which the user writes.
+    User,
+    /// The file for the installation.
+    Inf,
 }
 
 /// A request, with its arguments.
@@ -112,4 +125,14 @@ pub enum Request<'a> {
     },
     /// The words are malformed, or request help or the version: the text to print for them.
     Usage(String),
+    /// Emit a part of the driver that the text of a file is, with the certificate of another one or after an analysis.
+    Emit {
+        part: Part,
+        file: &'a str,
+        cert: Option<&'a str>,
+    },
+    /// Compare the code of some C files with their annotations.
+    Compare {
+        files: Vec<&'a str>,
+    },
 }

@@ -10,7 +10,7 @@ ghost use Rattle.flt_words.specs.Request.{asked_of, choice_of};
 ghost use Rattle.flt_words.specs.Words as spec;
 
 use crate::program::{program, program_for};
-use crate::request::{Colour, Form, FormatMode, Request, WarningChoice};
+use crate::request::{Colour, Form, FormatMode, Part, Request, WarningChoice};
 use crate::shown::visible;
 use crate::workers::Workers;
 use clap::ArgMatches;
@@ -27,7 +27,7 @@ pub const DEFAULT_STATES: u32 = 40_000;
 
 /// The error if no form has the given name.
 const NO_FORM: &str =
-    "error: `--form` takes `human`, `short`, `lines` or `sarif`\n\nUsage: fltstack explain [--form <FORM>] [--color <WHEN>] [--states <N>] [--journal <JOURNAL>] [--strict] [--allow <KIND>]... <FILE>...\n\nFor more information, try '--help'.\n";
+    "error: `--form` takes `human`, `html`, `short`, `lines` or `sarif`\n\nUsage: fltstack explain [--form <FORM>] [--color <WHEN>] [--states <N>] [--journal <JOURNAL>] [--strict] [--allow <KIND>]... <FILE>...\n\nFor more information, try '--help'.\n";
 
 /// The error if no time of colours has the given name.
 const NO_COLOUR: &str =
@@ -56,6 +56,10 @@ const FEW_LAYOUTS: &str =
 /// The error if a layout would be written to the standard input.
 const NO_INPUT: &str =
     "error: `--write` takes the names of files\n\nUsage: fltstack format <FILE>\n       fltstack format --check <FILE>...\n       fltstack format --write <FILE>...\n\nFor more information, try '--help'.\n";
+
+/// The error for an unknown part of a driver.
+const NO_PART: &str =
+    "error: `--part` takes `source`, `user` or `inf`\n\nUsage: fltstack emit [--part <PART>] <FILE> [CERT]\n\nFor more information, try '--help'.\n";
 
 /// The error for malformed words if `clap` reports none for them.
 const NO_WORDS: &str = "error: these words can't be taken\n\nFor more information, try '--help'.\n";
@@ -125,6 +129,7 @@ fn form_named(name: &str) -> Option<Form>
     ensures { result ≡ spec.form_named name.now }
 {
     match name {
+        "html" => Some(Form::Html),
         "human" => Some(Form::Human),
         "lines" => Some(Form::Lines),
         "sarif" => Some(Form::Sarif),
@@ -162,6 +167,28 @@ fn colour_of(matches: &ArgMatches) -> Option<Colour>
     match matches.get_str("color") {
         Some(name) => colour_named(name),
         None => Some(Colour::Auto),
+    }
+}
+
+/// The part of a driver of a name.
+fn part_named(name: &str) -> Option<Part>
+    ensures { result ≡ spec.part_named name.now }
+{
+    match name {
+        "source" => Some(Part::Source),
+        "user" => Some(Part::User),
+        "inf" => Some(Part::Inf),
+        _ => None,
+    }
+}
+
+/// The part of a driver that the words name, if there is such a part; the source if they name none.
+fn part_of(matches: &ArgMatches) -> Option<Part>
+    ensures { result ≡ spec.part_of (rows_of (found_of matches.now)) }
+{
+    match matches.get_str("part") {
+        Some(name) => part_named(name),
+        None => Some(Part::Source),
     }
 }
 
@@ -485,6 +512,36 @@ fn asked_format<'a>(alloc: Global, format: &ArgMatches<'a>) -> Result<Request<'a
     )
 }
 
+/// The request of the matches of `emit`, of a part.
+fn emit_with<'a>(emit: &ArgMatches<'a>, part: Part) -> Request<'a>
+    ensures { asked_of result ≡ Some (spec.emit_with (rows_of (found_of emit.now)) part) }
+{
+    Request::Emit {
+        part,
+        file: text_of(emit, "FILE"),
+        cert: emit.get_str("CERT"),
+    }
+}
+
+/// The request of the matches of `emit`.
+fn asked_emit<'a>(alloc: Global, emit: &ArgMatches<'a>) -> Result<Request<'a>, AllocError>
+    ensures { IfOk result (λ r. asked_of r ≡ spec.emit_of (rows_of (found_of emit.now))) }
+{
+    let Some(part) = part_of(emit) else {
+        return Ok(Request::Usage(String::from_str(alloc, NO_PART)?));
+    };
+    Ok(emit_with(emit, part))
+}
+
+/// The request of the matches of `compare`.
+fn asked_compare<'a>(alloc: Global, compare: &ArgMatches<'a>) -> Result<Request<'a>, AllocError>
+    ensures { IfOk result (λ r. asked_of r ≡ Some (spec.compare_of (rows_of (found_of compare.now)))) }
+{
+    Ok(Request::Compare {
+        files: files_of(alloc, compare)?,
+    })
+}
+
 /// The request of the matches of a command line.
 fn matched<'a>(alloc: Global, matches: &ArgMatches<'a>) -> Result<Request<'a>, AllocError>
     ensures { IfOk result (λ r. asked_of r ≡ option_and_then spec.asked_by (subcommand_rows_of matches.now)) }
@@ -510,8 +567,14 @@ fn matched<'a>(alloc: Global, matches: &ArgMatches<'a>) -> Result<Request<'a>, A
     if let Some(extract) = matches.subcommand_matches("extract") {
         return asked_extract(alloc, extract);
     }
-    match matches.subcommand_matches("format") {
-        Some(format) => asked_format(alloc, format),
+    if let Some(format) = matches.subcommand_matches("format") {
+        return asked_format(alloc, format);
+    }
+    if let Some(emit) = matches.subcommand_matches("emit") {
+        return asked_emit(alloc, emit);
+    }
+    match matches.subcommand_matches("compare") {
+        Some(compare) => asked_compare(alloc, compare),
         None => Ok(Request::Usage(String::new(alloc))),
     }
 }

@@ -1,6 +1,6 @@
 use Rattle.std.proofs.Common.{ap, map, option_map, refl}
 use Rattle.flt_commands.proofs.Reported.{answers_asked, answers_of, cut_asked, held_asked, kept_shown, quiet_asked, remarked_after, says_of_pages, those_after, those_of}
-use Rattle.flt_words.specs.Request.{Check, Analyse, Thin, Run, Replay, Show, Extract, Pages, choice_of}
+use Rattle.flt_words.specs.Request.{Check, Analyse, Thin, Run, Replay, Show, Extract, Pages, Emit, Compare, choice_of}
 use Rattle.flt_commands.proofs.commands.report_of.Goals as goal
 
 pub returns-in-Check-clause-answers : goal.returns-in-Check-clause-answers
@@ -86,6 +86,14 @@ returns-in-Pages-clause-answers g c =
     (says_of_pages _ _ _ _ (ap (map (λ t. t.items)) c.new-contents.ensures.texts) (rw c.as_slice-in-Pages.ensures.value at c.pages_of-said.ensures)) refl
     (those_of _ _ c.report_on-in-Pages.ensures.texts) c.report_on-in-Pages.ensures.reported (remarked_after request _ _ _ c.new-in-Pages.ensures.items c.report_on-in-Pages.ensures.remarked)
 
+pub returns-in-Emit-clause-answers : goal.returns-in-Emit-clause-answers
+returns-in-Emit-clause-answers g c =
+    let request = Emit c.in-Emit.part c.in-Emit.file.now (option_map (λ name. name.now) c.in-Emit.cert) in
+    answers_of c.covered_texts_break_nothing.ensures c.driven_texts_break_nothing.ensures
+    c.fails_exactly_where_nothing_is_spelled.ensures.nowhere _ _ _ _ _ request _ _ _
+    (rw c.in-Emit.is at c.in_ok-text.ensures) c.emit_files-said.ensures refl (those_of _ _ c.report_on-in-Emit.ensures.texts)
+    c.report_on-in-Emit.ensures.reported (remarked_after request _ _ _ c.new-in-Emit.ensures.items c.report_on-in-Emit.ensures.remarked)
+
 pub returns-in-Explain-clause-answers : goal.returns-in-Explain-clause-answers
 returns-in-Explain-clause-answers g c =
     answers_asked _ _ (rw c.in-Explain.is at c.in_ok-text.ensures) c.args.coloured _ _ _ _
@@ -109,3 +117,12 @@ pub returns-in-Format-clause-answers : goal.returns-in-Format-clause-answers
 returns-in-Format-clause-answers g c =
     answers_asked _ _ (rw c.in-Format.is at c.in_ok-text.ensures) c.args.coloured _ _ _ _
     (rw c.as_slice-files-in-Format.ensures.value at (c.report_on_layouts.ensures.answered c.args.coloured))
+
+pub returns-in-Compare-clause-answers : goal.returns-in-Compare-clause-answers
+returns-in-Compare-clause-answers g c =
+    let request = Compare (map (λ name. name.now) c.in-Compare.files.items) in
+    answers_of c.covered_texts_break_nothing.ensures c.driven_texts_break_nothing.ensures
+    c.fails_exactly_where_nothing_is_spelled.ensures.nowhere _ _ _ _ _ request _ _ _
+    (rw c.in-Compare.is at c.in_ok-text.ensures) (rw c.as_slice-in-Compare.ensures.value at c.compare_files-said.ensures) refl
+    (those_of _ _ c.report_on-in-Compare.ensures.texts) c.report_on-in-Compare.ensures.reported
+    (remarked_after request _ _ _ c.new-in-Compare.ensures.items c.report_on-in-Compare.ensures.remarked)

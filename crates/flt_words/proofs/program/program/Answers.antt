@@ -9,4 +9,6 @@ returns c =
     let five = c.with_command-program-5.ensures _ _ four c.run_command.ensures in
     let six = c.with_command-program-6.ensures _ _ five c.replay_command.ensures in
     let seven = c.with_command-program-7.ensures _ _ six c.extract_command.ensures in
-    c.with_command.ensures _ _ seven c.format_command.ensures
+    let eight = c.with_command-program-8.ensures _ _ seven c.format_command.ensures in
+    let nine = c.with_command-program-9.ensures _ _ eight c.emit_command.ensures in
+    c.with_command.ensures _ _ nine c.compare_command.ensures

@@ -23,3 +23,9 @@ returns-in-extract c = rw c.in-extract.is (c.program_with-in-extract.ensures _ c
 
 pub returns-in-format : goal.returns-in-format
 returns-in-format c = rw c.in-format.is (c.program_with-in-format.ensures _ c.format_command.ensures)
+
+pub returns-in-emit : goal.returns-in-emit
+returns-in-emit c = rw c.in-emit.is (c.program_with-in-emit.ensures _ c.emit_command.ensures)
+
+pub returns-in-compare : goal.returns-in-compare
+returns-in-compare c = rw c.in-compare.is (c.program_with-in-compare.ensures _ c.compare_command.ensures)

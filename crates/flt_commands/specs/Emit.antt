@@ -1,0 +1,122 @@
+-- What `emit` says. This project's own program.
+use Rattle.std.specs.Prelude.{◌≡◌, ℕ, List, [], ◌∷◌, map, IsTrue, None, Result, Ok, Err}
+use Rattle.flt_tree.specs.declared.filter.Filter.{Filter}
+use Rattle.flt_graph.specs.Graph.{line_at}
+use Rattle.flt_graph.specs.declared.graph.Graph.{Graph}
+use Rattle.flt_cert.specs.Spelling.{is_cert, spelling}
+use Rattle.flt_cert.specs.declared.cert.Cert.{Cert}
+use Rattle.flt_check.specs.Accepting.{CertCovers}
+use Rattle.flt_check.specs.declared.checker.Refusal.{Refusal}
+use Rattle.flt_emit.specs.Files.{installation, user_header}
+use Rattle.flt_emit.specs.Source.{source}
+use Rattle.flt_emit.specs.declared.scope.Allocation.{Allocation}
+use Rattle.flt_kinds.specs.Creates.{AreFound, Completes}
+use Rattle.flt_kinds.specs.Kinds.{AreKinds, IsMixed}
+use Rattle.flt_kinds.specs.declared.mixed.Mixed.{Mixed}
+use Rattle.flt_kinds.specs.declared.slot.Spot.{Spot}
+use Rattle.flt_words.specs.declared.request.Part.{Part}
+use Rattle.flt_words.specs.declared.request.Part.TheVariants.{Source, User, Inf}
+use Rattle.flt_commands.specs.Analyse as analyse
+use Rattle.flt_commands.specs.Check as check
+use Rattle.flt_commands.specs.Check.{HasPoints}
+use Rattle.flt_commands.specs.Inputs.{Text}
+use Rattle.flt_commands.specs.declared.answer.Answer.{Answer}
+use Rattle.flt_commands.specs.declared.answer.Answer.TheVariants.{Refused, Emitted, NotEmitted}
+use Rattle.flt_commands.specs.declared.emit.Unemitted.{Unemitted}
+use Rattle.flt_commands.specs.declared.emit.Unemitted.TheVariants.{Kinds, Create}
+use Rattle.flt_commands.specs.declared.failure.Failure.{Failure}
+
+-- ---- a part of a driver
+
+-- a statement that allocates a context, as the emitter takes it
+abbrev pub allocation_of : Spot → Allocation
+allocation_of at = record { callback = at.callback; point = at.point }
+
+-- the part of the driver in which these statements allocate contexts of the instance
+abbrev pub part_text : Part → List Spot → Filter → Text
+part_text Source listed f = source (map allocation_of listed) f
+part_text User listed f = user_header f
+part_text Inf listed f = installation f
+
+-- each context has one kind, no `pre create` completes with success, and the bytes are the part
+pub record IsPart (part : Part) (f : Filter) (g : Graph) (bytes : Text) : Type 0 where
+  pub listed : List Spot
+  pub kinds : AreKinds g listed
+  pub opens : AreFound g None
+  pub written : bytes ≡ part_text part listed f
+
+-- ---- why there is none
+
+-- the line of a statement
+abbrev pub line_of : Graph → Spot → ℕ
+line_of g at = line_at g at.callback at.point
+
+-- the lines of the statements that say that a context has two kinds
+abbrev pub mixed_lines : Graph → Mixed → Unemitted
+mixed_lines g m = Kinds (line_of g m.site) (line_of g m.stream) (line_of g m.instance)
+
+-- a context has two kinds
+pub record HasMixture (g : Graph) (why : Unemitted) : Type 0 where
+  pub mixed : Mixed
+  pub is : IsMixed g mixed
+  pub lines : why ≡ mixed_lines g mixed
+
+-- each context has one kind, and a `pre create` completes with success in this line
+pub record CompletesIn (g : Graph) (line : ℕ) : Type 0 where
+  pub listed : List Spot
+  pub kinds : AreKinds g listed
+  pub at : Spot
+  pub completes : Completes g at
+  pub is : line ≡ line_of g at
+
+abbrev pub IsHindered : Graph → Unemitted → Type 0
+IsHindered g (Kinds line stream instance) = HasMixture g (Kinds line stream instance)
+IsHindered g (Create line) = CompletesIn g line
+
+-- what is emitted of a filter and its points, or why nothing is
+abbrev pub Emits : Part → Filter → Graph → Answer → Type 0
+Emits part f g (Emitted bytes) = IsPart part f g bytes.items
+Emits part f g (NotEmitted why) = IsHindered g why
+Emits part f g _ = ⊥
+
+-- ---- what is said
+
+-- the text spells a filter, a certificate of which this holds covers its points, and this is emitted of them, or why nothing is
+pub record IsEmission (part : Part) (given : Cert → Type 0) (text : Text) (answer : Answer) : Type 0 where
+  pub graph : Graph
+  pub points : HasPoints text graph
+  pub cert : Cert
+  pub is_given : given cert
+  pub covers : CertCovers graph cert
+  pub emits : Emits part points.filter graph answer
+
+-- that is answered, or where the text is refused, the refusal
+pub data IsAnswer (part : Part) (given : Cert → Type 0) (refuses : Answer → Type 0) (text : Text) : Answer → Type 0 where
+  refused : (f : Refusal) → refuses (Refused f) → IsAnswer part given refuses text (Refused f)
+  emits : (answer : Answer) → IsEmission part given text answer → IsAnswer part given refuses text answer
+
+-- any certificate
+abbrev pub IsAny : Cert → Type 0
+IsAny cert = Unit {0}
+
+-- the certificate that these bytes spell
+pub record IsSpelledBy (certificate : Text) (cert : Cert) : Type 0 where
+  pub certified : IsTrue (is_cert cert)
+  pub written : certificate ≡ spelling cert
+
+-- what is said of a text alone: where `analyse` refuses it, what that says
+abbrev pub JudgesAlone : Part → Text → Result Answer Failure → Type 0
+JudgesAlone part text (Ok answer) = IsAnswer part IsAny (λ refusal. analyse.Judges text (Ok refusal)) text answer
+JudgesAlone part text (Err f) = analyse.IsFailure text f
+
+-- what is said of a text and a certificate: where `check` refuses them, what that says
+abbrev pub JudgesBeside : Part → Text → Text → Result Answer Failure → Type 0
+JudgesBeside part text certificate (Ok answer) =
+    IsAnswer part (IsSpelledBy certificate) (λ refusal. check.Judges check.Decides text certificate (Ok refusal)) text answer
+JudgesBeside part text certificate (Err f) = check.IsFailure text certificate f
+
+-- what is said of the bytes of FILE, or of FILE and CERT
+abbrev pub IsEmitted : Part → List Text → Result Answer Failure → Type 0
+IsEmitted part (text ∷ []) result = JudgesAlone part text result
+IsEmitted part (text ∷ certificate ∷ []) result = JudgesBeside part text certificate result
+IsEmitted part _ result = ⊥

@@ -1,0 +1,84 @@
+-- The page on texts that `explain` makes. This project's own program.
+use Rattle.std.specs.Prelude.{◌≡◌, ℕ, ◌==◌, false, List, [], ◌∷◌, ◌++◌, Option, Some, None, map}
+use Rattle.std.specs.List.{slice_split}
+use Rattle.flt_tree.specs.declared.tree.Tree.{Tree}
+use Rattle.flt_model.specs.Program.{filters_of}
+use Rattle.flt_model.specs.declared.verdict.Verdict.TheVariants as verdicts
+use Rattle.flt_search.specs.declared.judging.Broken.{Broken}
+use Rattle.flt_schedules.specs.declared.schedules.Schedule.{Schedule}
+use Rattle.flt_schedules.specs.declared.schedules.Schedule.TheVariants.{Breaks}
+use Rattle.flt_details.specs.Page.{shown}
+use Rattle.flt_details.specs.Reports.{texts_of}
+use Rattle.flt_details.specs.declared.sources.Source.{Source}
+use Rattle.flt_warning_details.specs.declared.options.WarningOptions.{WarningOptions}
+use Rattle.flt_picture.specs.Pictures.{IsPicture}
+use Rattle.flt_picture.specs.Titles.{title_of}
+use Rattle.flt_notes.specs.Noted.{own_of, schedule_of}
+use Rattle.flt_notes.specs.Parsed.{AreParsed}
+use Rattle.flt_notes.specs.Reported.{AreReports}
+use Rattle.flt_notes.specs.Whole.{IsPrint, Look}
+use Rattle.flt_notes.specs.declared.noted.Noted.{Noted}
+use Rattle.flt_html.specs.Page.{IsPage}
+use Rattle.flt_html.specs.declared.texts.ShownText.{ShownText}
+use Rattle.flt_commands.specs.Inputs.{Text}
+
+-- ---- texts
+
+-- a text as reports show it: its name, and its lines without their ends
+abbrev pub shown_text : Source → ShownText
+shown_text s = record { name = shown s.name.now; lines = map shown (slice_split (λ b. b == 10) s.text.now) }
+
+-- ---- pictures
+
+-- the run that breaks something
+abbrev pub run_in : Schedule → Option Broken
+run_in (Breaks run) = Some run
+run_in _ = None
+
+-- the run of a finding
+abbrev pub run_of : Noted → Option Broken
+run_of n = run_in (schedule_of n.scheduled)
+
+-- a picture of a run of a finding: its title has the names of the filters that run, and what the run breaks and where
+abbrev pub IsDrawn : List Tree → Noted → Broken → Text → Type 0
+IsDrawn trees n run picture =
+    IsPicture (title_of (filters_of (own_of trees n.filter n.scheduled)) (verdicts.Breaks run.violation run.entry)) picture
+
+-- a picture for each finding that has a run, in their order; these are the trees of the texts that parse
+pub data AreDrawn (trees : List Tree) : List Noted → List Text → Type 0 where
+  no_note : AreDrawn trees [] []
+  drawn : {notes : List Noted} {pictures : List Text} (n : Noted) (run : Broken) (picture : Text) → AreDrawn trees notes pictures →
+      run_of n ≡ Some run → IsDrawn trees n run picture → AreDrawn trees (notes ++ n ∷ []) (pictures ++ picture ∷ [])
+  undrawn : {notes : List Noted} {pictures : List Text} (n : Noted) → AreDrawn trees notes pictures → run_of n ≡ None →
+      AreDrawn trees (notes ++ n ∷ []) pictures
+
+-- the same, where the trees are those of the texts that parse
+pub record HasPictures (sources : List Source) (notes : List Noted) (pictures : List Text) : Type 0 where
+  pub trees : List Tree
+  pub parsed : AreParsed (texts_of sources) (filters_of trees)
+  pub drawn : AreDrawn trees notes pictures
+
+-- ---- the page
+
+-- a page on what is printed of texts, with the pictures of the runs of these findings
+pub record HasPage (sources : List Source) (notes : List Noted) (printed written : Text) : Type 0 where
+  pub pictures : List Text
+  pub drawn : HasPictures sources notes pictures
+  pub page : IsPage (map shown_text sources) printed pictures written
+
+-- a page on what is reported of texts
+pub record IsPageOn (options : WarningOptions) (sources : List Source) (written : Text) (status : ℕ) : Type 0 where
+  pub printed : Text
+  pub notes : List Noted
+  pub reports : AreReports options (texts_of sources) printed status
+  pub page : HasPage sources notes printed written
+
+-- without colours
+abbrev pub plain : Look → Look
+plain look = record { coloured = false; states = look.states; options = look.options }
+
+-- a page on what is printed of texts without colours
+pub record IsPaged (look : Look) (sources : List Source) (notes : List Noted) (written : Text) (status : ℕ) : Type 0 where
+  pub printed : Text
+  pub print : IsPrint (plain look) sources notes printed status
+  pub page : HasPage sources notes printed written

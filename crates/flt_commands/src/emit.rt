@@ -1,0 +1,198 @@
+//! The command `emit`: the answer on the names that it is given.
+
+ghost use Rattle.flt_commands.specs.Emit as spec;
+ghost use Rattle.flt_commands.specs.Inputs.{Says};
+ghost use Rattle.flt_commands.specs.Names.{names_of};
+ghost use Rattle.flt_graph.specs.Lowering.{IsLowered};
+ghost use Rattle.flt_kinds.specs.Kinds.{AreKinds, IsMixed};
+ghost use Rattle.flt_words.specs.Request.{Emit};
+ghost use Rattle.std.specs.Prelude.{◌≡◌, ◌<◌, ◌++◌, IfOk, OnOk, map, option_map};
+
+use crate::answer::Answer;
+use crate::failure::Failure;
+use crate::inputs::{Inputs, read_all};
+use crate::report::Contents;
+use flt_analyse::{AnalyseFault, Ticks, analyse};
+use flt_check::check;
+use flt_emit::{Allocation, emit, emit_header, emit_installation};
+use flt_graph::{Graph, Tree, lower};
+use flt_kinds::{ContextKinds, Mixed, Spot, completed_create, context_kinds};
+use flt_syntax::parse;
+use flt_words::Part;
+use std::alloc::{AllocError, Global};
+use std::marker::Brand;
+use std::sync::ledger::{Blank, Ledger};
+
+/// Why an accepted text can't be emitted. Lines are counted from 1.
+#[derive(Clone, Copy, Debug)]
+pub enum Unemitted {
+    /// The context that a statement of `line` allocates or gives may be set on a stream and on the instance.
+    Kinds {
+        line: usize,
+        stream: usize,
+        instance: usize,
+    },
+    /// A `pre create` completes with success.
+    Create {
+        line: usize,
+    },
+}
+
+// ---- a part of a driver
+
+/// Adds the allocations of some statements.
+fn add_allocations(out: &mut Vec<Allocation>, spots: &[Spot]) -> Result<(), AllocError>
+    ensures { OnOk result (out.new.items ≡ out.old.items ++ map spec.allocation_of spots.now) }
+{
+    for at in spots {
+        out.push(Allocation {
+            callback: at.callback,
+            point: at.point,
+        })?;
+    }
+    Ok(())
+}
+
+/// The source in which these statements allocate contexts of the instance.
+fn source_of(alloc: Global, tree: &Tree, listed: &[Spot]) -> Result<Vec<u8>, AllocError>
+    ensures { IfOk result (λ bytes. bytes.items ≡ spec.part_text Part.Source listed.now tree.now.filter) }
+{
+    let mut instances = Vec::new(alloc);
+    add_allocations(&mut instances, listed)?;
+    emit(alloc, tree, instances.as_slice())
+}
+
+/// The part of the driver in which these statements allocate contexts of the instance.
+fn part_of(alloc: Global, part: Part, tree: &Tree, listed: &[Spot]) -> Result<Vec<u8>, AllocError>
+    ensures { IfOk result (λ bytes. bytes.items ≡ spec.part_text part listed.now tree.now.filter) }
+{
+    match part {
+        Part::Source => source_of(alloc, tree, listed),
+        Part::User => emit_header(alloc, tree),
+        Part::Inf => emit_installation(alloc, tree),
+    }
+}
+
+/// The line of a statement.
+fn line_of(graph: &Graph, at: Spot) -> usize
+    ensures { result ≡ spec.line_of graph.now at }
+{
+    graph.line(at.callback, at.point)
+}
+
+/// The lines of the statements that say that a context has two kinds.
+fn mixed_lines(graph: &Graph, mixed: Mixed) -> Unemitted
+    ensures { result ≡ spec.mixed_lines graph.now mixed }
+{
+    Unemitted::Kinds {
+        line: line_of(graph, mixed.site),
+        stream: line_of(graph, mixed.stream),
+        instance: line_of(graph, mixed.instance),
+    }
+}
+
+/// The part of a filter in which each context has one kind, or why there is none.
+fn emit_known(
+    alloc: Global,
+    part: Part,
+    tree: &Tree,
+    graph: &Graph,
+    listed: Vec<Spot>,
+) -> Result<Answer, AllocError>
+    requires { AreKinds graph.now listed.items }
+    ensures { IfOk result (spec.Emits part tree.now.filter graph.now) }
+{
+    match completed_create(graph) {
+        Some(at) => {
+            let line = line_of(graph, at);
+            Ok(Answer::NotEmitted(Unemitted::Create { line }))
+        }
+        None => {
+            let bytes = part_of(alloc, part, tree, listed.as_slice())?;
+            Ok(Answer::Emitted(bytes))
+        }
+    }
+}
+
+/// The part of a filter, or why there is none.
+fn emit_filter(alloc: Global, part: Part, tree: &Tree, graph: &Graph) -> Result<Answer, AllocError>
+    requires { IsLowered tree.now.filter graph.now }
+    ensures { IfOk result (spec.Emits part tree.now.filter graph.now) }
+{
+    match context_kinds(alloc, tree, graph)? {
+        ContextKinds::Refused(mixed) => Ok(Answer::NotEmitted(mixed_lines(graph, mixed))),
+        ContextKinds::Known(listed) => emit_known(alloc, part, tree, graph, listed),
+    }
+}
+
+// ---- texts
+
+/// The part of a text that is analysed. The transfers are counted in a ledger that nobody reads.
+fn emit_analysed<'a, L: Ledger>(
+    alloc: Global,
+    part: Part,
+    text: &[u8],
+    blank: Blank,
+) -> Result<Answer, Failure<'a>>
+    requires name { blank.name ≡ L.name }
+    requires parts { blank.parts ≡ L.parts }
+    requires some { 0 < blank.parts }
+    ensures { spec.JudgesAlone part text.now result }
+{
+    let tree = parse(alloc, text)?;
+    let graph = lower(alloc, &tree)?;
+    let mut ticks = Ticks::<L, 0, 0>::new(blank);
+    match analyse(alloc, &graph, &mut ticks) {
+        Ok(_) => Ok(emit_filter(alloc, part, &tree, &graph)?),
+        Err(AnalyseFault::Refused(refusal)) => Ok(Answer::Refused(refusal)),
+        Err(AnalyseFault::OutOfMemory) => Err(Failure::OutOfMemory),
+    }
+}
+
+/// The part of a text that is checked.
+fn emit_checked<'a>(
+    alloc: Global,
+    part: Part,
+    text: &[u8],
+    certificate: &[u8],
+) -> Result<Answer, Failure<'a>>
+    ensures { spec.JudgesBeside part text.now certificate.now result }
+{
+    let tree = parse(alloc, text)?;
+    let cert = flt_cert::read(alloc, certificate)?;
+    let graph = lower(alloc, &tree)?;
+    match check(&graph, &cert) {
+        Ok(()) => Ok(emit_filter(alloc, part, &tree, &graph)?),
+        Err(refusal) => Ok(Answer::Refused(refusal)),
+    }
+}
+
+/// The answer of `emit` on the names that it is given, and the bytes that these give.
+pub fn emit_files<'a, I: Inputs>(
+    alloc: Global,
+    inputs: &I,
+    part: Part,
+    file: &'a str,
+    cert: Option<&'a str>,
+    contents: &mut Contents,
+) -> Result<Answer, Failure<'a>>
+    ensures { Says (I.gives inputs.now) (names_of (Emit part file.entry.now (option_map (λ name. name.now) cert.entry))) (spec.IsEmitted part)
+        (map (λ text. text.items) contents.new.texts.items) result }
+{
+    match cert {
+        None => {
+            contents.texts = read_all(alloc, inputs, &[file])?;
+            let text = contents.texts[0].as_slice();
+            emit_analysed::<Brand>(alloc, part, text, Blank::new(1))
+        }
+        Some(cert) => {
+            contents.texts = read_all(alloc, inputs, &[file, cert])?;
+            emit_checked(
+                alloc,
+                part,
+                contents.texts[0].as_slice(),
+                contents.texts[1].as_slice(),
+            )
+        }
+    }
+}

@@ -1,0 +1,4 @@
+pub mod Frames
+pub mod Handling
+pub mod Header
+pub mod Line

@@ -1,0 +1,55 @@
+//! The trait of a language, and the questions that a session asks it.
+
+use std::alloc::{AllocError, Global};
+
+/// The unit in which columns are counted.
+#[derive(Clone, Copy)]
+pub enum Encoding {
+    /// Bytes of UTF-8.
+    Utf8,
+    /// Units of UTF-16.
+    Utf16,
+}
+
+/// A place in a document as the protocol counts it: both numbers from 0.
+#[derive(Clone, Copy)]
+pub struct Spot {
+    pub line: usize,
+    pub character: usize,
+}
+
+/// A document that is open.
+#[derive(Clone, Copy)]
+pub struct OpenText<'a> {
+    pub uri: &'a str,
+    pub text: &'a [u8],
+    pub encoding: Encoding,
+}
+
+/// A question about a document.
+#[derive(Clone, Copy)]
+pub enum Question {
+    Hover(Spot),
+    Completion(Spot),
+    Definition(Spot),
+    /// The references at a place, with the declaration if the flag is true.
+    References(Spot, bool),
+    Symbols,
+    Folds,
+    /// From one place up to another.
+    Actions(Spot, Spot),
+}
+
+/// A language whose texts are documents.
+pub trait Language {
+    /// The diagnostics of a document, as a JSON array.
+    fn diagnostics(&self, alloc: Global, open: OpenText<'_>) -> Result<Vec<u8>, AllocError>;
+
+    /// The result of a question, as JSON.
+    fn result(
+        &self,
+        alloc: Global,
+        open: OpenText<'_>,
+        question: Question,
+    ) -> Result<Vec<u8>, AllocError>;
+}

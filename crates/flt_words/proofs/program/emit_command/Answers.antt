@@ -1,0 +1,7 @@
+use Rattle.flt_words.proofs.program.emit_command.Goals as goal
+
+pub returns : goal.returns
+returns c =
+    let one = c.with_argument-command.ensures _ _ c.bare_emit.ensures c.part_argument.ensures.rule c.part_argument.ensures.own in
+    let two = c.with_argument-command-2.ensures _ _ one c.text_argument.ensures.rule c.text_argument.ensures.own in
+    c.with_argument.ensures _ _ two c.certificate_argument.ensures.rule c.certificate_argument.ensures.own
