@@ -40,7 +40,7 @@ holds_some form journal name same = rw same tt
 
 pub told_under : (form : Form) (look : Look) (journal : Option Text) (names texts : List Text) (unread : List UnreadFile) (sources : List Source)
     (result : Result Told CommandFault) → names_in sources ≡ map (told_name form) names → texts_of sources ≡ texts →
-    IfOk result (λ t. IsTold form look.options sources unread t.explained) → IfOk result (λ t. AreNotedFor form journal (texts_of sources) t.noted) →
+    IfOk result (IsTold form look.options sources unread) → IfOk result (λ t. AreNotedFor form journal (texts_of sources) t.noted) →
     IfOk result (IsNoteTold form (texts_of sources) look.states) → IfOk result (IsPrintTold form look sources) →
     IfOk result (IsToldUnder form look journal names texts unread)
 told_under form look journal names texts unread sources (Ok t) named given told noted notes print = record {
