@@ -92,10 +92,19 @@ IsNoteTold _ texts states e = Unit {0}
 abbrev pub look_of : Asked → Look
 look_of asked = record { coloured = asked.coloured; states = asked.states; options = asked.options }
 
--- for people all of what is printed is the reports with the notes, to the letter; a page has these without colours, with pictures
+-- a report on these texts has exactly these notes: one for each finding that it reports by itself
+pub record HasReport (look : Look) (sources : List Source) (notes : List Noted) : Type 0 where
+  pub printed : Text
+  pub status : ℕ
+  pub print : IsPrint look sources notes printed status
+
+-- for people all of what is printed is the reports with the notes, to the letter; a page has these without colours, with pictures. The
+-- runs in other forms are those that a report has
 abbrev pub IsPrintTold : Form → Look → List Source → Told → Type 0
 IsPrintTold Human look sources e = IsPrint look sources e.noted e.explained.output.items e.explained.status
 IsPrintTold Html look sources e = IsPaged look sources e.noted e.explained.output.items e.explained.status
+IsPrintTold LinesWithRuns look sources e = HasReport look sources e.noted
+IsPrintTold SarifWithRuns look sources e = HasReport look sources e.noted
 IsPrintTold _ look sources e = Unit {0}
 
 -- the same of names and what they give, beside these files, with what came of the findings of these texts

@@ -11,8 +11,8 @@ ghost use Rattle.flt_details.specs.Reports.{texts_of};
 use crate::answer::Answer;
 use crate::failure::Failure;
 use crate::fault::CommandFault;
-use crate::html::page_on;
 use crate::finding_runs::runs_of;
+use crate::html::page_on;
 use crate::in_turn::lines_in_turn;
 use crate::inputs::{Inputs, Pictures, read_each};
 use crate::remarks::unread_lines;
@@ -172,6 +172,7 @@ fn lines_with_runs<O: Sink, W: SearchWatch>(
     watch: &mut W,
 ) -> Result<Told, CommandFault>
     ensures told { IfOk result (spec.AreToldWithRuns asked.entry.options sources.now) }
+    ensures print { IfOk result (λ t. spec.HasReport (spec.look_of asked.entry) sources.now t.noted) }
     ensures noted { IfOk result (λ t. AreNotes (texts_of sources.now) t.noted) }
     ensures sent { IfOk result (λ t. t.sent ≡ 0) }
     ensures held { out.new ≡ out.old }
@@ -200,6 +201,7 @@ fn sarif_with_runs<O: Sink, W: SearchWatch>(
     watch: &mut W,
 ) -> Result<Told, CommandFault>
     ensures told { IfOk result (spec.IsToldWithRuns asked.entry.options sources.now unread.now) }
+    ensures print { IfOk result (λ t. spec.HasReport (spec.look_of asked.entry) sources.now t.noted) }
     ensures noted { IfOk result (λ t. AreNotes (texts_of sources.now) t.noted) }
     ensures sent { IfOk result (λ t. t.sent ≡ 0) }
     ensures held { out.new ≡ out.old }
