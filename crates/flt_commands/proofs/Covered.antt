@@ -229,8 +229,8 @@ module _ (law : Law) (runs : LawOfRuns) (nowhere : SpelledFailsNowhere) where
       one_more_breaks_nothing texts text (reported options filters texts printed greatest findings files are zeros.0)
       (report_well options filters text report status count is.is zeros.1)
 
-  in_lines : (style : Style) (options : WarningOptions) (runs : ℕ → ℕ → List Token) (number : ℕ) (sources : List Source) (before printed : List ℕ)
-      (status : ℕ) → AreLinesFrom style options runs number sources before printed status → status ≡ 0 → EachBreaksNothing (texts_of sources)
+  in_lines : (style : Style) (options : WarningOptions) (runs : ℕ → ℕ → List Token) (number : ℕ) (sources : List Source)
+      (before printed : List ℕ) (status : ℕ) → AreLinesFrom style options runs number sources before printed status → status ≡ 0 → EachBreaksNothing (texts_of sources)
   in_lines style options runs number [] before printed status said good = tt
   in_lines style options runs number (s ∷ ss) before printed status (part, first, others, own, rest, greatest) good =
       let zeros = both_zero first others (sym greatest ∙ good) in (
@@ -239,7 +239,8 @@ module _ (law : Law) (runs : LawOfRuns) (nowhere : SpelledFailsNowhere) where
       )
 
   in_results : (options : WarningOptions) (names : List (Bor (List ℕ))) (runs : ℕ → ℕ → List Token) (number : ℕ) (sources : List Source)
-      (tokens : List Token) (status : ℕ) → AreResults options names runs number sources tokens status → status ≡ 0 → EachBreaksNothing (texts_of sources)
+      (tokens : List Token) (status : ℕ) → AreResults options names runs number sources tokens status → status ≡ 0 →
+      EachBreaksNothing (texts_of sources)
   in_results options names runs number [] tokens status said good = tt
   in_results options names runs number (s ∷ ss) tokens status (part, others_tokens, first, others, own, rest, joined, greatest) good =
       let zeros = both_zero first others (sym greatest ∙ good) in (
@@ -255,10 +256,11 @@ module _ (law : Law) (runs : LawOfRuns) (nowhere : SpelledFailsNowhere) where
   all_reported options filters (t ∷ []) printed status is good = (report_well options filters t printed status is.count is.is.is good, tt)
   all_reported options filters (t ∷ u ∷ ts) printed status is good = reported options filters (t ∷ u ∷ ts) is.reports status is.findings is.files is.are good
 
-  in_document : (options : WarningOptions) (sources : List Source) (missed : List UnreadFile) (runs : List FindingRun) (printed : List ℕ) (status : ℕ) →
-      IsSarif options sources missed runs printed status → status ≡ 0 → EachBreaksNothing (texts_of sources)
+  in_document : (options : WarningOptions) (sources : List Source) (missed : List UnreadFile) (runs : List FindingRun) (printed : List ℕ)
+      (status : ℕ) → IsSarif options sources missed runs printed status → status ≡ 0 → EachBreaksNothing (texts_of sources)
   unfolding IsSarif
-  in_document options sources missed runs printed status (run, is, same) good = in_results options _ _ 0 sources is.results status is.found good
+  in_document options sources missed runs printed status (run, is, same) good =
+      in_results options _ _ 0 sources is.results status is.found good
 
   told_well : (form : Form) (options : WarningOptions) (sources : List Source) (missed : List UnreadFile) (t : Told) →
       IsTold form options sources missed t → t.explained.status ≡ 0 → EachBreaksNothing (texts_of sources)

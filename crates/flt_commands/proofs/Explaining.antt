@@ -58,8 +58,8 @@ told_under form look journal names texts unread sources (Ok t) named given told 
 told_under form look journal names texts unread sources (Err e) named given told noted notes print = tt
 
 -- a report has these notes, if they are those of one that is asked for so
-pub reported : (asked : Asked) (asking : Asking) (sources : List Source) (t : Told) (notes : List Noted) → asking.coloured ≡ asked.coloured →
-    asking.states ≡ asked.states → asking.options ≡ asked.options →
+pub reported : (asked : Asked) (asking : Asking) (sources : List Source) (t : Told) (notes : List Noted) →
+    asking.coloured ≡ asked.coloured → asking.states ≡ asked.states → asking.options ≡ asked.options →
     IsPrint (look_for asking) sources t.noted t.explained.output.items t.explained.status → notes ≡ t.noted →
     HasReport (look_of asked) sources notes
 reported asked asking sources t notes coloured states options print same = record {

@@ -33,8 +33,8 @@ none_or : (n a : ℕ) → a ≡ 0 → max a n ≡ max n 0
 none_or n a none = omega (arith, none)
 
 -- the lines of one text more
-lines_push : (style : Style) (options : WarningOptions) (number : ℕ) (ss : List Source) (s : Source) (before printed part : List ℕ) (status own : ℕ) →
-    AreLinesFrom style options no_member number ss before printed status → IsPart style options no_run s part own →
+lines_push : (style : Style) (options : WarningOptions) (number : ℕ) (ss : List Source) (s : Source) (before printed part : List ℕ)
+    (status own : ℕ) → AreLinesFrom style options no_member number ss before printed status → IsPart style options no_run s part own →
     AreLinesFrom style options no_member number (ss ++ s ∷ []) before (printed ++ part) (max status own)
 lines_push style options number [] s before printed part status own (same, none) is =
     (part, own, 0, is, (ap (λ bytes. bytes ++ part) same, refl), none_or own _ none)
@@ -56,7 +56,8 @@ module _ (all : List Source) (i : ℕ) (d : Source) (within : i < length all) wh
 
   -- the lines of the texts so far and of the next one
   pub one_more_told : (style : Style) (options : WarningOptions) (before after : Explained) (old new : Option Text) →
-      AreLines style options (take i all) None before.output.items before.status → IsTextMore style options (get_or all i d) before after old new →
+      AreLines style options (take i all) None before.output.items before.status →
+      IsTextMore style options (get_or all i d) before after old new →
       AreLines style options (take (i + 1) all) None after.output.items after.status
   one_more_told style options before after old new are more =
       rw (one_source_more, more.output, more.status)

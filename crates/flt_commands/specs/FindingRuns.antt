@@ -52,7 +52,8 @@ run_by numbers n b flow = record {
 -- the run of a finding that breaks something is added; none is where its journal is no run of its filters
 pub data IsAdded (trees : List Tree) (numbers : List ℕ) (n : Noted) (b : Broken) (runs : List FindingRun) : List FindingRun → Type 0 where
   no_flow : run_of (by_altitude (filters_of (own_of trees n.filter n.scheduled))) b.journal ≡ None → IsAdded trees numbers n b runs runs
-  flow : {f : Flow} → IsFlow (own_of trees n.filter n.scheduled) b.journal f → IsAdded trees numbers n b runs (runs ++ run_by numbers n b f ∷ [])
+  flow : {f : Flow} → IsFlow (own_of trees n.filter n.scheduled) b.journal f →
+      IsAdded trees numbers n b runs (runs ++ run_by numbers n b f ∷ [])
 
 -- the same by what came of it
 abbrev pub IsNextBy : List Tree → List ℕ → Noted → List FindingRun → List FindingRun → Schedule → Type 0
@@ -65,8 +66,8 @@ IsNext trees numbers n runs after = IsNextBy trees numbers n runs after (schedul
 -- the runs of all noted findings, in their order
 pub data AreRunsOf (trees : List Tree) (numbers : List ℕ) : List Noted → List FindingRun → Type 0 where
   no_note : AreRunsOf trees numbers [] []
-  one_note_more : {ns : List Noted} {n : Noted} {runs after : List FindingRun} → AreRunsOf trees numbers ns runs → IsNext trees numbers n runs after →
-      AreRunsOf trees numbers (ns ++ n ∷ []) after
+  one_note_more : {ns : List Noted} {n : Noted} {runs after : List FindingRun} → AreRunsOf trees numbers ns runs →
+      IsNext trees numbers n runs after → AreRunsOf trees numbers (ns ++ n ∷ []) after
 
 -- the same of findings of these texts
 pub record AreRuns (texts : List Text) (notes : List Noted) (runs : List FindingRun) : Type 0 where

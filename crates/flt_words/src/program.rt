@@ -155,7 +155,7 @@ fn runs_argument<'a>(alloc: Global) -> Arg<'a>
         .long("runs")
         .action(ArgAction::SetTrue)
         .help(
-            "With `--form lines` or `sarif`: add a run that breaks something because of each finding, where one is found",
+            "Add to the forms `lines` and `sarif` a run that breaks something because of each finding, where one is found",
         )
 }
 
