@@ -59,14 +59,16 @@ abbrev pub entries : List Text → FindingRun → List Token
 entries texts r = array_member (codes "entries") (flat_map (entry texts r) r.flow.steps)
 
 -- a run of filters of these texts; null where there is none
-abbrev pub run_member : List Source → Option FindingRun → List Token
-run_member sources None = null_member (codes "run")
-run_member sources (Some r) =
-    object_member (codes "run") (breaks r ++ (activations sources r ++ entries (texts_of sources) r))
+abbrev pub run_member : List Source → List Text → Option FindingRun → List Token
+run_member sources texts None = null_member (codes "run")
+run_member sources texts (Some r) = object_member (codes "run") (breaks r ++ (activations sources r ++ entries texts r))
 
 -- that of each finding, by the number of its text and by its own
+abbrev pub member_among : List Source → List Text → List FindingRun → ℕ → ℕ → List Token
+member_among sources texts runs source finding = run_member sources texts (run_of runs source finding)
+
 abbrev pub own_member : List Source → List FindingRun → ℕ → ℕ → List Token
-own_member sources runs source finding = run_member sources (run_of runs source finding)
+own_member sources runs = member_among sources (texts_of sources) runs
 
 -- no finding of a text has one
 abbrev pub no_run : ℕ → List Token
@@ -82,8 +84,12 @@ run_members sources None = no_member
 run_members sources (Some runs) = own_member sources runs.now
 
 -- the same as the code has them
+abbrev pub members_by : List Source → List Text → Option (Bor (List FindingRun)) → ℕ → ℕ → List Token
+members_by sources texts None = no_member
+members_by sources texts (Some runs) = member_among sources texts runs.now
+
 abbrev pub members_in : TextRuns → ℕ → ℕ → List Token
-members_in t = run_members t.sources.now t.runs
+members_in t = members_by t.sources.now t.texts.now t.runs
 
 abbrev pub member_of : OwnRun → List Token
 member_of own = members_in own.runs own.source own.finding

@@ -4,7 +4,7 @@ ghost use Rattle.std.specs.Prelude.{◌≡◌, ◌++◌, [], IfOk, List, ℕ, ma
 ghost use Rattle.flt_forms.specs.Fault.{IsFaultLine};
 ghost use Rattle.flt_forms.specs.Finding as of_finding;
 ghost use Rattle.flt_forms.specs.Lines as spec;
-ghost use Rattle.flt_forms.specs.RunMember.{members_in};
+ghost use Rattle.flt_forms.specs.RunMember.{members_in, no_member, own_member};
 ghost use Rattle.flt_details.specs.Reports.{IsJudged};
 ghost use Rattle.flt_syntax.specs.TextFails.{Fails};
 
@@ -12,7 +12,7 @@ use crate::clean::put_clean_lines;
 use crate::fault::{help_of, put_fault_line};
 use crate::finding::put_lines;
 use crate::run::FindingRun;
-use crate::run_member::TextRuns;
+use crate::run_member::{TextRuns, texts_in};
 use crate::short::{put_short_fault, put_short_lines, put_short_warnings};
 use crate::warned::{status_of, warned_of};
 use crate::warning::put_warnings;
@@ -192,6 +192,43 @@ fn put_sources(
     Ok(told)
 }
 
+/// The lines of some texts, with the runs of their findings.
+fn with_runs(
+    alloc: Global,
+    style: Style,
+    options: WarningOptions,
+    sources: &[Source<'_>],
+    runs: &[FindingRun],
+) -> Result<Explained, AllocError>
+    ensures { IfOk result (λ e.
+        spec.AreLinesFrom style options (own_member sources.now runs.now) 0 sources.now [] e.output.items e.status) }
+{
+    let texts = texts_in(alloc, sources)?;
+    let runs = TextRuns {
+        sources,
+        texts: texts.as_slice(),
+        runs: Some(runs),
+    };
+    put_sources(alloc, Vec::new(alloc), style, options, runs, sources)
+}
+
+/// The lines of some texts, without a word on runs.
+fn without_runs(
+    alloc: Global,
+    style: Style,
+    options: WarningOptions,
+    sources: &[Source<'_>],
+) -> Result<Explained, AllocError>
+    ensures { IfOk result (λ e. spec.AreLinesFrom style options no_member 0 sources.now [] e.output.items e.status) }
+{
+    let runs = TextRuns {
+        sources,
+        texts: &[],
+        runs: None,
+    };
+    put_sources(alloc, Vec::new(alloc), style, options, runs, sources)
+}
+
 /// The findings and warnings of some texts, line by line: a line for each finding of a text that parses, in their order, and one for a text
 /// that doesn't; then one for each of its warnings; and, with objects, one for a text that has none of these. docs/FORMATS.md says how they
 /// are written. If there are `runs`, an object of a finding has its own, or null. The status is that of `explain`: 0 if nothing is found, 1
@@ -209,6 +246,8 @@ pub fn lines(
 ) -> Result<Explained, AllocError>
     ensures { IfOk result (λ e. spec.AreLines style options sources.now runs.entry e.output.items e.status) }
 {
-    let runs = TextRuns { sources, runs };
-    put_sources(alloc, Vec::new(alloc), style, options, runs, sources)
+    match runs {
+        None => without_runs(alloc, style, options, sources),
+        Some(runs) => with_runs(alloc, style, options, sources, runs),
+    }
 }

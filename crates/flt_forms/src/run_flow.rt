@@ -303,7 +303,7 @@ fn put_thread_flows(
 
 // ---- the run
 
-/// What a run breaks, and by which entry.
+/// The violation in a run, and the number of the entry that makes it.
 #[derive(Drop)]
 struct RunWords(Violation, usize);
 

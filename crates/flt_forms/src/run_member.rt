@@ -3,7 +3,7 @@
 ghost use Rattle.std.specs.Prelude.{◌≡◌, IfOk, Some, codes, flat_map, slice_get};
 ghost use Rattle.flt_details.specs.Reports.{texts_of};
 ghost use Rattle.flt_forms.specs.Members.{Adds, object_member, region_members};
-ghost use Rattle.flt_forms.specs.Run.{at, run_of as spec_run_of, source_of as run_source};
+ghost use Rattle.flt_forms.specs.Run.{at, source_of as run_source};
 ghost use Rattle.flt_forms.specs.RunMember as spec;
 
 use crate::members::{
@@ -22,6 +22,8 @@ use std::alloc::{AllocError, Global};
 #[derive(Clone, Copy)]
 pub(crate) struct TextRuns<'r, 's> {
     pub(crate) sources: &'r [Source<'s>],
+    /// The lines of each text, if there are runs.
+    pub(crate) texts: &'r [Lines<'s>],
     pub(crate) runs: Option<&'r [FindingRun]>,
 }
 
@@ -214,7 +216,7 @@ fn put_entries(
 // ---- the run
 
 /// The lines of each text.
-fn texts_in<'s>(alloc: Global, sources: &[Source<'s>]) -> Result<Vec<Lines<'s>>, AllocError>
+pub(crate) fn texts_in<'s>(alloc: Global, sources: &[Source<'s>]) -> Result<Vec<Lines<'s>>, AllocError>
     ensures { IfOk result (λ texts. texts.items ≡ texts_of sources.now) }
 {
     let mut texts = Vec::new(alloc);
@@ -229,37 +231,20 @@ fn put_run(
     alloc: Global,
     writer: &mut Writer,
     sources: &[Source<'_>],
+    texts: &[Lines<'_>],
     run: &FindingRun,
 ) -> Result<(), AllocError>
-    ensures { Adds result writer.old writer.new (spec.run_member sources.now (Some run.now)) }
+    ensures { Adds result writer.old writer.new (spec.run_member sources.now texts.now (Some run.now)) }
 {
-    let texts = texts_in(alloc, sources)?;
     put_key(writer, "run")?;
     open_object(writer)?;
     put_breaks(writer, run)?;
     put_activations(alloc, writer, sources, run)?;
-    put_entries(alloc, writer, texts.as_slice(), run)?;
+    put_entries(alloc, writer, texts, run)?;
     close_object(writer)
 }
 
-/// Writes the run of a finding of a text among some, or null.
-fn put_run_among(
-    alloc: Global,
-    writer: &mut Writer,
-    sources: &[Source<'_>],
-    runs: &[FindingRun],
-    source: usize,
-    finding: usize,
-) -> Result<(), AllocError>
-    ensures { Adds result writer.old writer.new (spec.run_member sources.now (spec_run_of runs.now source finding)) }
-{
-    match run_of(runs, source, finding) {
-        None => put_null(writer, "run"),
-        Some(run) => put_run(alloc, writer, sources, run),
-    }
-}
-
-/// Writes the run of a finding, or null, if runs were looked for.
+/// Writes the run of a finding of a text, or null, if runs were looked for.
 pub(crate) fn put_run_member(
     alloc: Global,
     writer: &mut Writer,
@@ -267,15 +252,11 @@ pub(crate) fn put_run_member(
 ) -> Result<(), AllocError>
     ensures { Adds result writer.old writer.new (spec.member_of own.entry) }
 {
-    match own.runs.runs {
-        None => Ok(()),
-        Some(runs) => put_run_among(
-            alloc,
-            writer,
-            own.runs.sources,
-            runs,
-            own.source,
-            own.finding,
-        ),
+    let Some(runs) = own.runs.runs else {
+        return Ok(());
+    };
+    match run_of(runs, own.source, own.finding) {
+        None => put_null(writer, "run"),
+        Some(run) => put_run(alloc, writer, own.runs.sources, own.runs.texts, run),
     }
 }

@@ -3,6 +3,5 @@ use Rattle.flt_forms.proofs.run_member.put_run.Goals as goal
 
 pub returns : goal.returns
 returns c =
-    let entries = rw (c.as_slice.ensures.value, c.in_ok-texts.ensures) at c.in_ok-put_entries.ensures.ok in
     behind c.in_ok-put_key.ensures.ok (behind c.in_ok-open_object.ensures.ok (behind c.in_ok-put_breaks.ensures.ok
-    (behind c.in_ok-put_activations.ensures.ok (behind entries c.close_object.ensures))))
+    (behind c.in_ok-put_activations.ensures.ok (behind c.in_ok-put_entries.ensures.ok c.close_object.ensures))))
