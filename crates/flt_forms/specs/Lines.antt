@@ -61,7 +61,7 @@ pub record IsPart (style : Style) (options : WarningOptions) (run : ℕ → List
   pub lines : IsPrinted style run s judged first
   pub all : printed ≡ first ++ (warning_lines style s.name.now warned ++ clean_lines style s.name.now judged warned)
 
--- the lines of several texts from the one of this number on, behind what is there, one text's behind the other's; the status is the
+-- the lines of several texts, of which the first has this number, after what is there, in the order of the texts; the status is the
 -- greatest of theirs. Their findings have these runs, by the number of the text and by their own
 abbrev pub AreLinesFrom : Style → WarningOptions → (ℕ → ℕ → List Token) → ℕ → List Source → List ℕ → List ℕ → ℕ → Type 0
 AreLinesFrom style options runs number [] before printed status = (printed ≡ before) × (status ≡ 0)

@@ -172,7 +172,7 @@ result_members file print run d =
 abbrev pub result : File → List ℕ → List Token → Detail → List Token
 result file print run d = item (result_members file print run d)
 
--- a finding behind those of these keys, with its fingerprint, and the run of its number
+-- a finding after those of these keys, with its fingerprint, and the run of its number
 abbrev pub next_result : File → (ℕ → List Token) → List (List ℕ) → Detail → List Token
 next_result file run before d = result file (fingerprint before (finding_key file.lines d)) (run (length before)) d
 

@@ -14,7 +14,7 @@ abbrev pub run_of : List FindingRun → ℕ → ℕ → Option FindingRun
 run_of [] source finding = None
 run_of (r ∷ rs) source finding = if is_of r source finding then Some r else run_of rs source finding
 
--- what it breaks
+-- how a violation is named
 abbrev pub violation_name : Violation → List ℕ
 violation_name V1 = codes "V1"
 violation_name V2 = codes "V2"

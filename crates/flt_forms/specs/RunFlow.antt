@@ -20,7 +20,8 @@ use Rattle.flt_forms.specs.declared.run_flow.OwnFlow.{OwnFlow}
 -- a region of a file
 abbrev pub whole_place : File → Region → List Token
 whole_place file region =
-    key (codes "physicalLocation") ∷ begin_object ∷ (artifact_location file ++ (whole_region (codes "region") file.lines region ++ end_object ∷ []))
+    key (codes "physicalLocation") ∷ begin_object ∷ (artifact_location file
+    ++ (whole_region (codes "region") file.lines region ++ end_object ∷ []))
 
 -- where something is in a file, if it is anywhere
 abbrev pub region_in : File → Option Span → List Token
@@ -36,10 +37,14 @@ place_in (Some file) span = region_in file span
 abbrev pub place : List File → FindingRun → FlowStep → List Token
 place files r s = place_in (at files (source_of r s.activation)) s.span
 
--- an entry with what happens by it; entries are executed in the order of their numbers, which count from 0
+-- the same with what happens by it
+abbrev pub step_location : List File → FindingRun → FlowStep → List Token
+step_location files r s = key (codes "location") ∷ begin_object ∷ (place files r s ++ (message s.words ++ end_object ∷ []))
+
+-- an entry: its place and its words, and its number, from 0, by which the entries of all threads are ordered
 abbrev pub flow_entry : List File → FindingRun → FlowStep → List Token
 flow_entry files r s =
-    item (object_member (codes "location") (place files r s ++ message s.words) ++ number_member (codes "executionOrder") s.entry)
+    begin_object ∷ (step_location files r s ++ (number_member (codes "executionOrder") s.entry ++ end_object ∷ []))
 
 -- two numbers are the same, or both are missing
 abbrev pub is_same : Option ℕ → Option ℕ → Bool
@@ -80,7 +85,7 @@ thread_of files r number a = thread files r (Some number) (thread_name number a.
 abbrev pub threads : List File → FindingRun → List Token
 threads files r = thread files r None (codes "machine") ++ counted (thread_of files r) 0 r.flow.activations
 
--- what a run breaks, and by which entry
+-- the violation in a run, and the number of the entry that makes it
 abbrev pub words_of : Violation → ℕ → List ℕ
 words_of violation entry = codes "a run that breaks " ++ (violation_name violation ++ (codes " at entry " ++ decimal entry))
 

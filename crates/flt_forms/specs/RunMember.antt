@@ -1,7 +1,7 @@
 -- Runs that break something because of findings, as JSON. This project's own format.
 use Rattle.std.specs.Prelude.{ℕ, List, [], ◌∷◌, ◌++◌, Option, Some, None, codes, flat_map, slice_get}
 use Rattle.std.specs.Borrow.{Bor}
-use Rattle.json.specs.Token.{Token, begin_object, end_object}
+use Rattle.json.specs.Token.{Token, begin_object, end_object, key}
 use Rattle.flt_details.specs.Reports.{texts_of}
 use Rattle.flt_details.specs.declared.sources.Source.{Source}
 use Rattle.flt_flows.specs.declared.flows.FlowActivation.{FlowActivation}
@@ -15,7 +15,7 @@ use Rattle.flt_forms.specs.declared.run.FindingRun.{FindingRun}
 use Rattle.flt_forms.specs.declared.run_member.OwnRun.{OwnRun}
 use Rattle.flt_forms.specs.declared.run_member.TextRuns.{TextRuns}
 
--- which violation it breaks, and by which entry
+-- the violation in a run, and the number of the entry that makes it
 abbrev pub breaks : FindingRun → List Token
 breaks r =
     object_member (codes "breaks") (string_member (codes "violation") (violation_name r.violation) ++ number_member (codes "entry") r.entry)
@@ -61,7 +61,8 @@ entries texts r = array_member (codes "entries") (flat_map (entry texts r) r.flo
 -- a run of filters of these texts; null where there is none
 abbrev pub run_member : List Source → List Text → Option FindingRun → List Token
 run_member sources texts None = null_member (codes "run")
-run_member sources texts (Some r) = object_member (codes "run") (breaks r ++ (activations sources r ++ entries texts r))
+run_member sources texts (Some r) =
+    key (codes "run") ∷ begin_object ∷ (breaks r ++ (activations sources r ++ (entries texts r ++ end_object ∷ [])))
 
 -- that of each finding, by the number of its text and by its own
 abbrev pub member_among : List Source → List Text → List FindingRun → ℕ → ℕ → List Token

@@ -64,7 +64,7 @@ pub record IsPart (options : WarningOptions) (names : List (Bor (List ℕ))) (ru
   pub results : HasResults file run s.text.now judged first
   pub all : tokens ≡ first ++ warning.results_of file warned
 
--- the results of several texts from the one of this number on, one text's behind the other's; the status is the greatest of theirs. Their
+-- the results of several texts, of which the first has this number, in the order of the texts; the status is the greatest of theirs. Their
 -- findings have these runs, by the number of the text and by their own
 abbrev pub AreResults : WarningOptions → List (Bor (List ℕ)) → (ℕ → ℕ → List Token) → ℕ → List Source → List Token → ℕ → Type 0
 AreResults options names runs number [] tokens status = (tokens ≡ []) × (status ≡ 0)
@@ -168,4 +168,5 @@ flows_of sources runs = run_flows (files_of (names_of sources) sources) runs
 -- one document for several texts, beside which these files aren't read, with these runs of their findings
 unfoldable pub IsSarif : WarningOptions → List Source → List UnreadFile → List FindingRun → List ℕ → ℕ → Type 0
 IsSarif options sources unread runs printed status =
-    (run : List Token) × IsRun options (names_of sources) (flows_of sources runs) sources unread run status × (printed ≡ line_of (document run))
+    (run : List Token) × IsRun options (names_of sources) (flows_of sources runs) sources unread run status
+    × (printed ≡ line_of (document run))

@@ -58,7 +58,7 @@ result_members file print d title head =
 abbrev pub result : File → List ℕ → WarningDetail → List Token
 result file print d = item (result_members file print d d.title d.head)
 
--- a warning behind those of these keys, with its fingerprint
+-- a warning after those of these keys, with its fingerprint
 abbrev pub next_result : File → List (List ℕ) → WarningDetail → List Token
 next_result file before d = result file (fingerprint before (warning_key file.lines d)) d
 

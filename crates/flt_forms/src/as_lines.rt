@@ -68,7 +68,8 @@ fn known(
     found: &[Finding],
 ) -> Result<Vec<u8>, AllocError>
     ensures { IfOk result (λ v. (printed : List ℕ) ×
-        spec.AreFindingLines source.entry.name.now (members_in runs.entry number) source.entry.text.now tree.now.filter graph.now found.now printed
+        spec.AreFindingLines source.entry.name.now (members_in runs.entry number) source.entry.text.now tree.now.filter graph.now
+        found.now printed
         × (v.items ≡ out.items ++ printed)) }
 {
     let details = details(alloc, source.text, tree, graph, found)?;
@@ -231,8 +232,8 @@ fn without_runs(
 
 /// The findings and warnings of some texts, line by line: a line for each finding of a text that parses, in their order, and one for a text
 /// that doesn't; then one for each of its warnings; and, with objects, one for a text that has none of these. docs/FORMATS.md says how they
-/// are written. If there are `runs`, an object of a finding has its own, or null. The status is that of `explain`: 0 if nothing is found, 1
-/// if there are findings, or if warnings count and one is shown, 2 if a text doesn't parse.
+/// are written. If there are `runs`, the object of a finding has the first one that is its own, or null. The status is that of `explain`: 0
+/// if nothing is found, 1 if there are findings, or if warnings count and one is shown, 2 if a text doesn't parse.
 ///
 /// # Errors
 ///

@@ -75,7 +75,8 @@ fn put_known(
     found: &[Finding],
 ) -> Result<(), AllocError>
     ensures { IfOk result (λ _. (ts : List Token) ×
-        spec.AreFindingResults file.now (flows_in runs.entry number) text.now tree.now.filter graph.now found.now ts × Added writer.old writer.new ts) }
+        spec.AreFindingResults file.now (flows_in runs.entry number) text.now tree.now.filter graph.now found.now ts
+        × Added writer.old writer.new ts) }
 {
     let details = details(alloc, text, tree, graph, found)?;
     put_results(alloc, writer, file, runs, number, details.as_slice())
@@ -255,8 +256,8 @@ fn put_document(
 
 /// The findings and warnings of some texts, as one SARIF 2.1.0 document and a line feed: a result for each finding of a text that parses,
 /// in their order, and one for a text that doesn't; then one for each of its warnings. The document has each file once, by its name as a
-/// reference, and says how the program ran, with a notification for each file that isn't read. The run of a finding, if one of `runs` is its
-/// own, is the last code flow of its result. The status is that of the texts: 0 if nothing is found, 1 if there are findings, or if warnings
+/// reference, and says how the program ran, with a notification for each file that isn't read. The first of `runs` that is the finding's
+/// own is the last code flow of its result. The status is that of the texts: 0 if nothing is found, 1 if there are findings, or if warnings
 /// count and one is shown, 2 if a text doesn't parse.
 ///
 /// # Errors

@@ -20,7 +20,7 @@ pub struct FindingRun {
     pub violation: Violation,
     /// The number of the entry by which it breaks that, from 0.
     pub entry: usize,
-    /// Its entries.
+    /// Its entries, of which there is at least one, and its activations.
     pub flow: Flow,
 }
 

@@ -2,7 +2,7 @@
 
 ghost use Rattle.std.specs.Prelude.{◌≡◌, ◌++◌, IfOk, Some, codes, flat_map};
 ghost use Rattle.flt_forms.specs.Counted.{counted};
-ghost use Rattle.flt_forms.specs.Members.{Adds, array_member, object_member};
+ghost use Rattle.flt_forms.specs.Members.{Adds, array_member};
 ghost use Rattle.flt_forms.specs.Results.{message};
 ghost use Rattle.flt_forms.specs.Run.{at, source_of as run_source};
 ghost use Rattle.flt_forms.specs.RunFlow as spec;
@@ -105,8 +105,7 @@ fn put_location(
     run: &FindingRun,
     step: &FlowStep,
 ) -> Result<(), AllocError>
-    ensures { Adds result writer.old writer.new
-        (object_member (codes "location") (spec.place files.now run.now step.now ++ message step.now.words)) }
+    ensures { Adds result writer.old writer.new (spec.step_location files.now run.now step.now) }
 {
     put_key(writer, "location")?;
     open_object(writer)?;

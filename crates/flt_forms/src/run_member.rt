@@ -216,7 +216,10 @@ fn put_entries(
 // ---- the run
 
 /// The lines of each text.
-pub(crate) fn texts_in<'s>(alloc: Global, sources: &[Source<'s>]) -> Result<Vec<Lines<'s>>, AllocError>
+pub(crate) fn texts_in<'s>(
+    alloc: Global,
+    sources: &[Source<'s>],
+) -> Result<Vec<Lines<'s>>, AllocError>
     ensures { IfOk result (λ texts. texts.items ≡ texts_of sources.now) }
 {
     let mut texts = Vec::new(alloc);

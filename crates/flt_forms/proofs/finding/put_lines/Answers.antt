@@ -7,7 +7,7 @@ use Rattle.flt_forms.proofs.finding.put_lines.Goals as goal
 pub loop-finding-preserved : goal.loop-finding-preserved
 loop-finding-preserved c =
     one_counted_more (numbered_line c.args.name.now c.args.lines.now c.args.graph.now (members_in c.args.runs c.args.source)) c.args.details.now
-    c.loop-finding.finding c.detail-item.result (omega (arith, c.loop-finding-test.true)) c.detail-item.is _ _ _ c.loop-finding.invariant
+    c.loop-finding.finding c.index-details-finding.result (omega (arith, c.loop-finding-test.true)) c.index-details-finding.is _ _ _ c.loop-finding.invariant
     c.in_ok-out.ensures
 
 pub returns : goal.returns
