@@ -21,7 +21,7 @@ use Rattle.flt_flows.specs.declared.running.Course.{Course}
 use Rattle.flt_flows.specs.declared.running.Run.{Run}
 use Rattle.flt_flows.specs.declared.running.Taken.{Taken}
 
--- what comes of an entry: what is kept of it, and how far the journal was run after it; or it isn't enabled
+-- the outcome of an entry: what is kept of it, and how far the journal was run after it; or it isn't enabled
 pub data Entered : Type 0 where
   Goes : (taken : Taken) → (after : Course) → Entered
   Stops : Entered
