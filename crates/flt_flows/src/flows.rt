@@ -74,6 +74,7 @@ fn step_of(
 }
 
 /// All entries as steps.
+#[tactic(auto, unfolding(crate::specs::Flows::steps_from))]
 fn steps_of(
     alloc: Global,
     timeline: &Timeline<'_>,
