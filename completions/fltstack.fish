@@ -180,6 +180,8 @@ complete -c fltstack -n '__fltstack_after explain --states' -l states -x \
     -d 'How many states the search for runs of a FILE continues from at most'
 complete -c fltstack -n '__fltstack_after explain --journal' -l journal -x -a '(__fltstack_files .journal)' \
     -d 'Write the journal of the first finding that has one into this file'
+complete -c fltstack -n '__fltstack_after explain --runs' -l runs \
+    -d 'Add to the forms `lines` and `sarif` a run that breaks something because of each finding, where one is found'
 complete -c fltstack -n '__fltstack_after explain --strict' -l strict -d 'Exit with 1 where warnings are shown, as where something is found'
 complete -c fltstack -n '__fltstack_after explain' -l allow -x -a 'W00 W01 W02 W03 W04 W05 W06 W07' \
     -d 'Leave a kind of warning out, as `W03`'

@@ -195,6 +195,8 @@ runs=(
     "explain --journal /dev/null no_fast_io_broken.flt pass_through.flt"
     "explain --form sarif stream_context_broken.flt"
     "explain --form html stream_context_broken.flt pass_through.flt"
+    "explain --form lines --runs no_fast_io_broken.flt pass_through.flt"
+    "explain --form sarif --runs leaked_context.flt gone.flt"
     "explain warnings/w01_three_locks.flt"
     "explain --states 1 warnings/w01_turned_locks.flt"
     "explain c/ctx_broken.c c/kit.h"

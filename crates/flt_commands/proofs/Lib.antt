@@ -4,6 +4,7 @@ pub mod Drawing
 pub mod Ended
 pub mod Explaining
 pub mod Faults
+pub mod FindingRuns
 pub mod Firsts
 pub mod Formatting
 pub mod InTurn

@@ -12,6 +12,7 @@ pub mod Explain
 pub mod Extract
 pub mod Failure
 pub mod Fault
+pub mod FindingRuns
 pub mod Flaws
 pub mod Format
 pub mod Html

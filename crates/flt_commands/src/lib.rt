@@ -16,6 +16,7 @@ mod explained;
 mod extract;
 mod failure;
 mod fault;
+mod finding_runs;
 mod folders;
 mod format;
 mod host;

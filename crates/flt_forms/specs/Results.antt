@@ -12,7 +12,7 @@ use Rattle.flt_tree.specs.Names.{Text}
 use Rattle.flt_tree.specs.declared.filter.Position.{Position}
 use Rattle.json.specs.Token.{Token, begin_object, end_object, key}
 use Rattle.flt_forms.specs.Columns.{column_behind, column_of}
-use Rattle.flt_forms.specs.Fingerprints.{finding_key, numbered}
+use Rattle.flt_forms.specs.Fingerprints.{finding_key, fingerprint, numbered}
 use Rattle.flt_forms.specs.Members.{array_member, filled_member, number_member, object_member, string_member, text_member}
 use Rattle.flt_forms.specs.Rules.{of_rule}
 use Rattle.flt_forms.specs.declared.file.File.{File}
@@ -161,20 +161,24 @@ properties d =
     ++ (number_member (codes "point") d.finding.point ++ (text_member (codes "help") d.words.help.items
     ++ filled_member (codes "note") d.words.note.items)))
 
--- a finding of this fingerprint
-abbrev pub result_members : File → List ℕ → Detail → List Token
-result_members file print d =
+-- a finding of this fingerprint; the code flow of its run is the last
+abbrev pub result_members : File → List ℕ → List Token → Detail → List Token
+result_members file print run d =
     of_rule (Broken d.finding.rule) ++ (level ++ (message d.words.title.items ++ (locations file d.marks d.words.title.items
     ++ (array_member (codes "relatedLocations") (related file d.route.origin)
-    ++ (array_member (codes "codeFlows") (flows file d) ++ (fingerprints d.words.head.items d.words.subject.items print
+    ++ (array_member (codes "codeFlows") (flows file d ++ run) ++ (fingerprints d.words.head.items d.words.subject.items print
     ++ (properties d ++ not_suppressed)))))))
 
-abbrev pub result : File → List ℕ → Detail → List Token
-result file print d = item (result_members file print d)
+abbrev pub result : File → List ℕ → List Token → Detail → List Token
+result file print run d = item (result_members file print run d)
 
--- findings of a text in their order, each with its fingerprint
-abbrev pub results_of : File → List Detail → List Token
-results_of file details = numbered (finding_key file.lines) (result file) [] details
+-- a finding after those of these keys, with its fingerprint, and the run of its number
+abbrev pub next_result : File → (ℕ → List Token) → List (List ℕ) → Detail → List Token
+next_result file run before d = result file (fingerprint before (finding_key file.lines d)) (run (length before)) d
+
+-- findings of a text in their order, each with its fingerprint and its run
+abbrev pub results_of : File → (ℕ → List Token) → List Detail → List Token
+results_of file run details = numbered (finding_key file.lines) (next_result file run) [] details
 
 -- how to mend a fault of a text
 abbrev pub fault_properties : List ℕ → List Token

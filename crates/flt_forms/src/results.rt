@@ -2,9 +2,10 @@
 
 ghost use Rattle.std.specs.Prelude.{◌≡◌, ◌∷◌, ◌++◌, [], IfOk, codes, flat_map, length};
 ghost use Rattle.flt_forms.specs.Columns.{column_behind, column_of};
-ghost use Rattle.flt_forms.specs.Fingerprints.{finding_key, fingerprint};
+ghost use Rattle.flt_forms.specs.Fingerprints.{finding_key};
 ghost use Rattle.flt_forms.specs.Members.{Added, Adds, array_member, number_member};
 ghost use Rattle.flt_forms.specs.Results as spec;
+ghost use Rattle.flt_forms.specs.RunFlow.{flow_of, flows_in};
 
 use crate::columns::{column_behind, column_of};
 use crate::file::File;
@@ -14,6 +15,7 @@ use crate::members::{
     put_string, put_text,
 };
 use crate::rules::{Reported, put_of_rule};
+use crate::run_flow::{FileRuns, OwnFlow, put_run_flow};
 use crate::uri::Reference;
 use flt_details::{Detail, Maker, Marks, Stage, WayKind};
 use flt_places::{Lines, Region};
@@ -61,7 +63,11 @@ pub(crate) fn put_reference(
 }
 
 /// Writes a file, by its name and its number.
-fn put_artifact(alloc: Global, writer: &mut Writer, file: &File<'_>) -> Result<(), AllocError>
+pub(crate) fn put_artifact(
+    alloc: Global,
+    writer: &mut Writer,
+    file: &File<'_>,
+) -> Result<(), AllocError>
     ensures { Adds result writer.old writer.new (spec.artifact_location file.now) }
 {
     put_key(writer, "artifactLocation")?;
@@ -126,7 +132,7 @@ fn put_location(
 }
 
 /// Writes where a region begins and ends.
-fn put_whole_region(
+pub(crate) fn put_whole_region(
     writer: &mut Writer,
     name: &str,
     lines: &Lines<'_>,
@@ -403,19 +409,33 @@ fn put_own_flows(
     }
 }
 
-/// Writes the paths of a result.
+/// Writes the paths of a result, and its run.
+fn put_all_flows(
+    alloc: Global,
+    writer: &mut Writer,
+    file: &File<'_>,
+    own: OwnFlow<'_, '_>,
+    detail: &Detail,
+) -> Result<(), AllocError>
+    ensures { Adds result writer.old writer.new (spec.flows file.now detail.now ++ flow_of own.entry) }
+{
+    put_own_flows(alloc, writer, file, detail)?;
+    put_run_flow(alloc, writer, own)
+}
+
 fn put_flows(
     alloc: Global,
     writer: &mut Writer,
     file: &File<'_>,
+    own: OwnFlow<'_, '_>,
     detail: &Detail,
 ) -> Result<(), AllocError>
     ensures { Adds result writer.old writer.new
-        (array_member (codes "codeFlows") (spec.flows file.now detail.now)) }
+        (array_member (codes "codeFlows") (spec.flows file.now detail.now ++ flow_of own.entry)) }
 {
     put_key(writer, "codeFlows")?;
     open_array(writer)?;
-    put_own_flows(alloc, writer, file, detail)?;
+    put_all_flows(alloc, writer, file, own, detail)?;
     close_array(writer)
 }
 
@@ -512,17 +532,18 @@ fn put_result_members(
     alloc: Global,
     writer: &mut Writer,
     file: &File<'_>,
+    own: OwnFlow<'_, '_>,
     detail: &Detail,
     print: &str,
 ) -> Result<(), AllocError>
-    ensures { Adds result writer.old writer.new (spec.result_members file.now print.now detail.now) }
+    ensures { Adds result writer.old writer.new (spec.result_members file.now print.now (flow_of own.entry) detail.now) }
 {
     put_of_rule(alloc, writer, Reported::Broken(detail.finding.rule))?;
     put_level(writer)?;
     put_message(alloc, writer, &detail.words.title)?;
     put_marked_locations(alloc, writer, file, detail.marks, &detail.words.title)?;
     put_related(alloc, writer, file, &detail.route.origin)?;
-    put_flows(alloc, writer, file, detail)?;
+    put_flows(alloc, writer, file, own, detail)?;
     put_fingerprints(
         alloc,
         writer,
@@ -539,45 +560,56 @@ fn put_result(
     alloc: Global,
     writer: &mut Writer,
     file: &File<'_>,
+    own: OwnFlow<'_, '_>,
     detail: &Detail,
     print: &str,
 ) -> Result<(), AllocError>
-    ensures { Adds result writer.old writer.new (spec.result file.now print.now detail.now) }
+    ensures { Adds result writer.old writer.new (spec.result file.now print.now (flow_of own.entry) detail.now) }
 {
     open_object(writer)?;
-    put_result_members(alloc, writer, file, detail, print)?;
+    put_result_members(alloc, writer, file, own, detail, print)?;
     close_object(writer)
 }
 
-/// Writes a finding with its fingerprint, after findings with the keys `before`, to which its key is added.
+/// Writes a finding of the text of a number with its fingerprint and its run, after findings with the keys `before`, to which its key is
+/// added.
 fn put_next_result(
     alloc: Global,
     writer: &mut Writer,
     file: &File<'_>,
+    runs: FileRuns<'_, '_>,
+    source: usize,
     before: &mut Items<Items<u8>>,
     detail: &Detail,
 ) -> Result<(), AllocError>
     ensures { IfOk result (λ _. (before.new ≡ before.old ++ finding_key file.now.lines detail.now ∷ []) × Added writer.old writer.new
-        (spec.result file.now (fingerprint before.old (finding_key file.now.lines detail.now)) detail.now)) }
+        (spec.next_result file.now (flows_in runs.entry source) before.old detail.now)) }
 {
+    let own = OwnFlow {
+        runs,
+        source,
+        finding: before.len(),
+    };
     let key = keys::finding_key(alloc, &file.lines, detail)?;
     let print = keys::next_fingerprint(alloc, before, key.as_str())?;
-    put_result(alloc, writer, file, detail, print.as_str())?;
+    put_result(alloc, writer, file, own, detail, print.as_str())?;
     Ok(())
 }
 
-/// Writes findings, in their order.
+/// Writes findings of the text of a number, in their order.
 pub(crate) fn put_results(
     alloc: Global,
     writer: &mut Writer,
     file: &File<'_>,
+    runs: FileRuns<'_, '_>,
+    source: usize,
     details: &[Detail],
 ) -> Result<(), AllocError>
-    ensures { Adds result writer.old writer.new (spec.results_of file.now details.now) }
+    ensures { Adds result writer.old writer.new (spec.results_of file.now (flows_in runs.entry source) details.now) }
 {
     let mut before = Items::new(alloc);
     for detail in details {
-        put_next_result(alloc, writer, file, &mut before, detail)?;
+        put_next_result(alloc, writer, file, runs, source, &mut before, detail)?;
     }
     Ok(())
 }

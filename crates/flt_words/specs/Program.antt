@@ -65,6 +65,10 @@ states_rule = record (new_rule (codes "states")) {
 abbrev pub written_rule : Rule
 written_rule = record (new_rule (codes "journal")) { long = Some (codes "journal"); value_names = 1 }
 
+-- `--runs`
+abbrev pub runs_rule : Rule
+runs_rule = record (new_rule (codes "runs")) { long = Some (codes "runs"); action = Some SetTrue }
+
 -- `--strict`
 abbrev pub strict_rule : Rule
 strict_rule = record (new_rule (codes "strict")) { long = Some (codes "strict"); action = Some SetTrue }
@@ -134,11 +138,11 @@ replay_app = with_rule (with_rule (with_rule (with_rule bare_replay_app timeline
 abbrev pub bare_explain_app : App
 bare_explain_app = new_app (codes "explain")
 
--- `explain [--form FORM] [--color WHEN] [--states N] [--journal FILE] [--strict] [--allow KIND].. FILE..`
+-- `explain [--form FORM] [--color WHEN] [--states N] [--journal FILE] [--runs] [--strict] [--allow KIND].. FILE..`
 abbrev pub explain_app : App
 explain_app =
-    with_rule (with_rule (with_rule (with_rule (with_rule (with_rule (with_rule bare_explain_app form_rule) colour_rule) states_rule)
-    written_rule) strict_rule) allow_rule) texts_rule
+    with_rule (with_rule (with_rule (with_rule (with_rule (with_rule (with_rule (with_rule bare_explain_app form_rule) colour_rule)
+    states_rule) written_rule) runs_rule) strict_rule) allow_rule) texts_rule
 
 abbrev pub bare_extract_app : App
 bare_extract_app = new_app (codes "extract")

@@ -14,7 +14,7 @@ use Rattle.clap.specs.declared.error.kind.ErrorKind.TheVariants.{OutOfMemory}
 use Rattle.flt_words.specs.Program.{program_app}
 use Rattle.flt_pages.specs.Pages.{has_page}
 use Rattle.flt_words.specs.declared.request.Form.{Form}
-use Rattle.flt_words.specs.declared.request.Form.TheVariants.{Html, Human, Lines, Sarif, Short}
+use Rattle.flt_words.specs.declared.request.Form.TheVariants.{Html, Human, Lines, LinesWithRuns, Sarif, SarifWithRuns, Short}
 use Rattle.flt_words.specs.declared.request.FormatMode.TheVariants.{Print, Check as CheckOnly, Write}
 use Rattle.flt_words.specs.declared.request.Part.{Part}
 use Rattle.flt_words.specs.declared.request.Part.TheVariants.{Source, User, Inf}
@@ -66,8 +66,26 @@ form_named name =
     else (if bytes_eq name (codes "short") then Some Short else None))))
 
 -- the form behind `--form`, that for people where there is none
+abbrev pub named_form : List Row → Option Form
+named_form rows = option_map_or form_named (first_of (codes "form") rows) (Some Human)
+
+-- a form with runs; those for people have them always, and the short one never
+abbrev pub form_with_runs : Form → Form
+form_with_runs Html = Html
+form_with_runs Human = Human
+form_with_runs Short = Short
+form_with_runs Lines = LinesWithRuns
+form_with_runs LinesWithRuns = LinesWithRuns
+form_with_runs Sarif = SarifWithRuns
+form_with_runs SarifWithRuns = SarifWithRuns
+
+-- the same where they are asked for
+abbrev pub with_runs : Bool → Form → Form
+with_runs is_asked form = if is_asked then form_with_runs form else form
+
+-- the form behind `--form`, with runs behind `--runs`
 abbrev pub form_of : List Row → Option Form
-form_of rows = option_map_or form_named (first_of (codes "form") rows) (Some Human)
+form_of rows = option_map (with_runs (is_set (codes "runs") rows)) (named_form rows)
 
 -- when there are colours, by its name
 abbrev pub colour_named : Text → Option Colour

@@ -15,6 +15,10 @@ pub enum Form {
     Sarif,
     /// One line a finding, in the form of compilers.
     Short,
+    /// A JSON object a line, with the runs of findings.
+    LinesWithRuns,
+    /// SARIF 2.1.0, with the runs of findings.
+    SarifWithRuns,
 }
 
 /// When reports for people have the colours of a terminal.

@@ -27,19 +27,19 @@ pub const DEFAULT_STATES: u32 = 40_000;
 
 /// The error if no form has the given name.
 const NO_FORM: &str =
-    "error: `--form` takes `human`, `html`, `short`, `lines` or `sarif`\n\nUsage: fltstack explain [--form <FORM>] [--color <WHEN>] [--states <N>] [--journal <JOURNAL>] [--strict] [--allow <KIND>]... <FILE>...\n\nFor more information, try '--help'.\n";
+    "error: `--form` takes `human`, `html`, `short`, `lines` or `sarif`\n\nUsage: fltstack explain [--form <FORM>] [--color <WHEN>] [--states <N>] [--journal <JOURNAL>] [--runs] [--strict] [--allow <KIND>]... <FILE>...\n\nFor more information, try '--help'.\n";
 
 /// The error if no time of colours has the given name.
 const NO_COLOUR: &str =
-    "error: `--color` takes `auto`, `always` or `never`\n\nUsage: fltstack explain [--form <FORM>] [--color <WHEN>] [--states <N>] [--journal <JOURNAL>] [--strict] [--allow <KIND>]... <FILE>...\n\nFor more information, try '--help'.\n";
+    "error: `--color` takes `auto`, `always` or `never`\n\nUsage: fltstack explain [--form <FORM>] [--color <WHEN>] [--states <N>] [--journal <JOURNAL>] [--runs] [--strict] [--allow <KIND>]... <FILE>...\n\nFor more information, try '--help'.\n";
 
 /// The error if no kind of warning has the given name.
 const NO_KIND: &str =
-    "error: `--allow` takes `W00` to `W07`\n\nUsage: fltstack explain [--form <FORM>] [--color <WHEN>] [--states <N>] [--journal <JOURNAL>] [--strict] [--allow <KIND>]... <FILE>...\n\nFor more information, try '--help'.\n";
+    "error: `--allow` takes `W00` to `W07`\n\nUsage: fltstack explain [--form <FORM>] [--color <WHEN>] [--states <N>] [--journal <JOURNAL>] [--runs] [--strict] [--allow <KIND>]... <FILE>...\n\nFor more information, try '--help'.\n";
 
 /// The error if a journal would be written to the standard input.
 const NO_JOURNAL: &str =
-    "error: `--journal` takes the name of a file\n\nUsage: fltstack explain [--form <FORM>] [--color <WHEN>] [--states <N>] [--journal <JOURNAL>] [--strict] [--allow <KIND>]... <FILE>...\n\nFor more information, try '--help'.\n";
+    "error: `--journal` takes the name of a file\n\nUsage: fltstack explain [--form <FORM>] [--color <WHEN>] [--states <N>] [--journal <JOURNAL>] [--runs] [--strict] [--allow <KIND>]... <FILE>...\n\nFor more information, try '--help'.\n";
 
 /// The error if a picture would be written to the standard input.
 const NO_PICTURE: &str =
@@ -139,12 +139,42 @@ fn form_named(name: &str) -> Option<Form>
 }
 
 /// The form that `--form` names, if there is such a form. Without the option it is the form for people.
-fn form_of(matches: &ArgMatches) -> Option<Form>
-    ensures { result ≡ spec.form_of (rows_of (found_of matches.now)) }
+fn named_form(matches: &ArgMatches) -> Option<Form>
+    ensures { result ≡ spec.named_form (rows_of (found_of matches.now)) }
 {
     match matches.get_str("form") {
         Some(name) => form_named(name),
         None => Some(Form::Human),
+    }
+}
+
+/// A form with runs. Those for people have them always, and the short one never.
+fn form_with_runs(form: Form) -> Form
+    ensures { result ≡ spec.form_with_runs form }
+{
+    match form {
+        Form::Html => Form::Html,
+        Form::Human => Form::Human,
+        Form::Short => Form::Short,
+        Form::Lines | Form::LinesWithRuns => Form::LinesWithRuns,
+        Form::Sarif | Form::SarifWithRuns => Form::SarifWithRuns,
+    }
+}
+
+/// A form, with runs if they are requested.
+fn with_runs(is_asked: bool, form: Form) -> Form
+    ensures { result ≡ spec.with_runs is_asked form }
+{
+    if is_asked { form_with_runs(form) } else { form }
+}
+
+/// The form that `--form` and `--runs` name, if there is such a form.
+fn form_of(matches: &ArgMatches) -> Option<Form>
+    ensures { result ≡ spec.form_of (rows_of (found_of matches.now)) }
+{
+    match named_form(matches) {
+        Some(form) => Some(with_runs(is_set(matches, "runs"), form)),
+        None => None,
     }
 }
 
