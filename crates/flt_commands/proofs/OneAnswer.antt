@@ -17,7 +17,7 @@ use Rattle.flt_commands.specs.Names.{names_of}
 use Rattle.flt_commands.specs.Replay.{IsReplayed}
 use Rattle.flt_commands.specs.Single.{AreSame, AskForOne, GivesOne, HasOneAnswer, SaysOne, seen, told}
 use Rattle.flt_commands.specs.Thin.{IsThinned}
-use Rattle.flt_words.specs.Request.{Asked, Check, Analyse, Thin, Run, Replay, Show, Explain, Extract, Format, Pages, Emit, Compare}
+use Rattle.flt_words.specs.Request.{Asked, Check, Analyse, Thin, Run, Replay, Show, Explain, Extract, Format, Pages, Emit, EmitInto, Compare}
 use Rattle.flt_commands.specs.declared.answer.Answer.{Answer}
 use Rattle.flt_commands.specs.declared.failure.Failure.{Failure}
 use Rattle.flt_commands.specs.declared.failure.Failure.TheVariants.{OutOfMemory}
@@ -90,6 +90,7 @@ module _ (gives : Giving) (one : GivesOne gives) where
   gives_one (Format mode files) = one
   gives_one (Pages names) = one
   gives_one (Emit part file cert) = but_once cert
+  gives_one (EmitInto folder file cert) = but_once cert
   gives_one (Compare files) = one
 
 module _ (checked : SaysOne IsChecked) (analysed : SaysOne IsAnalysed) (thinned : SaysOne IsThinned) (replayed : SaysOne IsReplayed)
@@ -117,6 +118,7 @@ module _ (checked : SaysOne IsChecked) (analysed : SaysOne IsAnalysed) (thinned 
   said_once gives shown showing (Format modes.Write files) texts more a b has one x y = absurd has
   said_once gives shown showing (Pages names) texts more a b has one x y = absurd has
   said_once gives shown showing (Emit part file cert) texts more a b has one x y = absurd has
+  said_once gives shown showing (EmitInto folder file cert) texts more a b has one x y = absurd has
   said_once gives shown showing (Compare files) texts more a b has one x y =
       says_once gives one (names_of (Compare files)) (IsCompared files) (compares_once files) texts more a b x y
 

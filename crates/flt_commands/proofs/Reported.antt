@@ -5,6 +5,7 @@ use Rattle.flt_syntax.specs.TextFails.{SpelledFailsNowhere}
 use Rattle.flt_commands.proofs.Covered.{Law, LawOfRuns, clean_of}
 use Rattle.flt_commands.specs.Commands.{Answers, AnswersFor, AnswersSomehow, AreThose, HoldsBack, IsAnswered, IsBefore, IsCutShort, IsKept, IsKeptAs, IsRemarked, NamesNoJournal, IsRemarkedAfter, IsReported, IsSaid, giving_for, texts_in}
 use Rattle.flt_commands.specs.Drawn.{IsDrawnFor}
+use Rattle.flt_commands.specs.EmitInto.{ArePut, IsEmittedInto, remark_in}
 use Rattle.flt_commands.specs.Explain.{ArePaged, IsSpelledAs, IsWritten}
 use Rattle.flt_commands.specs.Format.{AreChanged}
 use Rattle.flt_notes.specs.Noted.{first_journal}
@@ -14,13 +15,13 @@ use Rattle.flt_commands.specs.Remarks.{IsFound, unread_in, unread_lines}
 use Rattle.flt_commands.specs.Answer.{status_of, told_status}
 use Rattle.flt_forms.specs.declared.unread.UnreadFile.{UnreadFile}
 use Rattle.flt_model.specs.JournalText.{Entries}
-use Rattle.flt_words.specs.Request.{Asked, Choice, Explain, Format, Show}
+use Rattle.flt_words.specs.Request.{Asked, Choice, EmitInto, Explain, Format, Show}
 use Rattle.flt_words.specs.Words.{asked}
 use Rattle.flt_words.specs.declared.request.Colour.{Colour}
 use Rattle.flt_words.specs.declared.request.Form.{Form}
 use Rattle.flt_words.specs.declared.request.FormatMode.TheVariants.{Write}
 use Rattle.flt_commands.specs.declared.answer.Answer.{Answer}
-use Rattle.flt_commands.specs.declared.answer.Answer.TheVariants.{Accepted, Refused, Certificate, Judged, Explained, Extracted, Formatted, Pages, Ran, FileRefused, Shown, Emitted, NotEmitted, Compared}
+use Rattle.flt_commands.specs.declared.answer.Answer.TheVariants.{Accepted, Refused, Certificate, Judged, Explained, Extracted, Formatted, Pages, Ran, FileRefused, Shown, Emitted, NotEmitted, EmittedInto, Compared}
 use Rattle.flt_commands.specs.declared.failure.Failure.{Failure}
 use Rattle.flt_commands.specs.declared.fault.CommandFault.{CommandFault}
 use Rattle.flt_commands.specs.declared.fault.CommandFault.TheVariants.{OutOfMemory}
@@ -98,6 +99,7 @@ unread_none (Shown rows v) good = refl
 unread_none (FileRefused n f) good = refl
 unread_none (Emitted bytes) good = refl
 unread_none (NotEmitted why) good = refl
+unread_none (EmittedInto driver) good = refl
 unread_none (Compared why) good = refl
 
 -- of what `explain` says, where no file is named for a journal
@@ -134,6 +136,13 @@ module _ (words : List (List ℕ)) (request : Asked) (asks : Some request ≡ as
   pub held_asked : {O : Type 0} (old new : O) → (HoldsBack (Some request) → new ≡ old) → HoldsBack (asked words) → new ≡ old
   held_asked old new held = rw (← asks) held
 
+-- where a folder is named for a driver, nothing is said of lines beside the answer
+pub never_quiet : (words : List (List ℕ)) (folder file : Text) (cert : Option Text) → Some (EmitInto folder file cert) ≡ asked words →
+    (result : Result Report CommandFault) →
+    IfOk result (λ report. report.status ≢ 2 → NamesNoJournal (asked words) → report.remark.items ≡ [])
+never_quiet words folder file cert asks (Ok report) = rw (← asks) (λ good none. absurd none)
+never_quiet words folder file cert asks (Err e) = tt
+
 -- ---- where it isn't known whether what is written stays as it was
 
 spelled_anyway : (written : Text → Text → Type 0) (untouched : Type 0) (name : Text) (journal : Option Entries) →
@@ -152,6 +161,11 @@ changed_anyway : (written : Text → Text → Type 0) (untouched : Type 0) (answ
 changed_anyway written untouched (Formatted mode found) is = (is.0, λ none. tt)
 changed_anyway written untouched _ is = tt
 
+put_anyway : (written : Text → Text → Type 0) (untouched : Type 0) (folder : Text) (texts : List Text) (answer : Answer) →
+    ArePut written untouched folder texts answer → ArePut written ⊤ folder texts answer
+put_anyway written untouched folder texts (EmittedInto driver) is = is
+put_anyway written untouched folder texts _ is = tt
+
 kept_anyway : (written : Text → Text → Type 0) (untouched : Type 0) (request : Asked) (texts : List Text) (said : Result Answer Failure) →
     IsKept written untouched request texts said → IsKept written ⊤ request texts said
 kept_anyway written untouched (Explain form colour states journal warnings files) texts (Ok answer) is =
@@ -160,6 +174,8 @@ kept_anyway written untouched (Explain form colour states journal warnings files
 kept_anyway written untouched (Show timeline (Some picture) journal files) texts said is = is
 kept_anyway written untouched (Format Write files) texts (Ok answer) is = changed_anyway written untouched answer is
 kept_anyway written untouched (Format Write files) texts (Err f) is = tt
+kept_anyway written untouched (EmitInto folder file cert) texts (Ok answer) is = put_anyway written untouched folder texts answer is
+kept_anyway written untouched (EmitInto folder file cert) texts (Err f) is = tt
 kept_anyway written untouched _ texts said is = tt
 
 answered_anyway : (shown : Bool) (gives : Giving) (written : Text → Text → Type 0) (untouched : Type 0) (request : Option Asked) (report : Report) →

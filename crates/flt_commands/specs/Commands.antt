@@ -11,6 +11,7 @@ use Rattle.flt_commands.specs.Clean.{IsClean}
 use Rattle.flt_commands.specs.Compare.{IsCompared}
 use Rattle.flt_commands.specs.Drawn.{IsDrawn}
 use Rattle.flt_commands.specs.Emit.{IsEmitted}
+use Rattle.flt_commands.specs.EmitInto.{ArePut, IsEmittedInto, remark_in}
 use Rattle.flt_commands.specs.Explain as explain
 use Rattle.flt_commands.specs.Explain.{ArePaged, IsExplained, IsWritten, look_in}
 use Rattle.flt_commands.specs.Extract.{IsExtracted}
@@ -23,7 +24,7 @@ use Rattle.flt_commands.specs.Replay.{IsReplayed, IsShown}
 use Rattle.flt_commands.specs.Running.{IsRan}
 use Rattle.flt_commands.specs.Thin.{IsThinned}
 use Rattle.flt_model.specs.JournalText.{Entries, spelling}
-use Rattle.flt_words.specs.Request.{Asked, Check, Analyse, Thin, Run, Replay, Show, Explain, Extract, Format, Pages, Emit, Compare}
+use Rattle.flt_words.specs.Request.{Asked, Check, Analyse, Thin, Run, Replay, Show, Explain, Extract, Format, Pages, Emit, EmitInto, Compare}
 use Rattle.flt_words.specs.Words.{asked}
 use Rattle.flt_words.specs.declared.request.FormatMode.TheVariants.{Write}
 use Rattle.flt_commands.specs.declared.answer.Answer.{Answer}
@@ -44,6 +45,7 @@ giving_for (Replay journal files) = gives_but (Some journal)
 giving_for (Show timeline picture journal files) = gives_but (Some journal)
 giving_for (Explain form colour states journal warnings files) = gives_annotations
 giving_for (Emit part file cert) = gives_but cert
+giving_for (EmitInto folder file cert) = gives_but cert
 giving_for request = λ gives. gives
 
 -- what is said of what is asked for, an answer or why there is none, where the names give these texts; `explain` alone says something of
@@ -61,6 +63,7 @@ IsSaid shown gives (Extract of_map files) = Says gives (names_of (Extract of_map
 IsSaid shown gives (Format mode files) = IsFormatSaid gives mode files
 IsSaid shown gives (Pages names) = Says gives (names_of (Pages names)) (λ texts. ArePaged names)
 IsSaid shown gives (Emit part file cert) = Says gives (names_of (Emit part file cert)) (IsEmitted part)
+IsSaid shown gives (EmitInto folder file cert) = Says gives (names_of (EmitInto folder file cert)) (IsEmittedInto folder)
 IsSaid shown gives (Compare files) = Says gives (names_of (Compare files)) (IsCompared files)
 
 -- ---- how that is printed
@@ -80,12 +83,13 @@ abbrev pub IsRemarkedAfter : List ℕ → Result Answer Failure → List ℕ →
 IsRemarkedAfter before (Ok answer) bytes = bytes ≡ before ++ remark (ending_of answer)
 IsRemarkedAfter before (Err f) bytes = bytes ≡ before ++ (failure_line f ++ 10 ∷ [])
 
--- what may stand before it: which files of `explain` and `format` aren't read; why a file isn't written or has no layout; and that no run
--- is found
+-- what may stand before it: which files of `explain` and `format` aren't read; why a file isn't written or has no layout; that no run
+-- is found; and that a user's header is as it was
 abbrev pub IsBefore : Asked → Result Answer Failure → List ℕ → Type 0
 IsBefore (Explain form colour states journal warnings files) said bytes = IsFound journal said bytes
 IsBefore (Show timeline picture journal files) said bytes = OnOk said (bytes ≡ [])
 IsBefore (Format mode files) said bytes = IfOk said (λ answer. bytes ≡ remarks_in answer)
+IsBefore (EmitInto folder file cert) said bytes = IfOk said (λ answer. bytes ≡ remark_in answer)
 IsBefore request said bytes = bytes ≡ []
 
 -- all that stands on the standard error
@@ -106,9 +110,10 @@ IsCutShort gives (Some (Explain form colour states journal warnings files)) old 
     explain.IsCutShort (gives_annotations gives) form (options_of warnings) states files old new
 IsCutShort gives request old new = Appends old new []
 
--- no file is named for the journal of a finding
+-- no file is named for the journal of a finding, and no folder for a driver
 abbrev pub NamesNoJournal : Option Asked → Type 0
 NamesNoJournal (Some (Explain form colour states (Some journal) warnings files)) = ⊥
+NamesNoJournal (Some (EmitInto folder file cert)) = ⊥
 NamesNoJournal request = Unit {0}
 
 -- ---- all of it
@@ -138,6 +143,7 @@ abbrev pub IsKept : (Text → Text → Type 0) → Type 0 → Asked → List Tex
 IsKept written untouched (Explain form colour states journal warnings files) texts said = IfOk said (IsWritten written untouched journal)
 IsKept written untouched (Show timeline (Some picture) journal files) texts said = IfOk said (IsDrawn written picture (drop 1 texts))
 IsKept written untouched (Format Write files) texts said = IfOk said (AreChanged written untouched)
+IsKept written untouched (EmitInto folder file cert) texts said = IfOk said (ArePut written untouched folder texts)
 IsKept written untouched request texts said = untouched
 
 -- the report on what is asked for. All of it speaks of the same texts, which are the report's: they are what the names give; this is said of

@@ -8,6 +8,7 @@ pub mod Commands
 pub mod Compare
 pub mod Drawn
 pub mod Emit
+pub mod EmitInto
 pub mod Explain
 pub mod Extract
 pub mod Failure

@@ -13,6 +13,7 @@ use crate::clean::{covered_texts_break_nothing, driven_texts_break_nothing};
 use crate::compare::compare_files;
 use crate::deadlock::tell_deadlock;
 use crate::emit::emit_files;
+use crate::emit_into::{emit_files_into, into_remark};
 use crate::explain::{Asked, pages_of};
 use crate::explained::report_on_files;
 use crate::extract::extract_files;
@@ -213,6 +214,20 @@ fn report_of<'a, R: Threads + Wait + Sync, I: Inputs, P: Pictures, O: Sink, W: W
                 &mut contents,
             );
             report_on(alloc, Vec::new(alloc), said, contents)
+        }
+        Request::EmitInto { folder, file, cert } => {
+            let whole = cert;
+            let said = emit_files_into(
+                alloc,
+                &Texts { inputs, whole },
+                folder,
+                file,
+                cert,
+                pictures,
+                &mut contents,
+            );
+            let before = into_remark(alloc, &said)?;
+            report_on(alloc, before, said, contents)
         }
         Request::Compare { files } => {
             let said = compare_files(alloc, inputs, files.as_slice(), &mut contents);

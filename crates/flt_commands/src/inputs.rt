@@ -66,6 +66,12 @@ pub trait Pictures {
         ensures done { IfOk result (λ done. OnOk done (written self.new name.now bytes.now)) }
         // What was written before is written still.
         ensures kept { (other held : List ℕ) → written self.old other held → written self.new other held };
+
+    /// Writes these bytes as a new file of this name; false where something of this name is there, which is as it was then. Why that
+    /// couldn't be done.
+    fn write_new(&mut self, name: &str, bytes: &[u8]) -> Result<bool, Unwritten>
+        ensures done { IfOk result (λ is_new. is_new ≡ true → written self.new name.now bytes.now) }
+        ensures kept { (other held : List ℕ) → written self.old other held → written self.new other held };
 }
 
 /// The greatest number of bytes of an input.

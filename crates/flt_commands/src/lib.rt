@@ -11,6 +11,7 @@ mod commands;
 mod compare;
 mod deadlock;
 mod emit;
+mod emit_into;
 mod explain;
 mod explained;
 mod extract;

@@ -137,6 +137,23 @@ fn replace<S: System>(
     Ok(Err(Unwritten::Refused(fault)))
 }
 
+/// Writes these bytes into a new file of a name, or leaves none. False where something of this name is there.
+fn add_new<S: System>(system: &S, name: &str, bytes: &[u8]) -> Result<bool, Unwritten>
+    ensures { IfOk result (λ is_new. is_new ≡ true → spec.IsFilled (S.makes system.now) name.now bytes.now) }
+{
+    let Some(file) = system.create(name)? else {
+        return Ok(false);
+    };
+    let mut file = file;
+    match fill(&mut file, bytes) {
+        Ok(()) => Ok(true),
+        Err(why) => {
+            system.discard(name);
+            Err(why)
+        }
+    }
+}
+
 /// The files of a system by their names, and its standard input as `-`.
 #[derive(Drop)]
 pub struct Named<'a, S: System> {
@@ -223,5 +240,9 @@ impl<S: System> Pictures for Named<'_, S> {
             Ok(Place::File) => replace(alloc, self.system, name, bytes),
             Err(why) => Ok(Err(why)),
         }
+    }
+
+    fn write_new(&mut self, name: &str, bytes: &[u8]) -> Result<bool, Unwritten> {
+        add_new(self.system, name, bytes)
     }
 }
