@@ -8,6 +8,7 @@ use Rattle.flt_commands.proofs.OneLayout.{layouts_said_once}
 use Rattle.flt_commands.proofs.OneReading.{says_once}
 use Rattle.flt_commands.specs.Analyse.{IsAnalysed}
 use Rattle.flt_commands.specs.Answer.{output, status_of}
+use Rattle.flt_commands.specs.Attempts.{Attempt}
 use Rattle.flt_commands.specs.Check.{IsChecked}
 use Rattle.flt_commands.specs.Commands.{AnswersFor, IsReported, IsSaid, giving_for}
 use Rattle.flt_commands.specs.Compare.{IsCompared}
@@ -123,12 +124,12 @@ module _ (checked : SaysOne IsChecked) (analysed : SaysOne IsAnalysed) (thinned 
       says_once gives one (names_of (Compare files)) (IsCompared files) (compares_once files) texts more a b x y
 
   -- one thing is printed at most, with one exit status
-  pub printed_once : (gives : Giving) (written others : Text → Text → Type 0) (untouched kept : Type 0) (shown showing : Bool) (request : Option Asked)
-      (r s : Report) →
-      AskForOne request → GivesOne gives → AnswersFor shown gives written untouched request r → AnswersFor showing gives others kept request s →
+  pub printed_once : (gives : Giving) (written others : Text → Text → Type 0) (does did : List Attempt → Type 0) (shown showing : Bool)
+      (request : Option Asked) (r s : Report) →
+      AskForOne request → GivesOne gives → AnswersFor shown gives written does request r → AnswersFor showing gives others did request s →
       (r.output.items ≡ s.output.items) × (r.status ≡ s.status)
-  printed_once gives written others untouched kept shown showing None r s has one x y = (x.0.0 ∙ sym y.0.0, x.0.1 ∙ sym y.0.1)
-  printed_once gives written others untouched kept shown showing (Some request) r s has one x y =
+  printed_once gives written others does did shown showing None r s has one x y = (x.0.0 ∙ sym y.0.0, x.0.1 ∙ sym y.0.1)
+  printed_once gives written others does did shown showing (Some request) r s has one x y =
       reported_once r.output.items s.output.items r.status s.status x.said y.said
       (said_once (giving_for request gives) shown showing request x.texts y.texts x.said y.said has (gives_one gives one request) x.is y.is)
       x.reported y.reported

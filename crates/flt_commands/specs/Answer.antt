@@ -12,6 +12,7 @@ use Rattle.flt_model.specs.declared.verdict.Verdict.{Verdict}
 use Rattle.flt_model.specs.declared.verdict.Verdict.TheVariants.{Legal, NotARun, Breaks}
 use Rattle.flt_model.specs.declared.verdict.Violation.{Violation}
 use Rattle.flt_model.specs.declared.verdict.Violation.TheVariants.{V1, V2, V3, V4, V5, V6, V7, V8}
+use Rattle.flt_commands.specs.Driver.{driver_status}
 use Rattle.flt_commands.specs.Outcomes.{files_status, printed}
 use Rattle.flt_commands.specs.declared.failure.Failure.{Failure}
 use Rattle.flt_commands.specs.declared.answer.Answer.{Answer}
@@ -130,7 +131,7 @@ status_of (Shown rows Legal) = 0
 status_of (Shown rows _) = 1
 status_of (Emitted bytes) = 0
 status_of (NotEmitted why) = 1
-status_of (EmittedInto driver) = 0
+status_of (EmittedInto driver) = driver_status driver.outcome
 status_of (Compared reports) = compared_status reports.items
 
 -- how the run ended of which an answer is the journal; all other answers are whole

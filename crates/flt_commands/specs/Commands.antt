@@ -6,6 +6,7 @@ use Rattle.flt_commands.specs.Allowed.{options_of}
 use Rattle.flt_commands.specs.Analyse.{IsAnalysed}
 use Rattle.flt_commands.specs.Annotated.{gives_annotations}
 use Rattle.flt_commands.specs.Answer.{ending_of, output, remark, status_of}
+use Rattle.flt_commands.specs.Attempts.{Attempt}
 use Rattle.flt_commands.specs.Check.{IsChecked}
 use Rattle.flt_commands.specs.Clean.{IsClean}
 use Rattle.flt_commands.specs.Compare.{IsCompared}
@@ -84,12 +85,12 @@ IsRemarkedAfter before (Ok answer) bytes = bytes ≡ before ++ remark (ending_of
 IsRemarkedAfter before (Err f) bytes = bytes ≡ before ++ (failure_line f ++ 10 ∷ [])
 
 -- what may stand before it: which files of `explain` and `format` aren't read; why a file isn't written or has no layout; that no run
--- is found; and that a user's header is as it was
+-- is found; and which files of a driver are as they were or aren't written
 abbrev pub IsBefore : Asked → Result Answer Failure → List ℕ → Type 0
 IsBefore (Explain form colour states journal warnings files) said bytes = IsFound journal said bytes
 IsBefore (Show timeline picture journal files) said bytes = OnOk said (bytes ≡ [])
 IsBefore (Format mode files) said bytes = IfOk said (λ answer. bytes ≡ remarks_in answer)
-IsBefore (EmitInto folder file cert) said bytes = IfOk said (λ answer. bytes ≡ remark_in answer)
+IsBefore (EmitInto folder file cert) said bytes = bytes ≡ remark_in said
 IsBefore request said bytes = bytes ≡ []
 
 -- all that stands on the standard error
@@ -137,19 +138,19 @@ AreThose (Show timeline picture journal files) report texts said =
 AreThose request report texts said = texts ≡ texts_in report
 
 -- where a file is named for it, the journal of the first finding that has one, or the picture of the journal that is shown, is written
--- there; where layouts are written, each goes into its file; where no file is named for a picture or a journal, and no layout is written,
--- all that is written stays as it was
-abbrev pub IsKept : (Text → Text → Type 0) → Type 0 → Asked → List Text → Result Answer Failure → Type 0
-IsKept written untouched (Explain form colour states journal warnings files) texts said = IfOk said (IsWritten written untouched journal)
-IsKept written untouched (Show timeline (Some picture) journal files) texts said = IfOk said (IsDrawn written picture (drop 1 texts))
-IsKept written untouched (Format Write files) texts said = IfOk said (AreChanged written untouched)
-IsKept written untouched (EmitInto folder file cert) texts said = IfOk said (ArePut written untouched folder texts)
-IsKept written untouched request texts said = untouched
+-- there; where layouts are written, each goes into its file; a driver's parts go into its folder; where no file is named for a picture or a
+-- journal, and no layout and no driver is written, nothing is done, and all that is written stays as it was
+abbrev pub IsKept : (Text → Text → Type 0) → (List Attempt → Type 0) → Asked → List Text → Result Answer Failure → Type 0
+IsKept written does (Explain form colour states journal warnings files) texts said = IfOk said (IsWritten written (does []) journal)
+IsKept written does (Show timeline (Some picture) journal files) texts said = IfOk said (IsDrawn written picture (drop 1 texts))
+IsKept written does (Format Write files) texts said = IfOk said (AreChanged written (does []))
+IsKept written does (EmitInto folder file cert) texts said = ArePut written does folder texts said
+IsKept written does request texts said = does []
 
 -- the report on what is asked for. All of it speaks of the same texts, which are the report's: they are what the names give; this is said of
 -- them; that is what the report has for the standard output, for the exit status and for the standard error; with the status 0 the filters
 -- that they spell break nothing; and what is written for it into a file, or that all that is written stays as it was
-pub record IsAnswered (shown : Bool) (gives : Giving) (written : Text → Text → Type 0) (untouched : Type 0) (request : Asked)
+pub record IsAnswered (shown : Bool) (gives : Giving) (written : Text → Text → Type 0) (does : List Attempt → Type 0) (request : Asked)
     (report : Report) : Type 0 where
   pub said : Result Answer Failure
   pub texts : List Text
@@ -158,16 +159,16 @@ pub record IsAnswered (shown : Bool) (gives : Giving) (written : Text → Text �
   pub reported : IsReported said report.output.items report.status
   pub remarked : IsRemarked request said report.remark.items
   pub clean : report.status ≡ 0 → IsClean request texts
-  pub kept : IsKept written untouched request texts said
+  pub kept : IsKept written does request texts said
 
 -- the report on a command line; of words that ask for nothing there is a text about their use
-abbrev pub AnswersFor : Bool → Giving → (Text → Text → Type 0) → Type 0 → Option Asked → Report → Type 0
-AnswersFor shown gives written untouched None report = IsNothing report.output.items report.status × untouched
-AnswersFor shown gives written untouched (Some request) report = IsAnswered shown gives written untouched request report
+abbrev pub AnswersFor : Bool → Giving → (Text → Text → Type 0) → (List Attempt → Type 0) → Option Asked → Report → Type 0
+AnswersFor shown gives written does None report = IsNothing report.output.items report.status × does []
+AnswersFor shown gives written does (Some request) report = IsAnswered shown gives written does request report
 
-abbrev pub Answers : Bool → Giving → (Text → Text → Type 0) → Type 0 → List (List ℕ) → Report → Type 0
-Answers shown gives written untouched words report = AnswersFor shown gives written untouched (asked words) report
+abbrev pub Answers : Bool → Giving → (Text → Text → Type 0) → (List Attempt → Type 0) → List (List ℕ) → Report → Type 0
+Answers shown gives written does words report = AnswersFor shown gives written does (asked words) report
 
--- the same, where nobody knows whether a terminal shows colours, nor whether what is written stays as it was
+-- the same, where nobody knows whether a terminal shows colours, nor what else was done to files
 abbrev pub AnswersSomehow : Giving → (Text → Text → Type 0) → List (List ℕ) → Report → Type 0
-AnswersSomehow gives written words report = (shown : Bool) × Answers shown gives written ⊤ words report
+AnswersSomehow gives written words report = (shown : Bool) × Answers shown gives written (λ attempts. ⊤) words report

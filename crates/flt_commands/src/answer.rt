@@ -3,8 +3,8 @@
 ghost use Rattle.std.specs.Prelude.{◌≡◌, ◌≢◌, [], ◌∷◌, ◌++◌, Some, IfOk, string_bytes};
 ghost use Rattle.flt_commands.specs.Answer as spec;
 
+use crate::driver::{Driver, driver_status};
 use crate::emit::Unemitted;
-use crate::emit_into::Driver;
 use crate::outcomes::{Outcomes, files_status, printed_files};
 use flt_check::Refusal;
 use flt_crew::{Ending, Ran};
@@ -45,7 +45,7 @@ pub enum Answer {
     Emitted(Vec<u8>),
     /// Why an accepted text can't be emitted.
     NotEmitted(Unemitted),
-    /// All parts of the driver that an accepted text is are written.
+    /// The parts of the driver that an accepted text is are written, as far as that could be done.
     EmittedInto(Driver),
     /// The reports on C files that differ from their annotations.
     Compared(Vec<u8>),
@@ -70,7 +70,8 @@ impl Answer {
         match self {
             Answer::Accepted | Answer::Certificate(_) | Answer::Judged(Verdict::Legal) => 0,
             Answer::Extracted(_) | Answer::Pages(_) | Answer::Shown(_, Verdict::Legal) => 0,
-            Answer::Emitted(_) | Answer::EmittedInto(_) => 0,
+            Answer::Emitted(_) => 0,
+            Answer::EmittedInto(driver) => driver_status(&driver.outcome),
             Answer::Explained(told, unread) => {
                 told_status(told.explained.status, unread.as_slice())
             }

@@ -1,5 +1,7 @@
 //! The command `emit --into`: the answer on the names that it is given, and the files that it writes.
 
+ghost use Rattle.flt_commands.specs.Attempts.{Does};
+ghost use Rattle.flt_commands.specs.Driver.{AreNamed};
 ghost use Rattle.flt_commands.specs.Emit.{part_text};
 ghost use Rattle.flt_commands.specs.EmitInto as spec;
 ghost use Rattle.flt_commands.specs.Inputs.{Says};
@@ -10,208 +12,80 @@ ghost use Rattle.flt_kinds.specs.Creates.{AreFound};
 ghost use Rattle.flt_kinds.specs.Kinds.{AreKinds};
 ghost use Rattle.flt_words.specs.Request.{EmitInto};
 ghost use Rattle.flt_words.specs.declared.request.Part.TheVariants.{Source};
-ghost use Rattle.std.specs.Prelude.{◌≡◌, ◌<◌, ◌++◌, [], ◌∷◌, ℕ, List, None, false, IfOk, OnOk, map, option_map, string_bytes};
+ghost use Rattle.std.specs.Prelude.{◌≡◌, ◌<◌, [], ◌∷◌, None, IfOk, map, option_map};
 
 use crate::answer::Answer;
+use crate::driver::{Driver, DriverParts, driver_lines, names_in, put_driver};
 use crate::emit::{create_in, mixed_lines, source_of};
 use crate::failure::Failure;
 use crate::inputs::{Inputs, Pictures, read_all};
 use crate::report::Contents;
-use crate::unwritten::{Unwritten, unwritten_lines};
 use flt_analyse::{AnalyseFault, Ticks, analyse};
 use flt_check::check;
 use flt_emit::{emit_header, emit_installation};
 use flt_graph::{Graph, Tree, lower};
 use flt_kinds::{ContextKinds, Spot, completed_create, context_kinds};
 use flt_syntax::parse;
-use flt_tree::Filter;
-use flt_words::visible;
 use std::alloc::{AllocError, Global};
 use std::marker::Brand;
 use std::sync::ledger::{Blank, Ledger};
 
-/// A driver that was written into a folder.
-#[derive(Debug, Drop)]
-pub struct Driver {
-    /// The name of its user's header.
-    pub header: String,
-    /// Whether that was there, and is as it was.
-    pub is_kept: bool,
-}
-
-// ---- the names of files
-
-/// A byte of a filter's name.
-fn letter(byte: u8) -> u8
-    ensures value { result ≡ spec.letter byte }
-    ensures ascii { result < 128 }
-{
-    if byte.is_ascii_graphic() { byte } else { b'?' }
-}
-
-/// Adds the name of a filter.
-fn put_name(out: &mut String, name: &[u8]) -> Result<(), AllocError>
-    ensures { OnOk result (string_bytes out.new ≡ string_bytes out.old ++ map spec.letter name.now) }
-{
-    for byte in name {
-        out.push(letter(*byte) as char)?;
-    }
-    Ok(())
-}
-
-/// The name of a file of a filter in a folder.
-fn file_name(
-    alloc: Global,
-    folder: &str,
-    filter: &Filter,
-    ending: &str,
-) -> Result<String, AllocError>
-    ensures { IfOk result (λ name. string_bytes name ≡ spec.file_name folder.now filter.now.name ending.now) }
-{
-    let mut name = String::from_str(alloc, folder)?;
-    name.push_str("/")?;
-    put_name(&mut name, filter.name.as_slice())?;
-    name.push_str(ending)?;
-    Ok(name)
-}
-
-// ---- files
-
-/// Writes the source of a driver.
-fn put_source<P: Pictures>(
-    alloc: Global,
-    inputs: &[&str],
-    folder: &str,
-    tree: &Tree,
-    listed: &[Spot],
-    pictures: &mut P,
-) -> Result<Result<(), Unwritten>, AllocError>
-    ensures done { IfOk result (λ done. OnOk done (P.written pictures.new (spec.source_name folder.now tree.now.filter)
-        (part_text Source listed.now tree.now.filter))) }
-{
-    let name = file_name(alloc, folder, &tree.filter, ".c")?;
-    let bytes = source_of(alloc, tree, listed)?;
-    pictures.write(alloc, inputs, name.as_str(), bytes.as_slice())
-}
-
-/// Writes the file for the installation of a driver. Bytes that were written before are written still.
-fn put_installation<P: Pictures>(
-    alloc: Global,
-    inputs: &[&str],
-    folder: &str,
-    tree: &Tree,
-    pictures: &mut P,
-) -> Result<Result<(), Unwritten>, AllocError>
-    ensures done { IfOk result (λ done. OnOk done
-        (P.written pictures.new (spec.inf_name folder.now tree.now.filter) (installation tree.now.filter))) }
-    ensures kept { (other held : List ℕ) → P.written pictures.old other held → P.written pictures.new other held }
-{
-    let name = file_name(alloc, folder, &tree.filter, ".inf")?;
-    let bytes = emit_installation(alloc, tree)?;
-    pictures.write(alloc, inputs, name.as_str(), bytes.as_slice())
-}
-
-/// Writes the user's header of a driver, unless it is there. Bytes that were written before are written still.
-fn put_header<P: Pictures>(
-    alloc: Global,
-    folder: &str,
-    tree: &Tree,
-    pictures: &mut P,
-) -> Result<Result<Driver, Unwritten>, AllocError>
-    ensures name { IfOk result (λ done. IfOk done (λ driver. string_bytes driver.header ≡ spec.header_name folder.now tree.now.filter)) }
-    ensures done { IfOk result (λ done. IfOk done (λ driver. driver.is_kept ≡ false →
-        P.written pictures.new (spec.header_name folder.now tree.now.filter) (user_header tree.now.filter))) }
-    ensures kept { (other held : List ℕ) → P.written pictures.old other held → P.written pictures.new other held }
-{
-    let header = file_name(alloc, folder, &tree.filter, "_user.h")?;
-    let bytes = emit_header(alloc, tree)?;
-    match pictures.write_new(header.as_str(), bytes.as_slice()) {
-        Ok(is_new) => {
-            let is_kept = !is_new;
-            Ok(Ok(Driver { header, is_kept }))
-        }
-        Err(why) => Ok(Err(why)),
-    }
-}
-
-/// Writes all parts of a driver, in which these statements allocate contexts of the instance.
-fn put_driver<P: Pictures>(
-    alloc: Global,
-    inputs: &[&str],
-    folder: &str,
-    tree: &Tree,
-    listed: &[Spot],
-    pictures: &mut P,
-) -> Result<Result<Driver, Unwritten>, AllocError>
-    ensures name { IfOk result (λ done. IfOk done (λ driver. string_bytes driver.header ≡ spec.header_name folder.now tree.now.filter)) }
-    ensures put { IfOk result (λ done. IfOk done
-        (spec.IsPut (P.written pictures.new) folder.now tree.now.filter listed.now)) }
-{
-    if let Err(why) = put_source(alloc, inputs, folder, tree, listed, pictures)? {
-        return Ok(Err(why));
-    }
-    let driver = match put_header(alloc, folder, tree, pictures)? {
-        Ok(driver) => driver,
-        Err(why) => return Ok(Err(why)),
-    };
-    match put_installation(alloc, inputs, folder, tree, pictures)? {
-        Ok(()) => Ok(Ok(driver)),
-        Err(why) => Ok(Err(why)),
-    }
-}
-
 // ---- filters
 
-/// Writes a driver in which each context has one kind and no open is completed.
-fn write_known<'a, P: Pictures>(
+/// All parts of a driver, in which these statements allocate contexts of the instance.
+fn parts_of(alloc: Global, tree: &Tree, listed: &[Spot]) -> Result<DriverParts, AllocError>
+    ensures source { IfOk result (λ parts. parts.source.items ≡ part_text Source listed.now tree.now.filter) }
+    ensures header { IfOk result (λ parts. parts.header.items ≡ user_header tree.now.filter) }
+    ensures installation { IfOk result (λ parts. parts.installation.items ≡ installation tree.now.filter) }
+{
+    Ok(DriverParts {
+        source: source_of(alloc, tree, listed)?,
+        header: emit_header(alloc, tree)?,
+        installation: emit_installation(alloc, tree)?,
+    })
+}
+
+/// Writes a driver in which each context has one kind and no open is completed. All of it is in memory before the first file is written.
+fn write_known<P: Pictures>(
     alloc: Global,
     inputs: &[&str],
-    folder: &'a str,
+    folder: &str,
     tree: &Tree,
-    graph: &Graph,
     listed: &[Spot],
     pictures: &mut P,
-) -> Result<Answer, Failure<'a>>
-    requires kinds { AreKinds graph.now listed.now }
-    requires opens { AreFound graph.now None }
-    ensures goes { spec.Goes folder.entry.now tree.now.filter graph.now result }
-    ensures put { IfOk result (spec.IsWrittenFor (P.written pictures.new) (pictures.new ≡ pictures.old) folder.entry.now tree.now.filter graph.now) }
+) -> Result<Driver, AllocError>
+    ensures { IfOk result (spec.IsPut (P.written pictures.new)
+        (Does (pictures.new ≡ pictures.old) (P.tried pictures.old) (P.tried pictures.new)) folder.now tree.now.filter listed.now) }
 {
-    match put_driver(alloc, inputs, folder, tree, listed, pictures)? {
-        Ok(driver) => Ok(Answer::EmittedInto(driver)),
-        Err(why) => Err(Failure::CannotWrite(folder, why)),
-    }
+    let names = names_in(alloc, folder, tree.filter.name.as_slice())?;
+    let parts = parts_of(alloc, tree, listed)?;
+    let outcome = put_driver(alloc, inputs, &names, &parts, pictures)?;
+    Ok(Driver { names, outcome })
 }
 
 /// Writes the driver of a filter, or says why there is none.
-fn write_filter<'a, P: Pictures>(
+fn write_filter<P: Pictures>(
     alloc: Global,
     inputs: &[&str],
-    folder: &'a str,
+    folder: &str,
     tree: &Tree,
     graph: &Graph,
     pictures: &mut P,
-) -> Result<Answer, Failure<'a>>
+) -> Result<Answer, AllocError>
     requires { IsLowered tree.now.filter graph.now }
-    ensures goes { spec.Goes folder.entry.now tree.now.filter graph.now result }
-    ensures put { IfOk result (spec.IsWrittenFor (P.written pictures.new) (pictures.new ≡ pictures.old) folder.entry.now tree.now.filter graph.now) }
+    ensures writes { IfOk result (spec.Writes folder.now tree.now.filter graph.now) }
+    ensures put { IfOk result (spec.IsPutFor (P.written pictures.new)
+        (Does (pictures.new ≡ pictures.old) (P.tried pictures.old) (P.tried pictures.new)) folder.now tree.now.filter graph.now) }
 {
     let listed = match context_kinds(alloc, tree, graph)? {
         ContextKinds::Refused(mixed) => return Ok(Answer::NotEmitted(mixed_lines(graph, mixed))),
         ContextKinds::Known(listed) => listed,
     };
-    match completed_create(graph) {
-        Some(at) => Ok(Answer::NotEmitted(create_in(graph, at))),
-        None => write_known(
-            alloc,
-            inputs,
-            folder,
-            tree,
-            graph,
-            listed.as_slice(),
-            pictures,
-        ),
+    if let Some(at) = completed_create(graph) {
+        return Ok(Answer::NotEmitted(create_in(graph, at)));
     }
+    let driver = write_known(alloc, inputs, folder, tree, listed.as_slice(), pictures)?;
+    Ok(Answer::EmittedInto(driver))
 }
 
 // ---- texts
@@ -220,7 +94,7 @@ fn write_filter<'a, P: Pictures>(
 fn write_analysed<'a, L: Ledger, P: Pictures>(
     alloc: Global,
     inputs: &[&str],
-    folder: &'a str,
+    folder: &str,
     text: &[u8],
     pictures: &mut P,
     blank: Blank,
@@ -228,14 +102,17 @@ fn write_analysed<'a, L: Ledger, P: Pictures>(
     requires name { blank.name ≡ L.name }
     requires parts { blank.parts ≡ L.parts }
     requires some { 0 < blank.parts }
-    ensures said { spec.IsEmittedInto folder.entry.now (text.now ∷ []) result }
-    ensures put { IfOk result (spec.ArePut (P.written pictures.new) (pictures.new ≡ pictures.old) folder.entry.now (text.now ∷ [])) }
+    ensures said { spec.IsEmittedInto folder.now (text.now ∷ []) result }
+    ensures put { spec.ArePut (P.written pictures.new)
+        (Does (pictures.new ≡ pictures.old) (P.tried pictures.old) (P.tried pictures.new)) folder.now (text.now ∷ []) result }
 {
     let tree = parse(alloc, text)?;
     let graph = lower(alloc, &tree)?;
     let mut ticks = Ticks::<L, 0, 0>::new(blank);
     match analyse(alloc, &graph, &mut ticks) {
-        Ok(_) => write_filter(alloc, inputs, folder, &tree, &graph, pictures),
+        Ok(_) => Ok(write_filter(
+            alloc, inputs, folder, &tree, &graph, pictures,
+        )?),
         Err(AnalyseFault::Refused(refusal)) => Ok(Answer::Refused(refusal)),
         Err(AnalyseFault::OutOfMemory) => Err(Failure::OutOfMemory),
     }
@@ -245,37 +122,42 @@ fn write_analysed<'a, L: Ledger, P: Pictures>(
 fn write_checked<'a, P: Pictures>(
     alloc: Global,
     inputs: &[&str],
-    folder: &'a str,
+    folder: &str,
     text: &[u8],
     certificate: &[u8],
     pictures: &mut P,
 ) -> Result<Answer, Failure<'a>>
-    ensures said { spec.IsEmittedInto folder.entry.now (text.now ∷ certificate.now ∷ []) result }
-    ensures put { IfOk result (spec.ArePut (P.written pictures.new) (pictures.new ≡ pictures.old) folder.entry.now (text.now ∷ certificate.now ∷ [])) }
+    ensures said { spec.IsEmittedInto folder.now (text.now ∷ certificate.now ∷ []) result }
+    ensures put { spec.ArePut (P.written pictures.new)
+        (Does (pictures.new ≡ pictures.old) (P.tried pictures.old) (P.tried pictures.new)) folder.now
+        (text.now ∷ certificate.now ∷ []) result }
 {
     let tree = parse(alloc, text)?;
     let cert = flt_cert::read(alloc, certificate)?;
     let graph = lower(alloc, &tree)?;
     match check(&graph, &cert) {
-        Ok(()) => write_filter(alloc, inputs, folder, &tree, &graph, pictures),
+        Ok(()) => Ok(write_filter(
+            alloc, inputs, folder, &tree, &graph, pictures,
+        )?),
         Err(refusal) => Ok(Answer::Refused(refusal)),
     }
 }
 
-/// The answer of `emit --into` on the names that it is given, and the bytes that these give.
+/// The answer of `emit --into` on the names that it is given, and the bytes that these give. The files are written by then.
 pub fn emit_files_into<'a, I: Inputs, P: Pictures>(
     alloc: Global,
     inputs: &I,
-    folder: &'a str,
+    folder: &str,
     file: &'a str,
     cert: Option<&'a str>,
     pictures: &mut P,
     contents: &mut Contents,
 ) -> Result<Answer, Failure<'a>>
-    ensures said { Says (I.gives inputs.now) (names_of (EmitInto folder.entry.now file.entry.now (option_map (λ name. name.now) cert.entry)))
-        (spec.IsEmittedInto folder.entry.now) (map (λ text. text.items) contents.new.texts.items) result }
-    ensures put { IfOk result (spec.ArePut (P.written pictures.new) (pictures.new ≡ pictures.old) folder.entry.now
-        (map (λ text. text.items) contents.new.texts.items)) }
+    ensures said { Says (I.gives inputs.now) (names_of (EmitInto folder.now file.entry.now (option_map (λ name. name.now) cert.entry)))
+        (spec.IsEmittedInto folder.now) (map (λ text. text.items) contents.new.texts.items) result }
+    ensures put { spec.ArePut (P.written pictures.new)
+        (Does (pictures.new ≡ pictures.old) (P.tried pictures.old) (P.tried pictures.new)) folder.now
+        (map (λ text. text.items) contents.new.texts.items) result }
 {
     match cert {
         None => {
@@ -299,28 +181,15 @@ pub fn emit_files_into<'a, I: Inputs, P: Pictures>(
 
 // ---- the standard error
 
-/// The line that says that a header is as it was, if it is.
-fn kept_line(alloc: Global, driver: &Driver) -> Result<Vec<u8>, AllocError>
-    ensures { IfOk result (λ line. line.items ≡ spec.kept_line driver.now.is_kept (string_bytes driver.now.header)) }
-{
-    if !driver.is_kept {
-        return Ok(Vec::new(alloc));
-    }
-    let name = visible(alloc, driver.header.as_str())?;
-    let line = format!(in alloc; "{name} is as it was\n")?;
-    Ok(line.into_bytes())
-}
-
-/// Whole lines on the answer: that a header is as it was, or why the folder isn't written; else nothing.
+/// Whole lines on an answer: on the files of a driver, if one is written; else nothing.
 pub(crate) fn into_remark(
     alloc: Global,
     said: &Result<Answer, Failure<'_>>,
 ) -> Result<Vec<u8>, AllocError>
-    ensures { IfOk result (λ lines. IfOk said.now (λ answer. lines.items ≡ spec.remark_in answer)) }
+    ensures { IfOk result (λ lines. lines.items ≡ spec.remark_in said.now) }
 {
     match said {
-        Ok(Answer::EmittedInto(driver)) => kept_line(alloc, driver),
-        Err(Failure::CannotWrite(name, why)) => unwritten_lines(alloc, name, *why),
+        Ok(Answer::EmittedInto(driver)) => driver_lines(alloc, driver),
         _ => Ok(Vec::new(alloc)),
     }
 }

@@ -10,6 +10,7 @@ mod clean;
 mod commands;
 mod compare;
 mod deadlock;
+mod driver;
 mod emit;
 mod emit_into;
 mod explain;

@@ -137,9 +137,9 @@ fn replace<S: System>(
     Ok(Err(Unwritten::Refused(fault)))
 }
 
-/// Writes these bytes into a new file of a name, or leaves none. False where something of this name is there.
+/// Writes these bytes into a new file of a name, or leaves none. Returns false if something of this name is there, which stays as it is.
 fn add_new<S: System>(system: &S, name: &str, bytes: &[u8]) -> Result<bool, Unwritten>
-    ensures { IfOk result (λ is_new. is_new ≡ true → spec.IsFilled (S.makes system.now) name.now bytes.now) }
+    ensures { IfOk result (λ is_new. IsTrue is_new → spec.IsFilled (S.makes system.now) name.now bytes.now) }
 {
     let Some(file) = system.create(name)? else {
         return Ok(false);
@@ -226,7 +226,12 @@ impl<S: System> Inputs for Named<'_, S> {
 impl<S: System> Pictures for Named<'_, S> {
     ghost use Rattle.flt_commands.specs.System.{IsWritten};
 
+    ghost use Rattle.std.specs.Prelude.{None};
+
     ghost written = { λ named. IsWritten (S.makes named.system.now) (S.puts named.system.now) };
+
+    // A system doesn't say what was done to its files so far.
+    ghost tried = { λ _. None };
 
     fn write(
         &mut self,

@@ -1,6 +1,6 @@
 use Rattle.std.proofs.Common.{◌≡◌, ◌++◌, map, take, string_bytes}
-use Rattle.flt_commands.specs.EmitInto as spec
-use Rattle.flt_commands.proofs.emit_into.put_name.Given as goal
+use Rattle.flt_commands.specs.Driver as spec
+use Rattle.flt_commands.proofs.driver.put_name.Given as goal
 
 -- the bytes so far are written
 abbrev pub invariant-loop-byte : goal.invariant-loop-byte
