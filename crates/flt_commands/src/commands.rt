@@ -217,10 +217,12 @@ fn report_of<'a, R: Threads + Wait + Sync, I: Inputs, P: Pictures, O: Sink, W: W
             report_on(alloc, Vec::new(alloc), said, contents)
         }
         Request::EmitInto { folder, file, cert } => {
-            let whole = cert;
             let said = emit_files_into(
                 alloc,
-                &Texts { inputs, whole },
+                &Texts {
+                    inputs,
+                    whole: cert,
+                },
                 folder,
                 file,
                 cert,

@@ -3,7 +3,7 @@
 ghost use Rattle.flt_commands.specs.Attempts.{Attempt, Failed, Grows, IsDone, Wrote, made};
 ghost use Rattle.flt_commands.specs.Driver as spec;
 ghost use Rattle.flt_commands.specs.Outcomes.{unwritten_line as line_of_unwritten};
-ghost use Rattle.std.specs.Prelude.{◌≡◌, ◌++◌, [], ◌∷◌, ℕ, List, Option, IfOk, OnErr, OnOk, map, string_bytes};
+ghost use Rattle.std.specs.Prelude.{◌≡◌, ◌<◌, ◌++◌, [], ◌∷◌, ℕ, List, Option, IfOk, OnErr, OnOk, map, string_bytes};
 
 use crate::inputs::Pictures;
 use crate::outcomes::unwritten_line;

@@ -58,6 +58,9 @@ pub trait Pictures {
     // What was done so far under names, in order, where that is known.
     ghost tried: { Self → Option (List attempts.Attempt) };
 
+    // Something is there under this name.
+    ghost has: { Self → List ℕ → Type 0 };
+
     /// Writes these bytes as the file of this name, unless it is one of the inputs. Returns why that failed, if it did; a regular file is
     /// then as it was.
     fn write(
@@ -81,6 +84,7 @@ pub trait Pictures {
         ensures done { IfOk result (λ is_new. attempts.IsDone (written self.new) (attempts.made is_new name.now bytes.now)) }
         ensures made { IfOk result (λ is_new. attempts.Grows (tried self.old) (tried self.new)
             (attempts.made is_new name.now bytes.now ∷ [])) }
+        ensures taken { IfOk result (λ is_new. is_new ≡ false → has self.new name.now) }
         ensures failed { OnErr result (attempts.Grows (tried self.old) (tried self.new) (attempts.Failed name.now ∷ [])) }
         ensures kept { (other held : List ℕ) → written self.old other held → written self.new other held };
 }

@@ -1,6 +1,6 @@
 //! The files of a system by their names.
 
-ghost use Rattle.std.specs.Prelude.{◌≡◌, ◌⊎◌, IfNone, IfOk, IfSome, IsNone, IsTrue, OnOk, string_bytes};
+ghost use Rattle.std.specs.Prelude.{◌≡◌, ◌⊎◌, IfNone, IfOk, IfSome, IsNone, IsTrue, OnOk, false, string_bytes};
 ghost use Rattle.std.specs.Io.KnownBytes.{Appends};
 ghost use Rattle.flt_commands.specs.System as spec;
 
@@ -139,7 +139,8 @@ fn replace<S: System>(
 
 /// Writes these bytes into a new file of a name, or leaves none. Returns false if something of this name is there, which stays as it is.
 fn add_new<S: System>(system: &S, name: &str, bytes: &[u8]) -> Result<bool, Unwritten>
-    ensures { IfOk result (λ is_new. IsTrue is_new → spec.IsFilled (S.makes system.now) name.now bytes.now) }
+    ensures new { IfOk result (λ is_new. IsTrue is_new → spec.IsFilled (S.makes system.now) name.now bytes.now) }
+    ensures taken { IfOk result (λ is_new. is_new ≡ false → S.has system.now name.now) }
 {
     let Some(file) = system.create(name)? else {
         return Ok(false);
@@ -232,6 +233,8 @@ impl<S: System> Pictures for Named<'_, S> {
 
     // A system doesn't say what was done to its files so far.
     ghost tried = { λ _. None };
+
+    ghost has = { λ named. S.has named.system.now };
 
     fn write(
         &mut self,

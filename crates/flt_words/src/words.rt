@@ -545,11 +545,9 @@ fn emit_part<'a>(alloc: Global, emit: &ArgMatches<'a>) -> Result<Request<'a>, Al
 fn emit_into<'a>(emit: &ArgMatches<'a>, folder: &'a str) -> Request<'a>
     ensures { asked_of result ≡ Some (spec.emit_into (rows_of (found_of emit.now)) folder.entry.now) }
 {
-    Request::EmitInto {
-        folder,
-        file: text_of(emit, "FILE"),
-        cert: emit.get_str("CERT"),
-    }
+    let file = text_of(emit, "FILE");
+    let cert = emit.get_str("CERT");
+    Request::EmitInto { folder, file, cert }
 }
 
 /// The same, if the folder has a name.

@@ -7,6 +7,6 @@ use Rattle.flt_words.proofs.words.emit_into.Goals as goal
 pub returns : goal.returns
 returns c =
     let found = found_of c.args.emit.now in
-    let cert : option_map (λ s. s.now) c.get_str.result ≡ first_of (codes "CERT") (rows_of found) = c.get_str.ensures
+    let cert : option_map (λ s. s.now) c.get_str-cert.result ≡ first_of (codes "CERT") (rows_of found) = c.get_str-cert.ensures
     ∙ first_value-rows found (codes "CERT") in
-    rw (c.text_of.ensures, cert) refl
+    rw (c.text_of-file.ensures, cert) refl
