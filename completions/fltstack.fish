@@ -13,7 +13,7 @@ function __fltstack_operands --argument-names command
             echo -- $word
         else if test $word = --
             set is_operand yes
-        else if contains -- $word --form --color --states --journal --allow --workers --svg --part
+        else if contains -- $word --form --color --states --journal --allow --workers --svg --part --into
             set is_value yes
         end
     end
@@ -34,7 +34,7 @@ function __fltstack_after --argument-names command
     set -l words (string replace -r -- '=.*' '' (commandline -opc))
     test "$words[2]" = "$command"; or return 1
     # The value of the last word may be at the cursor.
-    contains -- $words[-1] --form --color --states --journal --allow --workers --svg --part; and set -e words[-1]
+    contains -- $words[-1] --form --color --states --journal --allow --workers --svg --part --into; and set -e words[-1]
     for option in $argv[2..]
         contains -- $option $words; and return 1
     end
@@ -217,7 +217,9 @@ complete -c fltstack -n '__fltstack_after format --help' -s h -l help -d 'Print 
 complete -c fltstack -n '__fltstack_at format 0+' -a '(__fltstack_files .flt)'
 
 # emit
-complete -c fltstack -n '__fltstack_after emit --part' -l part -x -a 'source user inf' -d 'The part that is printed'
+complete -c fltstack -n '__fltstack_after emit --part --into' -l part -x -a 'source user inf' -d 'The part that is printed'
+complete -c fltstack -n '__fltstack_after emit --part --into' -l into -x -a '(__fltstack_files /)' \
+    -d 'Write all three parts into this folder'
 complete -c fltstack -n '__fltstack_after emit --help' -s h -l help -d 'Print help'
 complete -c fltstack -n '__fltstack_at emit 0' -a '(__fltstack_files .flt)'
 complete -c fltstack -n '__fltstack_at emit 1' -a '(__fltstack_files .cert)'

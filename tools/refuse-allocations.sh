@@ -206,6 +206,7 @@ runs=(
     "emit pending_reads.flt"
     "emit --part user pending_reads.flt pending_reads.cert"
     "emit --part inf deny_writes.flt"
+    "emit --into /dev/null pending_reads.flt"
     "explain leaked_context.timeline"
     "explain pending_reads_detached.script pending_reads.flt"
     "explain R02"
@@ -232,6 +233,11 @@ try_all() {
         started+=($!)
     done
     "$0" program explain - <<<"$never_set" &
+    started+=($!)
+    # The header is there from the start, so that each run says the same.
+    mkdir "$work/driver"
+    : >"$work/driver/pending_reads_user.h"
+    (cd "$top/examples" && "$top/tools/refuse-allocations.sh" program emit --into "$work/driver" pending_reads.flt pending_reads.cert </dev/null) &
     started+=($!)
     for each in "${crates_of_tests[@]}"; do
         "$0" tests "$each" memory &

@@ -50,14 +50,15 @@ use Rattle.flt_commands.specs.Check.{Decides, HasPoints, IsAnswer, IsChecked}
 use Rattle.flt_commands.specs.Clean.{BreakNothing, BreaksNothing, EachBreaksNothing, IsClean}
 use Rattle.flt_commands.specs.Commands.{IsSaid, IsReported}
 use Rattle.flt_commands.specs.Emit as emit
-use Rattle.flt_commands.specs.Emit.{IsEmission, IsEmitted}
+use Rattle.flt_commands.specs.Emit.{Emits, Emitting, IsEmitted}
+use Rattle.flt_commands.specs.EmitInto.{IsEmittedInto, Writes}
 use Rattle.flt_commands.specs.Explain.{IsExplained, IsTold, look_in}
 use Rattle.flt_commands.specs.Inputs.{Giving, given, Says, Text, unread}
 use Rattle.flt_commands.specs.Running.{IsRan}
 use Rattle.flt_commands.specs.Thin.{IsThinned, Decides as DecidesThin}
-use Rattle.flt_words.specs.Request.{Asked, Choice, Check, Analyse, Thin, Run, Replay, Show, Explain, Extract, Format, Pages, Emit, Compare}
+use Rattle.flt_words.specs.Request.{Asked, Choice, Check, Analyse, Thin, Run, Replay, Show, Explain, Extract, Format, Pages, Emit, EmitInto, Compare}
 use Rattle.flt_commands.specs.declared.answer.Answer.{Answer}
-use Rattle.flt_commands.specs.declared.answer.Answer.TheVariants.{Accepted, Refused, Certificate as Written, Judged, Ran as has_run, FileRefused, Explained, Extracted as has_text, Formatted as has_layouts, Pages as has_pages, Shown, Emitted, NotEmitted, Compared}
+use Rattle.flt_commands.specs.declared.answer.Answer.TheVariants.{Accepted, Refused, Certificate as Written, Judged, Ran as has_run, FileRefused, Explained, Extracted as has_text, Formatted as has_layouts, Pages as has_pages, Shown, Emitted, NotEmitted, EmittedInto, Compared}
 use Rattle.flt_commands.specs.declared.failure.Failure.{Failure}
 
 -- the laws' clauses
@@ -109,6 +110,7 @@ module _ (law : Law) (runs : LawOfRuns) (nowhere : SpelledFailsNowhere) where
   judged text certificate (has_pages t) said good = absurd said.decided
   judged text certificate (Emitted b) said good = absurd said.decided
   judged text certificate (NotEmitted w) said good = absurd said.decided
+  judged text certificate (EmittedInto d) said good = absurd said.decided
   judged text certificate (Compared w) said good = absurd said.decided
 
   checked : (texts : List Text) (answer : Answer) (file : Text) (cert : Option Text) → IsChecked texts (Ok answer) →
@@ -133,6 +135,7 @@ module _ (law : Law) (runs : LawOfRuns) (nowhere : SpelledFailsNowhere) where
   left text certificate (has_pages t) said good = absurd said.decided
   left text certificate (Emitted b) said good = absurd said.decided
   left text certificate (NotEmitted w) said good = absurd said.decided
+  left text certificate (EmittedInto d) said good = absurd said.decided
   left text certificate (Compared w) said good = absurd said.decided
 
   thinned : (texts : List Text) (answer : Answer) (file : Text) (cert : Option Text) → IsThinned texts (Ok answer) →
@@ -158,6 +161,7 @@ module _ (law : Law) (runs : LawOfRuns) (nowhere : SpelledFailsNowhere) where
   analysed (text ∷ []) (has_pages t) file said good = absurd said
   analysed (text ∷ []) (Emitted b) file said good = absurd said
   analysed (text ∷ []) (NotEmitted w) file said good = absurd said
+  analysed (text ∷ []) (EmittedInto d) file said good = absurd said
   analysed (text ∷ []) (Compared w) file said good = absurd said
   analysed (text ∷ more ∷ texts) answer file said good = said
 
@@ -174,6 +178,7 @@ module _ (law : Law) (runs : LawOfRuns) (nowhere : SpelledFailsNowhere) where
   driven (bytes ∷ texts) (has_pages t) workers quiet script files said good = absurd said
   driven (bytes ∷ texts) (Emitted b) workers quiet script files said good = absurd said
   driven (bytes ∷ texts) (NotEmitted w) workers quiet script files said good = absurd said
+  driven (bytes ∷ texts) (EmittedInto d) workers quiet script files said good = absurd said
   driven (bytes ∷ texts) (Compared w) workers quiet script files said good = absurd said
   driven (bytes ∷ texts) (Refused f) workers quiet script files said good = absurd said
   driven (bytes ∷ texts) (Written c) workers quiet script files said good = absurd said
@@ -296,6 +301,7 @@ module _ (law : Law) (runs : LawOfRuns) (nowhere : SpelledFailsNowhere) where
   explained gives form colour states look journal warnings files texts (has_pages t) said good = absurd said
   explained gives form colour states look journal warnings files texts (Emitted b) said good = absurd said
   explained gives form colour states look journal warnings files texts (NotEmitted w) said good = absurd said
+  explained gives form colour states look journal warnings files texts (EmittedInto d) said good = absurd said
   explained gives form colour states look journal warnings files texts (Compared w) said good = absurd said
   explained gives form colour states look journal warnings files texts (has_run ran) said good = absurd said
   explained gives form colour states look journal warnings files texts (FileRefused n f) said good = absurd said
@@ -305,17 +311,24 @@ module _ (law : Law) (runs : LawOfRuns) (nowhere : SpelledFailsNowhere) where
   explained gives form colour states look journal warnings files texts (Judged v) said good = absurd said
 
   -- what is emitted is covered
-  covered : (part : Part) (has : Cert → Type 0) (refuses : Answer → Type 0) (text : Text) (answer : Answer) →
-      emit.IsAnswer part has refuses text answer → status_of answer ≡ 0 → BreaksNothing text
-  covered part has refuses text _ (emit.refused f is) good = absurd (omega (arith, good))
-  covered part has refuses text _ (emit.emits answer is) good = law text is.graph is.cert is.points is.covers
+  covered : (emitting : Emitting) (has : Cert → Type 0) (refuses : Answer → Type 0) (text : Text) (answer : Answer) →
+      emit.IsAnswer emitting has refuses text answer → status_of answer ≡ 0 → BreaksNothing text
+  covered emitting has refuses text _ (emit.refused f is) good = absurd (omega (arith, good))
+  covered emitting has refuses text _ (emit.emits answer is) good = law text is.graph is.cert is.points is.covers
 
   emitted : (texts : List Text) (answer : Answer) (part : Part) (file : Text) (cert : Option Text) → IsEmitted part texts (Ok answer) →
       status_of answer ≡ 0 → IsClean (Emit part file cert) texts
   emitted [] answer part file cert said good = said
-  emitted (text ∷ []) answer part file cert said good = covered part _ _ text answer said good
-  emitted (text ∷ certificate ∷ []) answer part file cert said good = covered part _ _ text answer said good
+  emitted (text ∷ []) answer part file cert said good = covered (Emits part) _ _ text answer said good
+  emitted (text ∷ certificate ∷ []) answer part file cert said good = covered (Emits part) _ _ text answer said good
   emitted (text ∷ certificate ∷ more ∷ texts) answer part file cert said good = said
+
+  emitted_into : (texts : List Text) (answer : Answer) (folder file : Text) (cert : Option Text) → IsEmittedInto folder texts (Ok answer) →
+      status_of answer ≡ 0 → IsClean (EmitInto folder file cert) texts
+  emitted_into [] answer folder file cert said good = said
+  emitted_into (text ∷ []) answer folder file cert said good = covered (Writes folder) _ _ text answer said good
+  emitted_into (text ∷ certificate ∷ []) answer folder file cert said good = covered (Writes folder) _ _ text answer said good
+  emitted_into (text ∷ certificate ∷ more ∷ texts) answer folder file cert said good = said
 
   -- where this is said of what the names give, and reported with the status 0, that holds which it says of an answer with that status
   says_clean : (gives : Giving) (names texts : List Text) (IsSaidOf : List Text → Result Answer Failure → Type 0) (P : Type 0)
@@ -357,3 +370,6 @@ module _ (law : Law) (runs : LawOfRuns) (nowhere : SpelledFailsNowhere) where
   clean_of shown gives (Compare files) texts said bytes status is reported good = tt
   clean_of shown gives (Emit part file cert) texts said bytes status is reported good =
       says_clean gives _ texts (IsEmitted part) _ said bytes status (λ answer is well. emitted texts answer part file cert is well) is reported good
+  clean_of shown gives (EmitInto folder file cert) texts said bytes status is reported good =
+      says_clean gives _ texts (IsEmittedInto folder) _ said bytes status (λ answer is well. emitted_into texts answer folder file cert is well) is
+      reported good

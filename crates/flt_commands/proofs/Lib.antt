@@ -24,6 +24,7 @@ pub mod OneReading
 pub mod OneThin
 pub mod OneVerdict
 pub mod Paged
+pub mod Putting
 pub mod Readings
 pub mod Reported
 pub mod Sent

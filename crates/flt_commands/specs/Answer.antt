@@ -12,10 +12,11 @@ use Rattle.flt_model.specs.declared.verdict.Verdict.{Verdict}
 use Rattle.flt_model.specs.declared.verdict.Verdict.TheVariants.{Legal, NotARun, Breaks}
 use Rattle.flt_model.specs.declared.verdict.Violation.{Violation}
 use Rattle.flt_model.specs.declared.verdict.Violation.TheVariants.{V1, V2, V3, V4, V5, V6, V7, V8}
+use Rattle.flt_commands.specs.Driver.{driver_status}
 use Rattle.flt_commands.specs.Outcomes.{files_status, printed}
 use Rattle.flt_commands.specs.declared.failure.Failure.{Failure}
 use Rattle.flt_commands.specs.declared.answer.Answer.{Answer}
-use Rattle.flt_commands.specs.declared.answer.Answer.TheVariants.{Accepted, Refused, Certificate, Judged, Explained, Extracted, Formatted, Pages, Ran, FileRefused, Shown, Emitted, NotEmitted, Compared}
+use Rattle.flt_commands.specs.declared.answer.Answer.TheVariants.{Accepted, Refused, Certificate, Judged, Explained, Extracted, Formatted, Pages, Ran, FileRefused, Shown, Emitted, NotEmitted, EmittedInto, Compared}
 use Rattle.flt_commands.specs.declared.emit.Unemitted.{Unemitted}
 use Rattle.flt_commands.specs.declared.emit.Unemitted.TheVariants.{Kinds, Create}
 
@@ -83,6 +84,7 @@ output (Shown rows v) = rows.items ++ (verdict_line v ++ 10 ∷ [])
 output (FileRefused file f) = file_refusal_line file f ++ 10 ∷ []
 output (Emitted bytes) = bytes.items
 output (NotEmitted why) = unemitted_line why ++ 10 ∷ []
+output (EmittedInto driver) = []
 output (Compared reports) = reports.items
 
 -- how many of these bytes went out before the end; only of reports some do
@@ -129,6 +131,7 @@ status_of (Shown rows Legal) = 0
 status_of (Shown rows _) = 1
 status_of (Emitted bytes) = 0
 status_of (NotEmitted why) = 1
+status_of (EmittedInto driver) = driver_status driver.outcome
 status_of (Compared reports) = compared_status reports.items
 
 -- how the run ended of which an answer is the journal; all other answers are whole

@@ -55,6 +55,10 @@ line_of g at = line_at g at.callback at.point
 abbrev pub mixed_lines : Graph → Mixed → Unemitted
 mixed_lines g m = Kinds (line_of g m.site) (line_of g m.stream) (line_of g m.instance)
 
+-- that of a statement at which a `pre create` completes with success
+abbrev pub create_line : Graph → Spot → Unemitted
+create_line g at = Create (line_of g at)
+
 -- a context has two kinds
 pub record HasMixture (g : Graph) (why : Unemitted) : Type 0 where
   pub mixed : Mixed
@@ -73,27 +77,31 @@ abbrev pub IsHindered : Graph → Unemitted → Type 0
 IsHindered g (Kinds line stream instance) = HasMixture g (Kinds line stream instance)
 IsHindered g (Create line) = CompletesIn g line
 
--- what is emitted of a filter and its points, or why nothing is
-abbrev pub Emits : Part → Filter → Graph → Answer → Type 0
+-- what may be answered of a filter and its points
+abbrev pub Emitting : Type 1
+Emitting = Filter → Graph → Answer → Type 0
+
+-- a part is emitted, or why nothing is
+abbrev pub Emits : Part → Emitting
 Emits part f g (Emitted bytes) = IsPart part f g bytes.items
 Emits part f g (NotEmitted why) = IsHindered g why
 Emits part f g _ = ⊥
 
 -- ---- what is said
 
--- the text spells a filter, a certificate of which this holds covers its points, and this is emitted of them, or why nothing is
-pub record IsEmission (part : Part) (given : Cert → Type 0) (text : Text) (answer : Answer) : Type 0 where
+-- the text spells a filter, a certificate of which this holds covers its points, and this is answered of them
+pub record IsEmission (emitting : Emitting) (given : Cert → Type 0) (text : Text) (answer : Answer) : Type 0 where
   pub graph : Graph
   pub points : HasPoints text graph
   pub cert : Cert
   pub is_given : given cert
   pub covers : CertCovers graph cert
-  pub emits : Emits part points.filter graph answer
+  pub emits : emitting points.filter graph answer
 
 -- that is answered, or where the text is refused, the refusal
-pub data IsAnswer (part : Part) (given : Cert → Type 0) (refuses : Answer → Type 0) (text : Text) : Answer → Type 0 where
-  refused : (f : Refusal) → refuses (Refused f) → IsAnswer part given refuses text (Refused f)
-  emits : (answer : Answer) → IsEmission part given text answer → IsAnswer part given refuses text answer
+pub data IsAnswer (emitting : Emitting) (given : Cert → Type 0) (refuses : Answer → Type 0) (text : Text) : Answer → Type 0 where
+  refused : (f : Refusal) → refuses (Refused f) → IsAnswer emitting given refuses text (Refused f)
+  emits : (answer : Answer) → IsEmission emitting given text answer → IsAnswer emitting given refuses text answer
 
 -- any certificate
 abbrev pub IsAny : Cert → Type 0
@@ -105,18 +113,22 @@ pub record IsSpelledBy (certificate : Text) (cert : Cert) : Type 0 where
   pub written : certificate ≡ spelling cert
 
 -- what is said of a text alone: where `analyse` refuses it, what that says
-abbrev pub JudgesAlone : Part → Text → Result Answer Failure → Type 0
-JudgesAlone part text (Ok answer) = IsAnswer part IsAny (λ refusal. analyse.Judges text (Ok refusal)) text answer
-JudgesAlone part text (Err f) = analyse.IsFailure text f
+abbrev pub JudgesAlone : Emitting → Text → Result Answer Failure → Type 0
+JudgesAlone emitting text (Ok answer) = IsAnswer emitting IsAny (λ refusal. analyse.Judges text (Ok refusal)) text answer
+JudgesAlone emitting text (Err f) = analyse.IsFailure text f
 
 -- what is said of a text and a certificate: where `check` refuses them, what that says
-abbrev pub JudgesBeside : Part → Text → Text → Result Answer Failure → Type 0
-JudgesBeside part text certificate (Ok answer) =
-    IsAnswer part (IsSpelledBy certificate) (λ refusal. check.Judges check.Decides text certificate (Ok refusal)) text answer
-JudgesBeside part text certificate (Err f) = check.IsFailure text certificate f
+abbrev pub JudgesBeside : Emitting → Text → Text → Result Answer Failure → Type 0
+JudgesBeside emitting text certificate (Ok answer) =
+    IsAnswer emitting (IsSpelledBy certificate) (λ refusal. check.Judges check.Decides text certificate (Ok refusal)) text answer
+JudgesBeside emitting text certificate (Err f) = check.IsFailure text certificate f
 
 -- what is said of the bytes of FILE, or of FILE and CERT
+abbrev pub IsJudged : Emitting → List Text → Result Answer Failure → Type 0
+IsJudged emitting (text ∷ []) result = JudgesAlone emitting text result
+IsJudged emitting (text ∷ certificate ∷ []) result = JudgesBeside emitting text certificate result
+IsJudged emitting _ result = ⊥
+
+-- the same where a part is printed
 abbrev pub IsEmitted : Part → List Text → Result Answer Failure → Type 0
-IsEmitted part (text ∷ []) result = JudgesAlone part text result
-IsEmitted part (text ∷ certificate ∷ []) result = JudgesBeside part text certificate result
-IsEmitted part _ result = ⊥
+IsEmitted part = IsJudged (Emits part)

@@ -2,12 +2,15 @@ pub mod Allowed
 pub mod Analyse
 pub mod Annotated
 pub mod Answer
+pub mod Attempts
 pub mod Check
 pub mod Clean
 pub mod Commands
 pub mod Compare
 pub mod Drawn
+pub mod Driver
 pub mod Emit
+pub mod EmitInto
 pub mod Explain
 pub mod Extract
 pub mod Failure

@@ -54,7 +54,7 @@ fn add_allocations(out: &mut Vec<Allocation>, spots: &[Spot]) -> Result<(), Allo
 }
 
 /// The source in which these statements allocate contexts of the instance.
-fn source_of(alloc: Global, tree: &Tree, listed: &[Spot]) -> Result<Vec<u8>, AllocError>
+pub(crate) fn source_of(alloc: Global, tree: &Tree, listed: &[Spot]) -> Result<Vec<u8>, AllocError>
     ensures { IfOk result (λ bytes. bytes.items ≡ spec.part_text Part.Source listed.now tree.now.filter) }
 {
     let mut instances = Vec::new(alloc);
@@ -81,13 +81,22 @@ fn line_of(graph: &Graph, at: Spot) -> usize
 }
 
 /// The lines of the statements that say that a context has two kinds.
-fn mixed_lines(graph: &Graph, mixed: Mixed) -> Unemitted
+pub(crate) fn mixed_lines(graph: &Graph, mixed: Mixed) -> Unemitted
     ensures { result ≡ spec.mixed_lines graph.now mixed }
 {
     Unemitted::Kinds {
         line: line_of(graph, mixed.site),
         stream: line_of(graph, mixed.stream),
         instance: line_of(graph, mixed.instance),
+    }
+}
+
+/// The line in which an open is completed.
+pub(crate) fn create_in(graph: &Graph, at: Spot) -> Unemitted
+    ensures { result ≡ spec.create_line graph.now at }
+{
+    Unemitted::Create {
+        line: line_of(graph, at),
     }
 }
 
@@ -103,10 +112,7 @@ fn emit_known(
     ensures { IfOk result (spec.Emits part tree.now.filter graph.now) }
 {
     match completed_create(graph) {
-        Some(at) => {
-            let line = line_of(graph, at);
-            Ok(Answer::NotEmitted(Unemitted::Create { line }))
-        }
+        Some(at) => Ok(Answer::NotEmitted(create_in(graph, at))),
         None => {
             let bytes = part_of(alloc, part, tree, listed.as_slice())?;
             Ok(Answer::Emitted(bytes))
@@ -137,7 +143,7 @@ fn emit_analysed<'a, L: Ledger>(
     requires name { blank.name ≡ L.name }
     requires parts { blank.parts ≡ L.parts }
     requires some { 0 < blank.parts }
-    ensures { spec.JudgesAlone part text.now result }
+    ensures { spec.JudgesAlone (spec.Emits part) text.now result }
 {
     let tree = parse(alloc, text)?;
     let graph = lower(alloc, &tree)?;
@@ -156,7 +162,7 @@ fn emit_checked<'a>(
     text: &[u8],
     certificate: &[u8],
 ) -> Result<Answer, Failure<'a>>
-    ensures { spec.JudgesBeside part text.now certificate.now result }
+    ensures { spec.JudgesBeside (spec.Emits part) text.now certificate.now result }
 {
     let tree = parse(alloc, text)?;
     let cert = flt_cert::read(alloc, certificate)?;

@@ -21,7 +21,7 @@ use Rattle.flt_words.specs.declared.request.Part.TheVariants.{Source, User, Inf}
 use Rattle.flt_words.specs.declared.request.Colour.{Colour}
 use Rattle.flt_words.specs.declared.request.Colour.TheVariants.{Auto, Always, Never}
 use Rattle.flt_words.specs.Workers.{within}
-use Rattle.flt_words.specs.Request.{Asked, Choice, Check, Analyse, Thin, Run, Replay, Show, Explain, Extract, Format, Pages, Emit, Compare}
+use Rattle.flt_words.specs.Request.{Asked, Choice, Check, Analyse, Thin, Run, Replay, Show, Explain, Extract, Format, Pages, Emit, EmitInto, Compare}
 
 -- ---- values
 
@@ -212,9 +212,21 @@ explain_by rows = option_and_then (explain_as rows) (form_of rows)
 abbrev pub emit_with : List Row → Part → Asked
 emit_with rows part = Emit part (text_of (codes "FILE") rows) (first_of (codes "CERT") rows)
 
--- a part that there isn't asks for nothing
+abbrev pub emit_into : List Row → Text → Asked
+emit_into rows folder = EmitInto folder (text_of (codes "FILE") rows) (first_of (codes "CERT") rows)
+
+-- a folder without a name asks for nothing
+abbrev pub emit_in : List Row → Text → Option Asked
+emit_in rows folder = if bytes_eq folder [] then None else Some (emit_into rows folder)
+
+-- the name of a part and a folder exclude each other, and a part that there isn't asks for nothing
+abbrev pub emit_by : List Row → Option Text → Option Text → Option Asked
+emit_by rows part None = option_map (emit_with rows) (part_of rows)
+emit_by rows None (Some folder) = emit_in rows folder
+emit_by rows (Some part) (Some folder) = None
+
 abbrev pub emit_of : List Row → Option Asked
-emit_of rows = option_map (emit_with rows) (part_of rows)
+emit_of rows = emit_by rows (first_of (codes "part") rows) (first_of (codes "into") rows)
 
 abbrev pub compare_of : List Row → Asked
 compare_of rows = Compare (files_of rows)

@@ -247,6 +247,19 @@ fn part_argument<'a>(alloc: Global) -> Arg<'a>
     )
 }
 
+/// The option `--into`.
+fn into_argument<'a>(alloc: Global) -> Arg<'a>
+    ensures rule { rule_of result ≡ spec.into_rule }
+    ensures own { result.global ≡ false }
+{
+    Arg::new(alloc, "into")
+        .long("into")
+        .value_name("FOLDER")
+        .help(
+            "Write all three parts into this folder; a user's header that is there stays as it is",
+        )
+}
+
 // ---- commands
 
 /// A command with one more argument, if memory sufficed for both.
@@ -446,9 +459,11 @@ fn bare_emit<'a>(alloc: Global) -> Command<'a>
         .about(
             "Prints the C source of the driver that a filter's text is, its user's header or its INF file",
         )
-        .override_usage("fltstack emit [--part <PART>] <FILE> [CERT]")
+        .override_usage(
+            "fltstack emit [--part <PART>] <FILE> [CERT]\n       fltstack emit --into <FOLDER> <FILE> [CERT]",
+        )
         .after_help(
-            "Analyses the text, or checks CERT. Prints the part (exit 0); or the point and rule for which there is no\ncertificate, or `not emitted`, the line and why (exit 1). Errors go to the standard error with exit 2.\n\n`docs/EMIT.md` has the form of each line, and says which parts you must fill in.\n\nExample: fltstack emit examples/pending_reads.flt",
+            "Analyses the text, or checks CERT. Prints the part, or writes NAME.c, NAME_user.h and NAME.inf (exit 0); or the\npoint and rule for which there is no certificate, or `not emitted`, the line and why (exit 1). Errors go to the\nstandard error with exit 2.\n\n`docs/EMIT.md` has the form of each line, and says which parts you must fill in.\n\nExample: fltstack emit examples/pending_reads.flt",
         )
 }
 
@@ -456,6 +471,7 @@ fn emit_command<'a>(alloc: Global) -> Result<Command<'a>, AllocError>
     ensures { IfOk result (λ c. spec.IsCommand c spec.emit_app) }
 {
     let command = with_argument(Ok(bare_emit(alloc)), part_argument(alloc));
+    let command = with_argument(command, into_argument(alloc));
     let command = with_argument(command, text_argument(alloc));
     with_argument(command, certificate_argument(alloc))
 }

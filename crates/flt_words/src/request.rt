@@ -135,6 +135,13 @@ pub enum Request<'a> {
         file: &'a str,
         cert: Option<&'a str>,
     },
+    /// Write all parts of the driver into a folder.
+    EmitInto {
+        /// It isn't empty.
+        folder: &'a str,
+        file: &'a str,
+        cert: Option<&'a str>,
+    },
     /// Compare the code of some C files with their annotations.
     Compare {
         files: Vec<&'a str>,

@@ -59,7 +59,15 @@ const NO_INPUT: &str =
 
 /// The error for an unknown part of a driver.
 const NO_PART: &str =
-    "error: `--part` takes `source`, `user` or `inf`\n\nUsage: fltstack emit [--part <PART>] <FILE> [CERT]\n\nFor more information, try '--help'.\n";
+    "error: `--part` takes `source`, `user` or `inf`\n\nUsage: fltstack emit [--part <PART>] <FILE> [CERT]\n       fltstack emit --into <FOLDER> <FILE> [CERT]\n\nFor more information, try '--help'.\n";
+
+/// The error for a part that is both printed and written.
+const BOTH_OUTPUTS: &str =
+    "error: `emit` takes `--part` or `--into`, not both\n\nUsage: fltstack emit [--part <PART>] <FILE> [CERT]\n       fltstack emit --into <FOLDER> <FILE> [CERT]\n\nFor more information, try '--help'.\n";
+
+/// The error for a folder without a name.
+const NO_FOLDER: &str =
+    "error: `--into` takes the name of a folder\n\nUsage: fltstack emit [--part <PART>] <FILE> [CERT]\n       fltstack emit --into <FOLDER> <FILE> [CERT]\n\nFor more information, try '--help'.\n";
 
 /// The error for malformed words if `clap` reports none for them.
 const NO_WORDS: &str = "error: these words can't be taken\n\nFor more information, try '--help'.\n";
@@ -553,14 +561,61 @@ fn emit_with<'a>(emit: &ArgMatches<'a>, part: Part) -> Request<'a>
     }
 }
 
-/// The request of the matches of `emit`.
-fn asked_emit<'a>(alloc: Global, emit: &ArgMatches<'a>) -> Result<Request<'a>, AllocError>
-    ensures { IfOk result (λ r. asked_of r ≡ spec.emit_of (rows_of (found_of emit.now))) }
+/// The request of the matches of `emit`, of a part or of one that there isn't.
+fn emit_part<'a>(alloc: Global, emit: &ArgMatches<'a>) -> Result<Request<'a>, AllocError>
+    ensures { IfOk result (λ r. asked_of r ≡ option_map (spec.emit_with (rows_of (found_of emit.now))) (spec.part_of (rows_of (found_of emit.now)))) }
 {
     let Some(part) = part_of(emit) else {
         return Ok(Request::Usage(String::from_str(alloc, NO_PART)?));
     };
     Ok(emit_with(emit, part))
+}
+
+/// The request of the matches of `emit`, of a folder.
+fn emit_into<'a>(emit: &ArgMatches<'a>, folder: &'a str) -> Request<'a>
+    ensures { asked_of result ≡ Some (spec.emit_into (rows_of (found_of emit.now)) folder.entry.now) }
+{
+    let file = text_of(emit, "FILE");
+    let cert = emit.get_str("CERT");
+    Request::EmitInto { folder, file, cert }
+}
+
+/// The same, if the folder has a name.
+fn emit_in<'a>(
+    alloc: Global,
+    emit: &ArgMatches<'a>,
+    folder: &'a str,
+) -> Result<Request<'a>, AllocError>
+    ensures { IfOk result (λ r. asked_of r ≡ spec.emit_in (rows_of (found_of emit.now)) folder.entry.now) }
+{
+    if folder == "" {
+        return Ok(Request::Usage(String::from_str(alloc, NO_FOLDER)?));
+    }
+    Ok(emit_into(emit, folder))
+}
+
+/// The request of the matches of `emit`, of these options.
+fn emit_by<'a>(
+    alloc: Global,
+    emit: &ArgMatches<'a>,
+    part: Option<&'a str>,
+    folder: Option<&'a str>,
+) -> Result<Request<'a>, AllocError>
+    ensures { IfOk result (λ r. asked_of r ≡ spec.emit_by (rows_of (found_of emit.now))
+        (option_map (λ name. name.now) part.entry) (option_map (λ name. name.now) folder.entry)) }
+{
+    match (part, folder) {
+        (_, None) => emit_part(alloc, emit),
+        (None, Some(folder)) => emit_in(alloc, emit, folder),
+        (Some(_), Some(_)) => Ok(Request::Usage(String::from_str(alloc, BOTH_OUTPUTS)?)),
+    }
+}
+
+/// The request of the matches of `emit`.
+fn asked_emit<'a>(alloc: Global, emit: &ArgMatches<'a>) -> Result<Request<'a>, AllocError>
+    ensures { IfOk result (λ r. asked_of r ≡ spec.emit_of (rows_of (found_of emit.now))) }
+{
+    emit_by(alloc, emit, emit.get_str("part"), emit.get_str("into"))
 }
 
 /// The request of the matches of `compare`.

@@ -1,6 +1,6 @@
 use Rattle.std.proofs.Common.{ap, map, option_map, refl}
-use Rattle.flt_commands.proofs.Reported.{answers_asked, answers_of, cut_asked, held_asked, kept_shown, quiet_asked, remarked_after, says_of_pages, those_after, those_of}
-use Rattle.flt_words.specs.Request.{Check, Analyse, Thin, Run, Replay, Show, Extract, Pages, Emit, Compare, choice_of}
+use Rattle.flt_commands.proofs.Reported.{answers_asked, answers_of, cut_asked, held_asked, kept_shown, never_quiet, quiet_asked, remarked_after, says_of_pages, those_after, those_of}
+use Rattle.flt_words.specs.Request.{Check, Analyse, Thin, Run, Replay, Show, Extract, Pages, Emit, EmitInto, Compare, choice_of}
 use Rattle.flt_commands.proofs.commands.report_of.Goals as goal
 
 pub returns-in-Check-clause-answers : goal.returns-in-Check-clause-answers
@@ -93,6 +93,19 @@ returns-in-Emit-clause-answers g c =
     c.fails_exactly_where_nothing_is_spelled.ensures.nowhere _ _ _ _ _ request _ _ _
     (rw c.in-Emit.is at c.in_ok-text.ensures) c.emit_files-said.ensures refl (those_of _ _ c.report_on-in-Emit.ensures.texts)
     c.report_on-in-Emit.ensures.reported (remarked_after request _ _ _ c.new-in-Emit.ensures.items c.report_on-in-Emit.ensures.remarked)
+
+pub returns-in_ok-before-in-EmitInto-clause-answers : goal.returns-in_ok-before-in-EmitInto-clause-answers
+returns-in_ok-before-in-EmitInto-clause-answers g c =
+    let request = EmitInto c.in-EmitInto.folder.now c.in-EmitInto.file.now (option_map (λ name. name.now) c.in-EmitInto.cert) in
+    answers_of c.covered_texts_break_nothing.ensures c.driven_texts_break_nothing.ensures
+    c.fails_exactly_where_nothing_is_spelled.ensures.nowhere _ _ _ _ _ request _ _ _
+    (rw c.in-EmitInto.is at c.in_ok-text.ensures) c.emit_files_into-said.ensures.said c.emit_files_into-said.ensures.put
+    (those_of _ _ c.report_on-in-EmitInto.ensures.texts) c.report_on-in-EmitInto.ensures.reported
+    (remarked_after request _ _ _ c.in_ok-before-in-EmitInto.ensures c.report_on-in-EmitInto.ensures.remarked)
+
+pub returns-in_ok-before-in-EmitInto-clause-quiet : goal.returns-in_ok-before-in-EmitInto-clause-quiet
+returns-in_ok-before-in-EmitInto-clause-quiet g c =
+    never_quiet _ _ _ _ (rw c.in-EmitInto.is at c.in_ok-text.ensures) _
 
 pub returns-in-Explain-clause-answers : goal.returns-in-Explain-clause-answers
 returns-in-Explain-clause-answers g c =
