@@ -24,7 +24,7 @@ use Rattle.flt_emit.specs.Expressions.{is_variable, is_zero, constant, compared,
 use Rattle.flt_emit.specs.Line.{joined, atom_text}
 use Rattle.flt_emit.specs.Names.{number_name, context_name, context_or_null, removed_name, instance, own_file, anchor_name, existing_name}
 use Rattle.flt_emit.specs.Scope.{Scope, allocates_for_instance}
-use Rattle.flt_emit_read.specs.AsRead.{call_as_read, condition_as_read}
+use Rattle.flt_print.specs.Reprinting.{call_without, condition_without}
 use Rattle.flt_emit_read.specs.Front.{Front, ◌>>=◌, or_else, after, by_form}
 use Rattle.flt_emit_read.specs.Lines.{Asked, known_value, signs, comparison_at, if_same, known_at, if_none, unknown_at, null_at, anchor_given, get_at, set_at, delete_at, named, queued_at, remove_at, generic_at, allocate_at, fallible_at, succeeds_at, condition_at}
 use Rattle.flt_emit_read.proofs.Fronts.{then_reads, first_reads, after_again, name_reads, pieces, joined_pieces}
@@ -161,7 +161,7 @@ module _ (at : Place) where
 
 module _ (scope : Scope) (queue : Bool) (point : ℕ) where
   fallible_reads : (c : FallibleCall) (r : Text) → IsFallible queue c →
-      fallible_at scope.place (fallible_text scope point c ++ r) ≡ Some (call_as_read c, r)
+      fallible_at scope.place (fallible_text scope point c ++ r) ≡ Some (call_without c, r)
   unfolding fallible_at set_at remove_at generic_at
   fallible_reads (fallible.AllocateContext c) r ok =
       ap (fallible_at scope.place)
@@ -219,7 +219,7 @@ module _ (scope : Scope) (queue : Bool) (point : ℕ) where
   succeeds_asks false z = refl
 
   pub condition_reads : (turned : Bool) (c : Condition) (r : Text) → IsCondition queue c →
-      condition_at scope.place (condition_text scope point turned c ++ r) ≡ Some ((turned, condition_as_read c), r)
+      condition_at scope.place (condition_text scope point turned c ++ r) ≡ Some ((turned, condition_without c), r)
   unfolding succeeds_at
   condition_reads turned (made.Test t) r ok = test_reads scope.place turned t r ok
   condition_reads turned (made.Succeeds c) r ok =

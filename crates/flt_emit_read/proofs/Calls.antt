@@ -50,7 +50,7 @@ pended_reads statuses.FinishedProcessing r h = refl
 pended_reads statuses.MoreProcessingRequired r h = refl
 
 module _ (at : Place) (locks : List Lock) (lv point line : ℕ) (r : Text) where
-  rest : Text
+  abbrev pub rest : Text
   rest = label point line ++ r
 
   -- ---- locks
@@ -58,7 +58,7 @@ module _ (at : Place) (locks : List Lock) (lv point line : ℕ) (r : Text) where
   lock_reads : (kind : LockKind) (level : Option Text) (made : LockNumber → PlainCall) (name : Text) (l : LockNumber) →
       is_name name ≡ true → lock_number kind name locks ≡ Some l → Stops is_word (lock_end level name ++ rest) →
       lock_call locks point kind level made (name ++ (lock_end level name ++ rest)) ≡ Some (whole (Call no_span (made l)), r)
-  unfolding lock_call rest
+  unfolding lock_call
   lock_reads kind level made name l h e s =
       then_reads _ (name_reads name (lock_end level name ++ rest) h s) ∙ then_reads _ e ∙ ends_reads (lock_end level name) point line _ r
 
@@ -97,7 +97,7 @@ module _ (at : Place) (locks : List Lock) (lv point line : ℕ) (r : Text) where
   pended_call : (d : OperationVariable) (s : Status) → is_bare s ≡ true →
       started at locks lv point (plain_text locks (plain.CompletePendedPreOperation d s) ++ rest) ≡
       Some (whole (Call no_span (plain.CompletePendedPreOperation d s)), r)
-  unfolding line_forms pended_line rest
+  unfolding line_forms pended_line
   pended_call d s h =
       ap (started at locks lv point)
       (joined_pieces (codes "FltCompletePendedPreOperation( " ∷ operation_name d ∷ codes ", " ∷ status_name s ∷ codes ", "
@@ -111,7 +111,7 @@ module _ (at : Place) (locks : List Lock) (lv point line : ℕ) (r : Text) where
 
   plain_starts : (c : PlainCall) → IsPlain locks c → is_alone c ≡ true →
       started at locks lv point (plain_text locks c ++ rest) ≡ Some (whole (Call no_span c), r)
-  unfolding line_forms ended_context context_line rest
+  unfolding line_forms ended_context context_line
   plain_starts (plain.DeleteContext c) ok h =
       ap (started at locks lv point) (joined_pieces (codes "FltDeleteContext( " ∷ context_name c ∷ codes " );" ∷ []) rest)
       ∙ then_reads _ (context_reads c _) ∙ ends_reads (codes " );") point line _ r
@@ -159,7 +159,6 @@ module _ (at : Place) (locks : List Lock) (lv point line : ℕ) (r : Text) where
       line_at at locks lv point (final_text level (operation_name d) f ++ (indentation level
       ++ (plain_text locks (plain.CompletePendedPreOperation d (statuses.Complete f)) ++ rest))) ≡
       Some (whole (Call no_span (plain.CompletePendedPreOperation d (statuses.Complete f))), r)
-  unfolding rest
   completed_reads level d f =
       completion_starts level d f _
       ∙ ap (λ z. by_form (completed_call point d f ∷ completed_return at point d f) (past_blanks z))
@@ -174,7 +173,6 @@ module _ (at : Place) (locks : List Lock) (lv point line : ℕ) (r : Text) where
   pub call_reads : (level : ℕ) (c : PlainCall) → IsPlain locks c →
       line_at at locks lv point (before_call level c ++ (indentation level ++ (plain_text locks c ++ (label point line ++ r)))) ≡
       Some (whole (Call no_span c), r)
-  unfolding rest
   call_reads level (plain.CompletePendedPreOperation d (statuses.Complete f)) ok = completed_reads level d f
   call_reads level (plain.CompletePendedPreOperation d (statuses.WithCallback c)) ok = alone_reads level _ ok refl
   call_reads level (plain.CompletePendedPreOperation d (statuses.Synchronize c)) ok = alone_reads level _ ok refl

@@ -20,10 +20,12 @@ use Rattle.flt_tree.specs.declared.filter.Statement.TheFolds.{fold-Statement, ma
 use Rattle.flt_tree.specs.declared.filter.Statement.TheOpen.{Statement-F}
 use Rattle.flt_tree.specs.declared.filter.Statement.TheVariants.{Act, Call, Return, If, Repeat, rolls-Act, rolls-Call, rolls-Return, rolls-If, rolls-Repeat}
 use Rattle.flt_tree.specs.declared.filter.Status.{Status}
+use Rattle.flt_emit.specs.Expressions.{condition_text}
 use Rattle.flt_emit.specs.Line.{joined, label, indentation}
 use Rattle.flt_emit.specs.Scope.{Scope}
-use Rattle.flt_emit.specs.Statements.{Lines, statement_step, statement_text, with_lines, statements_of, body_text, in_turn, choice_text, turned_text, otherwise_text, if_text, bare_text, repeat_text, closing, else_text, action_text, before_call, plain_text, return_text, condition_text}
-use Rattle.flt_emit_read.specs.AsRead.{condition_as_read, returned, step_as_read, statement_as_read}
+use Rattle.flt_emit.specs.Statements.{Lines, statement_step, statement_text, with_lines, statements_of, body_text, in_turn, choice_text, turned_text, otherwise_text, if_text, bare_text, repeat_text, closing, else_text, action_text, before_call, plain_text, return_text}
+use Rattle.flt_print.specs.Reprinting.{condition_without}
+use Rattle.flt_emit_read.specs.AsRead.{returned, step_as_read, statement_as_read}
 use Rattle.flt_emit_read.specs.Blocks.{Open, first, second, repeated, Reading, reading, ended, takes, past_end, step, lines_at}
 use Rattle.flt_emit_read.specs.Front.{Front, ◌>>=◌, or_else, after, by_form, past_blanks}
 use Rattle.flt_emit_read.specs.Lines.{Line, whole, asks, turns, otherwise, closes, line_forms, line_at, if_line, bare_line, repeat_line}
@@ -38,7 +40,7 @@ use Rattle.flt_emit_read.proofs.Words.{ends_reads}
 
 module _ (scope : Scope) (queue : Bool) (lv point line : ℕ) (r : Text) (level : ℕ) where
   if_reads : (turned : Bool) (c : Condition) → IsCondition queue c →
-      line_at scope.place scope.locks lv point (if_text scope level point line turned c ++ r) ≡ Some (asks turned (condition_as_read c), r)
+      line_at scope.place scope.locks lv point (if_text scope level point line turned c ++ r) ≡ Some (asks turned (condition_without c), r)
   unfolding line_forms if_line
   if_reads turned c ok =
       ap (line_at scope.place scope.locks lv point)
@@ -49,7 +51,7 @@ module _ (scope : Scope) (queue : Bool) (lv point line : ℕ) (r : Text) (level 
 
   bare_reads : (c : Condition) → IsCondition queue c →
       line_at scope.place scope.locks lv point (bare_text scope level point line c ++ r) ≡
-      Some (whole (If no_span (condition_as_read c) [] []), r)
+      Some (whole (If no_span (condition_without c) [] []), r)
   unfolding line_forms bare_line
   bare_reads c ok =
       ap (line_at scope.place scope.locks lv point)
@@ -88,7 +90,7 @@ repeat_reads at locks level point line n r few =
 -- ---- lines one after the other
 
 -- one reading leads to another
-data Chain (at : Place) (locks : List Lock) : Reading → Text → Reading → Text → Type 0 where
+pub data Chain (at : Place) (locks : List Lock) : Reading → Text → Reading → Text → Type 0 where
   stays : {s : Reading} {z : Text} → Chain at locks s z s z
   goes : {s t u : Reading} {x y z : Text} → step at locks s x ≡ Some (t, y) → length y < length x → Chain at locks t y u z →
       Chain at locks s x u z
@@ -126,11 +128,13 @@ labelled_some point line = omega arith
 -- what follows a label is shorter than what it ends
 last_shorter : (ps : List Text) (point line : ℕ) (r : Text) → length r < length (joined (ps ++ label point line ∷ []) ++ r)
 last_shorter [] point line r =
-    rw (append_assoc (label point line) [] r) (shorter [] (label point line) r (labelled_some point line))
+    subst (λ x. length r < length x) (sym (append_assoc (label point line) [] r))
+    (shorter [] (label point line) r (labelled_some point line))
 last_shorter (p ∷ ps) point line r =
+    let last = joined (ps ++ label point line ∷ []) in
     let more = last_shorter ps point line r in
-    rw (append_assoc p (joined (ps ++ label point line ∷ [])) r, length-append p (joined (ps ++ label point line ∷ []) ++ r))
-    (omega (arith, more))
+    subst (λ x. length r < length x) (sym (append_assoc p last r))
+    (subst (λ n. length r < n) (sym (length-append p (last ++ r))) (omega (arith, more)))
 
 closing_shorter : (level : ℕ) (r : Text) → length r < length (closing level ++ r)
 closing_shorter level r =
@@ -144,16 +148,15 @@ else_shorter level r =
 
 -- ---- folds, one layer at a time
 
-folded : (X : Type 0) (step : Statement-F X → X) (s : Statement) (y : Statement-F Statement) → roll-Statement y ≡ s →
+pub folded : (X : Type 0) (step : Statement-F X → X) (s : Statement) (y : Statement-F Statement) → roll-Statement y ≡ s →
     fold-Statement X step s ≡ step (map-Statement Statement X (fold-Statement X step) y)
 folded X step s y e = ap (fold-Statement X step) (sym e) ∙ fold-roll-Statement X step y
 
 -- a statement's lines are those of its layer
-layer : Scope → Statement-F Statement → Lines
+abbrev pub layer : Scope → Statement-F Statement → Lines
 layer scope y = statement_step scope (map-Statement Statement (Statement × Lines) (λ z. (z, statement_text scope z)) y)
 
 laid : (scope : Scope) (s : Statement) (y : Statement-F Statement) → roll-Statement y ≡ s → statement_text scope s ≡ layer scope y
-unfolding layer
 laid scope s y e = ap (statement_text scope) (sym e) ∙ para-roll-Statement Lines (statement_step scope) y
 
 statements_back : (scope : Scope) (block : List Statement) → statements_of (with_lines scope block) ≡ block
@@ -167,19 +170,19 @@ points_cons s rest = sum-map points_of (s ∷ rest)
 -- ---- the laws of statements and of blocks
 
 module _ (scope : Scope) (queue : Bool) where
-  Path : Reading → Text → Reading → Text → Type 0
+  abbrev pub Path : Reading → Text → Reading → Text → Type 0
   Path = Chain scope.place scope.locks
 
   -- a block as it is read
-  inside : List Statement → List Statement
+  abbrev pub inside : List Statement → List Statement
   inside = map (statement_as_read scope.place)
 
-  OfStatement : Statement → Type 0
+  abbrev pub OfStatement : Statement → Type 0
   OfStatement s = (point : ℕ) (done : List Statement) (outer : List Open) (r : Text) →
       Path (reading point done outer) (statement_text scope s (suc (length outer)) point ++ r)
       (reading (point + points_of s) (done ++ statement_as_read scope.place s ∷ []) outer) r
 
-  OfBlock : List Statement → Type 0
+  abbrev pub OfBlock : List Statement → Type 0
   OfBlock ss = (point : ℕ) (done : List Statement) (outer : List Open) (r : Text) →
       Path (reading point done outer) (body_text scope ss (suc (length outer)) point ++ r)
       (reading (point + points ss) (done ++ inside ss) outer) r
@@ -193,11 +196,9 @@ module _ (scope : Scope) (queue : Bool) where
       subst (λ n. Path s x (reading n e outer) z) f (subst (λ b. Path s x (reading p b outer) z) g c)
 
   empty_block : OfBlock []
-  unfolding OfBlock inside Path
   empty_block point done outer r = to_reading (omega arith) (sym (append-nil done)) stays
 
   more_block : (s : Statement) (ss : List Statement) → OfStatement s → OfBlock ss → OfBlock (s ∷ ss)
-  unfolding OfStatement OfBlock inside Path
   more_block s ss one more point done outer r =
       from_text
       (append_assoc (statement_text scope s (suc (length outer)) point) (body_text scope ss (suc (length outer)) (point + points_of s)) r)
@@ -211,14 +212,12 @@ module _ (scope : Scope) (queue : Bool) where
       ((point level : ℕ) (r : Text) → length r < length (layer scope y level point ++ r)) →
       ((lv point level : ℕ) (r : Text) → line_at scope.place scope.locks lv point (layer scope y level point ++ r) ≡ Some (whole read, r)) →
       OfStatement s
-  unfolding OfStatement Path
   one_point s y read e one as_read less reads point done outer r =
       from_text (ap (λ (f : Lines). f (suc (length outer)) point ++ r) (laid scope s y e))
       (to_reading (ap (λ n. point + n) (sym one)) (ap (λ x. done ++ x ∷ []) (sym as_read))
       (one_line (reads (suc (length outer)) point (suc (length outer)) r) refl (less point (suc (length outer)) r)))
 
   of_act : (at : Span) (a : Action) → IsAction a → OfStatement (Act at a)
-  unfolding layer
   of_act at a ok =
       one_point (Act at a) (Statement-F.Act at a) (Act no_span a) (rolls-Act at a)
       (folded ℕ points_step (Act at a) (Statement-F.Act at a) (rolls-Act at a))
@@ -230,7 +229,6 @@ module _ (scope : Scope) (queue : Bool) where
       ∙ action_reads scope.place scope.locks lv point at.line r level a ok)
 
   of_call : (at : Span) (c : PlainCall) → IsPlain scope.locks c → OfStatement (Call at c)
-  unfolding layer
   of_call at c ok =
       one_point (Call at c) (Statement-F.Call at c) (Call no_span c) (rolls-Call at c)
       (folded ℕ points_step (Call at c) (Statement-F.Call at c) (rolls-Call at c))
@@ -243,7 +241,6 @@ module _ (scope : Scope) (queue : Bool) where
       ∙ call_reads scope.place scope.locks lv point at.line r level c ok)
 
   of_return : (at : Span) (s : Option Status) → OfStatement (Return at s)
-  unfolding layer
   of_return at s =
       one_point (Return at s) (Statement-F.Return at s) (Return no_span (returned scope.place s)) (rolls-Return at s)
       (folded ℕ points_step (Return at s) (Statement-F.Return at s) (rolls-Return at s))
@@ -261,7 +258,6 @@ module _ (scope : Scope) (queue : Bool) where
       Path (reading point [] (o ∷ outer))
       (in_turn (with_lines scope ss) (suc (length outer) + 1) point ++ (closing (suc (length outer)) ++ r))
       (reading q (ended o (inside ss)) outer) r
-  unfolding OfBlock Path
   closed_block ss of o point q outer r e =
       from_text (ap (λ n. body_text scope ss n point ++ (closing (suc (length outer)) ++ r)) (add-one (suc (length outer))))
       (to_reading (sym e) refl
@@ -276,9 +272,8 @@ module _ (scope : Scope) (queue : Bool) where
   -- the line of an `if`
   asked_line : {point : ℕ} {done : List Statement} {outer : List Open} {u : Reading} {y z : Text} (turned : Bool) (c : Condition)
       (line : ℕ) → IsCondition queue c →
-      Path (reading (point + 1) [] (first turned (condition_as_read c) done ∷ outer)) y u z →
+      Path (reading (point + 1) [] (first turned (condition_without c) done ∷ outer)) y u z →
       Path (reading point done outer) (if_text scope (suc (length outer)) point line turned c ++ y) u z
-  unfolding Path
   asked_line {point = point} {outer = outer} {y = y} turned c line ok more =
       by_line (if_reads scope queue (suc (length outer)) point line y (suc (length outer)) turned c ok) refl
       (last_shorter (indentation (suc (length outer)) ∷ codes "if (" ∷ condition_text scope point turned c ∷ codes ") {" ∷ []) point line y)
@@ -289,8 +284,7 @@ module _ (scope : Scope) (queue : Bool) where
       (point q : ℕ) (done : List Statement) (outer : List Open) (r : Text) → q ≡ point + (1 + (points granted + points refused)) →
       Path (reading point done outer)
       (choice_text scope line c (with_lines scope granted) (with_lines scope refused) (suc (length outer)) point ++ r)
-      (reading q (done ++ If no_span (condition_as_read c) (inside granted) (inside refused) ∷ []) outer) r
-  unfolding Path OfBlock inside
+      (reading q (done ++ If no_span (condition_without c) (inside granted) (inside refused) ∷ []) outer) r
   choice line c [] [] ok g e point q done outer r h =
       to_reading (omega (arith, h)) refl
       (one_line (bare_reads scope queue (suc (length outer)) point line r (suc (length outer)) c ok) refl
@@ -300,13 +294,13 @@ module _ (scope : Scope) (queue : Bool) where
       (grouped (if_text scope (suc (length outer)) point line true c)
       (in_turn (with_lines scope (x ∷ xs)) (suc (length outer) + 1) (point + 1)) (closing (suc (length outer))) r)
       (asked_line true c line ok
-      (closed_block (x ∷ xs) e (first true (condition_as_read c) done) (point + 1) q outer r (omega (arith, h))))
+      (closed_block (x ∷ xs) e (first true (condition_without c) done) (point + 1) q outer r (omega (arith, h))))
   choice line c (y ∷ ys) [] ok g e point q done outer r h =
       from_text
       (grouped (if_text scope (suc (length outer)) point line false c)
       (in_turn (with_lines scope (y ∷ ys)) (suc (length outer) + 1) (point + 1)) (closing (suc (length outer))) r)
       (asked_line false c line ok
-      (closed_block (y ∷ ys) g (first false (condition_as_read c) done) (point + 1) q outer r (omega (arith, h))))
+      (closed_block (y ∷ ys) g (first false (condition_without c) done) (point + 1) q outer r (omega (arith, h))))
   choice line c (y ∷ ys) (x ∷ xs) ok g e point q done outer r h =
       let level = suc (length outer) in
       let middle = point + 1 + points (y ∷ ys) in
@@ -323,14 +317,13 @@ module _ (scope : Scope) (queue : Bool) where
       ∙ ap (λ n. if_text scope level point line false c ++ (body_text scope (y ∷ ys) n (point + 1)
       ++ (else_text level ++ (last ++ (closing level ++ r))))) (add-one level))
       (asked_line false c line ok
-      (joins (g (point + 1) [] (first false (condition_as_read c) done ∷ outer) (else_text level ++ (last ++ (closing level ++ r))))
+      (joins (g (point + 1) [] (first false (condition_without c) done ∷ outer) (else_text level ++ (last ++ (closing level ++ r))))
       (by_line (else_reads scope queue (suc level) (point + 1 + points (y ∷ ys)) 0 (last ++ (closing level ++ r)) level) refl
       (else_shorter level (last ++ (closing level ++ r)))
-      (closed_block (x ∷ xs) e (second (condition_as_read c) (inside (y ∷ ys)) done) middle q outer r (omega (arith, h))))))
+      (closed_block (x ∷ xs) e (second (condition_without c) (inside (y ∷ ys)) done) middle q outer r (omega (arith, h))))))
 
   of_choice : (at : Span) (c : Condition) (granted refused : List Statement) → IsCondition queue c → OfBlock granted → OfBlock refused →
       OfStatement (If at c granted refused)
-  unfolding layer OfStatement inside
   of_choice at c granted refused ok g e point done outer r =
       let whole_if = If at c granted refused in
       let parts = Statement-F.If at c granted refused in
@@ -341,7 +334,6 @@ module _ (scope : Scope) (queue : Bool) where
       (ap (λ n. point + n) (folded ℕ points_step whole_if parts (rolls-If at c granted refused)))))
 
   of_repeat : (at : Span) (n : ℕ) (body : List Statement) → n ≤ max_turns → OfBlock body → OfStatement (Repeat at n body)
-  unfolding layer OfStatement inside Path
   of_repeat at n body few of point done outer r =
       let whole_repeat = Repeat at n body in
       let parts = Statement-F.Repeat at n body in

@@ -58,14 +58,14 @@ module _ (locks : List Lock) (lv point : ℕ) where
 
   module _ (line : ℕ) (r : Text) (level : ℕ) where
     -- what returns a status, behind what is set before
-    answer : Text → Text
+    abbrev pub answer : Text → Text
     answer name = indentation level ++ (codes "return " ++ (name ++ (codes ";" ++ (label point line ++ r))))
 
     handed : (at : Place) → answers at ≡ true → (c : ContextVariable) (name : Text) (s : Status) →
         by_form (handing point c) (codes "return " ++ (name ++ (codes ";" ++ (label point line ++ r)))) ≡
         Some (whole (Return no_span (Some s)), r) →
         line_at at locks lv point ((handed_text level (Some c) ++ []) ++ answer name) ≡ Some (whole (Return no_span (Some s)), r)
-    unfolding answer handed_line
+    unfolding handed_line
     handed at h c name s e =
         ap (line_at at locks lv point)
         (append_assoc (handed_text level (Some c)) [] (answer name)
@@ -76,7 +76,6 @@ module _ (locks : List Lock) (lv point : ℕ) where
     completes : (at : Place) → answers at ≡ true → (f : FinalStatus) →
         line_at at locks lv point ((final_text level (codes "Data") f ++ []) ++ answer (codes "FLT_PREOP_COMPLETE")) ≡
         Some (whole (Return no_span (Some (statuses.Complete f))), r)
-    unfolding answer
     completes at h f =
         ap (line_at at locks lv point) (append_assoc (final_text level (codes "Data") f) [] (answer (codes "FLT_PREOP_COMPLETE")))
         ∙ completion_starts at locks lv point line r level operations.Data f _
@@ -88,25 +87,25 @@ module _ (locks : List Lock) (lv point : ℕ) where
         by_form (bare_statuses point) (codes "return " ++ (name ++ (codes ";" ++ (label point line ++ r)))) ≡
         Some (whole (Return no_span (Some s)), r) →
         line_at at locks lv point (answer name) ≡ Some (whole (Return no_span (Some s)), r)
-    unfolding answer
     bare at h name s e = starts at locks lv point level _ ∙ bare_starts at h _ ∙ e
 
     answer_reads : (at : Place) → answers at ≡ true → (s : Status) →
         line_at at locks lv point (before_return level s ++ answer (status_name s)) ≡ Some (whole (Return no_span (Some s)), r)
-    answer_reads at h (statuses.WithCallback None) = bare at h _ _ (ends_reads [] point line _ r)
-    answer_reads at h (statuses.WithCallback (Some c)) = handed at h c _ _ (ends_reads [] point line _ r)
-    answer_reads at h (statuses.Synchronize None) = bare at h _ _ (ends_reads [] point line _ r)
-    answer_reads at h (statuses.Synchronize (Some c)) = handed at h c _ _ (ends_reads [] point line _ r)
-    answer_reads at h statuses.NoCallback = bare at h _ _ (ends_reads [] point line _ r)
+    answer_reads at h (statuses.WithCallback None) = bare at h (status_name (statuses.WithCallback None)) (statuses.WithCallback None) (ends_reads [] point line _ r)
+    answer_reads at h (statuses.WithCallback (Some c)) =
+        handed at h c (status_name (statuses.WithCallback (Some c))) (statuses.WithCallback (Some c)) (ends_reads [] point line _ r)
+    answer_reads at h (statuses.Synchronize None) = bare at h (status_name (statuses.Synchronize None)) (statuses.Synchronize None) (ends_reads [] point line _ r)
+    answer_reads at h (statuses.Synchronize (Some c)) =
+        handed at h c (status_name (statuses.Synchronize (Some c))) (statuses.Synchronize (Some c)) (ends_reads [] point line _ r)
+    answer_reads at h statuses.NoCallback = bare at h (status_name statuses.NoCallback) statuses.NoCallback (ends_reads [] point line _ r)
     answer_reads at h (statuses.Complete f) = completes at h f
-    answer_reads at h statuses.Pending = bare at h _ _ (ends_reads [] point line _ r)
-    answer_reads at h statuses.DisallowFastIo = bare at h _ _ (ends_reads [] point line _ r)
-    answer_reads at h statuses.FinishedProcessing = bare at h _ _ (ends_reads [] point line _ r)
-    answer_reads at h statuses.MoreProcessingRequired = bare at h _ _ (ends_reads [] point line _ r)
+    answer_reads at h statuses.Pending = bare at h (status_name statuses.Pending) statuses.Pending (ends_reads [] point line _ r)
+    answer_reads at h statuses.DisallowFastIo = bare at h (status_name statuses.DisallowFastIo) statuses.DisallowFastIo (ends_reads [] point line _ r)
+    answer_reads at h statuses.FinishedProcessing = bare at h (status_name statuses.FinishedProcessing) statuses.FinishedProcessing (ends_reads [] point line _ r)
+    answer_reads at h statuses.MoreProcessingRequired = bare at h (status_name statuses.MoreProcessingRequired) statuses.MoreProcessingRequired (ends_reads [] point line _ r)
 
     status_reads : (at : Place) (is_pre : Bool) → answers at ≡ true → (s : Status) →
         line_at at locks lv point (answer_text is_pre level (Some s) ++ (label point line ++ r)) ≡ Some (whole (Return no_span (Some s)), r)
-    unfolding answer
     status_reads at is_pre h s =
         ap (line_at at locks lv point)
         (joined_pieces (before_return level s ∷ indentation level ∷ codes "return " ∷ status_name s ∷ codes ";" ∷ []) (label point line ++ r))

@@ -84,7 +84,7 @@ module _ (at : Place) (locks : List Lock) (lv point : ℕ) where
   number_starts numbers.N6 z = refl
   number_starts numbers.N7 z = refl
 
-  context_starts : (c : ContextVariable) (z : Text) → started (context_name c ++ z) ≡ context_line point c z
+  pub context_starts : (c : ContextVariable) (z : Text) → started (context_name c ++ z) ≡ context_line point c z
   unfolding line_forms
   context_starts contexts.C0 z = refl
   context_starts contexts.C1 z = refl

@@ -24,7 +24,6 @@ use Rattle.flt_tree.specs.declared.filter.FallibleCall.TheVariants as fallible
 use Rattle.flt_tree.specs.declared.filter.Lock.{Lock}
 use Rattle.flt_tree.specs.declared.filter.PlainCall.{PlainCall}
 use Rattle.flt_tree.specs.declared.filter.PlainCall.TheVariants as plain
-use Rattle.flt_tree.specs.declared.filter.Position.{Position}
 use Rattle.flt_tree.specs.declared.filter.Routine.{Routine}
 use Rattle.flt_tree.specs.declared.filter.Statement.{Statement}
 use Rattle.flt_tree.specs.declared.filter.Statement.TheVariants.{Act, Call, Return, If}
@@ -46,6 +45,7 @@ use Rattle.flt_tree.specs.declared.variable.RemovedVariable.{RemovedVariable}
 use Rattle.flt_tree.specs.declared.variable.RemovedVariable.TheVariants as removed
 use Rattle.flt_emit.specs.Expressions.{is_variable, is_zero}
 use Rattle.flt_emit.specs.Names.{number_name, context_name, removed_name, operation_name, instance, own_file, existing_name, final_status_name}
+use Rattle.flt_print.specs.Reprinting.{nowhere}
 use Rattle.flt_emit_read.specs.Front.{Front, ◌>>=◌, or_else, after, one_of, Forms, by_form, past_while, past_blanks, number_at, name_at}
 
 -- what a line says
@@ -364,10 +364,6 @@ delete_at at anchor z = do
   z ← after (codes ", ") z
   old ← address_at z
   Some (fallible.DeleteContextOf anchor old.0, old.1)
-
--- no place
-abbrev pub nowhere : Position
-nowhere = record { line = 0; column = 0 }
 
 abbrev pub named : Text → Routine
 named name = record { name = name; position = nowhere }

@@ -21,7 +21,8 @@ use Rattle.flt_emit.specs.Names.{operation_word}
 use Rattle.flt_emit.specs.Source.{lock_type, framed, helpers}
 use Rattle.flt_emit_read.specs.Blocks.{body_at}
 use Rattle.flt_emit_read.specs.Front.{Front, ◌>>=◌, or_else, after, one_of, by_form, past_while, number_at, name_at}
-use Rattle.flt_emit_read.specs.Lines.{table, nowhere}
+use Rattle.flt_emit_read.specs.Lines.{table}
+use Rattle.flt_print.specs.Reprinting.{nowhere}
 
 -- ---- locks
 
@@ -61,7 +62,7 @@ event_at made parameters z = operation_kind_at z >>= λ op. after parameters op.
 unfoldable pub routine_at : (Text → Head) → Text → Text → Front Head
 routine_at made parameters z = name_at z >>= λ name. after parameters name.1 >>= λ z. Some (made name.0, z)
 
--- the head of a callback
+-- the head of a callback; a deferred routine has one prototype for both stages, so that it is a pre routine here
 unfoldable pub head_at : Text → Front Head
 head_at =
     by_form ((fixed.pre_head, event_at Pre fixed.pre_parameters) ∷ (fixed.post_head, event_at Post fixed.post_parameters)
@@ -84,7 +85,14 @@ abbrev pub past_empty : Bool → Text → Option Text
 past_empty begins [] = None
 past_empty begins (b ∷ z) = if b == 10 then (if begins then Some z else past_empty true z) else past_empty false z
 
--- the callback of a number and a head; what it declares is left out
+-- the head of a callback by its prototype and its hook, which has the stage of a deferred routine
+abbrev pub hooked : Head → Text → Front Head
+hooked (DeferredPre name) z =
+    or_else (after (hook (DeferredPre name)) z) (λ rest. Some (DeferredPre name, rest))
+    (after (hook (DeferredPost name)) z >>= λ rest. Some (DeferredPost name, rest))
+hooked h z = after (hook h) z >>= λ rest. Some (h, rest)
+
+-- the callback of a number and a prototype; what it declares is left out
 unfoldable pub callback_at : List Lock → ℕ → Head → Text → Front Callback
 callback_at locks number h z = do
   z ← after (codes "\n//\n//  Callback ") z
@@ -94,10 +102,10 @@ callback_at locks number h z = do
   z ← after (prototype h) z
   z ← after (codes "\n{\n") z
   z ← past_empty true z
-  z ← after (hook h) z
-  z ← after (codes "\n") z
-  body ← body_at (head_place h) locks z
-  Some (record { head = h; position = nowhere; span = no_span; body = body.0; end = no_span }, body.1)
+  head ← hooked h z
+  z ← after (codes "\n") head.1
+  body ← body_at (head_place head.0) locks z
+  Some (record { head = head.0; position = nowhere; span = no_span; body = body.0; end = no_span }, body.1)
 
 -- callbacks of these heads, from a number on
 abbrev pub callbacks_at : List Lock → ℕ → List Head → Text → Front (List Callback)
