@@ -1,10 +1,10 @@
 -- What an `if` asks is read back.
-use Rattle.std.proofs.Common.{◌≡◌, ℕ, Bool, true, false, List, [], ◌∷◌, ◌++◌, refl, sym, ap, ◌∙◌, append_assoc, append-nil}
+use Rattle.std.proofs.Common.{◌≡◌, ℕ, Bool, true, false, [], ◌∷◌, ◌++◌, refl, ap, ◌∙◌, append-nil}
 use Rattle.std.specs.Prelude.{not, ◌||◌, Option, Some, None, codes}
 use Rattle.flt_rules.specs.declared.call.Anchor.{Anchor}
 use Rattle.flt_rules.specs.declared.call.Anchor.TheVariants.{Stream, Instance}
 use Rattle.flt_rules.specs.declared.place.Place.{Place}
-use Rattle.flt_tree.specs.Names.{Text, is_word, is_name}
+use Rattle.flt_tree.specs.Names.{Text, is_name}
 use Rattle.flt_tree.specs.WellFormed.{IsAtom, IsTest, IsFallible, IsCondition}
 use Rattle.flt_tree.specs.declared.filter.Condition.{Condition}
 use Rattle.flt_tree.specs.declared.filter.Condition.TheVariants as made
@@ -21,13 +21,13 @@ use Rattle.flt_tree.specs.declared.variable.NumberVariable.TheVariants as number
 use Rattle.flt_tree.specs.declared.variable.RemovedVariable.{RemovedVariable}
 use Rattle.flt_tree.specs.declared.variable.RemovedVariable.TheVariants as removed
 use Rattle.flt_emit.specs.Expressions.{is_variable, is_zero, constant, compared, null_sign, equal_sign, less_sign, negation, test_text, anchored, address, context_type, fallible_text, condition_text}
-use Rattle.flt_emit.specs.Line.{joined, atom_text}
-use Rattle.flt_emit.specs.Names.{number_name, context_name, context_or_null, removed_name, instance, own_file, anchor_name, existing_name}
+use Rattle.flt_emit.specs.Line.{atom_text}
+use Rattle.flt_emit.specs.Names.{number_name, context_name, context_or_null, removed_name, instance, own_file, existing_name}
 use Rattle.flt_emit.specs.Scope.{Scope, allocates_for_instance}
 use Rattle.flt_print.specs.Reprinting.{call_without, condition_without}
-use Rattle.flt_emit_read.specs.Front.{Front, ◌>>=◌, or_else, after, by_form}
-use Rattle.flt_emit_read.specs.Lines.{Asked, known_value, signs, comparison_at, if_same, known_at, if_none, unknown_at, null_at, anchor_given, get_at, set_at, delete_at, named, queued_at, remove_at, generic_at, allocate_at, fallible_at, succeeds_at, condition_at}
-use Rattle.flt_emit_read.proofs.Fronts.{then_reads, first_reads, after_again, name_reads, pieces, joined_pieces}
+use Rattle.flt_emit_read.specs.Front.{Front, after}
+use Rattle.flt_emit_read.specs.Lines.{Asked, known_value, comparison_at, if_same, known_at, if_none, unknown_at, null_at, anchor_given, get_at, set_at, delete_at, named, queued_at, remove_at, generic_at, allocate_at, fallible_at, succeeds_at, condition_at}
+use Rattle.flt_emit_read.proofs.Fronts.{then_reads, after_again, name_reads, joined_pieces}
 use Rattle.flt_emit_read.proofs.Words.{number_name_reads, context_reads, removed_reads, existing_reads, optional_reads, address_reads, atom_reads}
 
 -- ---- tests

@@ -1,9 +1,8 @@
 -- What a callback declares is passed over.
-use Rattle.std.proofs.Common.{◌≡◌, ℕ, ◌+◌, Bool, true, false, List, [], ◌∷◌, ◌++◌, refl, sym, ap, subst, ◌∙◌, append_assoc}
+use Rattle.std.proofs.Common.{◌≡◌, ℕ, ◌+◌, Bool, true, false, List, [], ◌∷◌, ◌++◌, refl, ap, subst, ◌∙◌, append_assoc}
 use Rattle.std.proofs.lemmas.Bool.{false≢true, and_parts, ne_eqb}
 use Rattle.std.specs.Prelude.{◌==◌, flat_map, codes}
 use Rattle.std.specs.List.{list_all}
-use Rattle.flt_rules.specs.declared.call.LockKind.{LockKind}
 use Rattle.flt_tree.specs.Names.{Text, is_word, is_name}
 use Rattle.flt_tree.specs.declared.filter.Head.{Head}
 use Rattle.flt_tree.specs.declared.filter.Head.TheVariants.{Pre, Post, Canceled, DeferredPre, DeferredPost, Generic}
@@ -17,9 +16,9 @@ use Rattle.flt_tree.specs.declared.variable.RemovedVariable.{RemovedVariable}
 use Rattle.flt_tree.specs.declared.variable.RemovedVariable.TheVariants as removed
 use Rattle.flt_emit.specs.Callbacks.{where_used, context_declaration, operation_declaration, unread, declared_number, number_declaration, context_variables, removed_variables, number_variables, argument_declaration, instance_declaration, needs_level, declared_level, level_declaration, level_declarations, declarations}
 use Rattle.flt_emit.specs.Line.{joined}
-use Rattle.flt_emit.specs.Names.{number_name, context_name, removed_name}
+use Rattle.flt_emit.specs.Names.{context_name, removed_name}
 use Rattle.flt_emit_read.specs.Sources.{past_empty}
-use Rattle.flt_emit_read.proofs.Fronts.{all_words, pieces, joined_pieces}
+use Rattle.flt_emit_read.proofs.Fronts.{all_words, joined_pieces}
 
 -- whole lines, none of them empty
 abbrev pub AreLines : Text → Type 0

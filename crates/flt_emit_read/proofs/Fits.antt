@@ -1,5 +1,5 @@
 -- Where each return is one of its place, a filter is read back apart from its places.
-use Rattle.std.proofs.Common.{◌≡◌, ℕ, Bool, true, false, List, [], ◌∷◌, map, refl, sym, ap, ◌∙◌}
+use Rattle.std.proofs.Common.{◌≡◌, ℕ, Bool, true, List, [], ◌∷◌, map, refl, sym, ap, ◌∙◌}
 use Rattle.std.proofs.lemmas.Bool.{false≢true, and_parts}
 use Rattle.std.specs.Prelude.{Option, Some, None, option_map}
 use Rattle.std.specs.List.{list_all}
@@ -15,9 +15,10 @@ use Rattle.flt_tree.specs.declared.filter.Statement.{Statement}
 use Rattle.flt_tree.specs.declared.filter.Statement.TheOpen.{Statement-F}
 use Rattle.flt_tree.specs.declared.filter.Statement.TheVariants.{Act, Call, Return, If, Repeat, rolls-Act, rolls-Call, rolls-Return, rolls-If, rolls-Repeat}
 use Rattle.flt_tree.specs.declared.filter.Status.{Status}
-use Rattle.flt_print.specs.Reprinting.{nowhere, condition_without, step_without, statement_without, callback_without, without_places}
+use Rattle.flt_print.specs.Reprinting.{nowhere, condition_without, step_without, statement_without, callback_without}
 use Rattle.flt_emit_read.specs.AsRead.{returned, fits_return, fits_step, statement_fits, callback_fits, step_as_read, statement_as_read, callback_as_read}
-use Rattle.flt_emit_read.specs.Laws.{ReadsBack, ReadsBackWhole}
+use Rattle.flt_emit_read.specs.Laws.{ReadsBack, ReadsBackWhole, SaysOneFilter}
+use Rattle.flt_emit_read.specs.Sources.{read_back}
 use Rattle.flt_emit_read.proofs.Nested.{folded}
 
 same_return : (at : Place) (s : Option Status) → fits_return at s ≡ true → returned at s ≡ s
@@ -94,5 +95,17 @@ same_callbacks locks queue (c ∷ cs) ok h =
 pub reads_back_whole : ReadsBack → ReadsBackWhole
 reads_back_whole law instances f ok h =
     law instances f ok
-    ∙ ap (λ (cs : List Callback). Some (record { name = f.name; altitude = f.altitude; locks = f.locks;
-    queue = option_map (λ (at : Position). nowhere) f.queue; callbacks = cs })) (same_callbacks f.locks _ f.callbacks ok.bodies h)
+    ∙ ap (λ (cs : List Callback). Some (record {
+      name = f.name;
+      altitude = f.altitude;
+      locks = f.locks;
+      queue = option_map (λ (at : Position). nowhere) f.queue;
+      callbacks = cs;
+    })) (same_callbacks f.locks _ f.callbacks ok.bodies h)
+
+pub says_one_filter : ReadsBack → SaysOneFilter
+says_one_filter law here there f g ok also same =
+    some_inside (sym (law here f ok) ∙ ap read_back same ∙ law there g also)
+  where
+    some_inside : {A : Type 0} {x y : A} → Some x ≡ Some y → x ≡ y
+    some_inside h = cc

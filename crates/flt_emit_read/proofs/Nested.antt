@@ -1,8 +1,8 @@
 -- Statements and blocks are read back.
-use Rattle.std.proofs.Common.{◌≡◌, ◌<◌, ◌≤◌, ◌+◌, ◌^◌, ℕ, zero, suc, Bool, true, false, List, [], ◌∷◌, ◌++◌, length, map, refl, sym, ap, subst, arith, ◌∙◌, append_assoc, append-nil, add-one}
+use Rattle.std.proofs.Common.{◌≡◌, ◌<◌, ◌≤◌, ◌+◌, ℕ, zero, suc, Bool, true, false, List, [], ◌∷◌, ◌++◌, length, map, refl, sym, ap, subst, arith, ◌∙◌, append_assoc, append-nil, add-one}
 use Rattle.std.proofs.lemmas.List.Sums.{sum-map, sum_by-cons}
 use Rattle.std.proofs.lemmas.List.{length-append}
-use Rattle.std.specs.Prelude.{sum, Option, Some, None, codes, decimal}
+use Rattle.std.specs.Prelude.{Option, Some, None, codes, decimal}
 use Rattle.flt_rules.specs.declared.place.Place.{Place}
 use Rattle.flt_tree.specs.Filter.{no_span}
 use Rattle.flt_tree.specs.Limits.{max_turns}
@@ -23,17 +23,16 @@ use Rattle.flt_tree.specs.declared.filter.Status.{Status}
 use Rattle.flt_emit.specs.Expressions.{condition_text}
 use Rattle.flt_emit.specs.Line.{joined, label, indentation}
 use Rattle.flt_emit.specs.Scope.{Scope}
-use Rattle.flt_emit.specs.Statements.{Lines, statement_step, statement_text, with_lines, statements_of, body_text, in_turn, choice_text, turned_text, otherwise_text, if_text, bare_text, repeat_text, closing, else_text, action_text, before_call, plain_text, return_text}
+use Rattle.flt_emit.specs.Statements.{Lines, statement_step, statement_text, with_lines, statements_of, body_text, in_turn, choice_text, if_text, bare_text, repeat_text, closing, else_text, action_text, before_call, plain_text, return_text}
 use Rattle.flt_print.specs.Reprinting.{condition_without}
 use Rattle.flt_emit_read.specs.AsRead.{returned, step_as_read, statement_as_read}
 use Rattle.flt_emit_read.specs.Blocks.{Open, first, second, repeated, Reading, reading, ended, takes, past_end, step, lines_at}
-use Rattle.flt_emit_read.specs.Front.{Front, ◌>>=◌, or_else, after, by_form, past_blanks}
 use Rattle.flt_emit_read.specs.Lines.{Line, whole, asks, turns, otherwise, closes, line_forms, line_at, if_line, bare_line, repeat_line}
 use Rattle.flt_emit_read.proofs.Asked.{condition_reads}
 use Rattle.flt_emit_read.proofs.Calls.{call_reads}
-use Rattle.flt_emit_read.proofs.Fronts.{then_reads, first_reads, other_reads, after_again, number_reads, pieces, joined_pieces}
+use Rattle.flt_emit_read.proofs.Fronts.{then_reads, first_reads, other_reads, after_again, number_reads, joined_pieces}
 use Rattle.flt_emit_read.proofs.Returns.{return_reads}
-use Rattle.flt_emit_read.proofs.Simple.{started, starts, action_reads}
+use Rattle.flt_emit_read.proofs.Simple.{starts, action_reads}
 use Rattle.flt_emit_read.proofs.Words.{ends_reads}
 
 -- ---- lines of blocks

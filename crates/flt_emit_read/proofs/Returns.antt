@@ -1,37 +1,28 @@
 -- Returns are read back.
-use Rattle.std.proofs.Common.{◌≡◌, ℕ, Bool, true, false, List, [], ◌∷◌, ◌++◌, refl, sym, ap, ◌∙◌, append_assoc, append-nil}
+use Rattle.std.proofs.Common.{◌≡◌, ℕ, Bool, true, false, List, [], ◌∷◌, ◌++◌, refl, ap, ◌∙◌, append_assoc}
 use Rattle.std.proofs.lemmas.Bool.{false≢true}
-use Rattle.std.specs.Prelude.{Option, Some, None, codes, decimal}
-use Rattle.flt_rules.specs.declared.call.LockKind.{LockKind}
-use Rattle.flt_rules.specs.declared.call.LockKind.TheVariants.{Spin, Fast, Push}
-use Rattle.flt_rules.specs.declared.call.LockNumber.{LockNumber}
+use Rattle.std.specs.Prelude.{Option, Some, None, codes}
 use Rattle.flt_rules.specs.declared.place.Place.{Place}
 use Rattle.flt_rules.specs.declared.place.Place.TheVariants as place
 use Rattle.flt_rules.specs.declared.status.FinalStatus.{FinalStatus}
-use Rattle.flt_tree.specs.Declarations.{lock_name, lock_number}
-use Rattle.flt_tree.specs.Filter.{no_span, context_of}
-use Rattle.flt_tree.specs.Names.{Text, is_word, is_name}
-use Rattle.flt_tree.specs.WellFormed.{IsPlain}
+use Rattle.flt_tree.specs.Filter.{no_span}
+use Rattle.flt_tree.specs.Names.{Text}
 use Rattle.flt_tree.specs.declared.filter.Lock.{Lock}
-use Rattle.flt_tree.specs.declared.filter.PlainCall.{PlainCall}
-use Rattle.flt_tree.specs.declared.filter.PlainCall.TheVariants as plain
-use Rattle.flt_tree.specs.declared.filter.Statement.TheVariants.{Call, Return}
+use Rattle.flt_tree.specs.declared.filter.Statement.TheVariants.{Return}
 use Rattle.flt_tree.specs.declared.filter.Status.{Status}
 use Rattle.flt_tree.specs.declared.filter.Status.TheVariants as statuses
 use Rattle.flt_tree.specs.declared.variable.ContextVariable.{ContextVariable}
-use Rattle.flt_tree.specs.declared.variable.ContextVariable.TheVariants as contexts
-use Rattle.flt_tree.specs.declared.variable.OperationVariable.{OperationVariable}
 use Rattle.flt_tree.specs.declared.variable.OperationVariable.TheVariants as operations
 use Rattle.flt_emit.specs.Line.{joined, label, indentation}
-use Rattle.flt_emit.specs.Names.{context_name, context_or_null, operation_name, final_status_name, status_name}
-use Rattle.flt_emit.specs.Statements.{plain_text, before_call, completed_text, handed_text, before_return, final_text, leaving, passing, answer_text, return_text}
+use Rattle.flt_emit.specs.Names.{context_name, status_name}
+use Rattle.flt_emit.specs.Statements.{handed_text, before_return, final_text, passing, answer_text, return_text}
 use Rattle.flt_emit_read.specs.AsRead.{returned}
-use Rattle.flt_emit_read.specs.Front.{Front, ◌>>=◌, or_else, after, by_form, past_blanks}
-use Rattle.flt_emit_read.specs.Lines.{Line, whole, line_forms, line_at, context_line, ended_context, lock_end, lock_call, pended_at, pended_line, completing, completed_call, completed_return, completing_return, answers, bare_statuses, handed_line, handing, ends}
+use Rattle.flt_emit_read.specs.Front.{by_form}
+use Rattle.flt_emit_read.specs.Lines.{Line, whole, line_forms, line_at, completed_call, completing_return, answers, bare_statuses, handed_line, handing}
 use Rattle.flt_emit_read.proofs.Calls.{completion_starts}
-use Rattle.flt_emit_read.proofs.Fronts.{then_reads, after_again, Stops, name_reads, pieces, joined_pieces, past_indentation}
-use Rattle.flt_emit_read.proofs.Simple.{started, starts, context_starts, completing_starts}
-use Rattle.flt_emit_read.proofs.Words.{context_reads, operation_reads, operation_solid, final_reads, optional_reads, ends_reads}
+use Rattle.flt_emit_read.proofs.Fronts.{then_reads, joined_pieces, past_indentation}
+use Rattle.flt_emit_read.proofs.Simple.{started, starts}
+use Rattle.flt_emit_read.proofs.Words.{context_reads, ends_reads}
 
 module _ (locks : List Lock) (lv point : ℕ) where
   -- a pre or a post callback's return

@@ -1,26 +1,15 @@
 -- Statements that neither call nor branch, and calls that always succeed, are read back.
-use Rattle.std.proofs.Common.{◌≡◌, ℕ, suc, Bool, true, false, List, [], ◌∷◌, ◌++◌, refl, sym, ap, ◌∙◌, append_assoc, append-nil}
-use Rattle.std.specs.Prelude.{Option, Some, None, codes, decimal}
-use Rattle.flt_rules.specs.declared.call.LockKind.{LockKind}
-use Rattle.flt_rules.specs.declared.call.LockKind.TheVariants.{Spin, Fast, Push}
-use Rattle.flt_rules.specs.declared.call.LockNumber.{LockNumber}
-use Rattle.flt_rules.specs.declared.place.Operation.{Operation}
+use Rattle.std.proofs.Common.{◌≡◌, ℕ, List, [], ◌∷◌, ◌++◌, refl, ap, ◌∙◌}
+use Rattle.std.specs.Prelude.{Some, None, codes}
 use Rattle.flt_rules.specs.declared.place.Place.{Place}
 use Rattle.flt_rules.specs.declared.place.Place.TheVariants as place
-use Rattle.flt_rules.specs.declared.status.FinalStatus.{FinalStatus}
-use Rattle.flt_tree.specs.Declarations.{lock_name, lock_number}
-use Rattle.flt_tree.specs.Filter.{no_span, context_of}
-use Rattle.flt_tree.specs.Names.{Text, is_word, is_name}
-use Rattle.flt_tree.specs.WellFormed.{IsAtom, IsExpression, IsAction, IsPlain}
+use Rattle.flt_tree.specs.Filter.{no_span}
+use Rattle.flt_tree.specs.Names.{Text}
+use Rattle.flt_tree.specs.WellFormed.{IsExpression, IsAction}
 use Rattle.flt_tree.specs.declared.filter.Action.{Action}
 use Rattle.flt_tree.specs.declared.filter.Action.TheVariants.{SetNumber, ReadValue, ReadFile, WriteValue, ClearContext, ClearOperation}
 use Rattle.flt_tree.specs.declared.filter.Lock.{Lock}
-use Rattle.flt_tree.specs.declared.filter.PlainCall.{PlainCall}
-use Rattle.flt_tree.specs.declared.filter.PlainCall.TheVariants as plain
-use Rattle.flt_tree.specs.declared.filter.Statement.TheVariants.{Act, Call, Return}
-use Rattle.flt_tree.specs.declared.filter.Status.{Status}
-use Rattle.flt_tree.specs.declared.filter.Status.TheVariants as statuses
-use Rattle.flt_tree.specs.declared.variable.Atom.{Atom}
+use Rattle.flt_tree.specs.declared.filter.Statement.TheVariants.{Act}
 use Rattle.flt_tree.specs.declared.variable.ContextVariable.{ContextVariable}
 use Rattle.flt_tree.specs.declared.variable.ContextVariable.TheVariants as contexts
 use Rattle.flt_tree.specs.declared.variable.Expression.{Expression}
@@ -33,12 +22,12 @@ use Rattle.flt_tree.specs.declared.variable.RemovedVariable.{RemovedVariable}
 use Rattle.flt_tree.specs.declared.variable.RemovedVariable.TheVariants as removed
 use Rattle.flt_emit.specs.Expressions.{expression_text, file_text}
 use Rattle.flt_emit.specs.Line.{label, atom_text, indentation}
-use Rattle.flt_emit.specs.Names.{number_name, context_name, context_or_null, removed_name, operation_name, own_file, final_status_name, status_name}
-use Rattle.flt_emit.specs.Statements.{action_text, plain_text, before_call, final_text, acquire_text, shared_text, release_text}
-use Rattle.flt_emit_read.specs.Front.{Front, ◌>>=◌, or_else, after, by_form, past_blanks, number_at}
-use Rattle.flt_emit_read.specs.Lines.{Line, whole, line_forms, line_at, number_line, context_line, removed_line, expression_after, file_at, write_line, atom_at, number_name_at, ended_context, lock_end, lock_call, pended_at, pended_line, completing, completed_call, completed_return, ends}
-use Rattle.flt_emit_read.proofs.Fronts.{then_reads, first_reads, other_reads, after_again, Stops, name_reads, pieces, joined_pieces, past_indentation}
-use Rattle.flt_emit_read.proofs.Words.{number_name_reads, context_reads, removed_reads, operation_reads, operation_solid, final_reads, optional_reads, atom_reads, ends_reads}
+use Rattle.flt_emit.specs.Names.{number_name, context_name, removed_name, operation_name, own_file}
+use Rattle.flt_emit.specs.Statements.{action_text}
+use Rattle.flt_emit_read.specs.Front.{Front, after, by_form, past_blanks, number_at}
+use Rattle.flt_emit_read.specs.Lines.{Line, whole, line_forms, line_at, number_line, context_line, removed_line, expression_after, file_at, write_line, atom_at, number_name_at, completing}
+use Rattle.flt_emit_read.proofs.Fronts.{then_reads, first_reads, other_reads, after_again, joined_pieces, past_indentation}
+use Rattle.flt_emit_read.proofs.Words.{context_reads, removed_reads, atom_reads, ends_reads}
 
 -- ---- files
 

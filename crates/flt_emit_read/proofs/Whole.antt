@@ -1,24 +1,22 @@
 -- A whole source is read back.
-use Rattle.std.proofs.Common.{◌≡◌, ◌<◌, ◌≤◌, ◌+◌, ◌-◌, ◌^◌, ℕ, zero, suc, Bool, true, false, List, [], ◌∷◌, ◌++◌, length, map, refl, sym, ap, subst, arith, ◌∙◌, append_assoc, append-nil}
+use Rattle.std.proofs.Common.{◌≡◌, ◌<◌, ◌≤◌, ◌+◌, ◌-◌, ◌^◌, ℕ, zero, suc, Bool, true, false, List, [], ◌∷◌, ◌++◌, length, map, refl, sym, ap, arith, ◌∙◌, append_assoc, append-nil}
 use Rattle.std.proofs.lemmas.Bool.{and_parts}
 use Rattle.std.proofs.lemmas.Slice.Eq.{bytes_eq-Decides}
 use Rattle.std.specs.Prelude.{flat_map, Option, Some, None, is_some, option_map, codes, decimal, ◌||◌}
 use Rattle.std.specs.Char.{is_ascii_digit}
 use Rattle.std.specs.List.{list_all, list_any}
-use Rattle.std.specs.Str.{bytes_eq}
 use Rattle.flt_rules.specs.declared.call.LockKind.{LockKind}
 use Rattle.flt_rules.specs.declared.call.LockKind.TheVariants.{Spin, Fast, Push}
 use Rattle.flt_rules.specs.declared.place.Operation.{Operation}
 use Rattle.flt_rules.specs.declared.place.Operation.TheVariants as operating
 use Rattle.flt_rules.specs.declared.place.Place.{Place}
 use Rattle.flt_rules.specs.declared.place.Place.TheVariants as place
-use Rattle.flt_tree.specs.Declarations.{has_event, same_event}
-use Rattle.flt_tree.specs.Filter.{head_place, no_span}
-use Rattle.flt_tree.specs.Limits.{max_locks, max_callbacks, max_altitude, max_depth, max_repeats}
+use Rattle.flt_tree.specs.Declarations.{same_event}
+use Rattle.flt_tree.specs.Filter.{head_place}
+use Rattle.flt_tree.specs.Limits.{max_locks, max_callbacks, max_depth, max_repeats}
 use Rattle.flt_tree.specs.Measures.{points}
 use Rattle.flt_tree.specs.Names.{Text, is_word, is_name}
-use Rattle.flt_tree.specs.Registered.{has_post}
-use Rattle.flt_tree.specs.WellFormed.{IsWellFormed, IsHead, AreStatements, AreCallbacks}
+use Rattle.flt_tree.specs.WellFormed.{IsHead, AreStatements, AreCallbacks}
 use Rattle.flt_tree.specs.declared.filter.Callback.{Callback}
 use Rattle.flt_tree.specs.declared.filter.Filter.{Filter}
 use Rattle.flt_tree.specs.declared.filter.Head.{Head}
@@ -26,23 +24,23 @@ use Rattle.flt_tree.specs.declared.filter.Head.TheVariants.{Pre, Post, Canceled,
 use Rattle.flt_tree.specs.declared.filter.Lock.{Lock}
 use Rattle.flt_tree.specs.declared.filter.Position.{Position}
 use Rattle.flt_tree.specs.declared.filter.Statement.{Statement}
-use Rattle.flt_emit.specs.Callbacks.{prototype, deferred_prototype, deferred_hook, hook, unreturned, done, ending, heading, scope_in, opening, contents, callback_text, callbacks_text, prototypes_text, declarations}
+use Rattle.flt_emit.specs.Callbacks.{prototype, deferred_prototype, hook, unreturned, done, ending, heading, scope_in, opening, contents, callback_text, callbacks_text, prototypes_text, declarations}
 use Rattle.flt_emit.specs.Fixed as fixed
 use Rattle.flt_emit.specs.Fixed.{unreached, free_deferred, free_generic, globals_end, queue_fields, allocating, pre_head, post_head, canceled_prototype, deferred_head, generic_head}
 use Rattle.flt_emit.specs.Line.{joined}
 use Rattle.flt_emit.specs.Names.{operation_word}
 use Rattle.flt_emit.specs.Scope.{Scope}
-use Rattle.flt_emit.specs.Source.{lock_type, lock_field, operation_row, row_of, rows_of, title, included, front, globals, helpers, where_queue, registered, declared, framed, source, queue_part, attachment, beginning, registering}
-use Rattle.flt_emit.specs.Statements.{body_text, passing}
+use Rattle.flt_emit.specs.Source.{lock_field, operation_row, row_of, rows_of, title, included, front, globals, helpers, where_queue, registered, declared, framed, source, queue_part, attachment, beginning, registering}
+use Rattle.flt_emit.specs.Statements.{body_text}
 use Rattle.flt_emit.specs.Uses.{always_returns}
 use Rattle.flt_emit.specs.declared.scope.Allocation.{Allocation}
 use Rattle.flt_emit_read.specs.AsRead.{statement_as_read, callback_as_read, as_read}
-use Rattle.flt_emit_read.specs.Blocks.{Open, Reading, reading, endings, after_one, past_end, step, body_at}
-use Rattle.flt_emit_read.specs.Front.{Front, ◌>>=◌, or_else, after, by_form, past_blanks, past_while, name_at}
+use Rattle.flt_emit_read.specs.Blocks.{reading, past_end, step, body_at}
+use Rattle.flt_emit_read.specs.Front.{after}
 use Rattle.flt_emit_read.specs.Laws.{ReadsBack}
 use Rattle.flt_print.specs.Reprinting.{nowhere}
-use Rattle.flt_emit_read.specs.Lines.{Line, line_forms, line_at}
-use Rattle.flt_emit_read.specs.Sources.{lock_at, locks_at, queue_at, operation_kind_at, event_at, routine_at, head_at, prototype_at, heads_at, past_empty, hooked, callback_at, callbacks_at, queue_of, filter_of, whole_filter, title_at, read_back}
+use Rattle.flt_emit_read.specs.Lines.{line_forms, line_at}
+use Rattle.flt_emit_read.specs.Sources.{lock_at, locks_at, queue_at, operation_kind_at, event_at, routine_at, head_at, prototype_at, heads_at, hooked, callback_at, callbacks_at, queue_of, whole_filter, title_at, read_back}
 use Rattle.flt_emit_read.proofs.Declared.{declaration_lines}
 use Rattle.flt_emit_read.proofs.Fronts.{then_reads, first_reads, other_reads, after_again, all_digits, past_all, number_reads, name_reads, Stops, pieces, joined_pieces}
 use Rattle.flt_emit_read.proofs.Nested.{of_statements, runs}
@@ -360,5 +358,10 @@ reads_back instances f ok =
     ∙ then_reads _ (heads_read q f.locks f.callbacks max_callbacks [] ok.few_callbacks ok.bodies functions (no_prototype q bodies))
     ∙ then_reads _ (after_again (helpers q) bodies)
     ∙ then_reads _ (callbacks_read f.locks q instances 0 f.callbacks ok.lock_names ok.bodies last)
-    ∙ whole_reads f _ (ap (λ p. record { name = f.name; altitude = f.altitude; locks = f.locks; queue = p;
-    callbacks = map callback_as_read f.callbacks }) (queue_back f.queue))
+    ∙ whole_reads f _ (ap (λ p. record {
+      name = f.name;
+      altitude = f.altitude;
+      locks = f.locks;
+      queue = p;
+      callbacks = map callback_as_read f.callbacks;
+    }) (queue_back f.queue))

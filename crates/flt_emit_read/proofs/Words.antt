@@ -1,5 +1,5 @@
 -- Names, atoms and labels are read back.
-use Rattle.std.proofs.Common.{◌≡◌, ◌^◌, ℕ, Bool, true, false, List, [], ◌∷◌, ◌++◌, refl, sym, ap, ◌∙◌, append_assoc}
+use Rattle.std.proofs.Common.{◌≡◌, ℕ, [], ◌∷◌, ◌++◌, refl, ap, ◌∙◌}
 use Rattle.std.specs.Prelude.{Option, Some, None, codes, decimal}
 use Rattle.std.specs.Char.{is_ascii_digit}
 use Rattle.flt_rules.specs.declared.call.Existing.{Existing}
@@ -21,9 +21,9 @@ use Rattle.flt_tree.specs.declared.variable.RemovedVariable.TheVariants as remov
 use Rattle.flt_emit.specs.Expressions.{address}
 use Rattle.flt_emit.specs.Line.{label, atom_text}
 use Rattle.flt_emit.specs.Names.{number_name, context_name, context_or_null, removed_name, operation_name, existing_name, final_status_name}
-use Rattle.flt_emit_read.specs.Front.{Front, ◌>>=◌, or_else, after, past_blanks, past_while, number_at}
+use Rattle.flt_emit_read.specs.Front.{after, past_blanks, number_at}
 use Rattle.flt_emit_read.specs.Lines.{number_name_at, context_at, removed_at, operation_at, final_at, existing_at, optional_at, address_at, atom_at, labelled, ends}
-use Rattle.flt_emit_read.proofs.Fronts.{then_reads, first_reads, other_reads, after_again, all_digits, past_all, number_reads, pieces, joined_pieces}
+use Rattle.flt_emit_read.proofs.Fronts.{then_reads, first_reads, other_reads, after_again, all_digits, past_all, number_reads, joined_pieces}
 
 pub number_name_reads : (n : NumberVariable) (r : Text) → number_name_at (number_name n ++ r) ≡ Some (n, r)
 unfolding number_name_at

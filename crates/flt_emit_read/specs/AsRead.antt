@@ -1,5 +1,5 @@
 -- What a source says of a filter: the filter apart from its places, and from returns that C has no words for.
-use Rattle.std.specs.Prelude.{Bool, true, not, ◌&&◌, List, map, Option, Some, None, is_some, option_map}
+use Rattle.std.specs.Prelude.{Bool, true, not, ◌&&◌, map, Option, Some, None, is_some, option_map}
 use Rattle.std.specs.List.{list_all}
 use Rattle.flt_rules.specs.declared.place.Place.{Place}
 use Rattle.flt_rules.specs.declared.place.Place.TheVariants as place

@@ -17,3 +17,9 @@ abbrev pub ReadsBackWhole : Type 0
 ReadsBackWhole =
     (instances : List Allocation) (f : Filter) → IsWellFormed f → returns_fit f ≡ true →
     read_back (source instances f) ≡ Some (without_places f)
+
+-- a source says one filter, each return as C has it
+abbrev pub SaysOneFilter : Type 0
+SaysOneFilter =
+    (here there : List Allocation) (f g : Filter) → IsWellFormed f → IsWellFormed g → source here f ≡ source there g →
+    as_read f ≡ as_read g

@@ -35,7 +35,6 @@ use Rattle.flt_tree.specs.declared.variable.Atom.{Atom}
 use Rattle.flt_tree.specs.declared.variable.Atom.TheVariants as atoms
 use Rattle.flt_tree.specs.declared.variable.ContextVariable.{ContextVariable}
 use Rattle.flt_tree.specs.declared.variable.ContextVariable.TheVariants as contexts
-use Rattle.flt_tree.specs.declared.variable.Expression.{Expression}
 use Rattle.flt_tree.specs.declared.variable.Expression.TheVariants as expressions
 use Rattle.flt_tree.specs.declared.variable.NumberVariable.{NumberVariable}
 use Rattle.flt_tree.specs.declared.variable.NumberVariable.TheVariants as numbers
@@ -219,7 +218,7 @@ abbrev pub completed_call : ℕ → OperationVariable → FinalStatus → Text �
 completed_call point d f = (
   codes "FltCompletePendedPreOperation( ",
   λ z. after (operation_name d) z >>= λ z. calls point (codes ", FLT_PREOP_COMPLETE, NULL );")
-  (plain.CompletePendedPreOperation d (statuses.Complete f)) z,
+      (plain.CompletePendedPreOperation d (statuses.Complete f)) z,
 )
 
 -- whether a callback of the place answers for its operation

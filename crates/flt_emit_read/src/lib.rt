@@ -3,4 +3,4 @@
 
 mod laws;
 
-pub use laws::{reads_back, reads_back_whole};
+pub use laws::{reads_back, reads_back_whole, says_one_filter};
