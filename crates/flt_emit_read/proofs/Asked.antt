@@ -208,7 +208,8 @@ module _ (scope : Scope) (queue : Bool) (point : ℕ) where
       ∙ queued_reads scope.place fallible.QueueDeferredIoWorkItem routine.name c r ok
   fallible_reads (fallible.QueueGenericWorkItem routine c) r ok =
       ap (fallible_at scope.place)
-      (joined_pieces (codes "QueueGeneric( " ∷ instance scope.place ∷ codes ", Generic_" ∷ routine.name ∷ codes ", " ∷ context_or_null c ∷ []) r)
+      (joined_pieces
+      (codes "QueueGeneric( " ∷ instance scope.place ∷ codes ", Generic_" ∷ routine.name ∷ codes ", " ∷ context_or_null c ∷ []) r)
       ∙ then_reads _ (after_again (instance scope.place) _)
       ∙ queued_reads scope.place fallible.QueueGenericWorkItem routine.name c r ok
 

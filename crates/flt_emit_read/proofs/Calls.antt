@@ -119,7 +119,8 @@ module _ (at : Place) (locks : List Lock) (lv point line : ℕ) (r : Text) where
       ∙ then_reads _ (context_reads c _) ∙ ends_reads (codes " );") point line _ r
   plain_starts (plain.AcquireLock Spin l) ok h =
       ap (started at locks lv point)
-      (joined_pieces (codes "KeAcquireSpinLock( &Globals.lock_" ∷ lock_name locks l ∷ codes ", &irql_" ∷ lock_name locks l ∷ codes " );" ∷ []) rest
+      (joined_pieces
+      (codes "KeAcquireSpinLock( &Globals.lock_" ∷ lock_name locks l ∷ codes ", &irql_" ∷ lock_name locks l ∷ codes " );" ∷ []) rest
       ∙ spin_end (codes "KeAcquireSpinLock( &Globals.lock_") (codes ", &irql_") (lock_name locks l))
       ∙ lock_reads Spin (Some (codes ", &irql_")) (plain.AcquireLock Spin) (lock_name locks l) l ok.0 ok.1 refl
   plain_starts (plain.AcquireLock Fast l) ok h =
@@ -136,7 +137,8 @@ module _ (at : Place) (locks : List Lock) (lv point line : ℕ) (r : Text) where
       ∙ lock_reads Push None plain.AcquirePushLockShared (lock_name locks l) l ok.0 ok.1 refl
   plain_starts (plain.ReleaseLock Spin l) ok h =
       ap (started at locks lv point)
-      (joined_pieces (codes "KeReleaseSpinLock( &Globals.lock_" ∷ lock_name locks l ∷ codes ", irql_" ∷ lock_name locks l ∷ codes " );" ∷ []) rest
+      (joined_pieces
+      (codes "KeReleaseSpinLock( &Globals.lock_" ∷ lock_name locks l ∷ codes ", irql_" ∷ lock_name locks l ∷ codes " );" ∷ []) rest
       ∙ spin_end (codes "KeReleaseSpinLock( &Globals.lock_") (codes ", irql_") (lock_name locks l))
       ∙ lock_reads Spin (Some (codes ", irql_")) (plain.ReleaseLock Spin) (lock_name locks l) l ok.0 ok.1 refl
   plain_starts (plain.ReleaseLock Fast l) ok h =

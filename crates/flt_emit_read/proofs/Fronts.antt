@@ -67,7 +67,8 @@ onto : (k n : ℕ) (z : Text) → list_all is_ascii_digit z ≡ true → list_al
 onto zero n z h = h
 onto (suc k) n z h =
     let more : list_all is_ascii_digit (digit_glyph false (n % 10) ∷ z) ≡ true = rw (glyph n) h in
-    chosen (n / 10 == 0) (digit_glyph false (n % 10) ∷ z) (digits_onto k 10 false (n / 10) (digit_glyph false (n % 10) ∷ z)) more (onto k (n / 10) (digit_glyph false (n % 10) ∷ z) more)
+    chosen (n / 10 == 0) (digit_glyph false (n % 10) ∷ z) (digits_onto k 10 false (n / 10) (digit_glyph false (n % 10) ∷ z)) more
+    (onto k (n / 10) (digit_glyph false (n % 10) ∷ z) more)
 
 pub all_digits : (n : ℕ) → list_all is_ascii_digit (decimal n) ≡ true
 unfolding digits

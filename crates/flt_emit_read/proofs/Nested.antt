@@ -287,7 +287,8 @@ module _ (scope : Scope) (queue : Bool) where
   choice line c [] [] ok g e point q done outer r h =
       to_reading (omega (arith, h)) refl
       (one_line (bare_reads scope queue (suc (length outer)) point line r (suc (length outer)) c ok) refl
-      (last_shorter (indentation (suc (length outer)) ∷ codes "(VOID) (" ∷ condition_text scope point false c ∷ codes ");" ∷ []) point line r))
+      (last_shorter (indentation (suc (length outer)) ∷ codes "(VOID) (" ∷ condition_text scope point false c ∷ codes ");" ∷ [])
+      point line r))
   choice line c [] (x ∷ xs) ok g e point q done outer r h =
       from_text
       (grouped (if_text scope (suc (length outer)) point line true c)

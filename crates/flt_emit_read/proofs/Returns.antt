@@ -82,24 +82,30 @@ module _ (locks : List Lock) (lv point : ℕ) where
 
     answer_reads : (at : Place) → answers at ≡ true → (s : Status) →
         line_at at locks lv point (before_return level s ++ answer (status_name s)) ≡ Some (whole (Return no_span (Some s)), r)
-    answer_reads at h (statuses.WithCallback None) = bare at h (status_name (statuses.WithCallback None)) (statuses.WithCallback None) (ends_reads [] point line _ r)
+    answer_reads at h (statuses.WithCallback None) =
+        bare at h (status_name (statuses.WithCallback None)) (statuses.WithCallback None) (ends_reads [] point line _ r)
     answer_reads at h (statuses.WithCallback (Some c)) =
         handed at h c (status_name (statuses.WithCallback (Some c))) (statuses.WithCallback (Some c)) (ends_reads [] point line _ r)
-    answer_reads at h (statuses.Synchronize None) = bare at h (status_name (statuses.Synchronize None)) (statuses.Synchronize None) (ends_reads [] point line _ r)
+    answer_reads at h (statuses.Synchronize None) =
+        bare at h (status_name (statuses.Synchronize None)) (statuses.Synchronize None) (ends_reads [] point line _ r)
     answer_reads at h (statuses.Synchronize (Some c)) =
         handed at h c (status_name (statuses.Synchronize (Some c))) (statuses.Synchronize (Some c)) (ends_reads [] point line _ r)
     answer_reads at h statuses.NoCallback = bare at h (status_name statuses.NoCallback) statuses.NoCallback (ends_reads [] point line _ r)
     answer_reads at h (statuses.Complete f) = completes at h f
     answer_reads at h statuses.Pending = bare at h (status_name statuses.Pending) statuses.Pending (ends_reads [] point line _ r)
-    answer_reads at h statuses.DisallowFastIo = bare at h (status_name statuses.DisallowFastIo) statuses.DisallowFastIo (ends_reads [] point line _ r)
-    answer_reads at h statuses.FinishedProcessing = bare at h (status_name statuses.FinishedProcessing) statuses.FinishedProcessing (ends_reads [] point line _ r)
-    answer_reads at h statuses.MoreProcessingRequired = bare at h (status_name statuses.MoreProcessingRequired) statuses.MoreProcessingRequired (ends_reads [] point line _ r)
+    answer_reads at h statuses.DisallowFastIo =
+        bare at h (status_name statuses.DisallowFastIo) statuses.DisallowFastIo (ends_reads [] point line _ r)
+    answer_reads at h statuses.FinishedProcessing =
+        bare at h (status_name statuses.FinishedProcessing) statuses.FinishedProcessing (ends_reads [] point line _ r)
+    answer_reads at h statuses.MoreProcessingRequired =
+        bare at h (status_name statuses.MoreProcessingRequired) statuses.MoreProcessingRequired (ends_reads [] point line _ r)
 
     status_reads : (at : Place) (is_pre : Bool) → answers at ≡ true → (s : Status) →
         line_at at locks lv point (answer_text is_pre level (Some s) ++ (label point line ++ r)) ≡ Some (whole (Return no_span (Some s)), r)
     status_reads at is_pre h s =
         ap (line_at at locks lv point)
-        (joined_pieces (before_return level s ∷ indentation level ∷ codes "return " ∷ status_name s ∷ codes ";" ∷ []) (label point line ++ r))
+        (joined_pieces (before_return level s ∷ indentation level ∷ codes "return " ∷ status_name s ∷ codes ";" ∷ [])
+        (label point line ++ r))
         ∙ answer_reads at h s
 
     -- a line of its own

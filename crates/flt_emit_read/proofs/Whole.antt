@@ -148,7 +148,8 @@ callback_reads locks queue instances number c names ok r =
     let top = prototype c.head ++ head in
     ap (callback_at locks number (prototyped c.head))
     (append_assoc (opening scope c) (contents scope c) r
-    ∙ joined_pieces (heading scope.callback c.span.line ∷ prototype c.head ∷ codes "\n{\n" ∷ declarations locks c.head c.body ∷ codes "\n" ∷ [])
+    ∙ joined_pieces
+    (heading scope.callback c.span.line ∷ prototype c.head ∷ codes "\n{\n" ∷ declarations locks c.head c.body ∷ codes "\n" ∷ [])
     (contents scope c ++ r)
     ∙ joined_pieces (codes "\n//\n//  Callback " ∷ decimal number ∷ codes ", line " ∷ decimal c.span.line ∷ codes ".\n//\n\n" ∷ [])
     (prototype c.head ++ (codes "\n{\n" ++ (declarations locks c.head c.body ++ (codes "\n" ++ (contents scope c ++ r)))))
@@ -156,7 +157,8 @@ callback_reads locks queue instances number c names ok r =
     ++ (prototype c.head ++ (codes "\n{\n" ++ (declarations locks c.head c.body ++ (codes "\n" ++ z)))))))))
     (joined_pieces (hook c.head ∷ codes "\n" ∷ body_text scope c.body 1 0 ∷ ending c.body c.head ∷ codes "}\n" ∷ []) r))
     ∙ then_reads _ (after_again (decimal number) (codes ", line " ++ (decimal c.span.line ++ (codes ".\n//\n\n" ++ top))))
-    ∙ then_reads _ (ap (after (codes ".\n//\n\n")) (past_all is_ascii_digit (decimal c.span.line) (codes ".\n//\n\n" ++ top) (all_digits c.span.line) refl))
+    ∙ then_reads _ (ap (after (codes ".\n//\n\n"))
+    (past_all is_ascii_digit (decimal c.span.line) (codes ".\n//\n\n" ++ top) (all_digits c.span.line) refl))
     ∙ then_reads _ (ap (λ p. after p top) (same_prototype c.head) ∙ after_again (prototype c.head) head)
     ∙ then_reads _ (declaration_lines locks c.head c.body names (codes "\n" ++ inner))
     ∙ then_reads _ (hook_reads c.head (codes "\n" ++ (body_text scope c.body 1 0 ++ last)))
@@ -202,7 +204,8 @@ one_prototype h = codes "\n" ++ (prototype h ++ codes ";\n")
 prototype_reads : (h : Head) → IsHead h → (r : Text) → prototype_at (one_prototype h ++ r) ≡ Some (prototyped h, r)
 unfolding prototype_at
 prototype_reads h ok r =
-    ap (λ z. prototype_at (codes "\n" ++ z)) (append_assoc (prototype h) (codes ";\n") r) ∙ then_reads _ (head_reads h ok (codes ";\n" ++ r))
+    ap (λ z. prototype_at (codes "\n" ++ z)) (append_assoc (prototype h) (codes ";\n") r)
+    ∙ then_reads _ (head_reads h ok (codes ";\n" ++ r))
 
 heads_read : (queue : Bool) (locks : List Lock) (cs : List Callback) (left : ℕ) (found : List Head) → length cs ≤ left →
     AreCallbacks locks queue cs → (r : Text) → prototype_at r ≡ None →
@@ -321,7 +324,8 @@ title_reads f h small r =
     (joined_pieces (title f ∷ fixed.written ∷ included f ∷ []) r
     ∙ joined_pieces (fixed.comment_begin ∷ name ∷ fixed.source_title ∷ name ∷ fixed.altitude_title ∷ decimal f.altitude ∷ codes ".\n" ∷ [])
     (fixed.written ++ (included f ++ r))
-    ∙ ap (λ z. pieces (fixed.comment_begin ∷ name ∷ fixed.source_title ∷ name ∷ fixed.altitude_title ∷ decimal f.altitude ∷ codes ".\n" ∷ [])
+    ∙ ap (λ z. pieces
+    (fixed.comment_begin ∷ name ∷ fixed.source_title ∷ name ∷ fixed.altitude_title ∷ decimal f.altitude ∷ codes ".\n" ∷ [])
     (fixed.written ++ z)) (joined_pieces (codes "#include \"" ∷ name ∷ codes "_user.h\"\n" ∷ []) r))
     ∙ then_reads _ (after_again fixed.comment_begin (name ++ (fixed.source_title ++ (name ++ (fixed.altitude_title ++ (decimal f.altitude
     ++ (codes ".\n" ++ (fixed.written ++ last))))))))

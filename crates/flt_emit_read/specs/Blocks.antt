@@ -66,10 +66,12 @@ abbrev pub endings : Place → List Text
 endings (place.Pre op) = codes "}\n" ∷ (fixed.unreached ++ (passing true ++ codes "\n}\n")) ∷ []
 endings (place.Post op) = codes "}\n" ∷ (fixed.unreached ++ (passing false ++ codes "\n}\n")) ∷ []
 endings place.Canceled = codes "}\n" ∷ []
-endings place.DeferredPre = (codes "\nDone:\n\n" ++ (fixed.free_deferred ++ codes "}\n")) ∷ (codes "\n" ++ (fixed.free_deferred ++ codes "}\n")) ∷ []
+endings place.DeferredPre =
+    (codes "\nDone:\n\n" ++ (fixed.free_deferred ++ codes "}\n")) ∷ (codes "\n" ++ (fixed.free_deferred ++ codes "}\n")) ∷ []
 endings place.DeferredPost =
     (codes "\nDone:\n\n" ++ (fixed.free_deferred ++ codes "}\n")) ∷ (codes "\n" ++ (fixed.free_deferred ++ codes "}\n")) ∷ []
-endings place.Generic = (codes "\nDone:\n\n" ++ (fixed.free_generic ++ codes "}\n")) ∷ (codes "\n" ++ (fixed.free_generic ++ codes "}\n")) ∷ []
+endings place.Generic =
+    (codes "\nDone:\n\n" ++ (fixed.free_generic ++ codes "}\n")) ∷ (codes "\n" ++ (fixed.free_generic ++ codes "}\n")) ∷ []
 
 -- what follows the first of some texts that stands at the front
 abbrev pub after_one : List Text → Text → Option Text

@@ -297,8 +297,10 @@ known_value turned (Equal n x) = if is_variable n x then Some (not turned) else 
 known_value turned (Less n x) = if is_variable n x || is_zero x then Some turned else None
 known_value turned _ = None
 
+-- the signs of comparisons, each with whether it asks for the opposite
 abbrev pub signs : NumberVariable → List (Text × (Bool × (Atom → Test)))
-signs n = (codes " == ", (false, Equal n)) ∷ (codes " != ", (true, Equal n)) ∷ (codes " < ", (false, Less n)) ∷ (codes " >= ", (true, Less n)) ∷ []
+signs n =
+    (codes " == ", (false, Equal n)) ∷ (codes " != ", (true, Equal n)) ∷ (codes " < ", (false, Less n)) ∷ (codes " >= ", (true, Less n)) ∷ []
 
 -- a comparison
 unfoldable pub comparison_at : NumberVariable → Text → Front (Bool × Test)
