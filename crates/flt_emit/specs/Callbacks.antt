@@ -123,9 +123,9 @@ declarations locks head body =
 
 -- ---- what a callback begins with
 
--- the writer's hook for a routine that has an operation
-abbrev pub deferred_hook : Text → Text
-deferred_hook name = joined (codes "    USER_DEFERRED_" ∷ name ∷ codes "( Data, Instance, arg );\n" ∷ [])
+-- the writer's hook for a routine that has an operation of a stage
+abbrev pub deferred_hook : Text → Text → Text
+deferred_hook stage name = joined (codes "    USER_DEFERRED_" ∷ stage ∷ name ∷ codes "( Data, Instance, arg );\n" ∷ [])
 
 -- the writer's hook
 unfoldable pub hook : Head → Text
@@ -133,8 +133,8 @@ hook (Pre op) =
     joined (codes "    *CompletionContext = NULL;\n\n    USER_PRE_" ∷ major_name op ∷ codes "( Data, FltObjects );\n" ∷ [])
 hook (Post op) = joined (codes "    USER_POST_" ∷ major_name op ∷ codes "( Data, FltObjects, Flags, arg );\n" ∷ [])
 hook Canceled = fixed.canceled_hook
-hook (DeferredPre name) = deferred_hook name
-hook (DeferredPost name) = deferred_hook name
+hook (DeferredPre name) = deferred_hook (codes "PRE_") name
+hook (DeferredPost name) = deferred_hook (codes "POST_") name
 hook (Generic name) = joined (codes "    USER_GENERIC_" ∷ name ∷ codes "( Instance, arg );\n" ∷ [])
 
 -- ---- what a callback ends with

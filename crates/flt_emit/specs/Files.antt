@@ -11,9 +11,9 @@ use Rattle.flt_emit.specs.Names.{major_name}
 
 -- ---- the writer's header
 
-abbrev pub deferred_default : Text → Text
-deferred_default name =
-    joined (codes "#define USER_DEFERRED_" ∷ name
+abbrev pub deferred_default : Text → Text → Text
+deferred_default stage name =
+    joined (codes "#define USER_DEFERRED_" ∷ stage ∷ name
     ∷ codes "( Data, Instance, Context ) ((VOID) (Data), (VOID) (Instance), (VOID) (Context))\n" ∷ [])
 
 abbrev pub generic_default : Text → Text
@@ -29,8 +29,8 @@ hook_default (Post op) =
     ∷ codes "( Data, FltObjects, Flags, Context ) ((VOID) (Data), (VOID) (FltObjects), (VOID) (Flags), (VOID) (Context))\n" ∷ [])
 hook_default Canceled =
     codes "#define USER_CANCELED( Data, Instance, Context ) ((VOID) (Data), (VOID) (Instance), (VOID) (Context))\n"
-hook_default (DeferredPre name) = deferred_default name
-hook_default (DeferredPost name) = deferred_default name
+hook_default (DeferredPre name) = deferred_default (codes "PRE_") name
+hook_default (DeferredPost name) = deferred_default (codes "POST_") name
 hook_default (Generic name) = generic_default name
 
 abbrev pub hook_defaults : List Callback → Text

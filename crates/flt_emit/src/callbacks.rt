@@ -310,13 +310,18 @@ fn declare(
     declare_numbers(out, body, number_variables())
 }
 
-/// The writer's hook for a routine that has an operation.
-fn deferred_hook(out: &mut Vec<u8>, name: &[u8]) -> Result<(), AllocError>
-    ensures { OnOk result (out.new.items ≡ out.old.items ++ spec.deferred_hook name.now) }
+/// The writer's hook for a routine that has an operation of a stage.
+fn deferred_hook(out: &mut Vec<u8>, stage: &[u8], name: &[u8]) -> Result<(), AllocError>
+    ensures { OnOk result (out.new.items ≡ out.old.items ++ spec.deferred_hook stage.now name.now) }
 {
     texts(
         out,
-        &[b"    USER_DEFERRED_", name, b"( Data, Instance, arg );\n"],
+        &[
+            b"    USER_DEFERRED_",
+            stage,
+            name,
+            b"( Data, Instance, arg );\n",
+        ],
     )
 }
 
@@ -343,7 +348,8 @@ fn hook(out: &mut Vec<u8>, head: &Head) -> Result<(), AllocError>
             ],
         ),
         Head::Canceled => fixed_callbacks::canceled_hook(out),
-        Head::DeferredPre(name) | Head::DeferredPost(name) => deferred_hook(out, name.as_slice()),
+        Head::DeferredPre(name) => deferred_hook(out, b"PRE_", name.as_slice()),
+        Head::DeferredPost(name) => deferred_hook(out, b"POST_", name.as_slice()),
         Head::Generic(name) => texts(
             out,
             &[

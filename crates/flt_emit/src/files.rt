@@ -9,13 +9,14 @@ use crate::names::major_name;
 use flt_tree::{Callback, Filter, Head, Tree};
 use std::alloc::{AllocError, Global};
 
-fn deferred_default(out: &mut Vec<u8>, name: &[u8]) -> Result<(), AllocError>
-    ensures { OnOk result (out.new.items ≡ out.old.items ++ spec.deferred_default name.now) }
+fn deferred_default(out: &mut Vec<u8>, stage: &[u8], name: &[u8]) -> Result<(), AllocError>
+    ensures { OnOk result (out.new.items ≡ out.old.items ++ spec.deferred_default stage.now name.now) }
 {
     texts(
         out,
         &[
             b"#define USER_DEFERRED_",
+            stage,
             name,
             b"( Data, Instance, Context ) ((VOID) (Data), (VOID) (Instance), (VOID) (Context))\n",
         ],
@@ -60,9 +61,8 @@ fn hook_default(out: &mut Vec<u8>, head: &Head) -> Result<(), AllocError>
             out,
             b"#define USER_CANCELED( Data, Instance, Context ) ((VOID) (Data), (VOID) (Instance), (VOID) (Context))\n",
         ),
-        Head::DeferredPre(name) | Head::DeferredPost(name) => {
-            deferred_default(out, name.as_slice())
-        }
+        Head::DeferredPre(name) => deferred_default(out, b"PRE_", name.as_slice()),
+        Head::DeferredPost(name) => deferred_default(out, b"POST_", name.as_slice()),
         Head::Generic(name) => generic_default(out, name.as_slice()),
     }
 }

@@ -17,6 +17,22 @@ const BODY: &str =
 const HOOK: &str =
     "#define USER_PRE_READ( Data, FltObjects ) ((VOID) (Data), (VOID) (FltObjects))\n";
 
+/// A routine for each stage of an operation.
+const STAGES: &str =
+    "filter stages altitude 70\ndeferred_pre first {\nFltCompletePendedPreOperation data NO_CALLBACK\n}\ndeferred_post second {\nFltCompletePendedPostOperation data\n}\n";
+
+/// The hooks of their writer.
+const PRE_HOOK: &str = "    USER_DEFERRED_PRE_first( Data, Instance, arg );\n";
+
+const POST_HOOK: &str = "    USER_DEFERRED_POST_second( Data, Instance, arg );\n";
+
+/// The same in the header, as long as the writer has none.
+const PRE_DEFAULT: &str =
+    "#define USER_DEFERRED_PRE_first( Data, Instance, Context ) ((VOID) (Data), (VOID) (Instance), (VOID) (Context))\n";
+
+const POST_DEFAULT: &str =
+    "#define USER_DEFERRED_POST_second( Data, Instance, Context ) ((VOID) (Data), (VOID) (Instance), (VOID) (Context))\n";
+
 /// The altitude of the instance.
 const ALTITUDE: &str = "HKR,Parameters\\Instances\\small,Altitude,0x00000000,\"70\"\n";
 
@@ -55,5 +71,16 @@ fn sources_have_their_callbacks_within_memory(rt: HostRuntime) -> Result<(), Fai
 fn other_files_are_written_within_memory(rt: HostRuntime) -> Result<(), Fail> {
     let tree = parse(rt.alloc(), SMALL.as_bytes())?;
     assert!(rt; is_written(rt.alloc(), &tree, HOOK, ALTITUDE)?);
+    Ok(())
+}
+
+#[test]
+fn hooks_name_the_stages_of_routines_within_memory(rt: HostRuntime) -> Result<(), Fail> {
+    let tree = parse(rt.alloc(), STAGES.as_bytes())?;
+    assert!(rt; is_emitted(rt.alloc(), &tree, PRE_HOOK)?);
+    assert!(rt; is_emitted(rt.alloc(), &tree, POST_HOOK)?);
+    let header = emit_header(rt.alloc(), &tree)?;
+    assert!(rt; has(header.as_slice(), PRE_DEFAULT.as_bytes()));
+    assert!(rt; has(header.as_slice(), POST_DEFAULT.as_bytes()));
     Ok(())
 }

@@ -1,0 +1,10 @@
+pub mod Asked
+pub mod Calls
+pub mod Declared
+pub mod Fits
+pub mod Fronts
+pub mod Nested
+pub mod Returns
+pub mod Simple
+pub mod Whole
+pub mod Words
