@@ -21,14 +21,14 @@ use Rattle.flt_flows.specs.declared.running.Course.{Course}
 use Rattle.flt_flows.specs.declared.running.Run.{Run}
 use Rattle.flt_flows.specs.declared.running.Taken.{Taken}
 
--- what comes of an entry: what is kept of it, and how far the journal was run after it; or it isn't enabled
+-- the outcome of an entry: what is kept of it, and how far the journal was run after it; or it isn't enabled
 pub data Entered : Type 0 where
   Goes : (taken : Taken) → (after : Course) → Entered
   Stops : Entered
 
 -- ---- places
 
--- where a callback that isn't there is
+-- the place of a callback that isn't there
 abbrev pub nowhere : Span
 nowhere = record { line = 0; start = 0; end = 0 }
 
@@ -81,9 +81,9 @@ entered_by onward (Some w) = onward w
 abbrev pub move_entry : List Filter → Course → Move → Entered
 move_entry p s move = entered_by (after_move p s move) (after_step p s.world [] (Make move))
 
--- ---- an activation goes on
+-- ---- an activation continues
 
--- where it comes to: the place of the step that others see, and the world after it; or one of the steps isn't enabled
+-- the outcome: the place of the step that others see, and the world after it; or one of the steps isn't enabled
 pub data Gone : Type 0 where
   Comes : (span : Span) → (world : World) → Gone
   Stays : Gone
@@ -108,7 +108,7 @@ module _ (p : List Filter) (a : ℕ) (grant : Bool) (end : Span) where
   go zero w = Stays
   go (suc steps) w = after_unseen (unseen steps w a)
 
--- an activation has gone on
+-- an activation has continued
 abbrev pub after_go : Course → ℕ → Gone → Entered
 after_go s a Stays = Stops
 after_go s a (Comes span w) = Goes (record { activation = Some a; span = Some span }) (record { world = w; actives = s.actives })
@@ -134,7 +134,7 @@ abbrev pub ran_by : Entered → (Course → Option Run) → Option Run
 ran_by Stops onward = None
 ran_by (Goes taken after) onward = option_map (with_first taken) (onward after)
 
--- what is kept of some entries and of all activations; nothing where one of the entries isn't enabled
+-- what is kept of some entries and of all activations; nothing if one of the entries isn't enabled
 unfoldable pub ran_from : List Filter → Course → List JournalEntry → Option Run
 ran_from p s [] = Some (record { taken = []; actives = s.actives })
 ran_from p s (e ∷ es) = ran_by (entry_of p s e) (λ after. ran_from p after es)
@@ -143,7 +143,7 @@ ran_from p s (e ∷ es) = ran_by (entry_of p s e) (λ after. ran_from p after es
 abbrev pub course_before : List Filter → Course
 course_before p = record { world = opening p; actives = [] }
 
--- what is kept of a journal's run on these filters, from the highest altitude; nothing where the journal isn't a run on them
+-- what is kept of a journal's run on these filters, from the highest altitude; nothing if the journal isn't a run on them
 abbrev pub run_of : List Filter → List JournalEntry → Option Run
 run_of p journal = ran_from p (course_before p) journal
 

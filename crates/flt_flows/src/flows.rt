@@ -32,7 +32,7 @@ pub struct FlowStep {
 /// An activation of a run.
 #[derive(Drop)]
 pub struct FlowActivation {
-    /// The number of the tree with its filter, from 0 in the order in which the trees were given.
+    /// The number of the tree with its filter, from 0 in the order in which the trees were given: the first of its altitude.
     pub tree: usize,
     /// The number of its callback in that text, from 0.
     pub callback: usize,
@@ -74,6 +74,7 @@ fn step_of(
 }
 
 /// All entries as steps.
+#[tactic(auto, unfolding(crate::specs::Flows::steps_from))]
 fn steps_of(
     alloc: Global,
     timeline: &Timeline<'_>,

@@ -25,14 +25,14 @@ pub(crate) struct Active {
     pub(crate) operation: Option<usize>,
 }
 
-/// What is kept of an entry: the activation that starts or continues with it, and where that is.
+/// The activation that starts or continues with an entry, and where that is; neither if the entry is another move of the filter manager.
 #[derive(Clone, Copy)]
 pub(crate) struct Taken {
     pub(crate) activation: Option<usize>,
     pub(crate) span: Option<Span>,
 }
 
-/// What is kept of a run: of each entry, and of each activation.
+/// The run of a journal: an item for each entry, and each activation in the order in which they start.
 #[derive(Drop)]
 pub(crate) struct Run {
     pub(crate) taken: Items<Taken>,
@@ -285,7 +285,7 @@ impl<'a> Course<'a> {
     }
 }
 
-/// What is kept of a journal's run on these filters; none if the journal isn't a run.
+/// Runs a journal on these filters; none if it isn't a run on them.
 pub(crate) fn run_of(stage: &Stage<'_, '_>, journal: &Journal) -> Result<Option<Run>, AllocError>
     requires { filters_behind stage.now.filters.now ≡ stage.now.stack.now }
     ensures { IfOk result (λ run. run ≡ spec.run_of stage.now.stack.now journal.now) }

@@ -39,7 +39,7 @@ const NO_RUN: &str = "fltjournal 1\narrive read irp 0\ngo 0 1 yes\nend\n";
 /// An activation that makes no step.
 const NO_STEP: &str = "fltjournal 1\narrive read irp 0\npre 0\ngo 0 0 yes\nend\n";
 
-/// A step that others see stands before the last one.
+/// A step that others see comes before the last one.
 const TOO_FAR: &str = "fltjournal 1\narrive read irp 0\npre 0\ngo 0 2 yes\nend\n";
 
 /// Texts, a journal, and the flow of its run as lines, if it is a run: first the activations, each with its tree and its callback, then the
