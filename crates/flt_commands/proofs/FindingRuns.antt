@@ -42,7 +42,7 @@ module _ (all : List Source) (i : ℕ) (d : Source) (within : i < length all) wh
   pub one_more_parsed : (trees more : List Tree) (numbers others : List ℕ) → AreTrees (texts_of (take i all)) trees numbers →
       IsOneMore i (get_or all i d).text.now trees numbers more others → AreTrees (texts_of (take (i + 1) all)) more others
   one_more_parsed trees more numbers others are is =
-      rw (one_source_more, texts_push (take i all) (get_or all i d)) 
+      rw (one_source_more, texts_push (take i all) (get_or all i d))
       (spec.one_more are (subst (λ n. IsOneMore n (get_or all i d).text.now trees numbers more others) counted_before is))
 
 module _ (trees : List Tree) (numbers : List ℕ) (all : List Noted) (i : ℕ) (one : Noted) (within : i < length all)
