@@ -42,7 +42,7 @@ pub record AreFindingResults (file : File) (run : ℕ → List Token) (text : Te
     (tokens : List Token) : Type 0 where
   pub details : List Detail
   pub each : AreDetails text filter graph found details
-  pub results : tokens ≡ results_of file run details
+  pub results : tokens ≡ results_of file graph run details
 
 -- the results of a text: one where it doesn't parse, else one for each finding
 unfoldable pub HasResults : File → (ℕ → List Token) → Text → Judged → List Token → Type 0

@@ -79,7 +79,7 @@ fn put_known(
         × Added writer.old writer.new ts) }
 {
     let details = details(alloc, text, tree, graph, found)?;
-    put_results(alloc, writer, file, runs, number, details.as_slice())
+    put_results(alloc, writer, file, graph, runs, number, details.as_slice())
 }
 
 #[tactic(auto, unfolding(crate::specs::Sarif::HasResults))]

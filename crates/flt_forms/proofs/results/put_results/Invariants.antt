@@ -11,5 +11,5 @@ invariant-loop-detail l = record {
   keys : l.before ≡ map (finding_key l.file.lines) (take l.detail-index l.details);
   added :
       Added l.initial.writer l.writer
-      (numbered (finding_key l.file.lines) (next_result l.file (flows_in l.runs l.source)) [] (take l.detail-index l.details));
+      (numbered (finding_key l.file.lines) (next_result l.file l.graph (flows_in l.runs l.source)) [] (take l.detail-index l.details));
 }
