@@ -371,5 +371,5 @@ module _ (law : Law) (runs : LawOfRuns) (nowhere : SpelledFailsNowhere) where
   clean_of shown gives (Emit part file cert) texts said bytes status is reported good =
       says_clean gives _ texts (IsEmitted part) _ said bytes status (λ answer is well. emitted texts answer part file cert is well) is reported good
   clean_of shown gives (EmitInto folder file cert) texts said bytes status is reported good =
-      says_clean gives _ texts (IsEmittedInto folder) _ said bytes status (λ answer is well. emitted_into texts answer folder file cert is well) is
-      reported good
+      says_clean gives _ texts (IsEmittedInto folder) _ said bytes status
+      (λ answer is well. emitted_into texts answer folder file cert is well) is reported good

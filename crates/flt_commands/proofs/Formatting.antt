@@ -78,7 +78,8 @@ none_checked : (files : List FileOutcome) → list_any (λ (f : FileOutcome). is
 none_checked [] = refl
 none_checked (f ∷ fs) = none_checked fs
 
-pub kept_formatted : (written : Text → Text → Type 0) (does : List Attempt → Type 0) (mode : FormatMode) (files texts : List Text) (found : Outcomes) →
+pub kept_formatted : (written : Text → Text → Type 0) (does : List Attempt → Type 0) (mode : FormatMode) (files texts : List Text)
+    (found : Outcomes) →
     All (IsFileDone written mode) found.files.items →
     (list_any (λ (f : FileOutcome). is_wanted mode f.outcome) found.files.items ≡ false → does []) →
     IsKept written does (Format mode files) texts (Ok (Formatted mode found))

@@ -63,8 +63,8 @@ remarked_after request before said (Ok report) first is = (before, first, is)
 remarked_after request before said (Err f) first is = tt
 
 -- where a picture is named, it is written, and where none is, all that is written stays as it was
-pub kept_shown : (written : Text → Text → Type 0) (does : List Attempt → Type 0) (timeline : Bool) (picture : Option (Bor Text)) (journal : Text)
-    (files : List Text) (bytes : Text) (texts : List Text) (said : Result Answer Failure) →
+pub kept_shown : (written : Text → Text → Type 0) (does : List Attempt → Type 0) (timeline : Bool) (picture : Option (Bor Text))
+    (journal : Text) (files : List Text) (bytes : Text) (texts : List Text) (said : Result Answer Failure) →
     IsDrawnFor written (option_map (λ name. name.now) picture) texts said → (picture ≡ None → does []) →
     IsKept written does (Show timeline (option_map (λ name. name.now) picture) journal files) (bytes ∷ texts) said
 kept_shown written does timeline (Some name) journal files bytes texts said drawn none = drawn

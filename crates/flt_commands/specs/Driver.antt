@@ -1,4 +1,4 @@
--- The files of a driver in a folder: their names, what is done to them, and what is said of it. This project's own program.
+-- The files of a driver in a folder: their names, what is done to them, and the lines about them. This project's own program.
 use Rattle.std.specs.Char.{is_ascii_graphic}
 use Rattle.std.specs.List.{All}
 use Rattle.std.specs.Prelude.{◌≡◌, ℕ, Bool, ◌++◌, List, [], ◌∷◌, Option, codes, if◌then◌else◌, map, string_bytes}
@@ -35,7 +35,8 @@ attempts_of names source header installation (NoSource why) = Failed (string_byt
 attempts_of names source header installation (NoHeader why) =
     Wrote (string_bytes names.source) source ∷ Failed (string_bytes names.header) ∷ []
 attempts_of names source header installation (NoInstallation is_new why) =
-    Wrote (string_bytes names.source) source ∷ made is_new (string_bytes names.header) header ∷ Failed (string_bytes names.installation) ∷ []
+    Wrote (string_bytes names.source) source ∷ made is_new (string_bytes names.header) header
+    ∷ Failed (string_bytes names.installation) ∷ []
 attempts_of names source header installation (Whole is_new) =
     Wrote (string_bytes names.source) source ∷ made is_new (string_bytes names.header) header
     ∷ Wrote (string_bytes names.installation) installation ∷ []

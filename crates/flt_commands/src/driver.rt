@@ -1,4 +1,4 @@
-//! The files of a driver in a folder: their names, how they are written, and what is said of it.
+//! The files of a driver in a folder: their names, how they are written, and the lines about them.
 
 ghost use Rattle.flt_commands.specs.Attempts.{Attempt, Failed, Grows, IsDone, Wrote, made};
 ghost use Rattle.flt_commands.specs.Driver as spec;
@@ -68,12 +68,7 @@ fn put_name(out: &mut String, name: &[u8]) -> Result<(), AllocError>
 }
 
 /// The name of a file of a filter in a folder.
-fn file_name(
-    alloc: Global,
-    folder: &str,
-    name: &[u8],
-    ending: &str,
-) -> Result<String, AllocError>
+fn file_name(alloc: Global, folder: &str, name: &[u8], ending: &str) -> Result<String, AllocError>
     ensures { IfOk result (λ file. string_bytes file ≡ spec.file_name folder.now name.now ending.now) }
 {
     let mut file = String::from_str(alloc, folder)?;
@@ -84,11 +79,7 @@ fn file_name(
 }
 
 /// The names of the files of a filter of a name in a folder.
-pub(crate) fn names_in(
-    alloc: Global,
-    folder: &str,
-    name: &[u8],
-) -> Result<DriverNames, AllocError>
+pub(crate) fn names_in(alloc: Global, folder: &str, name: &[u8]) -> Result<DriverNames, AllocError>
     ensures { IfOk result (spec.AreNamed folder.now name.now) }
 {
     Ok(DriverNames {
@@ -262,11 +253,7 @@ fn kept_line(alloc: Global, is_new: bool, name: &str) -> Result<Vec<u8>, AllocEr
 }
 
 /// The lines for a driver whose header isn't made.
-fn no_header_lines(
-    alloc: Global,
-    names: &DriverNames,
-    why: &[u8],
-) -> Result<Vec<u8>, AllocError>
+fn no_header_lines(alloc: Global, names: &DriverNames, why: &[u8]) -> Result<Vec<u8>, AllocError>
     ensures { IfOk result (λ lines. lines.items ≡ spec.written_line (string_bytes names.now.source)
         ++ (why.now ++ line_of_unwritten (string_bytes names.now.header))) }
 {

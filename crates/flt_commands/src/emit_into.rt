@@ -1,7 +1,8 @@
 //! The command `emit --into`: the answer on the names that it is given, and the files that it writes.
 
+ghost use Rattle.flt_analyse.specs.Least.{IfRefused, IsNamed, NoneCovers};
+ghost use Rattle.flt_check.specs.Covering.{Covers};
 ghost use Rattle.flt_commands.specs.Attempts.{Does};
-ghost use Rattle.flt_commands.specs.Driver.{AreNamed};
 ghost use Rattle.flt_commands.specs.Emit.{IsReadBack, part_text};
 ghost use Rattle.flt_commands.specs.EmitInto as spec;
 ghost use Rattle.flt_commands.specs.Inputs.{Says};
@@ -9,12 +10,10 @@ ghost use Rattle.flt_commands.specs.Names.{names_of};
 ghost use Rattle.flt_emit.specs.Files.{installation, user_header};
 ghost use Rattle.flt_emit_read.specs.AsRead.{returns_fit};
 ghost use Rattle.flt_graph.specs.Lowering.{IsLowered};
-ghost use Rattle.flt_kinds.specs.Creates.{AreFound};
-ghost use Rattle.flt_kinds.specs.Kinds.{AreKinds};
 ghost use Rattle.flt_tree.specs.WellFormed.{IsWellFormed};
 ghost use Rattle.flt_words.specs.Request.{EmitInto};
 ghost use Rattle.flt_words.specs.declared.request.Part.TheVariants.{Source};
-ghost use Rattle.std.specs.Prelude.{◌≡◌, ◌<◌, [], ◌∷◌, None, IfOk, map, option_map, true};
+ghost use Rattle.std.specs.Prelude.{◌≡◌, ◌<◌, [], ◌∷◌, None, IfErr, IfOk, map, option_map, true};
 
 use crate::answer::Answer;
 use crate::driver::{Driver, DriverParts, driver_lines, names_in, put_driver};
@@ -23,6 +22,7 @@ use crate::failure::Failure;
 use crate::inputs::{Inputs, Pictures, read_all};
 use crate::report::Contents;
 use flt_analyse::{AnalyseFault, Ticks, analyse};
+use flt_cert::FullCert;
 use flt_check::check;
 use flt_emit::{emit_header, emit_installation};
 use flt_emit_read::unfit_return;
@@ -103,29 +103,35 @@ fn write_filter<P: Pictures>(
 
 // ---- texts
 
-/// Writes the driver of a text that is analysed. The transfers are counted in a ledger that nobody reads.
-fn write_analysed<'a, L: Ledger, P: Pictures>(
+/// A certificate that covers a graph. The transfers are counted in a ledger that nobody reads.
+fn covering<L: Ledger>(alloc: Global, graph: &Graph, blank: Blank) -> Result<FullCert, AnalyseFault>
+    requires name { blank.name ≡ L.name }
+    requires parts { blank.parts ≡ L.parts }
+    requires some { 0 < blank.parts }
+    ensures covers { IfOk result (λ cert. Covers graph.now cert) }
+    ensures none { IfErr result (λ f. IfRefused f (λ _. NoneCovers graph.now)) }
+    ensures named { IfErr result (λ f. IfRefused f (IsNamed graph.now)) }
+{
+    let mut ticks = Ticks::<L, 0, 0>::new(blank);
+    analyse(alloc, graph, &mut ticks)
+}
+
+/// Writes the driver of a text that is analysed.
+fn write_analysed<'a, P: Pictures>(
     alloc: Global,
     inputs: &[&str],
     folder: &str,
     text: &[u8],
     pictures: &mut P,
-    blank: Blank,
 ) -> Result<Answer, Failure<'a>>
-    requires name { blank.name ≡ L.name }
-    requires parts { blank.parts ≡ L.parts }
-    requires some { 0 < blank.parts }
     ensures said { spec.IsEmittedInto folder.now (text.now ∷ []) result }
     ensures put { spec.ArePut (P.written pictures.new)
         (Does (pictures.new ≡ pictures.old) (P.tried pictures.old) (P.tried pictures.new)) folder.now (text.now ∷ []) result }
 {
     let tree = parse(alloc, text)?;
     let graph = lower(alloc, &tree)?;
-    let mut ticks = Ticks::<L, 0, 0>::new(blank);
-    match analyse(alloc, &graph, &mut ticks) {
-        Ok(_) => Ok(write_filter(
-            alloc, inputs, folder, &tree, &graph, pictures,
-        )?),
+    match covering::<Brand>(alloc, &graph, Blank::new(1)) {
+        Ok(_) => Ok(write_filter(alloc, inputs, folder, &tree, &graph, pictures)?),
         Err(AnalyseFault::Refused(refusal)) => Ok(Answer::Refused(refusal)),
         Err(AnalyseFault::OutOfMemory) => Err(Failure::OutOfMemory),
     }
@@ -149,9 +155,7 @@ fn write_checked<'a, P: Pictures>(
     let cert = flt_cert::read(alloc, certificate)?;
     let graph = lower(alloc, &tree)?;
     match check(&graph, &cert) {
-        Ok(()) => Ok(write_filter(
-            alloc, inputs, folder, &tree, &graph, pictures,
-        )?),
+        Ok(()) => Ok(write_filter(alloc, inputs, folder, &tree, &graph, pictures)?),
         Err(refusal) => Ok(Answer::Refused(refusal)),
     }
 }
@@ -176,7 +180,7 @@ pub fn emit_files_into<'a, I: Inputs, P: Pictures>(
         None => {
             contents.texts = read_all(alloc, inputs, &[file])?;
             let text = contents.texts[0].as_slice();
-            write_analysed::<Brand, P>(alloc, &[file], folder, text, pictures, Blank::new(1))
+            write_analysed(alloc, &[file], folder, text, pictures)
         }
         Some(cert) => {
             contents.texts = read_all(alloc, inputs, &[file, cert])?;

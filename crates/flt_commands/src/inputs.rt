@@ -78,8 +78,8 @@ pub trait Pictures {
         // What was written before is written still.
         ensures kept { (other held : List ℕ) → written self.old other held → written self.new other held };
 
-    /// Writes these bytes as a new file of this name. Returns false if something of this name is there, which stays as it is; or why no file
-    /// could be made.
+    /// Writes these bytes as a new file of this name. Returns false if something of this name is there, which stays as it is; or why no
+    /// file could be made.
     fn write_new(&mut self, name: &str, bytes: &[u8]) -> Result<bool, Unwritten>
         ensures done { IfOk result (λ is_new. attempts.IsDone (written self.new) (attempts.made is_new name.now bytes.now)) }
         ensures made { IfOk result (λ is_new. attempts.Grows (tried self.old) (tried self.new)

@@ -226,7 +226,6 @@ impl<S: System> Inputs for Named<'_, S> {
 
 impl<S: System> Pictures for Named<'_, S> {
     ghost use Rattle.flt_commands.specs.System.{IsWritten};
-
     ghost use Rattle.std.specs.Prelude.{None};
 
     ghost written = { λ named. IsWritten (S.makes named.system.now) (S.puts named.system.now) };

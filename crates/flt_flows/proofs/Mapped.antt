@@ -1,5 +1,5 @@
 -- What a loop makes of each element, one after another.
-use Rattle.std.proofs.Common.{◌≡◌, ◌<◌, ◌+◌, ℕ, suc, List, [], ◌∷◌, ◌++◌, add-one, append_assoc, ap, drop, get_or, length, map, sym, ◌∙◌}
+use Rattle.std.proofs.Common.{◌≡◌, ◌<◌, ◌+◌, ℕ, List, [], ◌∷◌, ◌++◌, add-one, append_assoc, ap, drop, get_or, length, map, sym, ◌∙◌}
 use Rattle.std.proofs.Math.Seq.{drop-cons}
 
 -- one more is made of the next element

@@ -1,10 +1,8 @@
 -- What comes of things one after the other, by their numbers.
-use Rattle.std.proofs.Common.{◌≡◌, ◌∙◌, ℕ, suc, ◌+◌, ◌<◌, ◌≤◌, List, [], ◌∷◌, ◌++◌, length, drop, drop-cons, get_or, refl, ap, sym, append_assoc, append-nil, arith}
+use Rattle.std.proofs.Common.{◌≡◌, ◌∙◌, ℕ, suc, ◌+◌, ◌<◌, ◌≤◌, List, [], ◌∷◌, ◌++◌, length, drop, get_or, refl, ap, sym, arith}
+use Rattle.std.proofs.Common.{append_assoc, append-nil, drop-cons}
 use Rattle.std.proofs.lemmas.Grind.{common_steps}
-use Rattle.json.specs.Token.{Token}
-use Rattle.json.specs.Written.{Written}
 use Rattle.flt_forms.specs.Counted.{counted}
-use Rattle.flt_forms.specs.Members.{Added}
 
 module _ {A : Type 0} {B : Type 0} (f : ℕ → A → List B) (all : List A) (i : ℕ) (one : A) (within : i < length all)
     (is : one ≡ get_or all i one) where

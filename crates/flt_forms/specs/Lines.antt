@@ -51,7 +51,8 @@ warning_lines Object name warned = flat_map (warning_line name) warned
 warning_lines Sentence name warned = flat_map (short.warning_line name) warned
 
 -- what is printed of a text with its warnings last, or with the line of one in which there is nothing, and its status, which comes of the same findings and warnings
-pub record IsPart (style : Style) (options : WarningOptions) (run : ℕ → List Token) (s : Source) (printed : List ℕ) (status : ℕ) : Type 0 where
+pub record IsPart (style : Style) (options : WarningOptions) (run : ℕ → List Token) (s : Source) (printed : List ℕ) (status : ℕ)
+    : Type 0 where
   pub judged : Judged
   pub is : IsJudged s.text.now judged
   pub warned : List WarningDetail

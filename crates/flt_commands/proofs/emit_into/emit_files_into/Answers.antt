@@ -23,7 +23,7 @@ pub returns-in_ok-contents-in-Some-clause-said : goal.returns-in_ok-contents-in-
 returns-in_ok-contents-in-Some-clause-said g c =
     rw c.in-Some.is (says_of_both _ _ _ _ _ _ c.index-in-Some.result.now c.index-in-Some-2.result.now
     c.in_ok-contents-in-Some.ensures.each c.index-in-Some.ensures c.index-in-Some-2.ensures c.in_ok-contents-in-Some.ensures.ok
-    (rw (c.as_slice-in-Some.ensures.value, c.as_slice-in-Some-2.ensures.value) at c.write_checked.ensures.said))
+    (rw (c.as_slice.ensures.value, c.as_slice-in-Some.ensures.value) at c.write_checked.ensures.said))
 
 pub returns-in_ok-contents-in-None-clause-put : goal.returns-in_ok-contents-in-None-clause-put
 returns-in_ok-contents-in-None-clause-put g c =
@@ -34,4 +34,4 @@ pub returns-in_ok-contents-in-Some-clause-put : goal.returns-in_ok-contents-in-S
 returns-in_ok-contents-in-Some-clause-put g c =
     rw (both _ c.index-in-Some.result.now c.index-in-Some-2.result.now c.in_ok-contents-in-Some.ensures.each c.index-in-Some.ensures
     c.index-in-Some-2.ensures)
-    (rw (c.as_slice-in-Some.ensures.value, c.as_slice-in-Some-2.ensures.value) at c.write_checked.ensures.put)
+    (rw (c.as_slice.ensures.value, c.as_slice-in-Some.ensures.value) at c.write_checked.ensures.put)

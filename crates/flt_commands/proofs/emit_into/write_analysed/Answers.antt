@@ -1,5 +1,6 @@
-use Rattle.std.proofs.Common.{[]}
+use Rattle.std.proofs.Common.{◌≡◌, []}
 use Rattle.flt_cert.specs.declared.cert.Cert.TheVariants.{Full}
+use Rattle.flt_commands.specs.Attempts.{Does}
 use Rattle.flt_commands.specs.Emit as spec
 use Rattle.flt_commands.proofs.Putting.{put_of}
 use Rattle.flt_commands.proofs.emit_into.write_analysed.Goals as goal
@@ -17,8 +18,11 @@ returns-in-Ok-clause-said g c =
 
 pub returns-in-Ok-clause-put : goal.returns-in-Ok-clause-put
 returns-in-Ok-clause-put g c =
-    put_of _ _ _ _ [] c.in_ok-graph.graph
-    (record { filter = c.in_ok-tree.tree.filter; spelled = c.in_ok-tree.ensures.spelled; lowered = c.in_ok-graph.ensures }) _
+    put_of (g.P.Pictures.written c.write_filter.new.pictures)
+    (Does (c.write_filter.new.pictures ≡ c.args.pictures.now) (g.P.Pictures.tried c.args.pictures.now)
+    (g.P.Pictures.tried c.write_filter.new.pictures)) c.args.folder.now c.args.text.now [] c.in_ok-graph.graph
+    (record { filter = c.in_ok-tree.tree.filter; spelled = c.in_ok-tree.ensures.spelled; lowered = c.in_ok-graph.ensures })
+    c.in_ok-write_filter-in-Ok.field-0
     c.in_ok-write_filter-in-Ok.ensures.put
 
 pub returns-in-Err-Refused-clause-said : goal.returns-in-Err-Refused-clause-said

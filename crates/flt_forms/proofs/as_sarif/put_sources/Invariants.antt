@@ -7,4 +7,5 @@ use Rattle.flt_forms.proofs.as_sarif.put_sources.Given as goal
 
 abbrev pub invariant-loop-number : goal.invariant-loop-number
 invariant-loop-number l =
-    (ts : List Token) × AreResults l.options l.names (flows_in l.runs) 0 (take l.number l.sources) ts l.status × Added l.initial.writer l.writer ts
+    (ts : List Token) × AreResults l.options l.names (flows_in l.runs) 0 (take l.number l.sources) ts l.status
+    × Added l.initial.writer l.writer ts

@@ -9,5 +9,7 @@ use Rattle.flt_forms.proofs.results.put_results.Given as goal
 abbrev pub invariant-loop-detail : goal.invariant-loop-detail
 invariant-loop-detail l = record {
   keys : l.before ≡ map (finding_key l.file.lines) (take l.detail-index l.details);
-  added : Added l.initial.writer l.writer (numbered (finding_key l.file.lines) (next_result l.file (flows_in l.runs l.source)) [] (take l.detail-index l.details));
+  added :
+      Added l.initial.writer l.writer
+      (numbered (finding_key l.file.lines) (next_result l.file (flows_in l.runs l.source)) [] (take l.detail-index l.details));
 }

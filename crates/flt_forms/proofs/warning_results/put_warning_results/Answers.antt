@@ -10,7 +10,8 @@ loop-detail-preserved c = record {
       key_more (warning_key c.args.file.now.lines) c.args.warned.now c.loop-detail.detail-index c.detail-item.result
       (omega (arith, c.loop-detail-test.true)) c.detail-item.is _ _ c.loop-detail.invariant.keys c.in_ok-put_next_result.ensures.0;
   added =
-      one_result_more (warning_key c.args.file.now.lines) (next_result c.args.file.now) c.args.warned.now c.loop-detail.detail-index c.detail-item.result
+      one_result_more (warning_key c.args.file.now.lines) (next_result c.args.file.now) c.args.warned.now
+      c.loop-detail.detail-index c.detail-item.result
       (omega (arith, c.loop-detail-test.true)) c.detail-item.is _ c.loop-detail.invariant.keys c.loop-detail.invariant.added
       c.in_ok-put_next_result.ensures.1;
 }
