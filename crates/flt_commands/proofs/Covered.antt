@@ -235,7 +235,8 @@ module _ (law : Law) (runs : LawOfRuns) (nowhere : SpelledFailsNowhere) where
       (report_well options filters text report status count is.is zeros.1)
 
   in_lines : (style : Style) (options : WarningOptions) (runs : ℕ → ℕ → List Token) (number : ℕ) (sources : List Source)
-      (before printed : List ℕ) (status : ℕ) → AreLinesFrom style options runs number sources before printed status → status ≡ 0 → EachBreaksNothing (texts_of sources)
+      (before printed : List ℕ) (status : ℕ) → AreLinesFrom style options runs number sources before printed status → status ≡ 0 →
+      EachBreaksNothing (texts_of sources)
   in_lines style options runs number [] before printed status said good = tt
   in_lines style options runs number (s ∷ ss) before printed status (part, first, others, own, rest, greatest) good =
       let zeros = both_zero first others (sym greatest ∙ good) in (

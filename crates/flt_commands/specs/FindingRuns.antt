@@ -23,7 +23,7 @@ use Rattle.flt_commands.specs.Inputs.{Text}
 -- the tree of one more text, of this number, if it parses
 pub data IsOneMore (number : ℕ) (text : Text) (trees : List Tree) (numbers : List ℕ) : List Tree → List ℕ → Type 0 where
   fails : {e : SyntaxFault} → Fails text e → IsOneMore number text trees numbers trees numbers
-  parses : {tree : Tree} → Spells text tree.filter → IsOneMore number text trees numbers (trees ++ tree ∷ []) (numbers ++ number ∷ [])
+  parses : (tree : Tree) → Spells text tree.filter → IsOneMore number text trees numbers (trees ++ tree ∷ []) (numbers ++ number ∷ [])
 
 -- the trees of the texts that parse, and the numbers of these texts
 pub data AreTrees : List Text → List Tree → List ℕ → Type 0 where
@@ -66,7 +66,7 @@ IsNext trees numbers n runs after = IsNextBy trees numbers n runs after (schedul
 -- the runs of all noted findings, in their order
 pub data AreRunsOf (trees : List Tree) (numbers : List ℕ) : List Noted → List FindingRun → Type 0 where
   no_note : AreRunsOf trees numbers [] []
-  one_note_more : {ns : List Noted} {n : Noted} {runs after : List FindingRun} → AreRunsOf trees numbers ns runs →
+  one_note_more : {ns : List Noted} {runs after : List FindingRun} (n : Noted) → AreRunsOf trees numbers ns runs →
       IsNext trees numbers n runs after → AreRunsOf trees numbers (ns ++ n ∷ []) after
 
 -- the same of findings of these texts

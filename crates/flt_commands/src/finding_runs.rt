@@ -1,6 +1,6 @@
 //! The runs that break something because of findings, for the forms that have them.
 
-ghost use Rattle.std.specs.Prelude.{◌≡◌, ◌×◌, IfOk, MatchOption, get_or};
+ghost use Rattle.std.specs.Prelude.{◌≡◌, IfOk, get_or};
 ghost use Rattle.flt_details.specs.Reports.{texts_of};
 ghost use Rattle.flt_commands.specs.FindingRuns as spec;
 
@@ -108,12 +108,15 @@ fn add_broken(
     ensures { IfOk result (λ _. spec.IsAdded parsed.now.trees.items parsed.now.numbers noted.now broken.now runs.old.items runs.new.items) }
 {
     let own = own_trees(parsed.trees.as_slice(), noted.filter, &noted.scheduled);
-    let Some(flow) = Flow::of(alloc, own, &broken.journal)? else {
-        return Ok(());
-    };
-    let run = run_by(alloc, parsed, noted, broken, flow)?;
-    runs.push(run)?;
-    Ok(())
+    let found = Flow::of(alloc, own, &broken.journal)?;
+    match found {
+        Some(flow) => {
+            let run = run_by(alloc, parsed, noted, broken, flow)?;
+            runs.push(run)?;
+            Ok(())
+        }
+        None => Ok(()),
+    }
 }
 
 /// Adds the run of a finding, if it has one.

@@ -185,7 +185,8 @@ operation_kind_reads operating.Write r = refl
 operation_kind_reads operating.Cleanup r = refl
 
 head_reads : (h : Head) → IsHead h → (r : Text) → head_at (prototype h ++ r) ≡ Some (prototyped h, r)
-unfolding head_at prototype deferred_prototype event_at routine_at pre_head post_head canceled_prototype deferred_head generic_head fixed.pre_parameters fixed.post_parameters fixed.deferred_parameters fixed.generic_parameters
+unfolding head_at prototype deferred_prototype event_at routine_at pre_head post_head canceled_prototype deferred_head generic_head
+    fixed.pre_parameters fixed.post_parameters fixed.deferred_parameters fixed.generic_parameters
 head_reads (Pre op) ok r = ap head_at (joined_pieces (fixed.pre_head ∷ operation_word op ∷ fixed.pre_parameters ∷ []) r)
     ∙ then_reads _ (operation_kind_reads op (fixed.pre_parameters ++ r))
 head_reads (Post op) ok r = ap head_at (joined_pieces (fixed.post_head ∷ operation_word op ∷ fixed.post_parameters ∷ []) r)
