@@ -51,8 +51,8 @@ fn parts_of(alloc: Global, tree: &Tree, listed: &[Spot]) -> Result<DriverParts, 
     })
 }
 
-/// Writes a driver in which each context has one kind, no open is completed and each return fits. All of it is in memory before the first file
-/// is written.
+/// Writes a driver in which each context has one kind, no open is completed and each return fits. All of it is in memory before the first
+/// file is written.
 fn write_known<P: Pictures>(
     alloc: Global,
     inputs: &[&str],
