@@ -10,7 +10,7 @@ use Rattle.flt_words.specs.declared.request.Part.TheVariants.{Source}
 use Rattle.flt_commands.specs.Attempts.{Attempt, Does, Failed, Grows, IsDone, Left, Wrote}
 use Rattle.flt_commands.specs.Check.{HasPoints}
 use Rattle.flt_commands.specs.Driver.{AreDone, AreNamed, attempts_of}
-use Rattle.flt_commands.specs.Emit.{part_text}
+use Rattle.flt_commands.specs.Emit.{IsReadBack, part_text}
 use Rattle.flt_commands.specs.EmitInto.{ArePut, IsPut, IsPutFor}
 use Rattle.flt_commands.specs.Inputs.{Text}
 use Rattle.flt_commands.specs.declared.answer.Answer.{Answer}
@@ -61,10 +61,11 @@ does_of same old new names s h i (NoInstallation is_new why) is = is
 
 -- the driver of a filter is put where its parts are written
 pub put_known : (written : Text → Text → Type 0) (same : Type 0) (old new : Option (List Attempt)) (folder : Text) (f : Filter)
-    (listed : List Spot) (driver : Driver) (s h i : Text) → s ≡ part_text Source listed f → h ≡ user_header f → i ≡ installation f →
-    AreNamed folder f.name driver.names → AreDone written old new (attempts_of driver.names s h i driver.outcome) →
+    (listed : List Spot) (driver : Driver) (s h i : Text) → s ≡ part_text Source listed f → IsReadBack Source f s → h ≡ user_header f →
+    i ≡ installation f → AreNamed folder f.name driver.names → AreDone written old new (attempts_of driver.names s h i driver.outcome) →
     IsPut written (Does same old new) folder f listed driver
-put_known written same old new folder f listed driver s h i source header inf named are = record {
+put_known written same old new folder f listed driver s h i source read header inf named are = record {
+  read = rw source at read;
   named = named;
   done = rw (source, header, inf) at are.done;
   only = does_of same old new driver.names _ _ _ driver.outcome (rw (source, header, inf) at are.only);

@@ -1,5 +1,5 @@
 -- What `emit` says. This project's own program.
-use Rattle.std.specs.Prelude.{◌≡◌, ℕ, List, [], ◌∷◌, map, IsTrue, None, Result, Ok, Err}
+use Rattle.std.specs.Prelude.{◌≡◌, ℕ, List, [], ◌∷◌, map, true, IsTrue, Some, None, Result, Ok, Err}
 use Rattle.flt_tree.specs.declared.filter.Filter.{Filter}
 use Rattle.flt_graph.specs.Graph.{line_at}
 use Rattle.flt_graph.specs.declared.graph.Graph.{Graph}
@@ -10,10 +10,14 @@ use Rattle.flt_check.specs.declared.checker.Refusal.{Refusal}
 use Rattle.flt_emit.specs.Files.{installation, user_header}
 use Rattle.flt_emit.specs.Source.{source}
 use Rattle.flt_emit.specs.declared.scope.Allocation.{Allocation}
+use Rattle.flt_emit_read.specs.AsRead.{returns_fit}
+use Rattle.flt_emit_read.specs.Sources.{read_back}
+use Rattle.flt_emit_read.specs.Unfit.{first_unfit}
 use Rattle.flt_kinds.specs.Creates.{AreFound, Completes}
 use Rattle.flt_kinds.specs.Kinds.{AreKinds, IsMixed}
 use Rattle.flt_kinds.specs.declared.mixed.Mixed.{Mixed}
 use Rattle.flt_kinds.specs.declared.slot.Spot.{Spot}
+use Rattle.flt_print.specs.Reprinting.{without_places}
 use Rattle.flt_words.specs.declared.request.Part.{Part}
 use Rattle.flt_words.specs.declared.request.Part.TheVariants.{Source, User, Inf}
 use Rattle.flt_commands.specs.Analyse as analyse
@@ -23,7 +27,7 @@ use Rattle.flt_commands.specs.Inputs.{Text}
 use Rattle.flt_commands.specs.declared.answer.Answer.{Answer}
 use Rattle.flt_commands.specs.declared.answer.Answer.TheVariants.{Refused, Emitted, NotEmitted}
 use Rattle.flt_commands.specs.declared.emit.Unemitted.{Unemitted}
-use Rattle.flt_commands.specs.declared.emit.Unemitted.TheVariants.{Kinds, Create}
+use Rattle.flt_commands.specs.declared.emit.Unemitted.TheVariants.{Kinds, Create, Return}
 use Rattle.flt_commands.specs.declared.failure.Failure.{Failure}
 
 -- ---- a part of a driver
@@ -38,12 +42,20 @@ part_text Source listed f = source (map allocation_of listed) f
 part_text User listed f = user_header f
 part_text Inf listed f = installation f
 
--- each context has one kind, no `pre create` completes with success, and the bytes are the part
+-- a source is read back to the filter, apart from its places; the other parts say less
+abbrev pub IsReadBack : Part → Filter → Text → Type 0
+IsReadBack Source f bytes = read_back bytes ≡ Some (without_places f)
+IsReadBack User f bytes = Unit {0}
+IsReadBack Inf f bytes = Unit {0}
+
+-- each context has one kind, no `pre create` completes with success, each return is one of its place, and the bytes are the part
 pub record IsPart (part : Part) (f : Filter) (g : Graph) (bytes : Text) : Type 0 where
   pub listed : List Spot
   pub kinds : AreKinds g listed
   pub opens : AreFound g None
+  pub fit : returns_fit f ≡ true
   pub written : bytes ≡ part_text part listed f
+  pub read : IsReadBack part f bytes
 
 -- ---- why there is none
 
@@ -73,9 +85,17 @@ pub record CompletesIn (g : Graph) (line : ℕ) : Type 0 where
   pub completes : Completes g at
   pub is : line ≡ line_of g at
 
-abbrev pub IsHindered : Graph → Unemitted → Type 0
-IsHindered g (Kinds line stream instance) = HasMixture g (Kinds line stream instance)
-IsHindered g (Create line) = CompletesIn g line
+-- each context has one kind, no `pre create` completes with success, and the first return that isn't one of its place is in this line
+pub record ReturnsIn (f : Filter) (g : Graph) (line : ℕ) : Type 0 where
+  pub listed : List Spot
+  pub kinds : AreKinds g listed
+  pub opens : AreFound g None
+  pub is : first_unfit f ≡ Some line
+
+abbrev pub IsHindered : Filter → Graph → Unemitted → Type 0
+IsHindered f g (Kinds line stream instance) = HasMixture g (Kinds line stream instance)
+IsHindered f g (Create line) = CompletesIn g line
+IsHindered f g (Return line) = ReturnsIn f g line
 
 -- what may be answered of a filter and its points
 abbrev pub Emitting : Type 1
@@ -84,7 +104,7 @@ Emitting = Filter → Graph → Answer → Type 0
 -- a part is emitted, or why nothing is
 abbrev pub Emits : Part → Emitting
 Emits part f g (Emitted bytes) = IsPart part f g bytes.items
-Emits part f g (NotEmitted why) = IsHindered g why
+Emits part f g (NotEmitted why) = IsHindered f g why
 Emits part f g _ = ⊥
 
 -- ---- what is said

@@ -1,9 +1,10 @@
 -- What `emit --into` says, and what it writes. This project's own program.
 use Rattle.std.specs.List.{All}
-use Rattle.std.specs.Prelude.{◌≡◌, ◌≢◌, List, [], ◌∷◌, None, Result, Ok, Err}
+use Rattle.std.specs.Prelude.{◌≡◌, ◌≢◌, List, [], ◌∷◌, true, None, Result, Ok, Err}
 use Rattle.flt_tree.specs.declared.filter.Filter.{Filter}
 use Rattle.flt_graph.specs.declared.graph.Graph.{Graph}
 use Rattle.flt_emit.specs.Files.{installation, user_header}
+use Rattle.flt_emit_read.specs.AsRead.{returns_fit}
 use Rattle.flt_kinds.specs.Creates.{AreFound}
 use Rattle.flt_kinds.specs.Kinds.{AreKinds}
 use Rattle.flt_kinds.specs.declared.slot.Spot.{Spot}
@@ -11,7 +12,7 @@ use Rattle.flt_words.specs.declared.request.Part.TheVariants.{Source}
 use Rattle.flt_commands.specs.Attempts.{Attempt, IsDone}
 use Rattle.flt_commands.specs.Check.{HasPoints}
 use Rattle.flt_commands.specs.Driver.{AreNamed, attempts_of, driver_lines}
-use Rattle.flt_commands.specs.Emit.{Emitting, IsHindered, IsJudged, part_text}
+use Rattle.flt_commands.specs.Emit.{Emitting, IsHindered, IsJudged, IsReadBack, part_text}
 use Rattle.flt_commands.specs.Inputs.{Text}
 use Rattle.flt_commands.specs.declared.answer.Answer.{Answer}
 use Rattle.flt_commands.specs.declared.answer.Answer.TheVariants.{NotEmitted, EmittedInto}
@@ -21,17 +22,19 @@ use Rattle.flt_commands.specs.declared.failure.Failure.TheVariants.{OutOfMemory}
 
 -- ---- what is said
 
--- each context has one kind, no `pre create` completes with success, and the files have the filter's name, in the folder
+-- each context has one kind, no `pre create` completes with success, each return is one of its place, and the files have the filter's
+-- name, in the folder
 pub record IsWritable (folder : Text) (f : Filter) (g : Graph) (driver : Driver) : Type 0 where
   pub listed : List Spot
   pub kinds : AreKinds g listed
   pub opens : AreFound g None
+  pub fit : returns_fit f ≡ true
   pub named : AreNamed folder f.name driver.names
 
 -- a driver is written, as far as that could be done, or why nothing is
 abbrev pub Writes : Text → Emitting
 Writes folder f g (EmittedInto driver) = IsWritable folder f g driver
-Writes folder f g (NotEmitted why) = IsHindered g why
+Writes folder f g (NotEmitted why) = IsHindered f g why
 Writes folder f g _ = ⊥
 
 -- what is said of the bytes of FILE, or of FILE and CERT
@@ -46,9 +49,10 @@ remark_in said = []
 -- ---- what is written
 
 -- what was done for the driver of a filter, in which these statements allocate contexts of the instance, and nothing else was: each part
--- goes under its own name, and what got its bytes has them
+-- goes under its own name, what got its bytes has them, and the source is read back to the filter
 pub record IsPut (written : Text → Text → Type 0) (does : List Attempt → Type 0) (folder : Text) (f : Filter) (listed : List Spot)
     (driver : Driver) : Type 0 where
+  pub read : IsReadBack Source f (part_text Source listed f)
   pub named : AreNamed folder f.name driver.names
   pub done : All (IsDone written) (attempts_of driver.names (part_text Source listed f) (user_header f) (installation f) driver.outcome)
   pub only : does (attempts_of driver.names (part_text Source listed f) (user_header f) (installation f) driver.outcome)

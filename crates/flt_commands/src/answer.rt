@@ -313,5 +313,8 @@ fn unemitted_line(alloc: Global, why: Unemitted) -> Result<String, AllocError>
                 "not emitted line {line} a pre create that completes with STATUS_SUCCESS"
             )
         }
+        Unemitted::Return { line } => {
+            format!(in alloc; "not emitted line {line} a return that does not fit its callback")
+        }
     }
 }

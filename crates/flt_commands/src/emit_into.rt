@@ -3,19 +3,21 @@
 ghost use Rattle.flt_analyse.specs.Least.{IfRefused, IsNamed, NoneCovers};
 ghost use Rattle.flt_check.specs.Covering.{Covers};
 ghost use Rattle.flt_commands.specs.Attempts.{Does};
-ghost use Rattle.flt_commands.specs.Emit.{part_text};
+ghost use Rattle.flt_commands.specs.Emit.{IsReadBack, part_text};
 ghost use Rattle.flt_commands.specs.EmitInto as spec;
 ghost use Rattle.flt_commands.specs.Inputs.{Says};
 ghost use Rattle.flt_commands.specs.Names.{names_of};
 ghost use Rattle.flt_emit.specs.Files.{installation, user_header};
+ghost use Rattle.flt_emit_read.specs.AsRead.{returns_fit};
 ghost use Rattle.flt_graph.specs.Lowering.{IsLowered};
+ghost use Rattle.flt_tree.specs.WellFormed.{IsWellFormed};
 ghost use Rattle.flt_words.specs.Request.{EmitInto};
 ghost use Rattle.flt_words.specs.declared.request.Part.TheVariants.{Source};
-ghost use Rattle.std.specs.Prelude.{◌≡◌, ◌<◌, [], ◌∷◌, None, IfErr, IfOk, map, option_map};
+ghost use Rattle.std.specs.Prelude.{◌≡◌, ◌<◌, [], ◌∷◌, None, IfErr, IfOk, map, option_map, true};
 
 use crate::answer::Answer;
 use crate::driver::{Driver, DriverParts, driver_lines, names_in, put_driver};
-use crate::emit::{create_in, mixed_lines, source_of};
+use crate::emit::{Unemitted, create_in, mixed_lines, source_of};
 use crate::failure::Failure;
 use crate::inputs::{Inputs, Pictures, read_all};
 use crate::report::Contents;
@@ -23,6 +25,7 @@ use flt_analyse::{AnalyseFault, Ticks, analyse};
 use flt_cert::FullCert;
 use flt_check::check;
 use flt_emit::{emit_header, emit_installation};
+use flt_emit_read::unfit_return;
 use flt_graph::{Graph, Tree, lower};
 use flt_kinds::{ContextKinds, Spot, completed_create, context_kinds};
 use flt_syntax::parse;
@@ -34,7 +37,10 @@ use std::sync::ledger::{Blank, Ledger};
 
 /// All parts of a driver, in which these statements allocate contexts of the instance.
 fn parts_of(alloc: Global, tree: &Tree, listed: &[Spot]) -> Result<DriverParts, AllocError>
+    requires well_formed { IsWellFormed tree.now.filter }
+    requires fit { returns_fit tree.now.filter ≡ true }
     ensures source { IfOk result (λ parts. parts.source.items ≡ part_text Source listed.now tree.now.filter) }
+    ensures read { IfOk result (λ parts. IsReadBack Source tree.now.filter parts.source.items) }
     ensures header { IfOk result (λ parts. parts.header.items ≡ user_header tree.now.filter) }
     ensures installation { IfOk result (λ parts. parts.installation.items ≡ installation tree.now.filter) }
 {
@@ -45,7 +51,8 @@ fn parts_of(alloc: Global, tree: &Tree, listed: &[Spot]) -> Result<DriverParts, 
     })
 }
 
-/// Writes a driver in which each context has one kind and no open is completed. All of it is in memory before the first file is written.
+/// Writes a driver in which each context has one kind, no open is completed and each return fits. All of it is in memory before the first
+/// file is written.
 fn write_known<P: Pictures>(
     alloc: Global,
     inputs: &[&str],
@@ -54,6 +61,8 @@ fn write_known<P: Pictures>(
     listed: &[Spot],
     pictures: &mut P,
 ) -> Result<Driver, AllocError>
+    requires well_formed { IsWellFormed tree.now.filter }
+    requires fit { returns_fit tree.now.filter ≡ true }
     ensures { IfOk result (spec.IsPut (P.written pictures.new)
         (Does (pictures.new ≡ pictures.old) (P.tried pictures.old) (P.tried pictures.new)) folder.now tree.now.filter listed.now) }
 {
@@ -72,7 +81,8 @@ fn write_filter<P: Pictures>(
     graph: &Graph,
     pictures: &mut P,
 ) -> Result<Answer, AllocError>
-    requires { IsLowered tree.now.filter graph.now }
+    requires lowered { IsLowered tree.now.filter graph.now }
+    requires well_formed { IsWellFormed tree.now.filter }
     ensures writes { IfOk result (spec.Writes folder.now tree.now.filter graph.now) }
     ensures put { IfOk result (spec.IsPutFor (P.written pictures.new)
         (Does (pictures.new ≡ pictures.old) (P.tried pictures.old) (P.tried pictures.new)) folder.now tree.now.filter graph.now) }
@@ -83,6 +93,9 @@ fn write_filter<P: Pictures>(
     };
     if let Some(at) = completed_create(graph) {
         return Ok(Answer::NotEmitted(create_in(graph, at)));
+    }
+    if let Some(line) = unfit_return(tree) {
+        return Ok(Answer::NotEmitted(Unemitted::Return { line }));
     }
     let driver = write_known(alloc, inputs, folder, tree, listed.as_slice(), pictures)?;
     Ok(Answer::EmittedInto(driver))

@@ -4,3 +4,4 @@ pub mod Front
 pub mod Laws
 pub mod Lines
 pub mod Sources
+pub mod Unfit

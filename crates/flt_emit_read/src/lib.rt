@@ -2,5 +2,7 @@
 #![tactic(auto)]
 
 mod laws;
+mod unfit;
 
 pub use laws::{reads_back, reads_back_whole, says_one_filter};
+pub use unfit::unfit_return;
