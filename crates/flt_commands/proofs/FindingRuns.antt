@@ -16,7 +16,6 @@ use Rattle.flt_search.specs.declared.judging.Broken.{Broken}
 use Rattle.flt_tree.specs.declared.tree.Tree.{Tree}
 use Rattle.flt_commands.specs.FindingRuns as spec
 use Rattle.flt_commands.specs.FindingRuns.{AreRunsOf, AreTrees, IsAdded, IsNext, IsOneMore, run_by}
-use Rattle.flt_commands.specs.Inputs.{Text}
 
 -- the texts of one more source
 texts_push : (ss : List Source) (s : Source) → texts_of (ss ++ s ∷ []) ≡ texts_of ss ++ s.text.now ∷ []
