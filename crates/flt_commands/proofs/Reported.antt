@@ -172,7 +172,7 @@ put_anyway written does folder (text ∷ texts) (Ok (EmittedInto driver)) is = r
   points = is.points;
   listed = is.listed;
   kinds = is.kinds;
-  put = record { named = is.put.named; done = is.put.done; only = tt };
+  put = record { read = is.put.read; named = is.put.named; done = is.put.done; only = tt };
 }
 put_anyway written does folder [] (Ok (EmittedInto driver)) is = is
 put_anyway written does folder texts (Ok _) is = tt
