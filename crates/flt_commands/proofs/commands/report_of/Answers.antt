@@ -1,6 +1,6 @@
 use Rattle.std.proofs.Common.{ap, map, option_map, refl}
 use Rattle.flt_commands.proofs.Reported.{answers_asked, answers_of, cut_asked, held_asked, kept_shown, quiet_asked, remarked_after, says_of_pages, those_after, those_of}
-use Rattle.flt_words.specs.Request.{Check, Analyse, Thin, Run, Replay, Show, Extract, Pages, Emit, Compare, choice_of}
+use Rattle.flt_words.specs.Request.{Check, Analyse, Thin, Run, Replay, Show, Extract, Pages, Emit, Compare, Serve, choice_of}
 use Rattle.flt_commands.proofs.commands.report_of.Goals as goal
 
 pub returns-in-Check-clause-answers : goal.returns-in-Check-clause-answers
@@ -93,6 +93,14 @@ returns-in-Emit-clause-answers g c =
     c.fails_exactly_where_nothing_is_spelled.ensures.nowhere _ _ _ _ _ request _ _ _
     (rw c.in-Emit.is at c.in_ok-text.ensures) c.emit_files-said.ensures refl (those_of _ _ c.report_on-in-Emit.ensures.texts)
     c.report_on-in-Emit.ensures.reported (remarked_after request _ _ _ c.new-in-Emit.ensures.items c.report_on-in-Emit.ensures.remarked)
+
+pub returns-in-Serve-clause-answers : goal.returns-in-Serve-clause-answers
+returns-in-Serve-clause-answers g c =
+    answers_of c.covered_texts_break_nothing.ensures c.driven_texts_break_nothing.ensures
+    c.fails_exactly_where_nothing_is_spelled.ensures.nowhere _ _ _ _ _ Serve _ _ _
+    (rw c.in-Serve.is at c.in_ok-text.ensures) refl refl
+    (those_of _ _ c.report_on-in-Serve.ensures.texts) c.report_on-in-Serve.ensures.reported
+    (remarked_after Serve _ _ _ c.new-in-Serve.ensures.items c.report_on-in-Serve.ensures.remarked)
 
 pub returns-in-Explain-clause-answers : goal.returns-in-Explain-clause-answers
 returns-in-Explain-clause-answers g c =
