@@ -26,4 +26,5 @@ pub mod Paged
 pub mod Readings
 pub mod Reported
 pub mod Sent
+pub mod Serving
 pub mod SomeRead

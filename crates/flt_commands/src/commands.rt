@@ -253,8 +253,8 @@ fn write_report<O: Sink, E: Sink>(
 /// made, unless it is one document or a file is named for a journal. Reports of `explain` have the colours of a terminal if `coloured`,
 /// unless the words say when. A command that drives filters reports each line of the script to `watch`, unless the words ask for quiet, and
 /// one that searches for runs how far it has come, if the words allow more states than the default. Threads are started by `run` alone, if
-/// it has more than one worker. `serve` reads its
-/// input piece by piece, so it has no answer here: the report says that `-` can't be read. The host runs the server.
+/// it has more than one worker. `serve` has no answer here: the report says that `-` can't be read. The server is
+/// `serve_client`.
 ///
 /// # Errors
 ///

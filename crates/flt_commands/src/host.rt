@@ -13,13 +13,13 @@ use crate::inputs::is_standard;
 use crate::named::Named;
 use crate::report::Report;
 use crate::search::WatchSearch;
+use crate::serving::serve_client;
 use crate::system::{Place, Reader, System};
 use crate::unread::Unread;
 use crate::unwritten::Unwritten;
 use flt_crew::Watch;
-use flt_frames::{Incoming, ServeFault, serve};
+use flt_frames::{Incoming, ServeFault};
 use flt_model::{ReadFault, Writing};
-use flt_server::Server;
 use flt_words::ask_to_serve;
 use std::alloc::AllocError;
 use std::cell::Cell;
@@ -486,13 +486,12 @@ fn say_unserved(rt: &HostRuntime, fault: ServeFault, input: &Counted<Stdin>, out
 
 /// Serves a client over the standard streams, and returns the exit status; none if memory ran out, or a read or a write failed, which the
 /// standard error then says.
-fn serve_client(rt: &HostRuntime) -> Option<u8>
+fn serve_streams(rt: &HostRuntime) -> Option<u8>
     ensures { IfSome result ServesSomehow }
 {
     let mut input = Counted::new(rt.stdin());
     let mut out = Writing::new(Told::new(rt.stdout()));
-    let mut server = Server::new(rt.alloc());
-    match serve(rt.alloc(), &mut input, &mut out, &mut server) {
+    match serve_client(rt.alloc(), &mut input, &mut out) {
         Ok(status) => Some(status),
         Err(fault) => {
             say_unserved(rt, fault, &input, &out.into_inner());
@@ -520,7 +519,7 @@ pub fn run<R: Threads + Wait + Sync>(rt: &HostRuntime, threads: &R) -> Execution
     match ask_to_serve(rt.alloc(), words.as_slice()) {
         Ok(true) => Execution {
             report: None,
-            served: serve_client(rt),
+            served: serve_streams(rt),
             words,
         },
         Ok(false) => Execution {
