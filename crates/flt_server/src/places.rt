@@ -1,6 +1,6 @@
 //! Places in documents, as the protocol counts them.
 
-use flt_forms::column_of;
+use flt_columns::column_of;
 use flt_places::{Lines, Region};
 use flt_session::{Encoding, OpenText, Spot};
 use flt_tree::Position;

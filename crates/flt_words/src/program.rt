@@ -475,7 +475,7 @@ fn bare_serve<'a>(alloc: Global) -> Command<'a>
         .about("Serves an editor: reports on its texts while they are changed")
         .override_usage("fltstack serve")
         .after_help(
-            "Speaks the Language Server Protocol over the standard input and the standard output. The notification `exit` ends\nit (exit 0 after `shutdown`, 1 without), and so do the end of its input and a malformed header (exit 1). Errors go to\nthe standard error with exit 2.\n\nExample: fltstack serve",
+            "Speaks the Language Server Protocol over the standard input and the standard output. Ends after the\nnotification `exit` (exit 0 after `shutdown`, else 1), at the end of its input, and at a malformed header (exit 1).\nErrors go to the standard error with exit 2.\n\nExample: fltstack serve",
         )
 }
 
