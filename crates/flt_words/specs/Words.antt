@@ -242,6 +242,11 @@ abbrev pub asked : List Text → Option Asked
 asked [] = Some (Check (codes "-") None)
 asked (word ∷ words) = asked_words (word ∷ words)
 
+-- there are words, and this is the first of them
+abbrev pub BeginWith : Text → List Text → Type 0
+BeginWith word [] = ⊥
+BeginWith word (first ∷ rest) = first ≡ word
+
 -- words ask for a server, and `serve` is the first of them
 abbrev pub AskToServe : List Text → Type 0
-AskToServe words = IsFirst (codes "serve") words × (asked words ≡ Some Serve)
+AskToServe words = BeginWith (codes "serve") words × (asked words ≡ Some Serve)

@@ -647,7 +647,7 @@ pub fn read_words<'a>(alloc: Global, words: &'a [String]) -> Result<Request<'a>,
 }
 
 fn begins_with(words: &[String], word: &str) -> bool
-    ensures { IsTrue result ↔ spec.IsFirst word.now (map string_bytes words.now) }
+    ensures { IsTrue result ↔ spec.BeginWith word.now (map string_bytes words.now) }
 {
     match words {
         [first, ..] => first.as_str() == word,
