@@ -1,13 +1,15 @@
-//! What an editor may do about a fault or a finding: write the word that is probably meant, or release what is held at the end of a path.
+//! Quick fixes of a fault or a finding: an editor may write the word that is probably meant, or release a context or a lock that is held at the end
+//! of a path.
 //! An edit for a finding is offered only if the text has fewer findings after it.
 
 use crate::edits::{Edit, is_better, put_action};
 use crate::faults::is_too_long;
-use crate::places::Asked;
+use crate::places::Document;
 use flt_details::{Judged, call_name, judge, word_of};
 use flt_explain::{Finding, Subject};
 use flt_graph::{Graph, Instruction, Place};
 use flt_hints::{Trouble, describe};
+use flt_outline::Part;
 use flt_rules::{Call, LockNumber, Rule};
 use flt_syntax::Tree;
 use json::Writer;
@@ -16,15 +18,8 @@ use std::alloc::{AllocError, Global};
 /// How many findings are looked at for one request, since each takes an analysis of the text.
 const MAX_TRIED: usize = 16;
 
-/// A part of a text, from one byte up to another.
-#[derive(Clone, Copy)]
-pub(crate) struct Part {
-    pub(crate) start: usize,
-    pub(crate) end: usize,
-}
-
-fn meets(part: Part, start: usize, end: usize) -> bool {
-    start <= part.end && part.start <= end
+fn meets(part: Part, other: Part) -> bool {
+    other.start <= part.end && part.start <= other.end
 }
 
 fn joined(alloc: Global, parts: &[&[u8]]) -> Result<Vec<u8>, AllocError> {
@@ -37,58 +32,55 @@ fn joined(alloc: Global, parts: &[&[u8]]) -> Result<Vec<u8>, AllocError> {
 
 // ---- faults
 
-/// The edit that writes a word in place of what is found.
+fn replacing_title<'a>(
+    alloc: Global,
+    word: &'a [u8],
+    found: &'a [u8],
+) -> Result<Vec<u8>, AllocError> {
+    joined(alloc, &[b"Write `", word, b"` instead of `", found, b"`"])
+}
+
+/// The edit that writes a word in place of the one that is found.
 fn replacing(
     alloc: Global,
     trouble: &Trouble<'_>,
-    start: usize,
-    end: usize,
+    part: Part,
     word: &[u8],
 ) -> Result<Edit, AllocError> {
-    let title = joined(
-        alloc,
-        &[
-            b"Write `",
-            word,
-            b"` instead of `",
-            trouble.spot.bytes,
-            b"`",
-        ],
-    )?;
+    let title = replacing_title(alloc, word, trouble.spot.bytes)?;
     let new = Vec::from_slice(alloc, word)?;
-    Ok(Edit {
-        title,
-        start,
-        end,
-        new,
-    })
+    Ok(Edit { title, part, new })
 }
 
 fn put_replacing(
     alloc: Global,
     writer: &mut Writer,
-    asked: &Asked<'_>,
+    document: &Document<'_>,
     trouble: &Trouble<'_>,
     part: Part,
 ) -> Result<(), AllocError> {
     let (Some(word), Some(token)) = (trouble.meant, trouble.spot.token) else {
         return Ok(());
     };
-    if !meets(part, token.start, token.end) {
+    let found = Part {
+        start: token.start,
+        end: token.end,
+    };
+    if !meets(part, found) {
         return Ok(());
     }
-    let edit = replacing(alloc, trouble, token.start, token.end, word)?;
-    put_action(alloc, writer, asked, &edit)
+    let edit = replacing(alloc, trouble, found, word)?;
+    put_action(alloc, writer, document, &edit)
 }
 
 fn put_for_fault(
     alloc: Global,
     writer: &mut Writer,
-    asked: &Asked<'_>,
+    document: &Document<'_>,
     part: Part,
 ) -> Result<(), AllocError> {
-    match describe(alloc, asked.text)? {
-        Some(trouble) => put_replacing(alloc, writer, asked, &trouble, part),
+    match describe(alloc, document.text)? {
+        Some(trouble) => put_replacing(alloc, writer, document, &trouble, part),
         None => Ok(()),
     }
 }
@@ -107,7 +99,7 @@ fn indentation(text: &[u8], byte: usize) -> &[u8] {
     before.get(start..).unwrap_or(b"")
 }
 
-/// What is written before the first line: more blanks before the brace that ends a body.
+/// The bytes before the first line: more blanks before the brace that ends a body.
 fn further(graph: &Graph, finding: &Finding) -> &'static [u8] {
     match graph.instruction_ref(finding.callback, finding.point) {
         Instruction::End => b"  ",
@@ -136,14 +128,25 @@ fn lacking(tree: &Tree, graph: &Graph, finding: &Finding) -> Option<&'static str
     }
 }
 
-fn title_of(alloc: Global, call: &[u8], name: &[u8]) -> Result<Vec<u8>, AllocError> {
+fn title_of<'a>(alloc: Global, call: &'a [u8], name: &'a [u8]) -> Result<Vec<u8>, AllocError> {
     joined(alloc, &[b"Write `", call, b" ", name, b"` before this"])
+}
+
+/// A call, and the blanks of the line after it.
+fn call_text<'a>(
+    alloc: Global,
+    more: &'a [u8],
+    call: &'a [u8],
+    name: &'a [u8],
+    blanks: &'a [u8],
+) -> Result<Vec<u8>, AllocError> {
+    joined(alloc, &[more, call, b" ", name, b"\n", blanks])
 }
 
 /// The edit that makes a call before a finding's statement.
 fn calling(
     alloc: Global,
-    asked: &Asked<'_>,
+    document: &Document<'_>,
     tree: &Tree,
     graph: &Graph,
     finding: &Finding,
@@ -151,19 +154,15 @@ fn calling(
 ) -> Result<Edit, AllocError> {
     let name = word_of(tree, finding.subject);
     let start = graph.span(finding.callback, finding.point).start;
-    let blanks = indentation(asked.text, start);
+    let blanks = indentation(document.text, start);
     let more = further(graph, finding);
     let title = title_of(alloc, call, name)?;
-    let new = joined(alloc, &[more, call, b" ", name, b"\n", blanks])?;
-    Ok(Edit {
-        title,
-        start,
-        end: start,
-        new,
-    })
+    let new = call_text(alloc, more, call, name, blanks)?;
+    let part = Part { start, end: start };
+    Ok(Edit { title, part, new })
 }
 
-fn testing_title(alloc: Global, call: &[u8], name: &[u8]) -> Result<Vec<u8>, AllocError> {
+fn testing_title<'a>(alloc: Global, call: &'a [u8], name: &'a [u8]) -> Result<Vec<u8>, AllocError> {
     joined(
         alloc,
         &[
@@ -178,10 +177,49 @@ fn testing_title(alloc: Global, call: &[u8], name: &[u8]) -> Result<Vec<u8>, All
     )
 }
 
+fn test_head<'a>(
+    alloc: Global,
+    more: &'a [u8],
+    name: &'a [u8],
+    blanks: &'a [u8],
+) -> Result<Vec<u8>, AllocError> {
+    joined(
+        alloc,
+        &[more, b"if ", name, b" != NULL {\n", blanks, more, b"  "],
+    )
+}
+
+fn test_tail<'a>(
+    alloc: Global,
+    more: &'a [u8],
+    call: &'a [u8],
+    name: &'a [u8],
+    blanks: &'a [u8],
+) -> Result<Vec<u8>, AllocError> {
+    joined(
+        alloc,
+        &[call, b" ", name, b"\n", blanks, more, b"}\n", blanks],
+    )
+}
+
+/// A call in a test of its operand, and the blanks of the line after it.
+fn test_text<'a>(
+    alloc: Global,
+    more: &'a [u8],
+    call: &'a [u8],
+    name: &'a [u8],
+    blanks: &'a [u8],
+) -> Result<Vec<u8>, AllocError> {
+    let mut out = test_head(alloc, more, name, blanks)?;
+    let tail = test_tail(alloc, more, call, name, blanks)?;
+    out.extend_from_slice(tail.as_slice())?;
+    Ok(out)
+}
+
 /// The edit that makes a call before a finding's statement where its subject isn't NULL.
 fn testing(
     alloc: Global,
-    asked: &Asked<'_>,
+    document: &Document<'_>,
     tree: &Tree,
     graph: &Graph,
     finding: &Finding,
@@ -189,37 +227,25 @@ fn testing(
 ) -> Result<Edit, AllocError> {
     let name = word_of(tree, finding.subject);
     let start = graph.span(finding.callback, finding.point).start;
-    let blanks = indentation(asked.text, start);
+    let blanks = indentation(document.text, start);
     let more = further(graph, finding);
     let title = testing_title(alloc, call, name)?;
-    let first = joined(
-        alloc,
-        &[more, b"if ", name, b" != NULL {\n", blanks, more, b"  "],
-    )?;
-    let last = joined(
-        alloc,
-        &[call, b" ", name, b"\n", blanks, more, b"}\n", blanks],
-    )?;
-    let new = joined(alloc, &[first.as_slice(), last.as_slice()])?;
-    Ok(Edit {
-        title,
-        start,
-        end: start,
-        new,
-    })
+    let new = test_text(alloc, more, call, name, blanks)?;
+    let part = Part { start, end: start };
+    Ok(Edit { title, part, new })
 }
 
 /// Puts an edit if the text has fewer findings after it, and says whether it is put.
 fn put_if_better(
     alloc: Global,
     writer: &mut Writer,
-    asked: &Asked<'_>,
+    document: &Document<'_>,
     findings: usize,
     edit: &Edit,
 ) -> Result<bool, AllocError> {
-    let better = is_better(alloc, asked.text, findings, edit)?;
+    let better = is_better(alloc, document.text, findings, edit)?;
     if better {
-        put_action(alloc, writer, asked, edit)?;
+        put_action(alloc, writer, document, edit)?;
     }
     Ok(better)
 }
@@ -228,26 +254,26 @@ fn put_if_better(
 fn put_calling(
     alloc: Global,
     writer: &mut Writer,
-    asked: &Asked<'_>,
+    document: &Document<'_>,
     tree: &Tree,
     graph: &Graph,
     findings: usize,
     finding: &Finding,
     call: &[u8],
 ) -> Result<(), AllocError> {
-    let first = calling(alloc, asked, tree, graph, finding, call)?;
-    if put_if_better(alloc, writer, asked, findings, &first)? {
+    let first = calling(alloc, document, tree, graph, finding, call)?;
+    if put_if_better(alloc, writer, document, findings, &first)? {
         return Ok(());
     }
-    let second = testing(alloc, asked, tree, graph, finding, call)?;
-    put_if_better(alloc, writer, asked, findings, &second)?;
+    let second = testing(alloc, document, tree, graph, finding, call)?;
+    put_if_better(alloc, writer, document, findings, &second)?;
     Ok(())
 }
 
 fn put_for_finding(
     alloc: Global,
     writer: &mut Writer,
-    asked: &Asked<'_>,
+    document: &Document<'_>,
     tree: &Tree,
     graph: &Graph,
     findings: usize,
@@ -258,7 +284,7 @@ fn put_for_finding(
             put_calling(
                 alloc,
                 writer,
-                asked,
+                document,
                 tree,
                 graph,
                 findings,
@@ -272,13 +298,17 @@ fn put_for_finding(
 
 fn is_there(graph: &Graph, finding: &Finding, part: Part) -> bool {
     let span = graph.span(finding.callback, finding.point);
-    meets(part, span.start, span.end)
+    let statement = Part {
+        start: span.start,
+        end: span.end,
+    };
+    meets(part, statement)
 }
 
 fn put_for_findings(
     alloc: Global,
     writer: &mut Writer,
-    asked: &Asked<'_>,
+    document: &Document<'_>,
     tree: &Tree,
     graph: &Graph,
     found: &[Finding],
@@ -288,7 +318,7 @@ fn put_for_findings(
     for finding in found {
         if left > 0 && is_there(graph, finding, part) {
             left -= 1;
-            put_for_finding(alloc, writer, asked, tree, graph, found.len(), finding)?;
+            put_for_finding(alloc, writer, document, tree, graph, found.len(), finding)?;
         }
     }
     Ok(())
@@ -297,14 +327,14 @@ fn put_for_findings(
 fn put_judged(
     alloc: Global,
     writer: &mut Writer,
-    asked: &Asked<'_>,
+    document: &Document<'_>,
     judged: &Judged,
     part: Part,
 ) -> Result<(), AllocError> {
     match judged {
-        Judged::Unread(_) => put_for_fault(alloc, writer, asked, part),
+        Judged::Unread(_) => put_for_fault(alloc, writer, document, part),
         Judged::Known(tree, graph, found) => {
-            put_for_findings(alloc, writer, asked, tree, graph, found.as_slice(), part)
+            put_for_findings(alloc, writer, document, tree, graph, found.as_slice(), part)
         }
     }
 }
@@ -312,21 +342,25 @@ fn put_judged(
 fn put_actions(
     alloc: Global,
     writer: &mut Writer,
-    asked: &Asked<'_>,
+    document: &Document<'_>,
     part: Part,
 ) -> Result<(), AllocError> {
-    if is_too_long(asked.text) {
+    if is_too_long(document.text) {
         return Ok(());
     }
-    let judged = judge(alloc, asked.text)?;
-    put_judged(alloc, writer, asked, &judged, part)
+    let judged = judge(alloc, document.text)?;
+    put_judged(alloc, writer, document, &judged, part)
 }
 
-/// What an editor may do about what is wrong in a part of a document, as a result.
-pub(crate) fn actions(alloc: Global, asked: &Asked<'_>, part: Part) -> Result<Vec<u8>, AllocError> {
+/// The quick fixes of the faults and findings in a part of a document, as a result.
+pub(crate) fn actions(
+    alloc: Global,
+    document: &Document<'_>,
+    part: Part,
+) -> Result<Vec<u8>, AllocError> {
     let mut writer = Writer::new(Vec::new(alloc));
     writer.begin_array()?;
-    put_actions(alloc, &mut writer, asked, part)?;
+    put_actions(alloc, &mut writer, document, part)?;
     writer.end_array()?;
     Ok(writer.into_inner())
 }

@@ -1,9 +1,10 @@
 //! The words and names that are legal at a place.
 
 use crate::members::{put_number, put_text};
-use crate::names::{is_name, is_variable};
-use crate::places::Asked;
+use crate::places::Document;
+use flt_details::tokens_of;
 use flt_hints::{Choices, Expected, describe};
+use flt_outline::is_variable;
 use flt_syntax::Kind;
 use json::Writer;
 use std::alloc::{AllocError, Global};
@@ -106,7 +107,7 @@ fn put_choices(
     put_expected(alloc, writer, choices.expected.as_slice())
 }
 
-/// What is legal in a text at the token that begins at a byte, if the text is refused there.
+/// Writes the choices at the token that begins at a byte, if the text is refused there.
 fn put_at(alloc: Global, writer: &mut Writer, text: &[u8], start: usize) -> Result<(), AllocError> {
     let Some(trouble) = describe(alloc, text)? else {
         return Ok(());
@@ -119,9 +120,9 @@ fn put_at(alloc: Global, writer: &mut Writer, text: &[u8], start: usize) -> Resu
 
 /// Whether a text before a place has no byte of a token.
 fn is_beginning(alloc: Global, text: &[u8]) -> Result<bool, AllocError> {
-    let tokens = flt_details::tokens_of(alloc, text)?;
+    let tokens = tokens_of(alloc, text)?;
     Ok(match tokens.as_slice() {
-        [only] => !is_name(only.word.kind) && only.start == only.end,
+        [only] => only.start == only.end,
         _ => false,
     })
 }
@@ -129,10 +130,10 @@ fn is_beginning(alloc: Global, text: &[u8]) -> Result<bool, AllocError> {
 fn put_completion(
     alloc: Global,
     writer: &mut Writer,
-    asked: &Asked<'_>,
+    document: &Document<'_>,
     byte: usize,
 ) -> Result<(), AllocError> {
-    let (text, start) = stopped(alloc, asked.text, byte)?;
+    let (text, start) = stopped(alloc, document.text, byte)?;
     let before = text.as_slice().get(..start).unwrap_or(b"");
     if is_beginning(alloc, before)? {
         return put_choice(alloc, writer, b"filter", 14);
@@ -143,12 +144,12 @@ fn put_completion(
 /// The words and names that are legal at a byte, as a result.
 pub(crate) fn completion(
     alloc: Global,
-    asked: &Asked<'_>,
+    document: &Document<'_>,
     byte: usize,
 ) -> Result<Vec<u8>, AllocError> {
     let mut writer = Writer::new(Vec::new(alloc));
     writer.begin_array()?;
-    put_completion(alloc, &mut writer, asked, byte)?;
+    put_completion(alloc, &mut writer, document, byte)?;
     writer.end_array()?;
     Ok(writer.into_inner())
 }

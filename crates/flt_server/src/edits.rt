@@ -1,26 +1,26 @@
 //! Edits of a document that an editor offers.
 
 use crate::members::{put_string, put_text};
-use crate::places::Asked;
+use crate::places::Document;
 use flt_details::{Judged, judge};
+use flt_outline::Part;
 use json::Writer;
 use std::alloc::{AllocError, Global};
 
-/// An edit: the bytes from one up to another become others.
+/// An edit: a part of the text becomes other bytes.
 #[derive(Drop)]
 pub(crate) struct Edit {
     pub(crate) title: Vec<u8>,
-    pub(crate) start: usize,
-    pub(crate) end: usize,
+    pub(crate) part: Part,
     pub(crate) new: Vec<u8>,
 }
 
 /// The text after an edit.
 fn edited(alloc: Global, text: &[u8], edit: &Edit) -> Result<Vec<u8>, AllocError> {
     let mut out = Vec::new(alloc);
-    out.extend_from_slice(text.get(..edit.start).unwrap_or(b""))?;
+    out.extend_from_slice(text.get(..edit.part.start).unwrap_or(b""))?;
     out.extend_from_slice(edit.new.as_slice())?;
-    out.extend_from_slice(text.get(edit.end..).unwrap_or(b""))?;
+    out.extend_from_slice(text.get(edit.part.end..).unwrap_or(b""))?;
     Ok(out)
 }
 
@@ -47,12 +47,12 @@ pub(crate) fn is_better(
 fn put_change(
     alloc: Global,
     writer: &mut Writer,
-    asked: &Asked<'_>,
+    document: &Document<'_>,
     edit: &Edit,
 ) -> Result<(), AllocError> {
     writer.begin_array()?;
     writer.begin_object()?;
-    asked.put_bytes(writer, "range", edit.start, edit.end)?;
+    document.put_part(writer, "range", edit.part)?;
     put_text(alloc, writer, "newText", edit.new.as_slice())?;
     writer.end_object()?;
     writer.end_array()
@@ -62,7 +62,7 @@ fn put_change(
 pub(crate) fn put_action(
     alloc: Global,
     writer: &mut Writer,
-    asked: &Asked<'_>,
+    document: &Document<'_>,
     edit: &Edit,
 ) -> Result<(), AllocError> {
     writer.begin_object()?;
@@ -72,8 +72,8 @@ pub(crate) fn put_action(
     writer.begin_object()?;
     writer.key("changes")?;
     writer.begin_object()?;
-    writer.key(asked.uri)?;
-    put_change(alloc, writer, asked, edit)?;
+    writer.key(document.uri)?;
+    put_change(alloc, writer, document, edit)?;
     writer.end_object()?;
     writer.end_object()?;
     writer.end_object()

@@ -1,6 +1,7 @@
-//! What may be so where a statement is reached, in words: by the certificate of a text.
+//! Facts of a statement in words, by the certificate of a text: each variable, each lock and the level where it is reached.
 
-ghost use Rattle.std.specs.Prelude.{◌≡◌, ◌<◌};
+ghost use Rattle.std.specs.Prelude.{◌≡◌, ◌<◌, IfOk};
+ghost use Rattle.flt_warning_details.specs.Details.{IsLeastOf};
 
 use flt_abs::{Abs, Statuses};
 use flt_analyse::{AnalyseFault, Ticks, analyse};
@@ -18,7 +19,7 @@ const CONTEXTS: [&str; 9] = ["c0", "c1", "c2", "c3", "c4", "c5", "c6", "c7", "ar
 
 const OPERATIONS: [&str; 5] = ["o0", "o1", "o2", "o3", "data"];
 
-/// The least certificate of a text; none if none covers it.
+/// The least certificate of a graph; none if no certificate covers it.
 fn certificate_with<L: Ledger>(
     alloc: Global,
     graph: &Graph,
@@ -27,6 +28,7 @@ fn certificate_with<L: Ledger>(
     requires name { blank.name ≡ L.name }
     requires parts { blank.parts ≡ L.parts }
     requires some { 0 < blank.parts }
+    ensures { IfOk result (IsLeastOf graph.now) }
 {
     let mut ticks = Ticks::<L, 0, 0>::new(blank);
     match analyse(alloc, graph, &mut ticks) {
@@ -36,7 +38,9 @@ fn certificate_with<L: Ledger>(
     }
 }
 
-fn certificate(alloc: Global, graph: &Graph) -> Result<Option<FullCert>, AllocError> {
+fn certificate(alloc: Global, graph: &Graph) -> Result<Option<FullCert>, AllocError>
+    ensures { IfOk result (IsLeastOf graph.now) }
+{
     certificate_with::<Brand>(alloc, graph, Blank::new(1))
 }
 
@@ -70,12 +74,16 @@ fn level_name(level: Level) -> &'static str {
     }
 }
 
+fn say_words<'a>(page: &mut Page, word: &'a str, words: &'a str) -> Result<(), AllocError> {
+    page.texts(&["  ", word, ": ", words, "\n"])
+}
+
 /// A variable that isn't surely NULL.
 fn say_variable(page: &mut Page, word: &str, set: Statuses) -> Result<(), AllocError> {
     if set.digit() == 1 {
         return Ok(());
     }
-    page.texts(&["  ", word, ": ", statuses(set.digit()), "\n"])
+    say_words(page, word, statuses(set.digit()))
 }
 
 fn say_variables(page: &mut Page, words: &[&str], sets: &[Statuses]) -> Result<(), AllocError> {
@@ -140,7 +148,7 @@ fn say_operation(page: &mut Page, state: &Abs) -> Result<(), AllocError> {
     page.texts(&["  FLTFL_POST_OPERATION_DRAINING may be set\n"])
 }
 
-/// What may be so in a state of a callback.
+/// The facts of a state of a callback.
 fn say_state(
     page: &mut Page,
     tree: &Tree,
@@ -192,7 +200,7 @@ fn say_point(
     }
 }
 
-/// What may be so where the statement at a byte is reached; nothing if there is no statement, or no certificate.
+/// The facts where the statement at a byte is reached; nothing if there is no statement.
 pub(crate) fn say_facts(
     alloc: Global,
     page: &mut Page,

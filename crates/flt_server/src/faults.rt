@@ -1,9 +1,10 @@
 //! Diagnostics of a text that doesn't parse.
 
 use crate::members::{add_line, put_number, put_string, put_text};
-use crate::places::Asked;
+use crate::places::Document;
 use flt_details::fault_name;
 use flt_hints::{Told, Trouble, describe, tell};
+use flt_outline::Part;
 use flt_places::{Region, lines_of};
 use flt_tree::Position;
 use json::Writer;
@@ -30,7 +31,7 @@ fn add_notes(alloc: Global, out: &mut Vec<u8>, notes: &[u8]) -> Result<(), Alloc
     Ok(())
 }
 
-/// What is wrong, and how to fix it.
+/// The mistake, and how to fix it.
 fn message_of(alloc: Global, told: &Told) -> Result<Vec<u8>, AllocError> {
     let mut out = Vec::new(alloc);
     add_line(&mut out, told.title.as_slice())?;
@@ -57,13 +58,13 @@ fn region_of(trouble: &Trouble<'_>) -> Region {
 fn put_fault(
     alloc: Global,
     writer: &mut Writer,
-    asked: &Asked<'_>,
+    document: &Document<'_>,
     trouble: &Trouble<'_>,
 ) -> Result<(), AllocError> {
     let told = tell(alloc, trouble)?;
     let message = message_of(alloc, &told)?;
     writer.begin_object()?;
-    asked.put_region(writer, "range", region_of(trouble))?;
+    document.put_region(writer, "range", region_of(trouble))?;
     put_kind(writer, 1, fault_name(trouble.spot.fault.kind))?;
     put_text(alloc, writer, "message", message.as_slice())?;
     writer.end_object()
@@ -73,18 +74,21 @@ fn put_fault(
 pub(crate) fn put_unread(
     alloc: Global,
     writer: &mut Writer,
-    asked: &Asked<'_>,
+    document: &Document<'_>,
 ) -> Result<(), AllocError> {
-    match describe(alloc, asked.text)? {
-        Some(trouble) => put_fault(alloc, writer, asked, &trouble),
+    match describe(alloc, document.text)? {
+        Some(trouble) => put_fault(alloc, writer, document, &trouble),
         None => Ok(()),
     }
 }
 
 /// The diagnostic of a text that is too long to be read, at its first byte.
-pub(crate) fn put_unanalysed(writer: &mut Writer, asked: &Asked<'_>) -> Result<(), AllocError> {
+pub(crate) fn put_unanalysed(
+    writer: &mut Writer,
+    document: &Document<'_>,
+) -> Result<(), AllocError> {
     writer.begin_object()?;
-    asked.put_bytes(writer, "range", 0, 0)?;
+    document.put_part(writer, "range", Part { start: 0, end: 0 })?;
     put_kind(writer, 1, "E06")?;
     put_string(
         writer,

@@ -1,13 +1,14 @@
 //! The language of filters, as a session asks about it.
 
-use crate::actions::{Part, actions};
+use crate::actions::actions;
 use crate::completion::completion;
 use crate::diagnostics::diagnostics;
 use crate::folds::folds;
 use crate::hover::hover;
-use crate::places::{Asked, asked_of};
+use crate::places::{Document, document_of};
 use crate::symbols::symbols;
 use crate::uses::{definition, references};
+use flt_outline::Part;
 use flt_session::{Language, OpenText, Question, Spot};
 use std::alloc::{AllocError, Global};
 
@@ -15,38 +16,42 @@ use std::alloc::{AllocError, Global};
 #[derive(Clone, Copy)]
 pub(crate) struct Filters;
 
-/// What an editor may do about a part of a document.
+/// The quick fixes of a part of a document.
 fn actions_between(
     alloc: Global,
-    asked: &Asked<'_>,
+    document: &Document<'_>,
     start: Spot,
     end: Spot,
 ) -> Result<Vec<u8>, AllocError> {
     let part = Part {
-        start: asked.byte_of(start),
-        end: asked.byte_of(end),
+        start: document.byte_of(start),
+        end: document.byte_of(end),
     };
-    actions(alloc, asked, part)
+    actions(alloc, document, part)
 }
 
-fn result_of(alloc: Global, asked: &Asked<'_>, question: Question) -> Result<Vec<u8>, AllocError> {
+fn result_of(
+    alloc: Global,
+    document: &Document<'_>,
+    question: Question,
+) -> Result<Vec<u8>, AllocError> {
     match question {
-        Question::Hover(spot) => hover(alloc, asked, asked.byte_of(spot)),
-        Question::Completion(spot) => completion(alloc, asked, asked.byte_of(spot)),
-        Question::Definition(spot) => definition(alloc, asked, asked.byte_of(spot)),
+        Question::Hover(spot) => hover(alloc, document, document.byte_of(spot)),
+        Question::Completion(spot) => completion(alloc, document, document.byte_of(spot)),
+        Question::Definition(spot) => definition(alloc, document, document.byte_of(spot)),
         Question::References(spot, declared) => {
-            references(alloc, asked, asked.byte_of(spot), declared)
+            references(alloc, document, document.byte_of(spot), declared)
         }
-        Question::Symbols => symbols(alloc, asked),
-        Question::Folds => folds(alloc, asked),
-        Question::Actions(start, end) => actions_between(alloc, asked, start, end),
+        Question::Symbols => symbols(alloc, document),
+        Question::Folds => folds(alloc, document),
+        Question::Actions(start, end) => actions_between(alloc, document, start, end),
     }
 }
 
 impl Language for Filters {
     fn diagnostics(&self, alloc: Global, open: OpenText<'_>) -> Result<Vec<u8>, AllocError> {
-        let asked = asked_of(alloc, open)?;
-        diagnostics(alloc, &asked)
+        let document = document_of(alloc, open)?;
+        diagnostics(alloc, &document)
     }
 
     fn result(
@@ -55,7 +60,7 @@ impl Language for Filters {
         open: OpenText<'_>,
         question: Question,
     ) -> Result<Vec<u8>, AllocError> {
-        let asked = asked_of(alloc, open)?;
-        result_of(alloc, &asked, question)
+        let document = document_of(alloc, open)?;
+        result_of(alloc, &document, question)
     }
 }

@@ -2,7 +2,7 @@
 
 use crate::faults::put_kind;
 use crate::members::{add_line, put_text};
-use crate::places::Asked;
+use crate::places::Document;
 use flt_details::{Detail, Maker, Marks, RuleName, Words, details};
 use flt_explain::Finding;
 use flt_graph::Graph;
@@ -11,12 +11,12 @@ use flt_syntax::Tree;
 use json::Writer;
 use std::alloc::{AllocError, Global};
 
-/// The place of what is named there, or of its statement.
+/// The place of the operand, or of its statement.
 pub(crate) fn region_of(marks: &Marks) -> Region {
     marks.operand.unwrap_or(marks.statement)
 }
 
-/// What is wrong, how to fix it, and a note if there is one.
+/// The mistake, how to fix it, and a note if there is one.
 fn message_of(alloc: Global, words: &Words) -> Result<Vec<u8>, AllocError> {
     let mut out = Vec::new(alloc);
     add_line(&mut out, words.title.as_slice())?;
@@ -25,17 +25,17 @@ fn message_of(alloc: Global, words: &Words) -> Result<Vec<u8>, AllocError> {
     Ok(out)
 }
 
-/// Another place, with what is there.
+/// Another place, with words for it.
 pub(crate) fn put_related_place(
     alloc: Global,
     writer: &mut Writer,
-    asked: &Asked<'_>,
+    document: &Document<'_>,
     region: Region,
     words: &[u8],
 ) -> Result<(), AllocError> {
     writer.begin_object()?;
     writer.key("location")?;
-    asked.put_location(writer, region)?;
+    document.put_location(writer, region)?;
     put_text(alloc, writer, "message", words)?;
     writer.end_object()
 }
@@ -54,7 +54,7 @@ fn maker_words(maker: &Maker) -> &[u8] {
 fn put_origin(
     alloc: Global,
     writer: &mut Writer,
-    asked: &Asked<'_>,
+    document: &Document<'_>,
     origin: &Option<Maker>,
 ) -> Result<(), AllocError> {
     let Some(maker) = origin else {
@@ -65,7 +65,7 @@ fn put_origin(
     put_related_place(
         alloc,
         writer,
-        asked,
+        document,
         region_of(&maker.marks),
         maker_words(maker),
     )?;
@@ -81,15 +81,15 @@ fn put_rule(alloc: Global, writer: &mut Writer, finding: &Finding) -> Result<(),
 fn put_finding(
     alloc: Global,
     writer: &mut Writer,
-    asked: &Asked<'_>,
+    document: &Document<'_>,
     detail: &Detail,
 ) -> Result<(), AllocError> {
     let message = message_of(alloc, &detail.words)?;
     writer.begin_object()?;
-    asked.put_region(writer, "range", region_of(&detail.marks))?;
+    document.put_region(writer, "range", region_of(&detail.marks))?;
     put_rule(alloc, writer, &detail.finding)?;
     put_text(alloc, writer, "message", message.as_slice())?;
-    put_origin(alloc, writer, asked, &detail.route.origin)?;
+    put_origin(alloc, writer, document, &detail.route.origin)?;
     writer.end_object()
 }
 
@@ -97,14 +97,14 @@ fn put_finding(
 pub(crate) fn put_findings(
     alloc: Global,
     writer: &mut Writer,
-    asked: &Asked<'_>,
+    document: &Document<'_>,
     tree: &Tree,
     graph: &Graph,
     found: &[Finding],
 ) -> Result<(), AllocError> {
-    let details = details(alloc, asked.text, tree, graph, found)?;
+    let details = details(alloc, document.text, tree, graph, found)?;
     for detail in details.as_slice() {
-        put_finding(alloc, writer, asked, detail)?;
+        put_finding(alloc, writer, document, detail)?;
     }
     Ok(())
 }

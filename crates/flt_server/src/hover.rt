@@ -1,16 +1,16 @@
-//! What is said of the place under a cursor: what may be so there, and the page of the word.
+//! The words for the place under a cursor: the facts of its statement, and the page of the word.
 
 use crate::completion::word_around;
 use crate::facts::say_facts;
 use crate::faults::is_too_long;
 use crate::members::{null, put_string, put_text};
-use crate::places::Asked;
+use crate::places::Document;
 use flt_details::{Judged, Page, judge};
 use flt_pages::page;
 use json::Writer;
 use std::alloc::{AllocError, Global};
 
-/// What may be so at a byte, if the text parses.
+/// The facts of the statement at a byte, if the text parses.
 fn say_judged(
     alloc: Global,
     out: &mut Page,
@@ -26,13 +26,13 @@ fn say_judged(
 fn say_place(
     alloc: Global,
     out: &mut Page,
-    asked: &Asked<'_>,
+    document: &Document<'_>,
     byte: usize,
 ) -> Result<(), AllocError> {
-    if is_too_long(asked.text) {
+    if is_too_long(document.text) {
         return Ok(());
     }
-    let judged = judge(alloc, asked.text)?;
+    let judged = judge(alloc, document.text)?;
     say_judged(alloc, out, &judged, byte)
 }
 
@@ -45,8 +45,8 @@ fn page_at(text: &[u8], byte: usize) -> Option<&'static str> {
     }
 }
 
-fn say_page(out: &mut Page, asked: &Asked<'_>, byte: usize) -> Result<(), AllocError> {
-    let Some(page) = page_at(asked.text, byte) else {
+fn say_page(out: &mut Page, document: &Document<'_>, byte: usize) -> Result<(), AllocError> {
+    let Some(page) = page_at(document.text, byte) else {
         return Ok(());
     };
     if !out.out.is_empty() {
@@ -75,10 +75,14 @@ fn hover_of(alloc: Global, words: &[u8]) -> Result<Vec<u8>, AllocError> {
     Ok(writer.into_inner())
 }
 
-/// What is said of the place at a byte, as a result.
-pub(crate) fn hover(alloc: Global, asked: &Asked<'_>, byte: usize) -> Result<Vec<u8>, AllocError> {
+/// The words for the place at a byte, as a result.
+pub(crate) fn hover(
+    alloc: Global,
+    document: &Document<'_>,
+    byte: usize,
+) -> Result<Vec<u8>, AllocError> {
     let mut out = Page::new(alloc);
-    say_place(alloc, &mut out, asked, byte)?;
-    say_page(&mut out, asked, byte)?;
+    say_place(alloc, &mut out, document, byte)?;
+    say_page(&mut out, document, byte)?;
     hover_of(alloc, out.out.as_slice())
 }

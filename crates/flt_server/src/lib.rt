@@ -1,4 +1,4 @@
-//! A server of the Language Server Protocol for texts of filters: what is wrong with them, and what may be at each place. It exports
+//! A server of the Language Server Protocol for texts of filters: mistakes, and the facts and words of each place. It exports
 //! `Server`, which answers the bodies of messages; `flt_frames` reads and writes them, and `flt_session` knows the protocol.
 //!
 //! An answer is proved to be what `flt_session` says of it. The text of a result, as the words of a hover, is only tested.
@@ -15,7 +15,6 @@ mod findings;
 mod folds;
 mod hover;
 mod members;
-mod names;
 mod places;
 mod server;
 mod symbols;

@@ -14,7 +14,7 @@ pub(crate) fn put_number(writer: &mut Writer, name: &str, number: usize) -> Resu
     writer.u64(number as u64)
 }
 
-/// A member whose value is bytes; what isn't UTF-8 is U+FFFD.
+/// A member whose value is bytes; bytes that aren't UTF-8 become U+FFFD.
 pub(crate) fn put_text(
     alloc: Global,
     writer: &mut Writer,
@@ -30,7 +30,7 @@ pub(crate) fn null(alloc: Global) -> Result<Vec<u8>, AllocError> {
     Vec::from_slice(alloc, b"null")
 }
 
-/// Adds words, on a line of their own, after what is there.
+/// Adds words, on a line of their own, after the others.
 pub(crate) fn add_line(out: &mut Vec<u8>, words: &[u8]) -> Result<(), AllocError> {
     if words.is_empty() {
         return Ok(());

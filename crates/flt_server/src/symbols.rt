@@ -1,161 +1,54 @@
-//! The symbols of a document: its locks, its callbacks and its routines.
+//! The symbols of a document.
 
 use crate::members::{put_number, put_text};
-use crate::names::{begins_callback, declares, is_name, region_of};
-use crate::places::Asked;
+use crate::places::Document;
 use flt_details::tokens_of;
-use flt_places::Region;
-use flt_syntax::{Kind, Token, bytes_of};
+use flt_outline::{Symbol, SymbolKind, mark_tokens, symbols_of};
 use json::Writer;
 use std::alloc::{AllocError, Global};
 
-/// A symbol as it is found: the name, the whole, and the number by which the protocol knows its kind.
+/// The number by which the protocol knows a kind of symbol: a constant or a function.
+fn number_of(kind: SymbolKind) -> usize {
+    match kind {
+        SymbolKind::Lock => 14,
+        SymbolKind::Callback => 12,
+    }
+}
+
 fn put_symbol(
     alloc: Global,
     writer: &mut Writer,
-    asked: &Asked<'_>,
-    kind: usize,
-    name: &[u8],
-    whole: Region,
-    own: Region,
+    document: &Document<'_>,
+    symbol: Symbol,
 ) -> Result<(), AllocError> {
+    let name = document.text.get(symbol.name.start..symbol.name.end);
     writer.begin_object()?;
-    put_text(alloc, writer, "name", name)?;
-    put_number(writer, "kind", kind)?;
-    asked.put_region(writer, "range", whole)?;
-    asked.put_region(writer, "selectionRange", own)?;
+    put_text(alloc, writer, "name", name.unwrap_or(b""))?;
+    put_number(writer, "kind", number_of(symbol.kind))?;
+    document.put_part(writer, "range", symbol.whole)?;
+    document.put_part(writer, "selectionRange", symbol.name)?;
     writer.end_object()
-}
-
-/// Where some tokens are, from the first up to the end of the last.
-fn region_over(asked: &Asked<'_>, first: Token, last: Token) -> Region {
-    Region {
-        first: asked.lines.place(first.start),
-        end: asked.lines.place(last.end),
-    }
-}
-
-/// The tokens up to the brace that closes the first block.
-fn block_end(tokens: &[Token]) -> Option<Token> {
-    let mut depth: usize = 0;
-    for token in tokens {
-        match token.word.kind {
-            Kind::OpenBrace => depth = depth.saturating_add(1),
-            Kind::CloseBrace => {
-                if depth <= 1 {
-                    return Some(*token);
-                }
-                depth -= 1;
-            }
-            _ => {}
-        }
-    }
-    None
-}
-
-/// A callback, whose head is two tokens, or one.
-fn put_callback(
-    alloc: Global,
-    writer: &mut Writer,
-    asked: &Asked<'_>,
-    tokens: &[Token],
-) -> Result<(), AllocError> {
-    let [first, second, ..] = tokens else {
-        return Ok(());
-    };
-    let last = match second.word.kind {
-        Kind::OpenBrace => *first,
-        _ => *second,
-    };
-    let name = asked.text.get(first.start..last.end).unwrap_or(b"");
-    let end = block_end(tokens).unwrap_or(last);
-    let whole = region_over(asked, *first, end);
-    put_symbol(
-        alloc,
-        writer,
-        asked,
-        12,
-        name,
-        whole,
-        region_over(asked, *first, last),
-    )
-}
-
-/// A lock.
-fn put_lock(
-    alloc: Global,
-    writer: &mut Writer,
-    asked: &Asked<'_>,
-    tokens: &[Token],
-) -> Result<(), AllocError> {
-    let [first, kind, name, ..] = tokens else {
-        return Ok(());
-    };
-    if !declares(kind.word.kind) || !is_name(name.word.kind) {
-        return Ok(());
-    }
-    let whole = region_over(asked, *first, *name);
-    let own = region_of(&asked.lines, *name);
-    put_symbol(
-        alloc,
-        writer,
-        asked,
-        14,
-        bytes_of(asked.text, *name),
-        whole,
-        own,
-    )
-}
-
-fn put_front(
-    alloc: Global,
-    writer: &mut Writer,
-    asked: &Asked<'_>,
-    tokens: &[Token],
-) -> Result<(), AllocError> {
-    let [first, ..] = tokens else {
-        return Ok(());
-    };
-    if begins_callback(first.word.kind) {
-        return put_callback(alloc, writer, asked, tokens);
-    }
-    match first.word.kind {
-        Kind::Lock => put_lock(alloc, writer, asked, tokens),
-        _ => Ok(()),
-    }
-}
-
-/// How deep blocks nest after a token.
-fn depth_after(depth: usize, kind: Kind) -> usize {
-    match kind {
-        Kind::OpenBrace => depth.saturating_add(1),
-        Kind::CloseBrace => depth.saturating_sub(1),
-        _ => depth,
-    }
 }
 
 fn put_symbols(
     alloc: Global,
     writer: &mut Writer,
-    asked: &Asked<'_>,
-    tokens: &[Token],
+    document: &Document<'_>,
+    symbols: &[Symbol],
 ) -> Result<(), AllocError> {
-    let mut depth: usize = 0;
-    for at in 0..tokens.len() {
-        if depth == 0 {
-            put_front(alloc, writer, asked, &tokens[at..])?;
-        }
-        depth = depth_after(depth, tokens[at].word.kind);
+    writer.begin_array()?;
+    for symbol in symbols {
+        put_symbol(alloc, writer, document, *symbol)?;
     }
-    Ok(())
+    writer.end_array()
 }
 
 /// The symbols of a document, as a result.
-pub(crate) fn symbols(alloc: Global, asked: &Asked<'_>) -> Result<Vec<u8>, AllocError> {
-    let tokens = tokens_of(alloc, asked.text)?;
+pub(crate) fn symbols(alloc: Global, document: &Document<'_>) -> Result<Vec<u8>, AllocError> {
+    let tokens = tokens_of(alloc, document.text)?;
+    let tokens = mark_tokens(alloc, tokens.as_slice())?;
+    let symbols = symbols_of(alloc, tokens.as_slice())?;
     let mut writer = Writer::new(Vec::new(alloc));
-    writer.begin_array()?;
-    put_symbols(alloc, &mut writer, asked, tokens.as_slice())?;
-    writer.end_array()?;
+    put_symbols(alloc, &mut writer, document, symbols.as_slice())?;
     Ok(writer.into_inner())
 }

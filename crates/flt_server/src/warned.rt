@@ -3,7 +3,7 @@
 use crate::faults::put_kind;
 use crate::findings::{put_related_place, region_of};
 use crate::members::{add_line, put_text};
-use crate::places::Asked;
+use crate::places::Document;
 use flt_explain::Finding;
 use flt_graph::Graph;
 use flt_syntax::Tree;
@@ -12,7 +12,7 @@ use flt_warnings::AllowedKinds;
 use json::Writer;
 use std::alloc::{AllocError, Global};
 
-/// What is wrong, how to fix it, and a note if there is one.
+/// The mistake, how to fix it, and a note if there is one.
 fn message_of(alloc: Global, detail: &WarningDetail) -> Result<Vec<u8>, AllocError> {
     let mut out = Vec::new(alloc);
     add_line(&mut out, detail.title.as_slice())?;
@@ -24,7 +24,7 @@ fn message_of(alloc: Global, detail: &WarningDetail) -> Result<Vec<u8>, AllocErr
 fn put_related(
     alloc: Global,
     writer: &mut Writer,
-    asked: &Asked<'_>,
+    document: &Document<'_>,
     places: &[RelatedPlace],
 ) -> Result<(), AllocError> {
     writer.key("relatedInformation")?;
@@ -33,7 +33,7 @@ fn put_related(
         put_related_place(
             alloc,
             writer,
-            asked,
+            document,
             region_of(&place.marks),
             place.words.as_slice(),
         )?;
@@ -44,15 +44,15 @@ fn put_related(
 fn put_warning(
     alloc: Global,
     writer: &mut Writer,
-    asked: &Asked<'_>,
+    document: &Document<'_>,
     detail: &WarningDetail,
 ) -> Result<(), AllocError> {
     let message = message_of(alloc, detail)?;
     writer.begin_object()?;
-    asked.put_region(writer, "range", region_of(&detail.marks))?;
+    document.put_region(writer, "range", region_of(&detail.marks))?;
     put_kind(writer, 2, detail.kind.name())?;
     put_text(alloc, writer, "message", message.as_slice())?;
-    put_related(alloc, writer, asked, detail.related.as_slice())?;
+    put_related(alloc, writer, document, detail.related.as_slice())?;
     writer.end_object()
 }
 
@@ -60,15 +60,22 @@ fn put_warning(
 pub(crate) fn put_warnings(
     alloc: Global,
     writer: &mut Writer,
-    asked: &Asked<'_>,
+    document: &Document<'_>,
     tree: &Tree,
     graph: &Graph,
     found: &[Finding],
 ) -> Result<(), AllocError> {
-    let all = warning_details(alloc, asked.text, tree, graph, found, AllowedKinds::none())?;
+    let all = warning_details(
+        alloc,
+        document.text,
+        tree,
+        graph,
+        found,
+        AllowedKinds::none(),
+    )?;
     for detail in all.as_slice() {
         if detail.is_shown() {
-            put_warning(alloc, writer, asked, detail)?;
+            put_warning(alloc, writer, document, detail)?;
         }
     }
     Ok(())
