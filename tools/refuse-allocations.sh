@@ -88,7 +88,7 @@ has_first_parts() {
     size=$(stat -c %s "$work/out")
     if [ "${1:-}" = serve ]; then
         cmp -s -n "$size" "$work/out" "$work/wanted-out" &&
-            [ "$(tail -c "+$((size + 1))" "$work/wanted-out" | head -c 14)" = Content-Length ]
+            [[ "$(tail -c "+$((size + 1))" "$work/wanted-out" | head -c 14)" =~ ^(Content-Length)?$ ]]
         return
     fi
     [ "${1:-}" = explain ] && [ "$size" -lt "$(stat -c %s "$work/wanted-out")" ] && cmp -s -n "$size" "$work/out" "$work/wanted-out" || return 1
