@@ -45,7 +45,7 @@ _fltstack() {
         if [[ $word == -* ]]; then
             _fltstack_words --help --version
         else
-            _fltstack_words check analyse thin explain run replay extract format emit compare help
+            _fltstack_words check analyse thin explain run replay extract format emit compare serve help
         fi
         return
     fi
@@ -99,6 +99,9 @@ _fltstack() {
     compare)
         options='--help'
         ;;
+    serve)
+        options='--help'
+        ;;
     esac
     # bash takes `--form=short` for three words
     while ((at < COMP_CWORD)); do
@@ -146,7 +149,7 @@ _fltstack() {
         'emit 0') _fltstack_files .flt ;;
         'emit 1') _fltstack_files .cert ;;
         'compare '*) _fltstack_files .c .h .cc .cpp ;;
-        'help 0') _fltstack_words check analyse thin explain run replay extract format emit compare help ;;
+        'help 0') _fltstack_words check analyse thin explain run replay extract format emit compare serve help ;;
         esac
     fi
 }

@@ -155,6 +155,7 @@ complete -c fltstack -n '__fltstack_first' -a format -d 'Lays out filters\' text
 complete -c fltstack -n '__fltstack_first' -a emit \
     -d 'Prints the C source of the driver that a filter\'s text is, its user\'s header or its INF file'
 complete -c fltstack -n '__fltstack_first' -a compare -d 'Reports where the code of C files and their annotations differ'
+complete -c fltstack -n '__fltstack_first' -a serve -d 'Serves an editor'
 complete -c fltstack -n '__fltstack_first' -a help -d 'Print this message or the help of the given subcommand(s)'
 complete -c fltstack -n '__fltstack_first' -s h -l help -d 'Print help'
 complete -c fltstack -n '__fltstack_first' -s V -l version -d 'Print version'
@@ -228,5 +229,8 @@ complete -c fltstack -n '__fltstack_at emit 1' -a '(__fltstack_files .cert)'
 complete -c fltstack -n '__fltstack_after compare --help' -s h -l help -d 'Print help'
 complete -c fltstack -n '__fltstack_at compare 0+' -a '(__fltstack_files .c .h .cc .cpp)'
 
+# serve
+complete -c fltstack -n '__fltstack_after serve --help' -s h -l help -d 'Print help'
+
 # help
-complete -c fltstack -n '__fltstack_at help 0' -a 'check analyse thin explain run replay extract format emit compare help'
+complete -c fltstack -n '__fltstack_at help 0' -a 'check analyse thin explain run replay extract format emit compare serve help'

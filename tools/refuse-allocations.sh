@@ -5,7 +5,7 @@
 #       runs the program on these words, or another one that $PROGRAM names. Where a request was refused it must end with status 2, with the line
 #       `out of memory` and nothing else; where none was, as it ends with all memory that it asks for. `explain` of several files has then
 #       printed what it tells of the first of them, whole, or nothing; at some requests it must have printed some, unless `--journal`, `--runs`
-#       or a document holds all back.
+#       or a document holds all back. `serve` has sent the answers to the first messages, whole.
 #   tools/refuse-allocations.sh tests CRATE [WORD]
 #       runs each test of a crate that has WORD in its name. Where a request was refused it must end with the error that
 #       says so, which it carries out by `?`; where none was, it must pass. A failed assertion is a wrong answer.
@@ -86,6 +86,11 @@ file_of() {
 has_first_parts() {
     local size
     size=$(stat -c %s "$work/out")
+    if [ "${1:-}" = serve ]; then
+        cmp -s -n "$size" "$work/out" "$work/wanted-out" &&
+            [[ "$(tail -c "+$((size + 1))" "$work/wanted-out" | head -c 14)" =~ ^(Content-Length)?$ ]]
+        return
+    fi
     [ "${1:-}" = explain ] && [ "$size" -lt "$(stat -c %s "$work/wanted-out")" ] && cmp -s -n "$size" "$work/out" "$work/wanted-out" || return 1
     case " $* " in
     *" --journal "* | *" --runs "* | *" sarif "* | *" html "*) return 1 ;;
@@ -97,6 +102,7 @@ has_first_parts() {
 
 # has_several_parts WORD..: whether something is told of several files, one behind the other.
 has_several_parts() {
+    [ "${1:-}" != serve ] || return 0
     [ "${1:-}" = explain ] || return 1
     case " $* " in
     *" --journal "* | *" --runs "* | *" sarif "* | *" html "*) return 1 ;;
@@ -238,6 +244,8 @@ try_all() {
     mkdir "$work/driver"
     : >"$work/driver/pending_reads_user.h"
     (cd "$top/examples" && "$top/tools/refuse-allocations.sh" program emit --into "$work/driver" pending_reads.flt pending_reads.cert </dev/null) &
+    started+=($!)
+    "$top/tools/try-serve" --frames "$top/examples/serve/short.session" | "$0" program serve &
     started+=($!)
     for each in "${crates_of_tests[@]}"; do
         "$0" tests "$each" memory &

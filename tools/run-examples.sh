@@ -262,7 +262,7 @@ laid=$("$program" format --check ./*.flt samples/*.flt warnings/*.flt 2>&1) || t
 
 for file in * c/* samples/*; do
     case $file in
-    README.md | expected | verdicts | cases | c | c/kit.h | samples/*.c) ;;
+    README.md | expected | verdicts | cases | serve | c | c/kit.h | samples/*.c) ;;
     *) grep -qF " $file " "$work/named" || differs "$file: no line of expected has it" ;;
     esac
 done

@@ -56,7 +56,7 @@ use Rattle.flt_commands.specs.Explain.{IsExplained, IsTold, look_in}
 use Rattle.flt_commands.specs.Inputs.{Giving, given, Says, Text, unread}
 use Rattle.flt_commands.specs.Running.{IsRan}
 use Rattle.flt_commands.specs.Thin.{IsThinned, Decides as DecidesThin}
-use Rattle.flt_words.specs.Request.{Asked, Choice, Check, Analyse, Thin, Run, Replay, Show, Explain, Extract, Format, Pages, Emit, EmitInto, Compare}
+use Rattle.flt_words.specs.Request.{Asked, Choice, Check, Analyse, Thin, Run, Replay, Show, Explain, Extract, Format, Pages, Emit, EmitInto, Compare, Serve}
 use Rattle.flt_commands.specs.declared.answer.Answer.{Answer}
 use Rattle.flt_commands.specs.declared.answer.Answer.TheVariants.{Accepted, Refused, Certificate as Written, Judged, Ran as has_run, FileRefused, Explained, Extracted as has_text, Formatted as has_layouts, Pages as has_pages, Shown, Emitted, NotEmitted, EmittedInto, Compared}
 use Rattle.flt_commands.specs.declared.failure.Failure.{Failure}
@@ -374,3 +374,4 @@ module _ (law : Law) (runs : LawOfRuns) (nowhere : SpelledFailsNowhere) where
   clean_of shown gives (EmitInto folder file cert) texts said bytes status is reported good =
       says_clean gives _ texts (IsEmittedInto folder) _ said bytes status
       (λ answer is well. emitted_into texts answer folder file cert is well) is reported good
+  clean_of shown gives Serve texts said bytes status is reported good = tt

@@ -1,16 +1,16 @@
 -- A command line has one answer at most.
-use Rattle.std.proofs.Common.{◌≡◌, ◌≢◌, ℕ, Bool, true, false, List, Option, Some, None, Result, Ok, Err, refl, sym, ap, unwrap_or, ◌∙◌}
+use Rattle.std.proofs.Common.{◌≡◌, ◌≢◌, ℕ, Bool, true, false, List, Option, Some, None, Result, Ok, Err, codes, refl, sym, ap, unwrap_or, ◌∙◌}
 use Rattle.std.specs.Str.{bytes_eq}
 use Rattle.flt_commands.proofs.OneAnnotation.{annotations_once}
 use Rattle.flt_commands.proofs.OneComparison.{compares_once}
 use Rattle.flt_commands.proofs.OneExtraction.{extracts_once}
 use Rattle.flt_commands.proofs.OneLayout.{layouts_said_once}
-use Rattle.flt_commands.proofs.OneReading.{says_once}
+use Rattle.flt_commands.proofs.OneReading.{says_once, told_unread}
 use Rattle.flt_commands.specs.Analyse.{IsAnalysed}
 use Rattle.flt_commands.specs.Answer.{output, status_of}
 use Rattle.flt_commands.specs.Attempts.{Attempt}
 use Rattle.flt_commands.specs.Check.{IsChecked}
-use Rattle.flt_commands.specs.Commands.{AnswersFor, IsReported, IsSaid, giving_for}
+use Rattle.flt_commands.specs.Commands.{AnswersFor, IsReported, IsSaid, IsUnserved, giving_for}
 use Rattle.flt_commands.specs.Compare.{IsCompared}
 use Rattle.flt_commands.specs.Extract.{IsExtracted}
 use Rattle.flt_commands.specs.Inputs.{Giving, Text, gives_but, gives_if, gives_text, kept}
@@ -18,7 +18,7 @@ use Rattle.flt_commands.specs.Names.{names_of}
 use Rattle.flt_commands.specs.Replay.{IsReplayed}
 use Rattle.flt_commands.specs.Single.{AreSame, AskForOne, GivesOne, HasOneAnswer, SaysOne, seen, told}
 use Rattle.flt_commands.specs.Thin.{IsThinned}
-use Rattle.flt_words.specs.Request.{Asked, Check, Analyse, Thin, Run, Replay, Show, Explain, Extract, Format, Pages, Emit, EmitInto, Compare}
+use Rattle.flt_words.specs.Request.{Asked, Check, Analyse, Thin, Run, Replay, Show, Explain, Extract, Format, Pages, Emit, EmitInto, Compare, Serve}
 use Rattle.flt_commands.specs.declared.answer.Answer.{Answer}
 use Rattle.flt_commands.specs.declared.failure.Failure.{Failure}
 use Rattle.flt_commands.specs.declared.failure.Failure.TheVariants.{OutOfMemory}
@@ -93,6 +93,13 @@ module _ (gives : Giving) (one : GivesOne gives) where
   gives_one (Emit part file cert) = but_once cert
   gives_one (EmitInto folder file cert) = but_once cert
   gives_one (Compare files) = one
+  gives_one Serve = one
+
+-- the standard input can't be read for a server
+unserved_once : (a b : Result Answer Failure) → IsUnserved a → IsUnserved b → AreSame a b
+unserved_once (Ok x) b first second = absurd first
+unserved_once (Err f) (Ok y) first second = absurd second
+unserved_once (Err f) (Err g) first second = λ _ _. ap Err (told_unread (codes "-") f first ∙ sym (told_unread (codes "-") g second))
 
 module _ (checked : SaysOne IsChecked) (analysed : SaysOne IsAnalysed) (thinned : SaysOne IsThinned) (replayed : SaysOne IsReplayed)
     (nowhere : SpelledFailsNowhere) where
@@ -122,6 +129,7 @@ module _ (checked : SaysOne IsChecked) (analysed : SaysOne IsAnalysed) (thinned 
   said_once gives shown showing (EmitInto folder file cert) texts more a b has one x y = absurd has
   said_once gives shown showing (Compare files) texts more a b has one x y =
       says_once gives one (names_of (Compare files)) (IsCompared files) (compares_once files) texts more a b x y
+  said_once gives shown showing Serve texts more a b has one x y = unserved_once a b x y
 
   -- one thing is printed at most, with one exit status
   pub printed_once : (gives : Giving) (written others : Text → Text → Type 0) (does did : List Attempt → Type 0) (shown showing : Bool)

@@ -42,10 +42,10 @@ module _ {X : Type 0} (p : X → Bool) where
 -- ---- the first name that can't be read
 
 -- why a name can't be read
-abbrev unread_name : Text → Failure
+abbrev pub unread_name : Text → Failure
 unread_name name = CannotRead (record { ref_ptr = (0, 0); now = name })
 
-told_unread : (name : Text) (f : Failure) → IsUnread name f → told f ≡ unread_name name
+pub told_unread : (name : Text) (f : Failure) → IsUnread name f → told f ≡ unread_name name
 told_unread name (CannotRead given_name) h = ap unread_name h
 told_unread name f h = absurd h
 

@@ -13,7 +13,7 @@ use Rattle.flt_commands.specs.Inputs.{Giving, Text}
 use Rattle.flt_details.specs.declared.sources.Source.{Source}
 use Rattle.flt_forms.specs.declared.as_lines.Style.TheVariants.{Object, Sentence}
 use Rattle.flt_warning_details.specs.declared.options.WarningOptions.{WarningOptions}
-use Rattle.flt_words.specs.Request.{Asked, Check, Analyse, Thin, Run, Replay, Show, Explain, Extract, Format, Pages, Emit, EmitInto, Compare}
+use Rattle.flt_words.specs.Request.{Asked, Check, Analyse, Thin, Run, Replay, Show, Explain, Extract, Format, Pages, Emit, EmitInto, Compare, Serve}
 use Rattle.flt_words.specs.declared.request.Form.{Form}
 use Rattle.flt_words.specs.declared.request.Form.TheVariants.{Html, Human, Lines, LinesWithRuns, Sarif, SarifWithRuns, Short}
 
@@ -63,3 +63,4 @@ cut_short_for gives (Some (Pages names)) old = Appends-nil old
 cut_short_for gives (Some (Emit part file cert)) old = Appends-nil old
 cut_short_for gives (Some (EmitInto folder file cert)) old = Appends-nil old
 cut_short_for gives (Some (Compare files)) old = Appends-nil old
+cut_short_for gives (Some Serve) old = Appends-nil old

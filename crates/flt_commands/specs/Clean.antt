@@ -8,7 +8,7 @@ use Rattle.flt_model.specs.Steps.{Transition}
 use Rattle.flt_commands.specs.Inputs.{Text}
 use Rattle.flt_driven.specs.Texts.{AreSpelled}
 use Rattle.flt_commands.specs.Split.{IsCertificateStart}
-use Rattle.flt_words.specs.Request.{Asked, Check, Analyse, Thin, Run, Replay, Show, Explain, Extract, Format, Pages, Emit, EmitInto, Compare}
+use Rattle.flt_words.specs.Request.{Asked, Check, Analyse, Thin, Run, Replay, Show, Explain, Extract, Format, Pages, Emit, EmitInto, Compare, Serve}
 
 -- the filter that the text spells breaks nothing: whatever transitions are tried on it, in whatever order and however many
 abbrev pub BreaksNothing : Text → Type 0
@@ -45,4 +45,5 @@ IsClean (Emit part file cert) (text ∷ []) = BreaksNothing text
 IsClean (Emit part file cert) (text ∷ certificate ∷ []) = BreaksNothing text
 IsClean (EmitInto folder file cert) (text ∷ []) = BreaksNothing text
 IsClean (EmitInto folder file cert) (text ∷ certificate ∷ []) = BreaksNothing text
+IsClean Serve texts = Unit {0}
 IsClean _ _ = ⊥

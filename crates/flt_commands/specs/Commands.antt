@@ -1,7 +1,7 @@
 -- What a command line comes to: what is read, what is said of it, how that is printed, what it is worth and what is kept. This project's own
 -- program.
 use Rattle.std.specs.Io.KnownBytes.{Appends}
-use Rattle.std.specs.Prelude.{◌≡◌, ◌≢◌, ℕ, Bool, List, [], ◌∷◌, ◌++◌, Option, Some, None, Result, Ok, Err, IfOk, OnOk, drop, map, unwrap_or, ⊤}
+use Rattle.std.specs.Prelude.{◌≡◌, ◌≢◌, ℕ, Bool, List, [], ◌∷◌, ◌++◌, Option, Some, None, Result, Ok, Err, IfOk, OnOk, codes, drop, map, unwrap_or, ⊤}
 use Rattle.flt_commands.specs.Allowed.{options_of}
 use Rattle.flt_commands.specs.Analyse.{IsAnalysed}
 use Rattle.flt_commands.specs.Annotated.{gives_annotations}
@@ -18,14 +18,14 @@ use Rattle.flt_commands.specs.Explain.{ArePaged, IsExplained, IsWritten, look_in
 use Rattle.flt_commands.specs.Extract.{IsExtracted}
 use Rattle.flt_commands.specs.Failure.{failure_line}
 use Rattle.flt_commands.specs.Format.{AreChanged, IsFormatSaid, remarks_in}
-use Rattle.flt_commands.specs.Inputs.{Giving, Says, Text, gives_but}
+use Rattle.flt_commands.specs.Inputs.{Giving, IsUnread, Says, Text, gives_but}
 use Rattle.flt_commands.specs.Names.{names_of}
 use Rattle.flt_commands.specs.Remarks.{IsFound}
 use Rattle.flt_commands.specs.Replay.{IsReplayed, IsShown}
 use Rattle.flt_commands.specs.Running.{IsRan}
 use Rattle.flt_commands.specs.Thin.{IsThinned}
 use Rattle.flt_model.specs.JournalText.{Entries, spelling}
-use Rattle.flt_words.specs.Request.{Asked, Check, Analyse, Thin, Run, Replay, Show, Explain, Extract, Format, Pages, Emit, EmitInto, Compare}
+use Rattle.flt_words.specs.Request.{Asked, Check, Analyse, Thin, Run, Replay, Show, Explain, Extract, Format, Pages, Emit, EmitInto, Compare, Serve}
 use Rattle.flt_words.specs.Words.{asked}
 use Rattle.flt_words.specs.declared.request.FormatMode.TheVariants.{Write}
 use Rattle.flt_commands.specs.declared.answer.Answer.{Answer}
@@ -49,6 +49,11 @@ giving_for (Emit part file cert) = gives_but cert
 giving_for (EmitInto folder file cert) = gives_but cert
 giving_for request = λ gives. gives
 
+-- a server reads its input piece by piece, so no name gives it: that of the standard input can't be read
+abbrev pub IsUnserved : Result Answer Failure → Type 0
+IsUnserved (Ok answer) = ⊥
+IsUnserved (Err f) = IsUnread (codes "-") f
+
 -- what is said of what is asked for, an answer or why there is none, where the names give these texts; `explain` alone says something of
 -- some of them where others can't be read, with colours where the words ask for them or a terminal shows them
 abbrev pub IsSaid : Bool → Giving → Asked → List Text → Result Answer Failure → Type 0
@@ -66,6 +71,7 @@ IsSaid shown gives (Pages names) = Says gives (names_of (Pages names)) (λ texts
 IsSaid shown gives (Emit part file cert) = Says gives (names_of (Emit part file cert)) (IsEmitted part)
 IsSaid shown gives (EmitInto folder file cert) = Says gives (names_of (EmitInto folder file cert)) (IsEmittedInto folder)
 IsSaid shown gives (Compare files) = Says gives (names_of (Compare files)) (IsCompared files)
+IsSaid shown gives Serve = λ texts. IsUnserved
 
 -- ---- how that is printed
 

@@ -26,6 +26,7 @@ pub mod Outcomes
 pub mod Remarks
 pub mod Replay
 pub mod Running
+pub mod Served
 pub mod Single
 pub mod Split
 pub mod System

@@ -18,6 +18,7 @@ use crate::emit_into::{emit_files_into, into_remark};
 use crate::explain::{Asked, pages_of};
 use crate::explained::report_on_files;
 use crate::extract::extract_files;
+use crate::failure::Failure;
 use crate::fault::CommandFault;
 use crate::format::report_on_layouts;
 use crate::inputs::{Inputs, Pictures};
@@ -236,6 +237,10 @@ fn report_of<'a, R: Threads + Wait + Sync, I: Inputs, P: Pictures, O: Sink, W: W
             let said = compare_files(alloc, inputs, files.as_slice(), &mut contents);
             report_on(alloc, Vec::new(alloc), said, contents)
         }
+        Request::Serve => {
+            let said = Err(Failure::CannotRead("-"));
+            report_on(alloc, Vec::new(alloc), said, contents)
+        }
     }
 }
 
@@ -266,7 +271,8 @@ fn write_report<O: Sink, E: Sink>(
 /// it is made, unless it is one document or a file is named for a journal. Reports of `explain` have the colours of a terminal if `coloured`,
 /// unless the words say when. A command that drives filters reports each line of the script to `watch`, unless the words ask for quiet, and
 /// one that searches for runs how far it has come, if the words allow more states than the default. Threads are started by `run` alone, if
-/// it has more than one worker.
+/// it has more than one worker. `serve` has no answer here: the report says that `-` can't be read. The server is
+/// `serve_client`.
 ///
 /// # Errors
 ///

@@ -2,7 +2,9 @@
 
 ghost use Rattle.std.specs.Prelude.{◌≡◌, IfNone, IfOk, IfSome, map, string_bytes};
 ghost use Rattle.flt_commands.specs.Commands.{AnswersSomehow};
+ghost use Rattle.flt_commands.specs.Served.{ServesSomehow};
 ghost use Rattle.flt_commands.specs.System.{given_by_host, written_by_host};
+ghost use Rattle.flt_words.specs.Words.{AskToServe};
 
 use crate::commands::command;
 use crate::fault::CommandFault;
@@ -11,11 +13,14 @@ use crate::inputs::is_standard;
 use crate::named::Named;
 use crate::report::Report;
 use crate::search::WatchSearch;
+use crate::serving::serve_client;
 use crate::system::{Place, Reader, System};
 use crate::unread::Unread;
 use crate::unwritten::Unwritten;
 use flt_crew::Watch;
+use flt_frames::{Incoming, ServeFault};
 use flt_model::{ReadFault, Writing};
+use flt_words::ask_to_serve;
 use std::alloc::AllocError;
 use std::cell::Cell;
 use std::env::{self, VarError};
@@ -69,6 +74,16 @@ impl<R: Read + Drop> Reader for Counted<R> {
             Some(fault) => Some(Unread::of(fault)),
             None => None,
         }
+    }
+}
+
+impl<R: Read + Drop> Incoming for Counted<R> {
+    ghost left = { λ r. R.remaining r.inner };
+
+    ghost failures = { λ r. r.failures };
+
+    fn take(&mut self, buffer: &mut [u8]) -> Result<usize, ReadFault> {
+        Reader::take(self, buffer)
     }
 }
 
@@ -358,19 +373,22 @@ fn words_of(rt: &HostRuntime) -> Option<Vec<String>> {
 pub struct Execution {
     /// The words, without the program's own name, with the texts of each folder that `explain` is given in its place.
     pub words: Vec<String>,
-    /// The report on them; none if a word isn't UTF-8, memory ran out or a write failed.
+    /// The report on them; none if a word isn't UTF-8, memory ran out or a write failed, and for a server.
     pub report: Option<Report>,
+    /// How a server ended; none where there was none, memory ran out, or a read or a write failed.
+    pub served: Option<u8>,
 }
 
 impl Execution {
-    /// The exit status: that of the report, or 2 without a report.
+    /// The exit status: that of the report or of the server, or 2 without both.
     pub fn status(&self) -> u8
         ensures some { IfSome self.now.report (λ report. result ≡ report.status) }
-        ensures none { IfNone self.now.report (result ≡ 2) }
+        ensures served { IfNone self.now.report (IfSome self.now.served (λ status. result ≡ status)) }
+        ensures none { IfNone self.now.report (IfNone self.now.served (result ≡ 2)) }
     {
         match &self.report {
             Some(report) => report.status,
-            None => 2,
+            None => self.served.unwrap_or(2),
         }
     }
 }
@@ -436,29 +454,87 @@ fn execute<R: Threads + Wait + Sync>(
     result
 }
 
-/// Runs the command of the program's own words on the system, and returns the words with the report on them. `threads` is the same runtime
-/// once more: `main` alone can pass on that it starts threads.
+/// The report on a command. The standard error says if memory ran out.
+fn report_of<R: Threads + Wait + Sync>(
+    rt: &HostRuntime,
+    threads: &R,
+    words: &[String],
+) -> Option<Report>
+    ensures { IfSome result (AnswersSomehow given_by_host written_by_host (map string_bytes words.now)) }
+{
+    match execute(rt, threads, words) {
+        Ok(report) => Some(report),
+        Err(fault) => {
+            if fault == CommandFault::OutOfMemory {
+                say_out_of_memory(rt);
+            }
+            None
+        }
+    }
+}
+
+/// Says on the standard error why a server ended without a status.
+fn say_unserved(rt: &HostRuntime, fault: ServeFault, input: &Counted<Stdin>, out: &Told<Stdout>) {
+    match fault {
+        ServeFault::OutOfMemory => say_out_of_memory(rt),
+        ServeFault::Read => {
+            if let Some(why) = &input.fault {
+                let _ = eprintln!(rt; "error: cannot read: {why}");
+            }
+        }
+        ServeFault::Write => say_unwritten(rt, out),
+    }
+}
+
+/// Serves a client over the standard streams, and returns the exit status; none if memory ran out, or a read or a write failed, which the
+/// standard error then says.
+fn serve_streams(rt: &HostRuntime) -> Option<u8>
+    ensures { IfSome result ServesSomehow }
+{
+    let mut input = Counted::new(rt.stdin());
+    let mut out = Writing::new(Told::new(rt.stdout()));
+    match serve_client(rt.alloc(), &mut input, &mut out) {
+        Ok(status) => Some(status),
+        Err(fault) => {
+            say_unserved(rt, fault, &input, &out.into_inner());
+            None
+        }
+    }
+}
+
+/// Runs the command of the program's own words on the system, and returns the words with the report on them; or runs a server, if they ask
+/// for one, and returns the words with its exit status. `threads` is the same runtime once more: `main` alone can pass on that it starts
+/// threads.
 pub fn run<R: Threads + Wait + Sync>(rt: &HostRuntime, threads: &R) -> Execution
-    ensures { IfSome result.report (AnswersSomehow given_by_host written_by_host (map string_bytes result.words.items)) }
+    ensures answered { IfSome result.report (AnswersSomehow given_by_host written_by_host (map string_bytes result.words.items)) }
+    ensures served { IfSome result.served ServesSomehow }
+    ensures apart { IfSome result.report (λ _. ¬ (AskToServe (map string_bytes result.words.items))) }
+    ensures asked { IfSome result.served (λ _. AskToServe (map string_bytes result.words.items)) }
 {
     let Some(words) = words_of(rt) else {
         return Execution {
             words: Vec::new(rt.alloc()),
             report: None,
+            served: None,
         };
     };
-    match execute(rt, threads, words.as_slice()) {
-        Ok(report) => Execution {
+    match ask_to_serve(rt.alloc(), words.as_slice()) {
+        Ok(true) => Execution {
+            report: None,
+            served: serve_streams(rt),
             words,
-            report: Some(report),
         },
-        Err(fault) => {
-            if fault == CommandFault::OutOfMemory {
-                say_out_of_memory(rt);
-            }
+        Ok(false) => Execution {
+            report: report_of(rt, threads, words.as_slice()),
+            served: None,
+            words,
+        },
+        Err(_) => {
+            say_out_of_memory(rt);
             Execution {
-                words,
                 report: None,
+                served: None,
+                words,
             }
         }
     }

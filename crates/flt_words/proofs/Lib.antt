@@ -1,3 +1,4 @@
+pub mod Beginning
 pub mod Commands
 pub mod Counts
 pub mod Requests

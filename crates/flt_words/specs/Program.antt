@@ -176,6 +176,10 @@ bare_compare_app = new_app (codes "compare")
 abbrev pub compare_app : App
 compare_app = with_rule bare_compare_app texts_rule
 
+-- `serve`
+abbrev pub serve_app : App
+serve_app = new_app (codes "serve")
+
 -- the program without its commands: one is asked for, the program's own name is left out, and `--version` answers
 abbrev pub bare_app : App
 bare_app = let a = new_app (codes "fltstack") in
@@ -185,8 +189,8 @@ bare_app = let a = new_app (codes "fltstack") in
 abbrev pub program_app : App
 program_app =
     with_subcommand (with_subcommand (with_subcommand (with_subcommand (with_subcommand (with_subcommand (with_subcommand (with_subcommand
-    (with_subcommand (with_subcommand bare_app check_app.top) analyse_app.top) thin_app.top) explain_app.top) run_app.top) replay_app.top)
-    extract_app.top) format_app.top) emit_app.top) compare_app.top
+    (with_subcommand (with_subcommand (with_subcommand bare_app check_app.top) analyse_app.top) thin_app.top) explain_app.top) run_app.top)
+    replay_app.top) extract_app.top) format_app.top) emit_app.top) compare_app.top) serve_app.top
 
 -- ---- what of it words need
 
@@ -206,4 +210,5 @@ app_for word =
     else (if bytes_eq word (codes "extract") then program_with extract_app
     else (if bytes_eq word (codes "format") then program_with format_app
     else (if bytes_eq word (codes "emit") then program_with emit_app
-    else (if bytes_eq word (codes "compare") then program_with compare_app else program_app)))))))))
+    else (if bytes_eq word (codes "compare") then program_with compare_app
+    else (if bytes_eq word (codes "serve") then program_with serve_app else program_app))))))))))

@@ -32,6 +32,7 @@ pub data Asked : Type 0 where
   Emit : (part : Part) (file : Text) (cert : Option Text) → Asked
   EmitInto : (folder file : Text) (cert : Option Text) → Asked
   Compare : (files : List Text) → Asked
+  Serve : Asked
 
 -- what a request asks for, none where it is for a text of the program's own: its use, or its version
 abbrev pub asked_of : Request → Option Asked
@@ -47,6 +48,7 @@ asked_of (request.Explain form colour states journal warnings files) =
 asked_of (request.Extract of_map files) = Some (Extract of_map (map (λ name. name.now) files.items))
 asked_of (request.Format mode files) = Some (Format mode (map (λ name. name.now) files.items))
 asked_of (request.Pages names) = Some (Pages (map (λ name. name.now) names.items))
+asked_of request.Serve = Some Serve
 asked_of (request.Usage text) = None
 asked_of (request.Emit part file cert) = Some (Emit part file.now (option_map (λ name. name.now) cert))
 asked_of (request.EmitInto folder file cert) = Some (EmitInto folder.now file.now (option_map (λ name. name.now) cert))

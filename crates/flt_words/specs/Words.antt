@@ -21,7 +21,7 @@ use Rattle.flt_words.specs.declared.request.Part.TheVariants.{Source, User, Inf}
 use Rattle.flt_words.specs.declared.request.Colour.{Colour}
 use Rattle.flt_words.specs.declared.request.Colour.TheVariants.{Auto, Always, Never}
 use Rattle.flt_words.specs.Workers.{within}
-use Rattle.flt_words.specs.Request.{Asked, Choice, Check, Analyse, Thin, Run, Replay, Show, Explain, Extract, Format, Pages, Emit, EmitInto, Compare}
+use Rattle.flt_words.specs.Request.{Asked, Choice, Check, Analyse, Thin, Run, Replay, Show, Explain, Extract, Format, Pages, Emit, EmitInto, Compare, Serve}
 
 -- ---- values
 
@@ -243,7 +243,8 @@ asked_by (name, rows) =
     else (if bytes_eq name (codes "extract") then Some (extract_of rows)
     else (if bytes_eq name (codes "format") then format_of rows
     else (if bytes_eq name (codes "emit") then emit_of rows
-    else (if bytes_eq name (codes "compare") then Some (compare_of rows) else None)))))))))
+    else (if bytes_eq name (codes "compare") then Some (compare_of rows)
+    else (if bytes_eq name (codes "serve") then Some Serve else None))))))))))
 
 -- ---- all of it
 
@@ -270,3 +271,12 @@ asked_words words = if is_none (fault_of program_app words) then option_and_then
 abbrev pub asked : List Text → Option Asked
 asked [] = Some (Check (codes "-") None)
 asked (word ∷ words) = asked_words (word ∷ words)
+
+-- there are words, and this is the first of them
+abbrev pub BeginWith : Text → List Text → Type 0
+BeginWith word [] = ⊥
+BeginWith word (first ∷ rest) = first ≡ word
+
+-- words ask for a server, and `serve` is the first of them
+abbrev pub AskToServe : List Text → Type 0
+AskToServe words = BeginWith (codes "serve") words × (asked words ≡ Some Serve)

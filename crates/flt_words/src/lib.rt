@@ -9,5 +9,5 @@ mod workers;
 
 pub use request::{Colour, Form, FormatMode, Part, Request, WarningChoice};
 pub use shown::visible;
-pub use words::{DEFAULT_STATES, read_words};
+pub use words::{DEFAULT_STATES, ask_to_serve, read_words};
 pub use workers::Workers;

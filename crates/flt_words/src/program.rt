@@ -497,6 +497,24 @@ fn compare_command<'a>(alloc: Global) -> Result<Command<'a>, AllocError>
     )
 }
 
+/// The command `serve`, which takes no arguments.
+fn bare_serve<'a>(alloc: Global) -> Command<'a>
+    ensures { spec.IsCommand result spec.serve_app }
+{
+    Command::new(alloc, "serve")
+        .about("Serves an editor: reports on its texts while they are changed")
+        .override_usage("fltstack serve")
+        .after_help(
+            "Speaks the Language Server Protocol over the standard input and the standard output. Ends after the\nnotification `exit` (exit 0 after `shutdown`, else 1), at the end of its input, and at a malformed header (exit 1).\nErrors go to the standard error with exit 2.\n\nExample: fltstack serve",
+        )
+}
+
+fn serve_command<'a>(alloc: Global) -> Result<Command<'a>, AllocError>
+    ensures { IfOk result (λ c. spec.IsCommand c spec.serve_app) }
+{
+    Ok(bare_serve(alloc))
+}
+
 // ---- the program
 
 /// The program without its commands.
@@ -540,7 +558,8 @@ pub(crate) fn program<'a>(alloc: Global) -> Result<Command<'a>, AllocError>
     let program = with_command(program, extract_command(alloc));
     let program = with_command(program, format_command(alloc));
     let program = with_command(program, emit_command(alloc));
-    with_command(program, compare_command(alloc))
+    let program = with_command(program, compare_command(alloc));
+    with_command(program, serve_command(alloc))
 }
 
 /// The program with one of its commands alone.
@@ -571,6 +590,7 @@ pub(crate) fn program_for<'a>(alloc: Global, word: &str) -> Result<Command<'a>, 
         "format" => program_with(alloc, format_command(alloc)),
         "emit" => program_with(alloc, emit_command(alloc)),
         "compare" => program_with(alloc, compare_command(alloc)),
+        "serve" => program_with(alloc, serve_command(alloc)),
         _ => program(alloc),
     }
 }

@@ -127,6 +127,8 @@ pub enum Request<'a> {
     Pages {
         names: Vec<&'a str>,
     },
+    /// Serve an editor over the standard streams.
+    Serve,
     /// The words are malformed, or request help or the version: the text to print for them.
     Usage(String),
     /// Emit a part of the driver that the text of a file is, with the certificate of another one or after an analysis.

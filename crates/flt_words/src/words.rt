@@ -1,12 +1,12 @@
 //! Reads the words of a command line as a request.
 
-ghost use Rattle.std.specs.Prelude.{◌≡◌, false, true, Some, IfOk, map, option_and_then, option_map, string_bytes};
+ghost use Rattle.std.specs.Prelude.{◌≡◌, ◌↔◌, false, true, Some, IfOk, IsTrue, map, option_and_then, option_map, string_bytes};
 ghost use Rattle.std.specs.List.{list_all, list_any};
 ghost use Rattle.clap.specs.Matches.{found_of};
 ghost use Rattle.clap.specs.Simple.{subcommand_rows_of};
 ghost use Rattle.clap.specs.Walk.{rows_of};
 ghost use Rattle.flt_pages.specs.Pages.{has_page};
-ghost use Rattle.flt_words.specs.Request.{asked_of, choice_of};
+ghost use Rattle.flt_words.specs.Request.{Serve, asked_of, choice_of};
 ghost use Rattle.flt_words.specs.Words as spec;
 
 use crate::program::{program, program_for};
@@ -658,8 +658,11 @@ fn matched<'a>(alloc: Global, matches: &ArgMatches<'a>) -> Result<Request<'a>, A
     if let Some(emit) = matches.subcommand_matches("emit") {
         return asked_emit(alloc, emit);
     }
-    match matches.subcommand_matches("compare") {
-        Some(compare) => asked_compare(alloc, compare),
+    if let Some(compare) = matches.subcommand_matches("compare") {
+        return asked_compare(alloc, compare);
+    }
+    match matches.subcommand_matches("serve") {
+        Some(_) => Ok(Request::Serve),
         None => Ok(Request::Usage(String::new(alloc))),
     }
 }
@@ -726,4 +729,34 @@ pub fn read_words<'a>(alloc: Global, words: &'a [String]) -> Result<Request<'a>,
         }),
         [first, ..] => take_words(alloc, first.as_str(), words),
     }
+}
+
+fn begins_with(words: &[String], word: &str) -> bool
+    ensures { IsTrue result ↔ spec.BeginWith word.now (map string_bytes words.now) }
+{
+    match words {
+        [first, ..] => first.as_str() == word,
+        [] => false,
+    }
+}
+
+fn is_serve(request: &Request) -> bool
+    ensures { IsTrue result ↔ (asked_of request.now ≡ Some Serve) }
+{
+    matches!(request, Request::Serve)
+}
+
+/// Whether a program's words ask for a server and `serve` is the first of them. Words that begin otherwise aren't read for it.
+///
+/// # Errors
+///
+/// `AllocError` if a growth is refused.
+pub fn ask_to_serve(alloc: Global, words: &[String]) -> Result<bool, AllocError>
+    ensures { IfOk result (λ is. IsTrue is ↔ spec.AskToServe (map string_bytes words.now)) }
+{
+    if !begins_with(words, "serve") {
+        return Ok(false);
+    }
+    let request = read_words(alloc, words)?;
+    Ok(is_serve(&request))
 }

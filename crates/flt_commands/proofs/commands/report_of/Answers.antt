@@ -1,6 +1,6 @@
 use Rattle.std.proofs.Common.{◌≡◌, ap, map, option_map, refl}
 use Rattle.flt_commands.proofs.Reported.{answers_asked, answers_of, cut_asked, held_asked, kept_shown, never_quiet, quiet_asked, remarked_after, says_of_pages, those_after, those_of}
-use Rattle.flt_words.specs.Request.{Check, Analyse, Thin, Run, Replay, Show, Extract, Pages, Emit, EmitInto, Compare, choice_of}
+use Rattle.flt_words.specs.Request.{Check, Analyse, Thin, Run, Replay, Show, Extract, Pages, Emit, EmitInto, Compare, Serve, choice_of}
 use Rattle.flt_commands.specs.Attempts.{Does}
 use Rattle.flt_commands.proofs.commands.report_of.Goals as goal
 
@@ -140,6 +140,17 @@ returns-in_ok-before-in-EmitInto-clause-answers g c =
 pub returns-in_ok-before-in-EmitInto-clause-quiet : goal.returns-in_ok-before-in-EmitInto-clause-quiet
 returns-in_ok-before-in-EmitInto-clause-quiet g c =
     never_quiet _ _ _ _ (rw c.in-EmitInto.is at c.in_ok-text.ensures) _
+
+pub returns-in-Serve-clause-answers : goal.returns-in-Serve-clause-answers
+returns-in-Serve-clause-answers g c =
+    let does =
+    Does (c.args.pictures.now ≡ c.args.pictures.now) (g.P.Pictures.tried c.args.pictures.now)
+    (g.P.Pictures.tried c.args.pictures.now) in
+    answers_of c.covered_texts_break_nothing.ensures c.driven_texts_break_nothing.ensures
+    c.fails_exactly_where_nothing_is_spelled.ensures.nowhere _ _ _ does _ Serve _ _ _
+    (rw c.in-Serve.is at c.in_ok-text.ensures) refl refl
+    (those_of _ _ c.report_on-in-Serve.ensures.texts) c.report_on-in-Serve.ensures.reported
+    (remarked_after Serve _ _ _ c.new-in-Serve.ensures.items c.report_on-in-Serve.ensures.remarked)
 
 pub returns-in-Explain-clause-answers : goal.returns-in-Explain-clause-answers
 returns-in-Explain-clause-answers g c =

@@ -11,4 +11,5 @@ returns c =
     let seven = c.with_command-program-7.ensures _ _ six c.extract_command.ensures in
     let eight = c.with_command-program-8.ensures _ _ seven c.format_command.ensures in
     let nine = c.with_command-program-9.ensures _ _ eight c.emit_command.ensures in
-    c.with_command.ensures _ _ nine c.compare_command.ensures
+    let ten = c.with_command-program-10.ensures _ _ nine c.compare_command.ensures in
+    c.with_command.ensures _ _ ten c.serve_command.ensures

@@ -1,0 +1,6 @@
+//! Columns in UTF-16 units, as SARIF and the Language Server Protocol count them, and the bytes of a line before a column.
+#![tactic(auto)]
+
+mod columns;
+
+pub use columns::{bytes_before, column_behind, column_of, column_up_to};

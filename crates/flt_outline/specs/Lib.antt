@@ -1,0 +1,5 @@
+pub mod Blocks
+pub mod Places
+pub mod Roles
+pub mod Symbols
+pub mod Uses

@@ -1,0 +1,104 @@
+//! Diagnostics of a text that doesn't parse.
+
+use crate::members::{add_line, put_number, put_string, put_text};
+use crate::places::Document;
+use flt_details::fault_name;
+use flt_hints::{Told, Trouble, describe, tell};
+use flt_outline::Part;
+use flt_places::{Region, lines_of};
+use flt_tree::Position;
+use json::Writer;
+use std::alloc::{AllocError, Global};
+
+/// The greatest number of bytes of a text that is read.
+const MAX_TEXT: usize = 65_536;
+
+/// The mark with which further lines of a report begin.
+const MARK: &[u8] = b"   = ";
+
+/// The members that each diagnostic begins with, after its place: a severity of the protocol, and the number of the rule or the fault.
+pub(crate) fn put_kind(writer: &mut Writer, severity: usize, code: &str) -> Result<(), AllocError> {
+    put_number(writer, "severity", severity)?;
+    put_string(writer, "code", code)?;
+    put_string(writer, "source", "fltstack")
+}
+
+fn add_notes(alloc: Global, out: &mut Vec<u8>, notes: &[u8]) -> Result<(), AllocError> {
+    let lines = lines_of(alloc, notes)?;
+    for line in lines.as_slice() {
+        add_line(out, line.strip_prefix(MARK).unwrap_or(line))?;
+    }
+    Ok(())
+}
+
+/// The mistake, and how to fix it.
+fn message_of(alloc: Global, told: &Told) -> Result<Vec<u8>, AllocError> {
+    let mut out = Vec::new(alloc);
+    add_line(&mut out, told.title.as_slice())?;
+    add_line(&mut out, told.meant.as_slice())?;
+    add_notes(alloc, &mut out, told.notes.as_slice())?;
+    Ok(out)
+}
+
+/// Where a text is refused.
+fn region_of(trouble: &Trouble<'_>) -> Region {
+    let fault = trouble.spot.fault;
+    Region {
+        first: Position {
+            line: fault.line,
+            column: fault.column,
+        },
+        end: Position {
+            line: fault.line,
+            column: fault.column.saturating_add(trouble.spot.bytes.len()),
+        },
+    }
+}
+
+fn put_fault(
+    alloc: Global,
+    writer: &mut Writer,
+    document: &Document<'_>,
+    trouble: &Trouble<'_>,
+) -> Result<(), AllocError> {
+    let told = tell(alloc, trouble)?;
+    let message = message_of(alloc, &told)?;
+    writer.begin_object()?;
+    document.put_region(writer, "range", region_of(trouble))?;
+    put_kind(writer, 1, fault_name(trouble.spot.fault.kind))?;
+    put_text(alloc, writer, "message", message.as_slice())?;
+    writer.end_object()
+}
+
+/// The diagnostic of a text that doesn't parse.
+pub(crate) fn put_unread(
+    alloc: Global,
+    writer: &mut Writer,
+    document: &Document<'_>,
+) -> Result<(), AllocError> {
+    match describe(alloc, document.text)? {
+        Some(trouble) => put_fault(alloc, writer, document, &trouble),
+        None => Ok(()),
+    }
+}
+
+/// The diagnostic of a text that is too long to be read, at its first byte.
+pub(crate) fn put_unanalysed(
+    writer: &mut Writer,
+    document: &Document<'_>,
+) -> Result<(), AllocError> {
+    writer.begin_object()?;
+    document.put_part(writer, "range", Part { start: 0, end: 0 })?;
+    put_kind(writer, 1, "E06")?;
+    put_string(
+        writer,
+        "message",
+        "a text has at most 65,536 bytes: this one isn't analysed",
+    )?;
+    writer.end_object()
+}
+
+/// Whether a text has more bytes than are read.
+pub(crate) fn is_too_long(text: &[u8]) -> bool {
+    MAX_TEXT < text.len()
+}

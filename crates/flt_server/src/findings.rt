@@ -1,0 +1,110 @@
+//! Diagnostics of findings.
+
+use crate::faults::put_kind;
+use crate::members::{add_line, put_text};
+use crate::places::Document;
+use flt_details::{Detail, Maker, Marks, RuleName, Words, details};
+use flt_explain::Finding;
+use flt_graph::Graph;
+use flt_places::Region;
+use flt_syntax::Tree;
+use json::Writer;
+use std::alloc::{AllocError, Global};
+
+/// The place of the operand, or of its statement.
+pub(crate) fn region_of(marks: &Marks) -> Region {
+    marks.operand.unwrap_or(marks.statement)
+}
+
+/// The mistake, how to fix it, and a note if there is one.
+fn message_of(alloc: Global, words: &Words) -> Result<Vec<u8>, AllocError> {
+    let mut out = Vec::new(alloc);
+    add_line(&mut out, words.title.as_slice())?;
+    add_line(&mut out, words.help.as_slice())?;
+    add_line(&mut out, words.note.as_slice())?;
+    Ok(out)
+}
+
+/// Another place, with words for it.
+pub(crate) fn put_related_place(
+    alloc: Global,
+    writer: &mut Writer,
+    document: &Document<'_>,
+    region: Region,
+    words: &[u8],
+) -> Result<(), AllocError> {
+    writer.begin_object()?;
+    writer.key("location")?;
+    document.put_location(writer, region)?;
+    put_text(alloc, writer, "message", words)?;
+    writer.end_object()
+}
+
+/// The words for the step that caused a finding.
+fn maker_words(maker: &Maker) -> &[u8] {
+    let words = maker.stage.words.as_slice();
+    if words.is_empty() {
+        b"it comes from here"
+    } else {
+        words
+    }
+}
+
+/// The step that caused a finding, if one is known.
+fn put_origin(
+    alloc: Global,
+    writer: &mut Writer,
+    document: &Document<'_>,
+    origin: &Option<Maker>,
+) -> Result<(), AllocError> {
+    let Some(maker) = origin else {
+        return Ok(());
+    };
+    writer.key("relatedInformation")?;
+    writer.begin_array()?;
+    put_related_place(
+        alloc,
+        writer,
+        document,
+        region_of(&maker.marks),
+        maker_words(maker),
+    )?;
+    writer.end_array()
+}
+
+fn put_rule(alloc: Global, writer: &mut Writer, finding: &Finding) -> Result<(), AllocError> {
+    let rule = RuleName(finding.rule);
+    let name = format!(in alloc; "{rule}")?;
+    put_kind(writer, 1, name.as_str())
+}
+
+fn put_finding(
+    alloc: Global,
+    writer: &mut Writer,
+    document: &Document<'_>,
+    detail: &Detail,
+) -> Result<(), AllocError> {
+    let message = message_of(alloc, &detail.words)?;
+    writer.begin_object()?;
+    document.put_region(writer, "range", region_of(&detail.marks))?;
+    put_rule(alloc, writer, &detail.finding)?;
+    put_text(alloc, writer, "message", message.as_slice())?;
+    put_origin(alloc, writer, document, &detail.route.origin)?;
+    writer.end_object()
+}
+
+/// The diagnostics of the findings of a text.
+pub(crate) fn put_findings(
+    alloc: Global,
+    writer: &mut Writer,
+    document: &Document<'_>,
+    tree: &Tree,
+    graph: &Graph,
+    found: &[Finding],
+) -> Result<(), AllocError> {
+    let details = details(alloc, document.text, tree, graph, found)?;
+    for detail in details.as_slice() {
+        put_finding(alloc, writer, document, detail)?;
+    }
+    Ok(())
+}

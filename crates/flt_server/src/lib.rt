@@ -1,0 +1,24 @@
+//! A server of the Language Server Protocol for texts of filters: mistakes, and the facts and words of each place. It exports
+//! `Server`, which answers the bodies of messages; `flt_frames` reads and writes them, and `flt_session` knows the protocol.
+//!
+//! An answer is proved to be what `flt_session` says of it. The text of a result, as the words of a hover, is only tested.
+#![tactic(auto)]
+
+mod actions;
+mod completion;
+mod diagnostics;
+mod edits;
+mod facts;
+mod faults;
+mod filters;
+mod findings;
+mod folds;
+mod hover;
+mod members;
+mod places;
+mod server;
+mod symbols;
+mod uses;
+mod warned;
+
+pub use server::Server;

@@ -1,0 +1,42 @@
+//! The server of a client whose documents are texts of filters.
+
+ghost use Rattle.std.specs.Prelude.{◌≡◌, [], IfOk, OnErr};
+ghost use Rattle.flt_frames.specs.Handling.{reply_of};
+ghost use Rattle.flt_session.specs.Answers.{IsAnswered};
+ghost use Rattle.flt_session.specs.declared.phase.Phase.TheVariants.{Fresh};
+
+use crate::filters::Filters;
+use flt_frames::{Answered, Handler};
+use flt_session::Session;
+use std::alloc::{AllocError, Global};
+
+/// A server of one client.
+#[derive(Drop)]
+pub struct Server {
+    session: Session,
+}
+
+impl Server {
+    /// A server whose client said nothing yet.
+    pub fn new(alloc: Global) -> Server
+        ensures phase { result.session.phase ≡ Fresh }
+        ensures documents { result.session.documents ≡ [] }
+    {
+        Server {
+            session: Session::new(alloc),
+        }
+    }
+}
+
+impl Handler for Server {
+    ghost use Rattle.flt_session.specs.Answers.{IsAnswered};
+
+    ghost answers = { λ old body answer new. IsAnswered old.session body answer new.session };
+
+    fn answer(&mut self, alloc: Global, body: &[u8]) -> Result<Answered, AllocError>
+        ensures answered { IfOk result (λ a. IsAnswered self.old.session body.now (reply_of a) self.new.session) }
+        ensures kept { OnErr result (self.new ≡ self.old) }
+    {
+        self.session.answer(alloc, &Filters, body)
+    }
+}
