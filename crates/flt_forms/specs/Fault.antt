@@ -11,7 +11,7 @@ use Rattle.flt_details.specs.Closing.{fault_name}
 use Rattle.flt_syntax.specs.declared.fault.SyntaxFault.{SyntaxFault}
 use Rattle.json.specs.Token.{Token, begin_object, end_object}
 use Rattle.flt_tree.specs.Names.{Text}
-use Rattle.flt_forms.specs.Columns.{column_up_to}
+use Rattle.flt_columns.specs.Columns.{column_up_to}
 use Rattle.flt_forms.specs.Preface.{preface}
 use Rattle.flt_forms.specs.Members.{array_member, bytes_member, filled_member, line_of, number_member, string_member, text_items, text_member}
 

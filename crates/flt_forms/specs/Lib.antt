@@ -1,5 +1,4 @@
 pub mod Clean
-pub mod Columns
 pub mod Counted
 pub mod Fault
 pub mod Files

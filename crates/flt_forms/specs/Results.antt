@@ -11,7 +11,7 @@ use Rattle.flt_syntax.specs.declared.fault.SyntaxFault.{SyntaxFault}
 use Rattle.flt_tree.specs.Names.{Text}
 use Rattle.flt_tree.specs.declared.filter.Position.{Position}
 use Rattle.json.specs.Token.{Token, begin_object, end_object, key}
-use Rattle.flt_forms.specs.Columns.{column_behind, column_of}
+use Rattle.flt_columns.specs.Columns.{column_behind, column_of}
 use Rattle.flt_forms.specs.Fingerprints.{finding_key, fingerprint, numbered}
 use Rattle.flt_forms.specs.Members.{array_member, filled_member, number_member, object_member, string_member, text_member}
 use Rattle.flt_forms.specs.Rules.{of_rule}

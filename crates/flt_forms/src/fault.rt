@@ -4,11 +4,11 @@ ghost use Rattle.std.specs.Prelude.{◌≡◌, ◌++◌, IfOk, codes, map, optio
 ghost use Rattle.flt_forms.specs.Fault as spec;
 ghost use Rattle.flt_forms.specs.Members.{Adds, array_member, line_of, number_member, text_items};
 
-use crate::columns::column_up_to;
 use crate::members::{
     close_object, open_object, put_bytes, put_filled, put_number, put_string, put_text, put_texts,
 };
 use crate::preface::put_preface;
+use flt_columns::column_up_to;
 use flt_details::fault_name;
 use flt_hints::{Choices, Expected, Told, Trouble};
 use flt_places::{Lines, lines_of};

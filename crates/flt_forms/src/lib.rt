@@ -6,7 +6,6 @@ mod artifacts;
 mod as_lines;
 mod as_sarif;
 mod clean;
-mod columns;
 mod fault;
 mod file;
 mod finding;

@@ -1,14 +1,13 @@
 //! Results of SARIF: findings and faults of texts.
 
 ghost use Rattle.std.specs.Prelude.{◌≡◌, ◌∷◌, ◌++◌, [], IfOk, codes, flat_map, length};
-ghost use Rattle.flt_forms.specs.Columns.{column_behind, column_of};
+ghost use Rattle.flt_columns.specs.Columns.{column_behind, column_of};
 ghost use Rattle.flt_forms.specs.Fingerprints.{finding_key};
 ghost use Rattle.flt_forms.specs.Members.{Added, Adds, array_member, number_member};
 ghost use Rattle.flt_forms.specs.Points.{regions};
 ghost use Rattle.flt_forms.specs.Results as spec;
 ghost use Rattle.flt_forms.specs.RunFlow.{flow_of, flows_in};
 
-use crate::columns::{column_behind, column_of};
 use crate::file::File;
 use crate::fingerprints as keys;
 use crate::members::{
@@ -19,6 +18,7 @@ use crate::points::Points;
 use crate::rules::{Reported, put_of_rule};
 use crate::run_flow::{FileRuns, OwnFlow, put_run_flow};
 use crate::uri::Reference;
+use flt_columns::{column_behind, column_of};
 use flt_details::{Detail, Maker, Marks, Stage, WayKind};
 use flt_graph::Graph;
 use flt_places::{Lines, Region};
