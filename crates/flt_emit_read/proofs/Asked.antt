@@ -28,7 +28,7 @@ use Rattle.flt_print.specs.Reprinting.{call_without, condition_without}
 use Rattle.flt_emit_read.specs.Front.{Front, after}
 use Rattle.flt_emit_read.specs.Lines.{Asked, known_value, comparison_at, if_same, known_at, if_none, unknown_at, null_at, anchor_given, get_at, set_at, delete_at, named, queued_at, remove_at, generic_at, allocate_at, fallible_at, succeeds_at, condition_at}
 use Rattle.flt_emit_read.proofs.Fronts.{then_reads, after_again, name_reads, joined_pieces}
-use Rattle.flt_emit_read.proofs.Words.{number_name_reads, context_reads, removed_reads, existing_reads, optional_reads, address_reads, atom_reads}
+use Rattle.flt_emit_read.proofs.Names.{number_name_reads, context_reads, removed_reads, existing_reads, optional_reads, address_reads, atom_reads}
 
 -- ---- tests
 

@@ -25,7 +25,7 @@ use Rattle.flt_emit_read.specs.Front.{◌>>=◌, after, by_form, past_blanks}
 use Rattle.flt_emit_read.specs.Lines.{whole, line_forms, line_at, context_line, ended_context, lock_end, lock_call, pended_at, pended_line, completing, completed_call, completed_return}
 use Rattle.flt_emit_read.proofs.Fronts.{then_reads, after_again, Stops, name_reads, pieces, joined_pieces, past_indentation}
 use Rattle.flt_emit_read.proofs.Simple.{started, starts, context_starts, completing_starts}
-use Rattle.flt_emit_read.proofs.Words.{context_reads, operation_reads, operation_solid, final_reads, optional_reads, ends_reads}
+use Rattle.flt_emit_read.proofs.Names.{context_reads, operation_reads, operation_solid, final_reads, optional_reads, ends_reads}
 
 -- a status that doesn't complete
 abbrev pub is_bare : Status → Bool

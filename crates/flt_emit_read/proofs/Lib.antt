@@ -6,5 +6,6 @@ pub mod Fronts
 pub mod Nested
 pub mod Returns
 pub mod Simple
+pub mod Stripped
 pub mod Whole
-pub mod Words
+pub mod Names

@@ -33,7 +33,7 @@ use Rattle.flt_emit_read.proofs.Calls.{call_reads}
 use Rattle.flt_emit_read.proofs.Fronts.{then_reads, first_reads, other_reads, after_again, number_reads, joined_pieces}
 use Rattle.flt_emit_read.proofs.Returns.{return_reads}
 use Rattle.flt_emit_read.proofs.Simple.{starts, action_reads}
-use Rattle.flt_emit_read.proofs.Words.{ends_reads}
+use Rattle.flt_emit_read.proofs.Names.{ends_reads}
 
 -- ---- lines of blocks
 

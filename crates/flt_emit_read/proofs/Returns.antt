@@ -22,7 +22,7 @@ use Rattle.flt_emit_read.specs.Lines.{Line, whole, line_forms, line_at, complete
 use Rattle.flt_emit_read.proofs.Calls.{completion_starts}
 use Rattle.flt_emit_read.proofs.Fronts.{then_reads, joined_pieces, past_indentation}
 use Rattle.flt_emit_read.proofs.Simple.{started, starts}
-use Rattle.flt_emit_read.proofs.Words.{context_reads, ends_reads}
+use Rattle.flt_emit_read.proofs.Names.{context_reads, ends_reads}
 
 module _ (locks : List Lock) (lv point : ℕ) where
   -- a pre or a post callback's return

@@ -27,7 +27,7 @@ use Rattle.flt_emit.specs.Statements.{action_text}
 use Rattle.flt_emit_read.specs.Front.{Front, after, by_form, past_blanks, number_at}
 use Rattle.flt_emit_read.specs.Lines.{Line, whole, line_forms, line_at, number_line, context_line, removed_line, expression_after, file_at, write_line, atom_at, number_name_at, completing}
 use Rattle.flt_emit_read.proofs.Fronts.{then_reads, first_reads, other_reads, after_again, joined_pieces, past_indentation}
-use Rattle.flt_emit_read.proofs.Words.{context_reads, removed_reads, atom_reads, ends_reads}
+use Rattle.flt_emit_read.proofs.Names.{context_reads, removed_reads, atom_reads, ends_reads}
 
 -- ---- files
 

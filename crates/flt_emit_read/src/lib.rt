@@ -1,6 +1,8 @@
 //! Reads the emitted C source of a filter back to the tree of its text, and the laws that it does.
 #![tactic(auto)]
 
+mod front;
 mod laws;
+mod words;
 
 pub use laws::{reads_back, reads_back_whole, says_one_filter};
