@@ -1,10 +1,11 @@
 pub mod Asked
-pub mod Calls
+pub mod Plain
 pub mod Declared
 pub mod Fits
 pub mod Fronts
 pub mod Nested
 pub mod Returns
+pub mod Runs
 pub mod Simple
 pub mod Stripped
 pub mod Whole

@@ -27,9 +27,11 @@ use Rattle.flt_emit.specs.Statements.{Lines, statement_step, statement_text, wit
 use Rattle.flt_print.specs.Reprinting.{condition_without}
 use Rattle.flt_emit_read.specs.AsRead.{returned, step_as_read, statement_as_read}
 use Rattle.flt_emit_read.specs.Blocks.{Open, first, second, repeated, Reading, reading, ended, takes, past_end, step, lines_at}
-use Rattle.flt_emit_read.specs.Lines.{Line, whole, asks, turns, otherwise, closes, line_forms, line_at, if_line, bare_line, repeat_line}
+use Rattle.flt_emit_read.specs.declared.line.Line.{Line}
+use Rattle.flt_emit_read.specs.declared.line.Line.TheVariants.{Whole, Asks, Turns, Otherwise, Closes}
+use Rattle.flt_emit_read.specs.Lines.{line_forms, line_at, if_line, bare_line, repeat_line, line_start, named_line, number_name_at, context_at, removed_at}
 use Rattle.flt_emit_read.proofs.Asked.{condition_reads}
-use Rattle.flt_emit_read.proofs.Calls.{call_reads}
+use Rattle.flt_emit_read.proofs.Plain.{call_reads}
 use Rattle.flt_emit_read.proofs.Fronts.{then_reads, first_reads, other_reads, after_again, number_reads, joined_pieces}
 use Rattle.flt_emit_read.proofs.Returns.{return_reads}
 use Rattle.flt_emit_read.proofs.Simple.{starts, action_reads}
@@ -39,8 +41,8 @@ use Rattle.flt_emit_read.proofs.Names.{ends_reads}
 
 module _ (scope : Scope) (queue : Bool) (lv point line : ℕ) (r : Text) (level : ℕ) where
   if_reads : (turned : Bool) (c : Condition) → IsCondition queue c →
-      line_at scope.place scope.locks lv point (if_text scope level point line turned c ++ r) ≡ Some (asks turned (condition_without c), r)
-  unfolding line_forms if_line
+      line_at scope.place scope.locks lv point (if_text scope level point line turned c ++ r) ≡ Some (Asks turned (condition_without c), r)
+  unfolding line_forms if_line line_start named_line number_name_at context_at removed_at
   if_reads turned c ok =
       ap (line_at scope.place scope.locks lv point)
       (joined_pieces (indentation level ∷ codes "if (" ∷ condition_text scope point turned c ∷ codes ") {" ∷ label point line ∷ []) r)
@@ -50,8 +52,8 @@ module _ (scope : Scope) (queue : Bool) (lv point line : ℕ) (r : Text) (level 
 
   bare_reads : (c : Condition) → IsCondition queue c →
       line_at scope.place scope.locks lv point (bare_text scope level point line c ++ r) ≡
-      Some (whole (If no_span (condition_without c) [] []), r)
-  unfolding line_forms bare_line
+      Some (Whole (If no_span (condition_without c) [] []), r)
+  unfolding line_forms bare_line line_start named_line number_name_at context_at removed_at
   bare_reads c ok =
       ap (line_at scope.place scope.locks lv point)
       (joined_pieces (indentation level ∷ codes "(VOID) (" ∷ condition_text scope point false c ∷ codes ");" ∷ label point line ∷ []) r)
@@ -59,21 +61,21 @@ module _ (scope : Scope) (queue : Bool) (lv point line : ℕ) (r : Text) (level 
       ∙ then_reads _ (condition_reads scope queue point false c (codes ");" ++ (label point line ++ r)) ok)
       ∙ ends_reads (codes ");") point line _ r
 
-  closing_reads : line_at scope.place scope.locks lv point (closing level ++ r) ≡ Some (closes, r)
-  unfolding line_forms
+  closing_reads : line_at scope.place scope.locks lv point (closing level ++ r) ≡ Some (Closes, r)
+  unfolding line_forms line_start named_line number_name_at context_at removed_at
   closing_reads =
       ap (line_at scope.place scope.locks lv point) (joined_pieces (indentation level ∷ codes "}\n" ∷ []) r)
       ∙ starts scope.place scope.locks lv point level _
 
-  else_reads : line_at scope.place scope.locks lv point (else_text level ++ r) ≡ Some (otherwise, r)
-  unfolding line_forms
+  else_reads : line_at scope.place scope.locks lv point (else_text level ++ r) ≡ Some (Otherwise, r)
+  unfolding line_forms line_start named_line number_name_at context_at removed_at
   else_reads =
       ap (line_at scope.place scope.locks lv point) (joined_pieces (indentation level ∷ codes "} else {\n" ∷ []) r)
       ∙ starts scope.place scope.locks lv point level _
 
 repeat_reads : (at : Place) (locks : List Lock) (level point line n : ℕ) (r : Text) → n ≤ max_turns →
-    line_at at locks level point (repeat_text level point line n ++ r) ≡ Some (turns n, r)
-unfolding line_forms repeat_line
+    line_at at locks level point (repeat_text level point line n ++ r) ≡ Some (Turns n, r)
+unfolding line_forms repeat_line line_start named_line number_name_at context_at removed_at
 repeat_reads at locks level point line n r few =
     ap (line_at at locks level point)
     (joined_pieces (indentation level ∷ codes "for (ULONG turn" ∷ decimal level ∷ codes " = " ∷ decimal n ∷ codes "; turn"
@@ -209,7 +211,7 @@ module _ (scope : Scope) (queue : Bool) where
   one_point : (s : Statement) (y : Statement-F Statement) (read : Statement) → roll-Statement y ≡ s →
       points_of s ≡ 1 → statement_as_read scope.place s ≡ read →
       ((point level : ℕ) (r : Text) → length r < length (layer scope y level point ++ r)) →
-      ((lv point level : ℕ) (r : Text) → line_at scope.place scope.locks lv point (layer scope y level point ++ r) ≡ Some (whole read, r)) →
+      ((lv point level : ℕ) (r : Text) → line_at scope.place scope.locks lv point (layer scope y level point ++ r) ≡ Some (Whole read, r)) →
       OfStatement s
   one_point s y read e one as_read less reads point done outer r =
       from_text (ap (λ (f : Lines). f (suc (length outer)) point ++ r) (laid scope s y e))

@@ -11,7 +11,9 @@ use Rattle.flt_tree.specs.declared.filter.Statement.TheVariants.{If, Repeat}
 use Rattle.flt_emit.specs.Fixed as fixed
 use Rattle.flt_emit.specs.Statements.{passing}
 use Rattle.flt_emit_read.specs.Front.{Front, ◌>>=◌, or_else, after}
-use Rattle.flt_emit_read.specs.Lines.{Line, whole, asks, turns, otherwise, closes, line_at}
+use Rattle.flt_emit_read.specs.declared.line.Line.{Line}
+use Rattle.flt_emit_read.specs.declared.line.Line.TheVariants.{Whole, Asks, Turns, Otherwise, Closes}
+use Rattle.flt_emit_read.specs.Lines.{line_at}
 
 -- a block that is open, with the statements before it
 pub data Open : Type 0 where
@@ -53,11 +55,11 @@ closed point done (block ∷ outer) = Some (reading point (ended block done) out
 
 -- what a line does
 abbrev pub takes : Reading → Line → Option Reading
-takes r (whole s) = Some (reading (r.point + 1) (r.done ++ s ∷ []) r.open_blocks)
-takes r (asks turned c) = Some (reading (r.point + 1) [] (first turned c r.done ∷ r.open_blocks))
-takes r (turns n) = Some (reading (r.point + 1) [] (repeated n r.done ∷ r.open_blocks))
-takes r otherwise = turned_over r.point r.done r.open_blocks
-takes r closes = closed r.point r.done r.open_blocks
+takes r (Whole s) = Some (reading (r.point + 1) (r.done ++ s ∷ []) r.open_blocks)
+takes r (Asks turned c) = Some (reading (r.point + 1) [] (first turned c r.done ∷ r.open_blocks))
+takes r (Turns n) = Some (reading (r.point + 1) [] (repeated n r.done ∷ r.open_blocks))
+takes r Otherwise = turned_over r.point r.done r.open_blocks
+takes r Closes = closed r.point r.done r.open_blocks
 
 -- ---- a whole body
 

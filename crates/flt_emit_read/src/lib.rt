@@ -1,8 +1,13 @@
 //! Reads the emitted C source of a filter back to the tree of its text, and the laws that it does.
 #![tactic(auto)]
 
+mod calls;
+mod conditions;
 mod front;
 mod laws;
+mod line;
+mod lines;
+mod numbers;
 mod words;
 
 pub use laws::{reads_back, reads_back_whole, says_one_filter};
