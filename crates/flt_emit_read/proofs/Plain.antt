@@ -23,10 +23,10 @@ use Rattle.flt_emit.specs.Names.{context_name, context_or_null, operation_name, 
 use Rattle.flt_emit.specs.Statements.{plain_text, before_call, final_text}
 use Rattle.flt_emit_read.specs.Front.{◌>>=◌, after, by_form, past_blanks}
 use Rattle.flt_emit_read.specs.declared.line.Line.TheVariants.{Whole}
-use Rattle.flt_emit_read.specs.Lines.{line_forms, line_at, context_line, ended_context, lock_end, lock_call, pended_at, pended_line, completing, completed_call, completed_return, line_start, named_line, number_name_at, context_at, removed_at}
+use Rattle.flt_emit_read.specs.Lines.{line_at, context_line, ended_context, lock_end, lock_call, pended_at, pended_line, completing, completed_call, completed_return, line_start, named_line, number_name_at, context_at, removed_at, ask_forms, plain_line, plain_forms, lock_line, lock_forms, settle_line, settle_forms, locked, ended}
 use Rattle.flt_emit_read.proofs.Fronts.{then_reads, after_again, Stops, name_reads, pieces, joined_pieces, past_indentation}
 use Rattle.flt_emit_read.proofs.Simple.{started, starts, context_starts, completing_starts}
-use Rattle.flt_emit_read.proofs.Names.{context_reads, operation_reads, operation_solid, final_reads, optional_reads, ends_reads}
+use Rattle.flt_emit_read.proofs.Names.{context_reads, operation_reads, operation_solid, final_reads, optional_reads, ended_reads, ends_reads}
 
 -- a status that doesn't complete
 abbrev pub is_bare : Status → Bool
@@ -54,9 +54,10 @@ module _ (at : Place) (locks : List Lock) (lv point line : ℕ) (r : Text) where
   lock_reads : (kind : LockKind) (level : Option Text) (made : LockNumber → PlainCall) (name : Text) (l : LockNumber) →
       is_name name ≡ true → lock_number kind name locks ≡ Some l → Stops is_word (lock_end level name ++ rest) →
       lock_call locks point kind level made (name ++ (lock_end level name ++ rest)) ≡ Some (Whole (Call no_span (made l)), r)
-  unfolding lock_call
+  unfolding lock_call locked
   lock_reads kind level made name l h e s =
-      then_reads _ (name_reads name (lock_end level name ++ rest) h s) ∙ then_reads _ e ∙ ends_reads (lock_end level name) point line _ r
+      then_reads _ (then_reads _ (name_reads name (lock_end level name ++ rest) h s) ∙ then_reads _ e
+      ∙ then_reads _ (ended_reads (lock_end level name) point line r))
 
   spin_end : (before level name : Text) →
       pieces (before ∷ name ∷ level ∷ name ∷ codes " );" ∷ []) rest ≡ before ++ (name ++ (lock_end (Some level) name ++ rest))
@@ -93,7 +94,7 @@ module _ (at : Place) (locks : List Lock) (lv point line : ℕ) (r : Text) where
   pended_call : (d : OperationVariable) (s : Status) → is_bare s ≡ true →
       started at locks lv point (plain_text locks (plain.CompletePendedPreOperation d s) ++ rest) ≡
       Some (Whole (Call no_span (plain.CompletePendedPreOperation d s)), r)
-  unfolding line_forms pended_line line_start named_line number_name_at context_at removed_at
+  unfolding pended_line line_start named_line number_name_at context_at removed_at ask_forms plain_line plain_forms lock_line lock_forms settle_line settle_forms
   pended_call d s h =
       ap (started at locks lv point)
       (joined_pieces (codes "FltCompletePendedPreOperation( " ∷ operation_name d ∷ codes ", " ∷ status_name s ∷ codes ", "
@@ -107,7 +108,7 @@ module _ (at : Place) (locks : List Lock) (lv point line : ℕ) (r : Text) where
 
   plain_starts : (c : PlainCall) → IsPlain locks c → is_alone c ≡ true →
       started at locks lv point (plain_text locks c ++ rest) ≡ Some (Whole (Call no_span c), r)
-  unfolding line_forms ended_context context_line line_start named_line number_name_at context_at removed_at
+  unfolding ended_context context_line line_start named_line number_name_at context_at removed_at ask_forms plain_line plain_forms lock_line lock_forms settle_line settle_forms
   plain_starts (plain.DeleteContext c) ok h =
       ap (started at locks lv point) (joined_pieces (codes "FltDeleteContext( " ∷ context_name c ∷ codes " );" ∷ []) rest)
       ∙ then_reads _ (context_reads c _) ∙ ends_reads (codes " );") point line _ r

@@ -43,3 +43,10 @@ pub after_more : (n : ℕ) (z : Text) → 10 ≤ n → n < 2 ^ 64 →
     after (decimal n) z ≡ (after (decimal (n / 10)) z >>= λ r. after ((48 + n % 10) ∷ []) r)
 after_more n z some small =
     ap (λ d. after d z) (decimal_step n some small) ∙ after_both (decimal (n / 10)) ((48 + n % 10) ∷ []) z
+
+pub after_three : (x y w z : Text) → after (x ++ (y ++ w)) z ≡ (after x z >>= λ r. after y r >>= λ q. after w q)
+after_three x y w z = after_both x (y ++ w) z ∙ inside (after x z)
+  where
+    inside : (o : Option Text) → (o >>= λ r. after (y ++ w) r) ≡ (o >>= λ r. after y r >>= λ q. after w q)
+    inside None = refl
+    inside (Some r) = after_both y w r

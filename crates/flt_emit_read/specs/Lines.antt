@@ -180,12 +180,20 @@ abbrev pub lock_end : Option Text → Text → Text
 lock_end None name = codes " );"
 lock_end (Some level) name = level ++ (name ++ codes " );")
 
+-- the lock of a kind and a name, and what follows the call on it
+unfoldable pub locked : List Lock → ℕ → LockKind → Option Text → Text → Front LockNumber
+locked locks point kind level z = do
+  name ← name_at z
+  l ← lock_number kind name.0 locks
+  rest ← ended (lock_end level name.0) point name.1
+  Some (l, rest)
+
 -- a call on the lock of a kind
 unfoldable pub lock_call : List Lock → ℕ → LockKind → Option Text → (LockNumber → PlainCall) → Text → Front Line
 lock_call locks point kind level made z =
-    name_at z >>= λ name. lock_number kind name.0 locks >>= λ l. calls point (lock_end level name.0) (made l) name.1
+    locked locks point kind level z >>= λ l. Some (Whole (Call no_span (made l.0)), l.1)
 
--- the same statuses for a pended operation, but for the one that completes it
+-- a status for a pended operation that doesn't complete it
 unfoldable pub pended_at : Text → Front Status
 pended_at =
     by_form ((codes "FLT_PREOP_SUCCESS_WITH_CALLBACK, ", λ z. optional_at z >>= λ c. Some (statuses.WithCallback c.0, c.1))
@@ -473,25 +481,6 @@ repeat_line level point z = do
 
 -- ---- all lines
 
--- the lines of a callback of a place, in a block of a level, by how they begin
-unfoldable pub line_forms : Place → List Lock → ℕ → ℕ → Forms Line
-line_forms at locks level point =
-    (codes "if (", if_line at point) ∷ (codes "(VOID) (", bare_line at point) ∷ (codes "for (ULONG turn", repeat_line level point)
-    ∷ (codes "}\n", λ z. Some (Closes, z)) ∷ (codes "} else {\n", λ z. Some (Otherwise, z))
-    ∷ (codes "WriteULong64NoFence( &", write_line point)
-    ∷ (codes "FltDeleteContext( ", ended_context point plain.DeleteContext)
-    ∷ (codes "FltReleaseContext( ", ended_context point plain.ReleaseContext)
-    ∷ (codes "KeAcquireSpinLock( &Globals.lock_", lock_call locks point Spin (Some (codes ", &irql_")) (plain.AcquireLock Spin))
-    ∷ (codes "ExAcquireFastMutex( &Globals.lock_", lock_call locks point Fast None (plain.AcquireLock Fast))
-    ∷ (codes "FltAcquirePushLockExclusive( &Globals.lock_", lock_call locks point Push None (plain.AcquireLock Push))
-    ∷ (codes "FltAcquirePushLockShared( &Globals.lock_", lock_call locks point Push None plain.AcquirePushLockShared)
-    ∷ (codes "KeReleaseSpinLock( &Globals.lock_", lock_call locks point Spin (Some (codes ", irql_")) (plain.ReleaseLock Spin))
-    ∷ (codes "ExReleaseFastMutex( &Globals.lock_", lock_call locks point Fast None (plain.ReleaseLock Fast))
-    ∷ (codes "FltReleasePushLock( &Globals.lock_", lock_call locks point Push None (plain.ReleaseLock Push))
-    ∷ (codes "FltCompletePendedPreOperation( ", pended_line point)
-    ∷ (codes "FltCompletePendedPostOperation( Data );", calls point [] plain.CompletePendedPostOperation)
-    ∷ (codes "Data->IoStatus.Status = ", completing at point operations.Data) ∷ []
-
 -- a line that begins with a variable, or a return
 unfoldable pub named_line : Place → ℕ → Text → Front Line
 named_line at point z =
@@ -499,9 +488,51 @@ named_line at point z =
     (or_else (context_at z) (λ c. context_line point c.0 c.1)
     (or_else (removed_at z) (λ o. removed_line at point o.0 o.1) (by_form (returns at point) z)))
 
--- a line without its blanks
+-- lines that settle operations, by how they begin
+unfoldable pub settle_forms : Place → ℕ → Forms Line
+settle_forms at point =
+    (codes "FltCompletePendedPreOperation( ", pended_line point)
+    ∷ (codes "FltCompletePendedPostOperation( Data );", calls point [] plain.CompletePendedPostOperation)
+    ∷ (codes "Data->IoStatus.Status = ", completing at point operations.Data) ∷ []
+
+-- such a line, or one that begins with a variable, or a return
+unfoldable pub settle_line : Place → ℕ → Text → Front Line
+settle_line at point z = or_else (one_of (settle_forms at point) z) (λ q. q.0 q.1) (named_line at point z)
+
+-- calls on locks, by how they begin
+unfoldable pub lock_forms : List Lock → ℕ → Forms Line
+lock_forms locks point =
+    (codes "KeAcquireSpinLock( &Globals.lock_", lock_call locks point Spin (Some (codes ", &irql_")) (plain.AcquireLock Spin))
+    ∷ (codes "ExAcquireFastMutex( &Globals.lock_", lock_call locks point Fast None (plain.AcquireLock Fast))
+    ∷ (codes "FltAcquirePushLockExclusive( &Globals.lock_", lock_call locks point Push None (plain.AcquireLock Push))
+    ∷ (codes "FltAcquirePushLockShared( &Globals.lock_", lock_call locks point Push None plain.AcquirePushLockShared)
+    ∷ (codes "KeReleaseSpinLock( &Globals.lock_", lock_call locks point Spin (Some (codes ", irql_")) (plain.ReleaseLock Spin))
+    ∷ (codes "ExReleaseFastMutex( &Globals.lock_", lock_call locks point Fast None (plain.ReleaseLock Fast))
+    ∷ (codes "FltReleasePushLock( &Globals.lock_", lock_call locks point Push None (plain.ReleaseLock Push)) ∷ []
+
+-- such a call, or a line of those above
+unfoldable pub lock_line : Place → List Lock → ℕ → Text → Front Line
+lock_line at locks point z = or_else (one_of (lock_forms locks point) z) (λ q. q.0 q.1) (settle_line at point z)
+
+-- lines that begin and end blocks and that end contexts, by how they begin
+unfoldable pub plain_forms : ℕ → ℕ → Forms Line
+plain_forms level point =
+    (codes "for (ULONG turn", repeat_line level point) ∷ (codes "}\n", λ z. Some (Closes, z))
+    ∷ (codes "} else {\n", λ z. Some (Otherwise, z)) ∷ (codes "WriteULong64NoFence( &", write_line point)
+    ∷ (codes "FltDeleteContext( ", ended_context point plain.DeleteContext)
+    ∷ (codes "FltReleaseContext( ", ended_context point plain.ReleaseContext) ∷ []
+
+-- such a line, or one of those above
+unfoldable pub plain_line : Place → List Lock → ℕ → ℕ → Text → Front Line
+plain_line at locks level point z = or_else (one_of (plain_forms level point) z) (λ q. q.0 q.1) (lock_line at locks point z)
+
+-- the lines of `if`, by how they begin
+unfoldable pub ask_forms : Place → ℕ → Forms Line
+ask_forms at point = (codes "if (", if_line at point) ∷ (codes "(VOID) (", bare_line at point) ∷ []
+
+-- a line without its blanks, of a callback of a place, in a block of a level
 unfoldable pub line_start : Place → List Lock → ℕ → ℕ → Text → Front Line
-line_start at locks level point z = or_else (one_of (line_forms at locks level point) z) (λ q. q.0 q.1) (named_line at point z)
+line_start at locks level point z = or_else (one_of (ask_forms at point) z) (λ q. q.0 q.1) (plain_line at locks level point z)
 
 -- the line at the front
 unfoldable pub line_at : Place → List Lock → ℕ → ℕ → Text → Front Line

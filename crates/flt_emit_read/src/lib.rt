@@ -7,7 +7,9 @@ mod front;
 mod laws;
 mod line;
 mod lines;
+mod locks;
 mod numbers;
+mod statements;
 mod words;
 
 pub use laws::{reads_back, reads_back_whole, says_one_filter};

@@ -18,7 +18,7 @@ use flt_tree::{
     RemovedVariable, Span, Statement, Status,
 };
 
-const NOWHERE: Span = Span {
+pub(crate) const NOWHERE: Span = Span {
     line: 0,
     start: 0,
     end: 0,
@@ -39,7 +39,7 @@ pub(crate) fn atom(z: &[u8]) -> Option<(Atom, &[u8])>
 
 /// What follows the label of a statement, which has this point.
 #[tactic(auto, unfolding(crate::specs::Lines::labelled))]
-fn labelled(point: usize, z: &[u8]) -> Option<&[u8]>
+pub(crate) fn labelled(point: usize, z: &[u8]) -> Option<&[u8]>
     ensures { rest_of result ≡ spec.labelled point z.now }
 {
     let z = after(b"    // ", z)?;
