@@ -1,12 +1,14 @@
 pub mod Asked
 pub mod Plain
 pub mod Declared
+pub mod Exclusive
 pub mod Fits
 pub mod Fronts
 pub mod Nested
 pub mod Returns
 pub mod Runs
 pub mod Simple
+pub mod Stacked
 pub mod Stripped
 pub mod Whole
 pub mod Names

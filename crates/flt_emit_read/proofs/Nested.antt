@@ -26,7 +26,9 @@ use Rattle.flt_emit.specs.Scope.{Scope}
 use Rattle.flt_emit.specs.Statements.{Lines, statement_step, statement_text, with_lines, statements_of, body_text, in_turn, choice_text, if_text, bare_text, repeat_text, closing, else_text, action_text, before_call, plain_text, return_text}
 use Rattle.flt_print.specs.Reprinting.{condition_without}
 use Rattle.flt_emit_read.specs.AsRead.{returned, step_as_read, statement_as_read}
-use Rattle.flt_emit_read.specs.Blocks.{Open, first, second, repeated, Reading, reading, ended, takes, past_end, step, lines_at}
+use Rattle.flt_emit_read.specs.declared.blocks.Open.{Open}
+use Rattle.flt_emit_read.specs.declared.blocks.Open.TheVariants.{First, Second, Repeated}
+use Rattle.flt_emit_read.specs.Blocks.{Reading, reading, ended, takes, past_end, step, lines_at}
 use Rattle.flt_emit_read.specs.declared.line.Line.{Line}
 use Rattle.flt_emit_read.specs.declared.line.Line.TheVariants.{Whole, Asks, Turns, Otherwise, Closes}
 use Rattle.flt_emit_read.specs.Lines.{line_at, if_line, bare_line, repeat_line, line_start, named_line, number_name_at, context_at, removed_at, ask_forms, plain_line, plain_forms, lock_line, lock_forms, settle_line, settle_forms}
@@ -273,7 +275,7 @@ module _ (scope : Scope) (queue : Bool) where
   -- the line of an `if`
   asked_line : {point : ℕ} {done : List Statement} {outer : List Open} {u : Reading} {y z : Text} (turned : Bool) (c : Condition)
       (line : ℕ) → IsCondition queue c →
-      Path (reading (point + 1) [] (first turned (condition_without c) done ∷ outer)) y u z →
+      Path (reading (point + 1) [] (First turned (condition_without c) done ∷ outer)) y u z →
       Path (reading point done outer) (if_text scope (suc (length outer)) point line turned c ++ y) u z
   asked_line {point = point} {outer = outer} {y = y} turned c line ok more =
       by_line (if_reads scope queue (suc (length outer)) point line y (suc (length outer)) turned c ok) refl
@@ -296,13 +298,13 @@ module _ (scope : Scope) (queue : Bool) where
       (grouped (if_text scope (suc (length outer)) point line true c)
       (in_turn (with_lines scope (x ∷ xs)) (suc (length outer) + 1) (point + 1)) (closing (suc (length outer))) r)
       (asked_line true c line ok
-      (closed_block (x ∷ xs) e (first true (condition_without c) done) (point + 1) q outer r (omega (arith, h))))
+      (closed_block (x ∷ xs) e (First true (condition_without c) done) (point + 1) q outer r (omega (arith, h))))
   choice line c (y ∷ ys) [] ok g e point q done outer r h =
       from_text
       (grouped (if_text scope (suc (length outer)) point line false c)
       (in_turn (with_lines scope (y ∷ ys)) (suc (length outer) + 1) (point + 1)) (closing (suc (length outer))) r)
       (asked_line false c line ok
-      (closed_block (y ∷ ys) g (first false (condition_without c) done) (point + 1) q outer r (omega (arith, h))))
+      (closed_block (y ∷ ys) g (First false (condition_without c) done) (point + 1) q outer r (omega (arith, h))))
   choice line c (y ∷ ys) (x ∷ xs) ok g e point q done outer r h =
       let level = suc (length outer) in
       let middle = point + 1 + points (y ∷ ys) in
@@ -319,10 +321,10 @@ module _ (scope : Scope) (queue : Bool) where
       ∙ ap (λ n. if_text scope level point line false c ++ (body_text scope (y ∷ ys) n (point + 1)
       ++ (else_text level ++ (last ++ (closing level ++ r))))) (add-one level))
       (asked_line false c line ok
-      (joins (g (point + 1) [] (first false (condition_without c) done ∷ outer) (else_text level ++ (last ++ (closing level ++ r))))
+      (joins (g (point + 1) [] (First false (condition_without c) done ∷ outer) (else_text level ++ (last ++ (closing level ++ r))))
       (by_line (else_reads scope queue (suc level) (point + 1 + points (y ∷ ys)) 0 (last ++ (closing level ++ r)) level) refl
       (else_shorter level (last ++ (closing level ++ r)))
-      (closed_block (x ∷ xs) e (second (condition_without c) (inside (y ∷ ys)) done) middle q outer r (omega (arith, h))))))
+      (closed_block (x ∷ xs) e (Second (condition_without c) (inside (y ∷ ys)) done) middle q outer r (omega (arith, h))))))
 
   of_choice : (at : Span) (c : Condition) (granted refused : List Statement) → IsCondition queue c → OfBlock granted → OfBlock refused →
       OfStatement (If at c granted refused)
@@ -349,7 +351,7 @@ module _ (scope : Scope) (queue : Bool) where
       (by_line (repeat_reads scope.place scope.locks level point at.line n inner few) refl
       (last_shorter (indentation level ∷ codes "for (ULONG turn" ∷ decimal level ∷ codes " = " ∷ decimal n ∷ codes "; turn"
       ∷ decimal level ∷ codes " != 0; turn" ∷ decimal level ∷ codes "--) {" ∷ []) point at.line inner)
-      (closed_block body of (repeated n done) (point + 1) (point + points_of whole_repeat) outer r
+      (closed_block body of (Repeated n done) (point + 1) (point + points_of whole_repeat) outer r
       (omega (arith, folded ℕ points_step whole_repeat parts (rolls-Repeat at n body))))))
 
   mutual

@@ -10,19 +10,12 @@ use Rattle.flt_tree.specs.declared.filter.Statement.{Statement}
 use Rattle.flt_tree.specs.declared.filter.Statement.TheVariants.{If, Repeat}
 use Rattle.flt_emit.specs.Fixed as fixed
 use Rattle.flt_emit.specs.Statements.{passing}
+use Rattle.flt_emit_read.specs.declared.blocks.Open.{Open}
+use Rattle.flt_emit_read.specs.declared.blocks.Open.TheVariants.{First, Second, Repeated}
 use Rattle.flt_emit_read.specs.Front.{Front, ◌>>=◌, or_else, after}
 use Rattle.flt_emit_read.specs.declared.line.Line.{Line}
 use Rattle.flt_emit_read.specs.declared.line.Line.TheVariants.{Whole, Asks, Turns, Otherwise, Closes}
 use Rattle.flt_emit_read.specs.Lines.{line_at}
-
--- a block that is open, with the statements before it
-pub data Open : Type 0 where
-  -- the first block of an `if`, and whether that asks for the opposite
-  first : Bool → Condition → List Statement → Open
-  -- the second one, behind the statements of the first
-  second : Condition → List Statement → List Statement → Open
-  -- a `repeat`
-  repeated : ℕ → List Statement → Open
 
 -- where a reading stands
 pub record Reading : Type 0 where
@@ -38,14 +31,14 @@ reading point done outer = record { point = point; done = done; open_blocks = ou
 
 -- the statements of the block outside, once the block that is open ends
 abbrev pub ended : Open → List Statement → List Statement
-ended (first false c before) inside = before ++ If no_span c inside [] ∷ []
-ended (first true c before) inside = before ++ If no_span c [] inside ∷ []
-ended (second c granted before) inside = before ++ If no_span c granted inside ∷ []
-ended (repeated n before) inside = before ++ Repeat no_span n inside ∷ []
+ended (First false c before) inside = before ++ If no_span c inside [] ∷ []
+ended (First true c before) inside = before ++ If no_span c [] inside ∷ []
+ended (Second c granted before) inside = before ++ If no_span c granted inside ∷ []
+ended (Repeated n before) inside = before ++ Repeat no_span n inside ∷ []
 
 -- the second block of an `if` begins
 abbrev pub turned_over : ℕ → List Statement → List Open → Option Reading
-turned_over point done (first false c before ∷ outer) = Some (reading point [] (second c done before ∷ outer))
+turned_over point done (First false c before ∷ outer) = Some (reading point [] (Second c done before ∷ outer))
 turned_over point done _ = None
 
 -- a block ends
@@ -56,8 +49,8 @@ closed point done (block ∷ outer) = Some (reading point (ended block done) out
 -- what a line does
 abbrev pub takes : Reading → Line → Option Reading
 takes r (Whole s) = Some (reading (r.point + 1) (r.done ++ s ∷ []) r.open_blocks)
-takes r (Asks turned c) = Some (reading (r.point + 1) [] (first turned c r.done ∷ r.open_blocks))
-takes r (Turns n) = Some (reading (r.point + 1) [] (repeated n r.done ∷ r.open_blocks))
+takes r (Asks turned c) = Some (reading (r.point + 1) [] (First turned c r.done ∷ r.open_blocks))
+takes r (Turns n) = Some (reading (r.point + 1) [] (Repeated n r.done ∷ r.open_blocks))
 takes r Otherwise = turned_over r.point r.done r.open_blocks
 takes r Closes = closed r.point r.done r.open_blocks
 

@@ -5,3 +5,4 @@ pub mod Laws
 pub mod Lines
 pub mod Seen
 pub mod Sources
+pub mod Stacks

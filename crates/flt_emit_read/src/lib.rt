@@ -1,6 +1,7 @@
 //! Reads the emitted C source of a filter back to the tree of its text, and the laws that it does.
 #![tactic(auto)]
 
+mod blocks;
 mod calls;
 mod conditions;
 mod front;
