@@ -22,21 +22,21 @@ EndsAll at locks (x ∷ xs) =
 one_ends : (at : Place) (locks : List Lock) (xs : List Text) → EndsAll at locks xs → (z rest : Text) → after_one xs z ≡ Some rest →
     (point : ℕ) (done : List Statement) → step at locks (reading point done []) z ≡ None
 one_ends at locks [] all z rest e point done = cc
-one_ends at locks (x ∷ xs) all z rest e point done = go (after x z) refl e
+one_ends at locks (x ∷ xs) all z rest e point done = go (after x z) refl e (λ k. one_ends at locks xs all.1 z rest k point done)
   where
     go : (o : Option Text) → after x z ≡ o → or_else o (λ r. Some r) (after_one xs z) ≡ Some rest →
-        step at locks (reading point done []) z ≡ None
-    go (Some r) h k = ap (step at locks (reading point done [])) (after_takes x z r h) ∙ all.0 r point done
-    go None h k = one_ends at locks xs all.1 z rest k point done
+        (after_one xs z ≡ Some rest → step at locks (reading point done []) z ≡ None) → step at locks (reading point done []) z ≡ None
+    go (Some r) h k more = ap (step at locks (reading point done [])) (after_takes x z r h) ∙ all.0 r point done
+    go None h k more = more k
 
 all_end : (at : Place) (locks : List Lock) → EndsAll at locks (endings at)
 unfolding unreached free_deferred free_generic line_at line_start ask_forms plain_line plain_forms lock_line lock_forms settle_line settle_forms named_line number_name_at context_at removed_at
-all_end (place.Pre op) locks = ((λ r point done. refl), (λ r point done. refl), tt)
-all_end (place.Post op) locks = ((λ r point done. refl), (λ r point done. refl), tt)
+all_end (place.Pre op) locks = ((λ r point done. refl), ((λ r point done. refl), tt))
+all_end (place.Post op) locks = ((λ r point done. refl), ((λ r point done. refl), tt))
 all_end place.Canceled locks = ((λ r point done. refl), tt)
-all_end place.DeferredPre locks = ((λ r point done. refl), (λ r point done. refl), tt)
-all_end place.DeferredPost locks = ((λ r point done. refl), (λ r point done. refl), tt)
-all_end place.Generic locks = ((λ r point done. refl), (λ r point done. refl), tt)
+all_end place.DeferredPre locks = ((λ r point done. refl), ((λ r point done. refl), tt))
+all_end place.DeferredPost locks = ((λ r point done. refl), ((λ r point done. refl), tt))
+all_end place.Generic locks = ((λ r point done. refl), ((λ r point done. refl), tt))
 
 -- where a callback ends, no line is taken
 pub no_line : (at : Place) (locks : List Lock) (outer : List Open) (z rest : Text) → past_end outer at z ≡ Some rest → (point : ℕ)

@@ -3,7 +3,7 @@
 ghost use Rattle.std.specs.Prelude.{◌≡◌, ◌+◌, ◌≤◌, ◌++◌, ◌∷◌, [], IfOk};
 ghost use Rattle.flt_emit_read.specs.Blocks as spec;
 ghost use Rattle.flt_emit_read.specs.Seen.{front_of, rest_of};
-ghost use Rattle.flt_emit_read.specs.Stacks.{innermost_first, reading_of, read_of, IsNoFurther};
+ghost use Rattle.flt_emit_read.specs.Stacks.{innermost_first, reading_of, read_of, next_of, IsNoFurther, IsNextNoFurther};
 ghost use Rattle.flt_emit_read.specs.declared.blocks.Open.TheVariants.{First as AFirst, Repeated as ARepeated};
 
 use crate::front::after;
@@ -235,8 +235,31 @@ fn past_end<'a>(open_blocks: &[Open], place: Place, z: &'a [u8]) -> Option<&'a [
     }
 }
 
+/// The next line is taken.
+#[tactic(auto, using(crate::proofs::Stacked::level))]
+fn next<'a>(
+    alloc: Global,
+    place: Place,
+    locks: &[Lock],
+    r: Reading,
+    z: &'a [u8],
+) -> Result<Option<(Reading, &'a [u8])>, AllocError>
+    requires { r.point ≤ 1000000000000 }
+    ensures taken { IfOk result (λ next. next_of next ≡ spec.step place locks.now (reading_of r) z.now) }
+    ensures further { IfOk result (λ next. IsNextNoFurther next r.point) }
+{
+    let level = r.open_blocks.as_slice().len() + 1;
+    match line(alloc, place, locks, level, r.point, z)? {
+        None => Ok(None),
+        Some((found, rest)) => match takes(alloc, r, found)? {
+            None => Ok(None),
+            Some(next) => Ok(Some((next, rest))),
+        },
+    }
+}
+
 /// As many lines at most, up to the end of the callback: its statements, and what follows it.
-#[tactic(auto, using(crate::proofs::Exclusive::no_line, crate::proofs::Stacked::depth))]
+#[tactic(auto, using(crate::proofs::Exclusive::no_line, crate::proofs::Stacked::unrolled))]
 fn lines<'a>(
     alloc: Global,
     place: Place,
@@ -255,12 +278,8 @@ fn lines<'a>(
         let Reading { done, .. } = r;
         return Ok(Some((done, rest)));
     }
-    let level = r.open_blocks.as_slice().len() + 1;
-    match line(alloc, place, locks, level, r.point, z)? {
+    match next(alloc, place, locks, r, z)? {
         None => Ok(None),
-        Some((found, rest)) => match takes(alloc, r, found)? {
-            None => Ok(None),
-            Some(next) => lines(alloc, place, locks, left - 1, next, rest),
-        },
+        Some((next, rest)) => lines(alloc, place, locks, left - 1, next, rest),
     }
 }
