@@ -46,3 +46,6 @@ unrolled at locks (suc n) r z some =
 -- the level of a line
 pub level : (blocks : List Open) → suc (length (innermost_first blocks)) ≡ length blocks + 1
 level blocks = ap suc (depth blocks) ∙ sym (add-one (length blocks))
+
+pub one_more : (n : ℕ) → suc n ≡ n + 1
+one_more n = sym (add-one n)

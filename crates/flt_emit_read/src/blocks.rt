@@ -1,6 +1,6 @@
 //! Reads the lines of a callback, with the blocks that are open.
 
-ghost use Rattle.std.specs.Prelude.{◌≡◌, ◌+◌, ◌≤◌, ◌++◌, ◌∷◌, [], IfOk};
+ghost use Rattle.std.specs.Prelude.{◌≡◌, ◌+◌, ◌^◌, ◌<◌, ◌≤◌, ◌++◌, ◌∷◌, [], IfOk};
 ghost use Rattle.flt_emit_read.specs.Blocks as spec;
 ghost use Rattle.flt_emit_read.specs.Seen.{front_of, rest_of};
 ghost use Rattle.flt_emit_read.specs.Stacks.{innermost_first, reading_of, read_of, next_of, IsNoFurther, IsNextNoFurther};
@@ -38,7 +38,7 @@ pub(crate) struct Reading {
 }
 
 fn with_statement(r: Reading, s: Statement) -> Result<Reading, AllocError>
-    requires { r.point ≤ 1000000000000 }
+    requires { r.point < 2 ^ 63 }
     ensures taken { IfOk result (λ next. reading_of next ≡ spec.reading (r.point + 1) (r.done ++ s ∷ []) (innermost_first r.open_blocks)) }
     ensures further { IfOk result (λ next. next.point ≤ r.point + 1) }
 {
@@ -57,7 +57,7 @@ fn with_statement(r: Reading, s: Statement) -> Result<Reading, AllocError>
 
 #[tactic(auto, using(crate::proofs::Stacked::pushed))]
 fn with_if(alloc: Global, r: Reading, turned: bool, asked: Condition) -> Result<Reading, AllocError>
-    requires { r.point ≤ 1000000000000 }
+    requires { r.point < 2 ^ 63 }
     ensures taken { IfOk result (λ next. reading_of next ≡
         spec.reading (r.point + 1) [] (AFirst turned asked r.done ∷ innermost_first r.open_blocks)) }
     ensures further { IfOk result (λ next. next.point ≤ r.point + 1) }
@@ -77,7 +77,7 @@ fn with_if(alloc: Global, r: Reading, turned: bool, asked: Condition) -> Result<
 
 #[tactic(auto, using(crate::proofs::Stacked::pushed))]
 fn with_repeat(alloc: Global, r: Reading, turns: u64) -> Result<Reading, AllocError>
-    requires { r.point ≤ 1000000000000 }
+    requires { r.point < 2 ^ 63 }
     ensures taken { IfOk result (λ next. reading_of next ≡
         spec.reading (r.point + 1) [] (ARepeated turns r.done ∷ innermost_first r.open_blocks)) }
     ensures further { IfOk result (λ next. next.point ≤ r.point + 1) }
@@ -173,7 +173,7 @@ fn closed(alloc: Global, r: Reading) -> Result<Option<Reading>, AllocError>
 
 /// A line is taken.
 fn takes(alloc: Global, r: Reading, found: Line) -> Result<Option<Reading>, AllocError>
-    requires { r.point ≤ 1000000000000 }
+    requires { r.point < 2 ^ 63 }
     ensures taken { IfOk result (λ next. read_of next ≡ spec.takes (reading_of r) found) }
     ensures further { IfOk result (λ next. IsNoFurther next r.point) }
 {
@@ -244,7 +244,7 @@ fn next<'a>(
     r: Reading,
     z: &'a [u8],
 ) -> Result<Option<(Reading, &'a [u8])>, AllocError>
-    requires { r.point ≤ 1000000000000 }
+    requires { r.point < 2 ^ 63 }
     ensures taken { IfOk result (λ next. next_of next ≡ spec.step place locks.now (reading_of r) z.now) }
     ensures further { IfOk result (λ next. IsNextNoFurther next r.point) }
 {
@@ -268,7 +268,7 @@ fn lines<'a>(
     r: Reading,
     z: &'a [u8],
 ) -> Result<Option<(Items<Statement>, &'a [u8])>, AllocError>
-    requires { r.point + left ≤ 1000000000000 }
+    requires { r.point + left ≤ 2 ^ 63 }
     ensures { IfOk result (λ found. front_of found ≡ spec.lines_at place locks.now left (reading_of r) z.now) }
 {
     if left == 0 {
@@ -282,4 +282,22 @@ fn lines<'a>(
         None => Ok(None),
         Some((next, rest)) => lines(alloc, place, locks, left - 1, next, rest),
     }
+}
+
+/// The statements of a callback, from its hook on, and what follows its end.
+#[tactic(auto, unfolding(crate::specs::Blocks::body_at), using(crate::proofs::Stacked::one_more))]
+pub(crate) fn body<'a>(
+    alloc: Global,
+    place: Place,
+    locks: &[Lock],
+    z: &'a [u8],
+) -> Result<Option<(Items<Statement>, &'a [u8])>, AllocError>
+    ensures { IfOk result (λ found. front_of found ≡ spec.body_at place locks.now z.now) }
+{
+    let r = Reading {
+        point: 0,
+        done: Items::new(alloc),
+        open_blocks: Items::new(alloc),
+    };
+    lines(alloc, place, locks, z.len() + 1, r, z)
 }
