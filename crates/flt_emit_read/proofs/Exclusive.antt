@@ -1,12 +1,12 @@
 -- Where a callback ends, no line stands.
-use Rattle.std.proofs.Common.{◌≡◌, ℕ, Bool, true, false, List, [], ◌∷◌, ◌++◌, refl, sym, ap, subst, ◌∙◌, append_assoc}
-use Rattle.std.specs.Prelude.{Option, Some, None, codes}
+use Rattle.std.proofs.Common.{◌≡◌, ℕ, List, [], ◌∷◌, ◌++◌, refl, ap, ◌∙◌}
+use Rattle.std.specs.Prelude.{Option, Some, None}
 use Rattle.flt_rules.specs.declared.place.Place.{Place}
 use Rattle.flt_rules.specs.declared.place.Place.TheVariants as place
 use Rattle.flt_tree.specs.Names.{Text}
 use Rattle.flt_tree.specs.declared.filter.Lock.{Lock}
 use Rattle.flt_tree.specs.declared.filter.Statement.{Statement}
-use Rattle.flt_emit_read.specs.Blocks.{Reading, reading, endings, after_one, past_end, step}
+use Rattle.flt_emit_read.specs.Blocks.{reading, endings, after_one, past_end, step}
 use Rattle.flt_emit.specs.Fixed.{unreached, free_deferred, free_generic}
 use Rattle.flt_emit_read.specs.Front.{after, or_else}
 use Rattle.flt_emit_read.specs.Lines.{line_at, line_start, ask_forms, plain_line, plain_forms, lock_line, lock_forms, settle_line, settle_forms, named_line, number_name_at, context_at, removed_at}
@@ -30,7 +30,8 @@ one_ends at locks (x ∷ xs) all z rest e point done = go (after x z) refl e (λ
     go None h k more = more k
 
 all_end : (at : Place) (locks : List Lock) → EndsAll at locks (endings at)
-unfolding unreached free_deferred free_generic line_at line_start ask_forms plain_line plain_forms lock_line lock_forms settle_line settle_forms named_line number_name_at context_at removed_at
+unfolding unreached free_deferred free_generic line_at line_start ask_forms plain_line plain_forms lock_line lock_forms settle_line
+    settle_forms named_line number_name_at context_at removed_at
 all_end (place.Pre op) locks = ((λ r point done. refl), ((λ r point done. refl), tt))
 all_end (place.Post op) locks = ((λ r point done. refl), ((λ r point done. refl), tt))
 all_end place.Canceled locks = ((λ r point done. refl), tt)

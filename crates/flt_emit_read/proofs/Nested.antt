@@ -44,7 +44,8 @@ use Rattle.flt_emit_read.proofs.Names.{ends_reads}
 module _ (scope : Scope) (queue : Bool) (lv point line : ℕ) (r : Text) (level : ℕ) where
   if_reads : (turned : Bool) (c : Condition) → IsCondition queue c →
       line_at scope.place scope.locks lv point (if_text scope level point line turned c ++ r) ≡ Some (Asks turned (condition_without c), r)
-  unfolding if_line line_start named_line number_name_at context_at removed_at ask_forms plain_line plain_forms lock_line lock_forms settle_line settle_forms
+  unfolding if_line line_start named_line number_name_at context_at removed_at ask_forms plain_line plain_forms lock_line lock_forms
+      settle_line settle_forms
   if_reads turned c ok =
       ap (line_at scope.place scope.locks lv point)
       (joined_pieces (indentation level ∷ codes "if (" ∷ condition_text scope point turned c ∷ codes ") {" ∷ label point line ∷ []) r)
@@ -55,7 +56,8 @@ module _ (scope : Scope) (queue : Bool) (lv point line : ℕ) (r : Text) (level 
   bare_reads : (c : Condition) → IsCondition queue c →
       line_at scope.place scope.locks lv point (bare_text scope level point line c ++ r) ≡
       Some (Whole (If no_span (condition_without c) [] []), r)
-  unfolding bare_line line_start named_line number_name_at context_at removed_at ask_forms plain_line plain_forms lock_line lock_forms settle_line settle_forms
+  unfolding bare_line line_start named_line number_name_at context_at removed_at ask_forms plain_line plain_forms lock_line lock_forms
+      settle_line settle_forms
   bare_reads c ok =
       ap (line_at scope.place scope.locks lv point)
       (joined_pieces (indentation level ∷ codes "(VOID) (" ∷ condition_text scope point false c ∷ codes ");" ∷ label point line ∷ []) r)
@@ -64,20 +66,23 @@ module _ (scope : Scope) (queue : Bool) (lv point line : ℕ) (r : Text) (level 
       ∙ ends_reads (codes ");") point line _ r
 
   closing_reads : line_at scope.place scope.locks lv point (closing level ++ r) ≡ Some (Closes, r)
-  unfolding line_start named_line number_name_at context_at removed_at ask_forms plain_line plain_forms lock_line lock_forms settle_line settle_forms
+  unfolding line_start named_line number_name_at context_at removed_at ask_forms plain_line plain_forms lock_line lock_forms settle_line
+      settle_forms
   closing_reads =
       ap (line_at scope.place scope.locks lv point) (joined_pieces (indentation level ∷ codes "}\n" ∷ []) r)
       ∙ starts scope.place scope.locks lv point level _
 
   else_reads : line_at scope.place scope.locks lv point (else_text level ++ r) ≡ Some (Otherwise, r)
-  unfolding line_start named_line number_name_at context_at removed_at ask_forms plain_line plain_forms lock_line lock_forms settle_line settle_forms
+  unfolding line_start named_line number_name_at context_at removed_at ask_forms plain_line plain_forms lock_line lock_forms settle_line
+      settle_forms
   else_reads =
       ap (line_at scope.place scope.locks lv point) (joined_pieces (indentation level ∷ codes "} else {\n" ∷ []) r)
       ∙ starts scope.place scope.locks lv point level _
 
 repeat_reads : (at : Place) (locks : List Lock) (level point line n : ℕ) (r : Text) → n ≤ max_turns →
     line_at at locks level point (repeat_text level point line n ++ r) ≡ Some (Turns n, r)
-unfolding repeat_line line_start named_line number_name_at context_at removed_at ask_forms plain_line plain_forms lock_line lock_forms settle_line settle_forms
+unfolding repeat_line line_start named_line number_name_at context_at removed_at ask_forms plain_line plain_forms lock_line lock_forms
+    settle_line settle_forms
 repeat_reads at locks level point line n r few =
     ap (line_at at locks level point)
     (joined_pieces (indentation level ∷ codes "for (ULONG turn" ∷ decimal level ∷ codes " = " ∷ decimal n ∷ codes "; turn"

@@ -23,7 +23,7 @@ use Rattle.flt_emit.specs.Names.{context_name, context_or_null, operation_name, 
 use Rattle.flt_emit.specs.Statements.{plain_text, before_call, final_text}
 use Rattle.flt_emit_read.specs.Front.{◌>>=◌, after, by_form, past_blanks}
 use Rattle.flt_emit_read.specs.declared.line.Line.TheVariants.{Whole}
-use Rattle.flt_emit_read.specs.Lines.{line_at, context_line, ended_context, lock_end, lock_call, pended_at, pended_line, completing, completed_call, completed_return, line_start, named_line, number_name_at, context_at, removed_at, ask_forms, plain_line, plain_forms, lock_line, lock_forms, settle_line, settle_forms, locked, ended}
+use Rattle.flt_emit_read.specs.Lines.{line_at, context_line, ended_context, lock_end, lock_call, pended_at, pended_line, completing, completed_call, completed_return, line_start, named_line, number_name_at, context_at, removed_at, ask_forms, plain_line, plain_forms, lock_line, lock_forms, settle_line, settle_forms, locked}
 use Rattle.flt_emit_read.proofs.Fronts.{then_reads, after_again, Stops, name_reads, pieces, joined_pieces, past_indentation}
 use Rattle.flt_emit_read.proofs.Simple.{started, starts, context_starts, completing_starts}
 use Rattle.flt_emit_read.proofs.Names.{context_reads, operation_reads, operation_solid, final_reads, optional_reads, ended_reads, ends_reads}
@@ -94,7 +94,8 @@ module _ (at : Place) (locks : List Lock) (lv point line : ℕ) (r : Text) where
   pended_call : (d : OperationVariable) (s : Status) → is_bare s ≡ true →
       started at locks lv point (plain_text locks (plain.CompletePendedPreOperation d s) ++ rest) ≡
       Some (Whole (Call no_span (plain.CompletePendedPreOperation d s)), r)
-  unfolding pended_line line_start named_line number_name_at context_at removed_at ask_forms plain_line plain_forms lock_line lock_forms settle_line settle_forms
+  unfolding pended_line line_start named_line number_name_at context_at removed_at ask_forms plain_line plain_forms lock_line lock_forms
+      settle_line settle_forms
   pended_call d s h =
       ap (started at locks lv point)
       (joined_pieces (codes "FltCompletePendedPreOperation( " ∷ operation_name d ∷ codes ", " ∷ status_name s ∷ codes ", "
@@ -108,7 +109,8 @@ module _ (at : Place) (locks : List Lock) (lv point line : ℕ) (r : Text) where
 
   plain_starts : (c : PlainCall) → IsPlain locks c → is_alone c ≡ true →
       started at locks lv point (plain_text locks c ++ rest) ≡ Some (Whole (Call no_span c), r)
-  unfolding ended_context context_line line_start named_line number_name_at context_at removed_at ask_forms plain_line plain_forms lock_line lock_forms settle_line settle_forms
+  unfolding ended_context context_line line_start named_line number_name_at context_at removed_at ask_forms plain_line plain_forms
+      lock_line lock_forms settle_line settle_forms
   plain_starts (plain.DeleteContext c) ok h =
       ap (started at locks lv point) (joined_pieces (codes "FltDeleteContext( " ∷ context_name c ∷ codes " );" ∷ []) rest)
       ∙ then_reads _ (context_reads c _) ∙ ends_reads (codes " );") point line _ r

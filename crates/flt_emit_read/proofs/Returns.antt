@@ -30,7 +30,8 @@ module _ (locks : List Lock) (lv point : ℕ) where
   -- a pre or a post callback's return
   bare_starts : (at : Place) → answers at ≡ true → (z : Text) →
       started at locks lv point (114 ∷ z) ≡ by_form (bare_statuses point) (114 ∷ z)
-  unfolding line_start named_line number_name_at context_at removed_at ask_forms plain_line plain_forms lock_line lock_forms settle_line settle_forms
+  unfolding line_start named_line number_name_at context_at removed_at ask_forms plain_line plain_forms lock_line lock_forms settle_line
+      settle_forms
   bare_starts (place.Pre op) h z = refl
   bare_starts (place.Post op) h z = refl
   bare_starts place.Canceled h z = absurd (false≢true h)
@@ -41,7 +42,8 @@ module _ (locks : List Lock) (lv point : ℕ) where
   -- a completion context
   star_starts : (at : Place) → answers at ≡ true → (z : Text) →
       started at locks lv point (42 ∷ z) ≡ by_form (bare_statuses point) (42 ∷ z)
-  unfolding line_start named_line number_name_at context_at removed_at ask_forms plain_line plain_forms lock_line lock_forms settle_line settle_forms
+  unfolding line_start named_line number_name_at context_at removed_at ask_forms plain_line plain_forms lock_line lock_forms settle_line
+      settle_forms
   star_starts (place.Pre op) h z = refl
   star_starts (place.Post op) h z = refl
   star_starts place.Canceled h z = absurd (false≢true h)
@@ -120,7 +122,8 @@ module _ (locks : List Lock) (lv point : ℕ) where
 
     pub return_reads : (at : Place) (s : Option Status) →
         line_at at locks lv point (return_text at level s ++ (label point line ++ r)) ≡ Some (Whole (Return no_span (returned at s)), r)
-    unfolding line_start named_line number_name_at context_at removed_at ask_forms plain_line plain_forms lock_line lock_forms settle_line settle_forms
+    unfolding line_start named_line number_name_at context_at removed_at ask_forms plain_line plain_forms lock_line lock_forms settle_line
+        settle_forms
     return_reads (place.Pre op) None = alone (place.Pre op) (passing true) _ (ends_reads [] point line _ r)
     return_reads (place.Pre op) (Some s) = status_reads (place.Pre op) true refl s
     return_reads (place.Post op) None = alone (place.Post op) (passing false) _ (ends_reads [] point line _ r)

@@ -24,7 +24,7 @@ use Rattle.flt_emit.specs.Expressions.{expression_text, file_text}
 use Rattle.flt_emit.specs.Line.{label, atom_text, indentation}
 use Rattle.flt_emit.specs.Names.{number_name, context_name, removed_name, operation_name, own_file}
 use Rattle.flt_emit.specs.Statements.{action_text}
-use Rattle.flt_emit_read.specs.Front.{Front, after, by_form, past_blanks, number_at}
+use Rattle.flt_emit_read.specs.Front.{Front, after, past_blanks, number_at}
 use Rattle.flt_emit_read.specs.declared.line.Line.{Line}
 use Rattle.flt_emit_read.specs.declared.line.Line.TheVariants.{Whole}
 use Rattle.flt_emit_read.specs.Lines.{line_at, number_line, context_line, removed_line, expression_after, file_at, write_line, atom_at, number_name_at, completing, line_start, named_line, context_at, removed_at, ask_forms, plain_line, plain_forms, lock_line, lock_forms, settle_line, settle_forms}
@@ -65,7 +65,8 @@ module _ (at : Place) (locks : List Lock) (lv point : ℕ) where
   starts level z = ap (line_start at locks lv point) (past_indentation level z)
 
   number_starts : (n : NumberVariable) (z : Text) → started (number_name n ++ z) ≡ number_line at point n z
-  unfolding line_start named_line number_name_at context_at removed_at ask_forms plain_line plain_forms lock_line lock_forms settle_line settle_forms
+  unfolding line_start named_line number_name_at context_at removed_at ask_forms plain_line plain_forms lock_line lock_forms settle_line
+      settle_forms
   number_starts numbers.N0 z = refl
   number_starts numbers.N1 z = refl
   number_starts numbers.N2 z = refl
@@ -76,7 +77,8 @@ module _ (at : Place) (locks : List Lock) (lv point : ℕ) where
   number_starts numbers.N7 z = refl
 
   pub context_starts : (c : ContextVariable) (z : Text) → started (context_name c ++ z) ≡ context_line point c z
-  unfolding line_start named_line number_name_at context_at removed_at ask_forms plain_line plain_forms lock_line lock_forms settle_line settle_forms
+  unfolding line_start named_line number_name_at context_at removed_at ask_forms plain_line plain_forms lock_line lock_forms settle_line
+      settle_forms
   context_starts contexts.C0 z = refl
   context_starts contexts.C1 z = refl
   context_starts contexts.C2 z = refl
@@ -88,7 +90,8 @@ module _ (at : Place) (locks : List Lock) (lv point : ℕ) where
   context_starts contexts.Arg z = refl
 
   removed_starts : (o : RemovedVariable) (z : Text) → started (removed_name o ++ z) ≡ removed_line at point o z
-  unfolding line_start named_line number_name_at context_at removed_at ask_forms plain_line plain_forms lock_line lock_forms settle_line settle_forms
+  unfolding line_start named_line number_name_at context_at removed_at ask_forms plain_line plain_forms lock_line lock_forms settle_line
+      settle_forms
   removed_starts removed.O0 z = refl
   removed_starts removed.O1 z = refl
   removed_starts removed.O2 z = refl
@@ -96,7 +99,8 @@ module _ (at : Place) (locks : List Lock) (lv point : ℕ) where
 
   pub completing_starts : (d : OperationVariable) (z : Text) →
       started (operation_name d ++ (codes "->IoStatus.Status = " ++ z)) ≡ completing at point d z
-  unfolding removed_line line_start named_line number_name_at context_at removed_at ask_forms plain_line plain_forms lock_line lock_forms settle_line settle_forms
+  unfolding removed_line line_start named_line number_name_at context_at removed_at ask_forms plain_line plain_forms lock_line lock_forms
+      settle_line settle_forms
   completing_starts operations.Data z = refl
   completing_starts (operations.Removed o) z = removed_starts o (codes "->IoStatus.Status = " ++ z)
 
@@ -123,7 +127,8 @@ module _ (at : Place) (locks : List Lock) (lv point : ℕ) where
     -- ---- actions
 
     action_starts : (a : Action) → IsAction a → started (action_text at a ++ (label point line ++ r)) ≡ Some (Whole (Act no_span a), r)
-    unfolding number_line context_line removed_line write_line atom_at number_name_at number_at line_start named_line context_at removed_at ask_forms plain_line plain_forms lock_line lock_forms settle_line settle_forms
+    unfolding number_line context_line removed_line write_line atom_at number_name_at number_at line_start named_line context_at
+        removed_at ask_forms plain_line plain_forms lock_line lock_forms settle_line settle_forms
     action_starts (SetNumber n e) ok =
         ap started (joined_pieces (number_name n ∷ codes " = " ∷ expression_text e ∷ codes ";" ∷ []) (label point line ++ r))
         ∙ number_starts n _ ∙ expression_reads n e ok

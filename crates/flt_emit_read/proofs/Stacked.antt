@@ -1,7 +1,7 @@
 -- The block that was opened last is the innermost.
 use Rattle.std.proofs.Common.{◌≡◌, ◌+◌, ◌-◌, ◌<◌, ℕ, zero, suc, arith, List, [], ◌∷◌, ◌++◌, length, refl, sym, ap, ◌∙◌, add-one}
 use Rattle.std.proofs.lemmas.List.{length-append}
-use Rattle.std.specs.Prelude.{Option, Some, None}
+use Rattle.std.specs.Prelude.{Some, None}
 use Rattle.flt_tree.specs.declared.filter.Lock.{Lock}
 use Rattle.flt_emit_read.specs.Front.{or_else, ◌>>=◌}
 use Rattle.flt_rules.specs.declared.place.Place.{Place}

@@ -54,36 +54,42 @@ Ends at locks y rest =
 
 pub pre_ends : (op : Operation) (locks : List Lock) (b : Bool) (r : Text) →
     Ends (place.Pre op) locks (unreturned b true ++ (codes "}\n" ++ r)) r
-unfolding unreturned unreached line_at line_start named_line number_name_at context_at removed_at ask_forms plain_line plain_forms lock_line lock_forms settle_line settle_forms
+unfolding unreturned unreached line_at line_start named_line number_name_at context_at removed_at ask_forms plain_line plain_forms
+    lock_line lock_forms settle_line settle_forms
 pre_ends op locks true r = (λ point done. refl, refl)
 pre_ends op locks false r = (λ point done. refl, refl)
 
 pub post_ends : (op : Operation) (locks : List Lock) (b : Bool) (r : Text) →
     Ends (place.Post op) locks (unreturned b false ++ (codes "}\n" ++ r)) r
-unfolding unreturned unreached line_at line_start named_line number_name_at context_at removed_at ask_forms plain_line plain_forms lock_line lock_forms settle_line settle_forms
+unfolding unreturned unreached line_at line_start named_line number_name_at context_at removed_at ask_forms plain_line plain_forms
+    lock_line lock_forms settle_line settle_forms
 post_ends op locks true r = (λ point done. refl, refl)
 post_ends op locks false r = (λ point done. refl, refl)
 
 pub deferred_pre_ends : (locks : List Lock) (b : Bool) (r : Text) →
     Ends place.DeferredPre locks (joined (done b ∷ fixed.free_deferred ∷ []) ++ (codes "}\n" ++ r)) r
-unfolding free_deferred line_at line_start named_line number_name_at context_at removed_at ask_forms plain_line plain_forms lock_line lock_forms settle_line settle_forms
+unfolding free_deferred line_at line_start named_line number_name_at context_at removed_at ask_forms plain_line plain_forms lock_line
+    lock_forms settle_line settle_forms
 deferred_pre_ends locks true r = (λ point done. refl, refl)
 deferred_pre_ends locks false r = (λ point done. refl, refl)
 
 pub deferred_post_ends : (locks : List Lock) (b : Bool) (r : Text) →
     Ends place.DeferredPost locks (joined (done b ∷ fixed.free_deferred ∷ []) ++ (codes "}\n" ++ r)) r
-unfolding free_deferred line_at line_start named_line number_name_at context_at removed_at ask_forms plain_line plain_forms lock_line lock_forms settle_line settle_forms
+unfolding free_deferred line_at line_start named_line number_name_at context_at removed_at ask_forms plain_line plain_forms lock_line
+    lock_forms settle_line settle_forms
 deferred_post_ends locks true r = (λ point done. refl, refl)
 deferred_post_ends locks false r = (λ point done. refl, refl)
 
 pub generic_ends : (locks : List Lock) (b : Bool) (r : Text) →
     Ends place.Generic locks (joined (done b ∷ fixed.free_generic ∷ []) ++ (codes "}\n" ++ r)) r
-unfolding free_generic line_at line_start named_line number_name_at context_at removed_at ask_forms plain_line plain_forms lock_line lock_forms settle_line settle_forms
+unfolding free_generic line_at line_start named_line number_name_at context_at removed_at ask_forms plain_line plain_forms lock_line
+    lock_forms settle_line settle_forms
 generic_ends locks true r = (λ point done. refl, refl)
 generic_ends locks false r = (λ point done. refl, refl)
 
 pub canceled_ends : (locks : List Lock) (r : Text) → Ends place.Canceled locks (codes "}\n" ++ r) r
-unfolding line_at line_start named_line number_name_at context_at removed_at ask_forms plain_line plain_forms lock_line lock_forms settle_line settle_forms
+unfolding line_at line_start named_line number_name_at context_at removed_at ask_forms plain_line plain_forms lock_line lock_forms
+    settle_line settle_forms
 canceled_ends locks r = (λ point done. refl, refl)
 
 all_end : (h : Head) (locks : List Lock) (body : List Statement) (r : Text) →
@@ -185,7 +191,8 @@ operation_kind_reads operating.Write r = refl
 operation_kind_reads operating.Cleanup r = refl
 
 head_reads : (h : Head) → IsHead h → (r : Text) → head_at (prototype h ++ r) ≡ Some (prototyped h, r)
-unfolding head_at prototype deferred_prototype event_at routine_at pre_head post_head canceled_prototype deferred_head generic_head fixed.pre_parameters fixed.post_parameters fixed.deferred_parameters fixed.generic_parameters
+unfolding head_at prototype deferred_prototype event_at routine_at pre_head post_head canceled_prototype deferred_head generic_head
+    fixed.pre_parameters fixed.post_parameters fixed.deferred_parameters fixed.generic_parameters
 head_reads (Pre op) ok r = ap head_at (joined_pieces (fixed.pre_head ∷ operation_word op ∷ fixed.pre_parameters ∷ []) r)
     ∙ then_reads _ (operation_kind_reads op (fixed.pre_parameters ++ r))
 head_reads (Post op) ok r = ap head_at (joined_pieces (fixed.post_head ∷ operation_word op ∷ fixed.post_parameters ∷ []) r)
