@@ -1,4 +1,5 @@
 pub mod Asked
+pub mod Counted
 pub mod Plain
 pub mod Declared
 pub mod Exclusive

@@ -1,9 +1,13 @@
 -- What functions that read return, as the definitions have it.
-use Rattle.std.specs.Prelude.{Bool, Option, Some, None}
+use Rattle.std.specs.Prelude.{ℕ, Bool, Option, Some, None}
 use Rattle.std.specs.Borrow.{Bor}
+use Rattle.flt_rules.specs.declared.call.LockKind.{LockKind}
+use Rattle.flt_rules.specs.declared.place.Operation.{Operation}
 use Rattle.flt_tree.specs.Names.{Text}
 use Rattle.flt_tree.specs.declared.filter.Condition.TheVariants as made
 use Rattle.flt_tree.specs.declared.filter.FallibleCall.{FallibleCall}
+use Rattle.flt_tree.specs.declared.filter.Head.{Head}
+use Rattle.flt_tree.specs.declared.filter.Lock.{Lock}
 use Rattle.flt_tree.specs.declared.filter.Routine.{Routine}
 use Rattle.flt_tree.specs.declared.filter.Test.{Test}
 use Rattle.flt_tree.specs.declared.variable.ContextVariable.{ContextVariable}
@@ -32,3 +36,27 @@ abbrev pub queued_of : (Routine → Option ContextVariable → FallibleCall) →
     Front FallibleCall
 queued_of made None = None
 queued_of made (Some x) = Some (made (named x.0.now) x.1, x.2.now)
+
+-- what is read always, and what follows it
+abbrev pub reached : {A : Type 0} → A × Bor Text → Front A
+reached x = Some (x.0, x.1.now)
+
+-- a name and a number
+abbrev pub title_of : Option (Bor Text × ℕ × Bor Text) → Front (Text × ℕ)
+title_of None = None
+title_of (Some x) = Some ((x.0.now, x.1), x.2.now)
+
+-- a lock by its kind and its name
+abbrev pub lock_of : Option (LockKind × Bor Text × Bor Text) → Front Lock
+lock_of None = None
+lock_of (Some x) = Some (record { kind = x.0; name = x.1.now }, x.2.now)
+
+-- the head of the callback of an operation
+abbrev pub event_of : (Operation → Head) → Option (Operation × Bor Text) → Front Head
+event_of made None = None
+event_of made (Some x) = Some (made x.0, x.1.now)
+
+-- the head of the routine of a name
+abbrev pub routine_of : (Text → Head) → Option (Bor Text × Bor Text) → Front Head
+routine_of made None = None
+routine_of made (Some x) = Some (made x.0.now, x.1.now)

@@ -5,11 +5,13 @@ mod blocks;
 mod calls;
 mod conditions;
 mod front;
+mod globals;
 mod laws;
 mod line;
 mod lines;
 mod locks;
 mod numbers;
+mod parts;
 mod statements;
 mod words;
 
