@@ -4,9 +4,8 @@ ghost use Rattle.flt_emit.specs.Parts as spec;
 ghost use Rattle.std.specs.Prelude.{◌≡◌, ◌++◌, IfOk, OnOk};
 
 use crate::callbacks::{hook, prototype};
-use crate::fixed;
-use crate::fixed_callbacks;
 use crate::source::{framed, helpers};
+use crate::{fixed, fixed_callbacks};
 use flt_tree::{Filter, Head};
 use std::alloc::{AllocError, Global};
 

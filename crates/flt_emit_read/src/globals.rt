@@ -18,10 +18,7 @@ use std::alloc::{AllocError, Global};
 
 /// The name and the altitude.
 #[tactic(auto, unfolding(crate::specs::Sources::title_at))]
-pub(crate) fn title(
-    alloc: Global,
-    z: &[u8],
-) -> Result<Option<(&[u8], u64, &[u8])>, AllocError>
+pub(crate) fn title(alloc: Global, z: &[u8]) -> Result<Option<(&[u8], u64, &[u8])>, AllocError>
     ensures { IfOk result (λ found. title_of found ≡ spec.title_at z.now) }
 {
     let Some(z) = past(alloc, Part::CommentBegin, z)? else {

@@ -6,6 +6,7 @@ mod calls;
 mod conditions;
 mod front;
 mod globals;
+mod heads;
 mod laws;
 mod line;
 mod lines;
