@@ -60,7 +60,7 @@ _fltstack() {
         options='--help'
         ;;
     explain)
-        options='--form --color --states --journal --strict --allow --help'
+        options='--form --color --states --journal --runs --strict --allow --help'
         valued='--form --color --states --journal --allow'
         repeated='--allow'
         pages='
@@ -92,8 +92,9 @@ _fltstack() {
         exclusive='--check --write'
         ;;
     emit)
-        options='--part --help'
-        valued='--part'
+        options='--part --into --help'
+        valued='--part --into'
+        exclusive='--part --into'
         ;;
     compare)
         options='--help'
@@ -124,6 +125,7 @@ _fltstack() {
         'run --workers') _fltstack_words 1 2 3 4 5 6 7 8 9 10 11 12 13 14 15 16 ;;
         'replay --svg') _fltstack_files .svg ;;
         'emit --part') _fltstack_words source user inf ;;
+        'emit --into') _fltstack_files / ;;
         esac
     elif [[ -z $is_operand && $word == -* ]]; then
         _fltstack_options

@@ -13,7 +13,7 @@ function __fltstack_operands --argument-names command
             echo -- $word
         else if test $word = --
             set is_operand yes
-        else if contains -- $word --form --color --states --journal --allow --workers --svg --part
+        else if contains -- $word --form --color --states --journal --allow --workers --svg --part --into
             set is_value yes
         end
     end
@@ -34,7 +34,7 @@ function __fltstack_after --argument-names command
     set -l words (string replace -r -- '=.*' '' (commandline -opc))
     test "$words[2]" = "$command"; or return 1
     # The value of the last word may be at the cursor.
-    contains -- $words[-1] --form --color --states --journal --allow --workers --svg --part; and set -e words[-1]
+    contains -- $words[-1] --form --color --states --journal --allow --workers --svg --part --into; and set -e words[-1]
     for option in $argv[2..]
         contains -- $option $words; and return 1
     end
@@ -180,6 +180,8 @@ complete -c fltstack -n '__fltstack_after explain --states' -l states -x \
     -d 'How many states the search for runs of a FILE continues from at most'
 complete -c fltstack -n '__fltstack_after explain --journal' -l journal -x -a '(__fltstack_files .journal)' \
     -d 'Write the journal of the first finding that has one into this file'
+complete -c fltstack -n '__fltstack_after explain --runs' -l runs \
+    -d 'Add to the forms `lines` and `sarif` a run that breaks something because of each finding, where one is found'
 complete -c fltstack -n '__fltstack_after explain --strict' -l strict -d 'Exit with 1 where warnings are shown, as where something is found'
 complete -c fltstack -n '__fltstack_after explain' -l allow -x -a 'W00 W01 W02 W03 W04 W05 W06 W07' \
     -d 'Leave a kind of warning out, as `W03`'
@@ -215,7 +217,9 @@ complete -c fltstack -n '__fltstack_after format --help' -s h -l help -d 'Print 
 complete -c fltstack -n '__fltstack_at format 0+' -a '(__fltstack_files .flt)'
 
 # emit
-complete -c fltstack -n '__fltstack_after emit --part' -l part -x -a 'source user inf' -d 'The part that is printed'
+complete -c fltstack -n '__fltstack_after emit --part --into' -l part -x -a 'source user inf' -d 'The part that is printed'
+complete -c fltstack -n '__fltstack_after emit --part --into' -l into -x -a '(__fltstack_files /)' \
+    -d 'Write all three parts into this folder'
 complete -c fltstack -n '__fltstack_after emit --help' -s h -l help -d 'Print help'
 complete -c fltstack -n '__fltstack_at emit 0' -a '(__fltstack_files .flt)'
 complete -c fltstack -n '__fltstack_at emit 1' -a '(__fltstack_files .cert)'

@@ -4,8 +4,8 @@
 #   tools/refuse-allocations.sh program [WORD..] < INPUT
 #       runs the program on these words, or another one that $PROGRAM names. Where a request was refused it must end with status 2, with the line
 #       `out of memory` and nothing else; where none was, as it ends with all memory that it asks for. `explain` of several files has then
-#       printed what it tells of the first of them, whole, or nothing; at some requests it must have printed some, unless `--journal` or a
-#       document holds all back.
+#       printed what it tells of the first of them, whole, or nothing; at some requests it must have printed some, unless `--journal`, `--runs`
+#       or a document holds all back.
 #   tools/refuse-allocations.sh tests CRATE [WORD]
 #       runs each test of a crate that has WORD in its name. Where a request was refused it must end with the error that
 #       says so, which it carries out by `?`; where none was, it must pass. A failed assertion is a wrong answer.
@@ -79,7 +79,7 @@ closing='^(nothing found|refused .*|syntax .*|(certificate|journal|script) line 
 
 # file_of: the file of a line of a form for programs.
 file_of() {
-    sed -E 's/^\{"file":"([^"]*)".*/\1/; s/^([^:{]*):.*/\1/'
+    sed -E 's/^\{"version":2,"kind":"[a-z]*","file":"([^"]*)".*/\1/; s/^([^:{]*):.*/\1/'
 }
 
 # has_first_parts WORD..: whether what was printed is what is told of the first files, whole, and others follow.
@@ -88,7 +88,7 @@ has_first_parts() {
     size=$(stat -c %s "$work/out")
     [ "${1:-}" = explain ] && [ "$size" -lt "$(stat -c %s "$work/wanted-out")" ] && cmp -s -n "$size" "$work/out" "$work/wanted-out" || return 1
     case " $* " in
-    *" --journal "* | *" sarif "* | *" html "*) return 1 ;;
+    *" --journal "* | *" --runs "* | *" sarif "* | *" html "*) return 1 ;;
     *" --form lines "* | *" --form short "*)
         [ "$(tail -n 1 "$work/out" | file_of)" != "$(tail -c "+$((size + 1))" "$work/wanted-out" | head -n 1 | file_of)" ] ;;
     *) [ -z "$(tail -n 1 "$work/out")" ] && tail -n 2 "$work/out" | head -n 1 | grep -qE "$closing" ;;
@@ -99,7 +99,7 @@ has_first_parts() {
 has_several_parts() {
     [ "${1:-}" = explain ] || return 1
     case " $* " in
-    *" --journal "* | *" sarif "* | *" html "*) return 1 ;;
+    *" --journal "* | *" --runs "* | *" sarif "* | *" html "*) return 1 ;;
     *" --form lines "* | *" --form short "*) [ "$(file_of <"$work/wanted-out" | uniq | wc -l)" -gt 1 ] ;;
     *) tail -n 1 "$work/wanted-out" | grep -qE ' (in|of) [0-9]+ files$' ;;
     esac
@@ -195,6 +195,8 @@ runs=(
     "explain --journal /dev/null no_fast_io_broken.flt pass_through.flt"
     "explain --form sarif stream_context_broken.flt"
     "explain --form html stream_context_broken.flt pass_through.flt"
+    "explain --form lines --runs no_fast_io_broken.flt pass_through.flt"
+    "explain --form sarif --runs leaked_context.flt gone.flt"
     "explain warnings/w01_three_locks.flt"
     "explain --states 1 warnings/w01_turned_locks.flt"
     "explain c/ctx_broken.c c/kit.h"
@@ -204,6 +206,7 @@ runs=(
     "emit pending_reads.flt"
     "emit --part user pending_reads.flt pending_reads.cert"
     "emit --part inf deny_writes.flt"
+    "emit --into /dev/null pending_reads.flt"
     "explain leaked_context.timeline"
     "explain pending_reads_detached.script pending_reads.flt"
     "explain R02"
@@ -230,6 +233,11 @@ try_all() {
         started+=($!)
     done
     "$0" program explain - <<<"$never_set" &
+    started+=($!)
+    # The header is there from the start, so that each run says the same.
+    mkdir "$work/driver"
+    : >"$work/driver/pending_reads_user.h"
+    (cd "$top/examples" && "$top/tools/refuse-allocations.sh" program emit --into "$work/driver" pending_reads.flt pending_reads.cert </dev/null) &
     started+=($!)
     for each in "${crates_of_tests[@]}"; do
         "$0" tests "$each" memory &

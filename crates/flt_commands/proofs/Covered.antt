@@ -1,5 +1,5 @@
 -- What is covered breaks nothing, and an exit status 0 says that something is covered.
-use Rattle.std.proofs.Common.{◌⊎◌, inl, inr, ◌≡◌, ℕ, zero, suc, List, [], ◌∷◌, ◌++◌, Bool, None, Option, Result, Ok, Err, take, drop, max, refl, sym, ◌∙◌, arith}
+use Rattle.std.proofs.Common.{◌⊎◌, inl, inr, ◌≡◌, ℕ, zero, suc, ◌+◌, List, [], ◌∷◌, ◌++◌, Bool, None, Option, Result, Ok, Err, take, drop, max, refl, sym, ◌∙◌, arith}
 use Rattle.std.proofs.Math.Path.{subst}
 use Rattle.std.specs.Borrow.{Bor}
 use Rattle.flt_syntax.specs.declared.fault.SyntaxFault.{SyntaxFault}
@@ -14,7 +14,9 @@ use Rattle.flt_sound.specs.Soundness.{IsAccepted, AreAccepted, AcceptedRunsBreak
 use Rattle.flt_crew.specs.Running.{IsRun}
 use Rattle.flt_crew.specs.declared.running.Ran.{Ran}
 use Rattle.flt_explain.specs.declared.finding.Finding.{Finding}
-use Rattle.flt_forms.specs.Lines.{AreLines}
+use Rattle.flt_forms.specs.Lines.{AreLinesFrom}
+use Rattle.flt_forms.specs.RunMember.{no_member, own_member}
+use Rattle.flt_forms.specs.declared.run.FindingRun.{FindingRun}
 use Rattle.flt_forms.specs.Sarif.{AreResults, IsSarif}
 use Rattle.flt_forms.specs.Warned.{status_of as status_of_warned}
 use Rattle.flt_forms.specs.declared.as_lines.Style.{Style}
@@ -24,7 +26,7 @@ use Rattle.flt_notes.specs.Reported.{AreAllReports, AreParts, IsNoticeReport, Is
 use Rattle.flt_notes.specs.Reported as reports
 use Rattle.flt_notes.specs.Whole.{Look}
 use Rattle.flt_details.specs.Reports.{IsJudged, IsKnown, texts_of}
-use Rattle.flt_details.specs.declared.sources.Explained.{Explained as Told}
+use Rattle.flt_notes.specs.declared.explaining.Told.{Told}
 use Rattle.flt_details.specs.declared.sources.Source.{Source}
 use Rattle.flt_warning_details.specs.Options.{warned_status}
 use Rattle.flt_warning_details.specs.declared.detail.WarningDetail.{WarningDetail}
@@ -32,7 +34,7 @@ use Rattle.flt_warning_details.specs.declared.options.WarningOptions.{WarningOpt
 use Rattle.flt_words.specs.declared.request.Colour.{Colour}
 use Rattle.flt_words.specs.declared.request.Part.{Part}
 use Rattle.flt_words.specs.declared.request.Form.{Form}
-use Rattle.flt_words.specs.declared.request.Form.TheVariants.{Html, Human, Lines, Sarif, Short}
+use Rattle.flt_words.specs.declared.request.Form.TheVariants.{Html, Human, Lines, LinesWithRuns, Sarif, SarifWithRuns, Short}
 use Rattle.json.specs.Token.{Token}
 use Rattle.flt_details.specs.declared.judged.Judged.{Judged as Found}
 use Rattle.flt_details.specs.declared.judged.Judged.TheVariants.{Unread, Known}
@@ -48,14 +50,15 @@ use Rattle.flt_commands.specs.Check.{Decides, HasPoints, IsAnswer, IsChecked}
 use Rattle.flt_commands.specs.Clean.{BreakNothing, BreaksNothing, EachBreaksNothing, IsClean}
 use Rattle.flt_commands.specs.Commands.{IsSaid, IsReported}
 use Rattle.flt_commands.specs.Emit as emit
-use Rattle.flt_commands.specs.Emit.{IsEmission, IsEmitted}
+use Rattle.flt_commands.specs.Emit.{Emits, Emitting, IsEmitted}
+use Rattle.flt_commands.specs.EmitInto.{IsEmittedInto, Writes}
 use Rattle.flt_commands.specs.Explain.{IsExplained, IsTold, look_in}
 use Rattle.flt_commands.specs.Inputs.{Giving, given, Says, Text, unread}
 use Rattle.flt_commands.specs.Running.{IsRan}
 use Rattle.flt_commands.specs.Thin.{IsThinned, Decides as DecidesThin}
-use Rattle.flt_words.specs.Request.{Asked, Choice, Check, Analyse, Thin, Run, Replay, Show, Explain, Extract, Format, Pages, Emit, Compare}
+use Rattle.flt_words.specs.Request.{Asked, Choice, Check, Analyse, Thin, Run, Replay, Show, Explain, Extract, Format, Pages, Emit, EmitInto, Compare}
 use Rattle.flt_commands.specs.declared.answer.Answer.{Answer}
-use Rattle.flt_commands.specs.declared.answer.Answer.TheVariants.{Accepted, Refused, Certificate as Written, Judged, Ran as has_run, FileRefused, Explained, Extracted as has_text, Formatted as has_layouts, Pages as has_pages, Shown, Emitted, NotEmitted, Compared}
+use Rattle.flt_commands.specs.declared.answer.Answer.TheVariants.{Accepted, Refused, Certificate as Written, Judged, Ran as has_run, FileRefused, Explained, Extracted as has_text, Formatted as has_layouts, Pages as has_pages, Shown, Emitted, NotEmitted, EmittedInto, Compared}
 use Rattle.flt_commands.specs.declared.failure.Failure.{Failure}
 
 -- the laws' clauses
@@ -107,6 +110,7 @@ module _ (law : Law) (runs : LawOfRuns) (nowhere : SpelledFailsNowhere) where
   judged text certificate (has_pages t) said good = absurd said.decided
   judged text certificate (Emitted b) said good = absurd said.decided
   judged text certificate (NotEmitted w) said good = absurd said.decided
+  judged text certificate (EmittedInto d) said good = absurd said.decided
   judged text certificate (Compared w) said good = absurd said.decided
 
   checked : (texts : List Text) (answer : Answer) (file : Text) (cert : Option Text) → IsChecked texts (Ok answer) →
@@ -131,6 +135,7 @@ module _ (law : Law) (runs : LawOfRuns) (nowhere : SpelledFailsNowhere) where
   left text certificate (has_pages t) said good = absurd said.decided
   left text certificate (Emitted b) said good = absurd said.decided
   left text certificate (NotEmitted w) said good = absurd said.decided
+  left text certificate (EmittedInto d) said good = absurd said.decided
   left text certificate (Compared w) said good = absurd said.decided
 
   thinned : (texts : List Text) (answer : Answer) (file : Text) (cert : Option Text) → IsThinned texts (Ok answer) →
@@ -156,6 +161,7 @@ module _ (law : Law) (runs : LawOfRuns) (nowhere : SpelledFailsNowhere) where
   analysed (text ∷ []) (has_pages t) file said good = absurd said
   analysed (text ∷ []) (Emitted b) file said good = absurd said
   analysed (text ∷ []) (NotEmitted w) file said good = absurd said
+  analysed (text ∷ []) (EmittedInto d) file said good = absurd said
   analysed (text ∷ []) (Compared w) file said good = absurd said
   analysed (text ∷ more ∷ texts) answer file said good = said
 
@@ -172,6 +178,7 @@ module _ (law : Law) (runs : LawOfRuns) (nowhere : SpelledFailsNowhere) where
   driven (bytes ∷ texts) (has_pages t) workers quiet script files said good = absurd said
   driven (bytes ∷ texts) (Emitted b) workers quiet script files said good = absurd said
   driven (bytes ∷ texts) (NotEmitted w) workers quiet script files said good = absurd said
+  driven (bytes ∷ texts) (EmittedInto d) workers quiet script files said good = absurd said
   driven (bytes ∷ texts) (Compared w) workers quiet script files said good = absurd said
   driven (bytes ∷ texts) (Refused f) workers quiet script files said good = absurd said
   driven (bytes ∷ texts) (Written c) workers quiet script files said good = absurd said
@@ -227,22 +234,24 @@ module _ (law : Law) (runs : LawOfRuns) (nowhere : SpelledFailsNowhere) where
       one_more_breaks_nothing texts text (reported options filters texts printed greatest findings files are zeros.0)
       (report_well options filters text report status count is.is zeros.1)
 
-  in_lines : (style : Style) (options : WarningOptions) (sources : List Source) (before printed : List ℕ) (status : ℕ) → AreLines style options sources before printed status → status ≡ 0 →
+  in_lines : (style : Style) (options : WarningOptions) (runs : ℕ → ℕ → List Token) (number : ℕ) (sources : List Source)
+      (before printed : List ℕ) (status : ℕ) → AreLinesFrom style options runs number sources before printed status → status ≡ 0 →
       EachBreaksNothing (texts_of sources)
-  in_lines style options [] before printed status said good = tt
-  in_lines style options (s ∷ ss) before printed status (part, first, others, own, rest, greatest) good =
+  in_lines style options runs number [] before printed status said good = tt
+  in_lines style options runs number (s ∷ ss) before printed status (part, first, others, own, rest, greatest) good =
       let zeros = both_zero first others (sym greatest ∙ good) in (
         found_well s.text.now own.judged options.is_strict own.warned own.is (sym own.own ∙ zeros.0),
-        in_lines style options ss (before ++ part) printed others rest zeros.1,
+        in_lines style options runs (number + 1) ss (before ++ part) printed others rest zeros.1,
       )
 
-  in_results : (options : WarningOptions) (names : List (Bor (List ℕ))) (sources : List Source) (tokens : List Token) (status : ℕ) →
-      AreResults options names sources tokens status → status ≡ 0 → EachBreaksNothing (texts_of sources)
-  in_results options names [] tokens status said good = tt
-  in_results options names (s ∷ ss) tokens status (part, others_tokens, first, others, own, rest, joined, greatest) good =
+  in_results : (options : WarningOptions) (names : List (Bor (List ℕ))) (runs : ℕ → ℕ → List Token) (number : ℕ) (sources : List Source)
+      (tokens : List Token) (status : ℕ) → AreResults options names runs number sources tokens status → status ≡ 0 →
+      EachBreaksNothing (texts_of sources)
+  in_results options names runs number [] tokens status said good = tt
+  in_results options names runs number (s ∷ ss) tokens status (part, others_tokens, first, others, own, rest, joined, greatest) good =
       let zeros = both_zero first others (sym greatest ∙ good) in (
         found_well s.text.now own.judged options.is_strict own.warned own.is (sym own.own ∙ zeros.0),
-        in_results options names ss others_tokens others rest zeros.1,
+        in_results options names runs (number + 1) ss others_tokens others rest zeros.1,
       )
 
   -- of all files
@@ -253,19 +262,28 @@ module _ (law : Law) (runs : LawOfRuns) (nowhere : SpelledFailsNowhere) where
   all_reported options filters (t ∷ []) printed status is good = (report_well options filters t printed status is.count is.is.is good, tt)
   all_reported options filters (t ∷ u ∷ ts) printed status is good = reported options filters (t ∷ u ∷ ts) is.reports status is.findings is.files is.are good
 
-  in_document : (options : WarningOptions) (sources : List Source) (missed : List UnreadFile) (printed : List ℕ) (status : ℕ) →
-      IsSarif options sources missed printed status → status ≡ 0 → EachBreaksNothing (texts_of sources)
+  in_document : (options : WarningOptions) (sources : List Source) (missed : List UnreadFile) (runs : List FindingRun) (printed : List ℕ)
+      (status : ℕ) → IsSarif options sources missed runs printed status → status ≡ 0 → EachBreaksNothing (texts_of sources)
   unfolding IsSarif
-  in_document options sources missed printed status (run, is, same) good = in_results options _ sources is.results status is.found good
+  in_document options sources missed runs printed status (run, is, same) good =
+      in_results options _ _ 0 sources is.results status is.found good
 
-  told_well : (form : Form) (options : WarningOptions) (sources : List Source) (missed : List UnreadFile) (e : Told) →
-      IsTold form options sources missed e → e.status ≡ 0 →
-      EachBreaksNothing (texts_of sources)
-  told_well Human options sources missed e told good = all_reported options told.filters (texts_of sources) e.output.items e.status told.are good
-  told_well Short options sources missed e told good = in_lines Sentence options sources [] e.output.items e.status told good
-  told_well Lines options sources missed e told good = in_lines Object options sources [] e.output.items e.status told good
-  told_well Sarif options sources missed e told good = in_document options sources missed e.output.items e.status told good
-  told_well Html options sources missed e told good = all_reported options told.reports.filters (texts_of sources) told.printed e.status told.reports.are good
+  told_well : (form : Form) (options : WarningOptions) (sources : List Source) (missed : List UnreadFile) (t : Told) →
+      IsTold form options sources missed t → t.explained.status ≡ 0 → EachBreaksNothing (texts_of sources)
+  told_well Human options sources missed t told good =
+      all_reported options told.filters (texts_of sources) t.explained.output.items t.explained.status told.are good
+  told_well Short options sources missed t told good =
+      in_lines Sentence options no_member 0 sources [] t.explained.output.items t.explained.status told good
+  told_well Lines options sources missed t told good =
+      in_lines Object options no_member 0 sources [] t.explained.output.items t.explained.status told good
+  told_well Sarif options sources missed t told good =
+      in_document options sources missed [] t.explained.output.items t.explained.status told good
+  told_well LinesWithRuns options sources missed t told good =
+      in_lines Object options (own_member sources told.runs.now) 0 sources [] t.explained.output.items t.explained.status told.lines good
+  told_well SarifWithRuns options sources missed t told good =
+      in_document options sources missed told.runs t.explained.output.items t.explained.status told.document good
+  told_well Html options sources missed t told good =
+      all_reported options told.reports.filters (texts_of sources) told.printed t.explained.status told.reports.are good
 
   -- where a file isn't read, the status isn't 0
   own_zero : (status : ℕ) (missed : List UnreadFile) → told_status status missed ≡ 0 → status ≡ 0
@@ -277,13 +295,14 @@ module _ (law : Law) (runs : LawOfRuns) (nowhere : SpelledFailsNowhere) where
       IsExplained gives form look journal files texts (Ok answer) → status_of answer ≡ 0 → IsClean (Explain form colour states journal warnings files) texts
   explained gives form colour states look journal warnings files texts (Explained e missed) said good =
       subst EachBreaksNothing said.told.given
-      (told_well form look.options said.told.sources missed.items e.explained said.told.told (own_zero e.explained.status missed.items good))
+      (told_well form look.options said.told.sources missed.items e said.told.told (own_zero e.explained.status missed.items good))
   explained gives form colour states look journal warnings files texts (Shown rows v) said good = absurd said
   explained gives form colour states look journal warnings files texts (has_text b) said good = absurd said
   explained gives form colour states look journal warnings files texts (has_layouts mode outcomes) said good = absurd said
   explained gives form colour states look journal warnings files texts (has_pages t) said good = absurd said
   explained gives form colour states look journal warnings files texts (Emitted b) said good = absurd said
   explained gives form colour states look journal warnings files texts (NotEmitted w) said good = absurd said
+  explained gives form colour states look journal warnings files texts (EmittedInto d) said good = absurd said
   explained gives form colour states look journal warnings files texts (Compared w) said good = absurd said
   explained gives form colour states look journal warnings files texts (has_run ran) said good = absurd said
   explained gives form colour states look journal warnings files texts (FileRefused n f) said good = absurd said
@@ -293,17 +312,24 @@ module _ (law : Law) (runs : LawOfRuns) (nowhere : SpelledFailsNowhere) where
   explained gives form colour states look journal warnings files texts (Judged v) said good = absurd said
 
   -- what is emitted is covered
-  covered : (part : Part) (has : Cert → Type 0) (refuses : Answer → Type 0) (text : Text) (answer : Answer) →
-      emit.IsAnswer part has refuses text answer → status_of answer ≡ 0 → BreaksNothing text
-  covered part has refuses text _ (emit.refused f is) good = absurd (omega (arith, good))
-  covered part has refuses text _ (emit.emits answer is) good = law text is.graph is.cert is.points is.covers
+  covered : (emitting : Emitting) (has : Cert → Type 0) (refuses : Answer → Type 0) (text : Text) (answer : Answer) →
+      emit.IsAnswer emitting has refuses text answer → status_of answer ≡ 0 → BreaksNothing text
+  covered emitting has refuses text _ (emit.refused f is) good = absurd (omega (arith, good))
+  covered emitting has refuses text _ (emit.emits answer is) good = law text is.graph is.cert is.points is.covers
 
   emitted : (texts : List Text) (answer : Answer) (part : Part) (file : Text) (cert : Option Text) → IsEmitted part texts (Ok answer) →
       status_of answer ≡ 0 → IsClean (Emit part file cert) texts
   emitted [] answer part file cert said good = said
-  emitted (text ∷ []) answer part file cert said good = covered part _ _ text answer said good
-  emitted (text ∷ certificate ∷ []) answer part file cert said good = covered part _ _ text answer said good
+  emitted (text ∷ []) answer part file cert said good = covered (Emits part) _ _ text answer said good
+  emitted (text ∷ certificate ∷ []) answer part file cert said good = covered (Emits part) _ _ text answer said good
   emitted (text ∷ certificate ∷ more ∷ texts) answer part file cert said good = said
+
+  emitted_into : (texts : List Text) (answer : Answer) (folder file : Text) (cert : Option Text) → IsEmittedInto folder texts (Ok answer) →
+      status_of answer ≡ 0 → IsClean (EmitInto folder file cert) texts
+  emitted_into [] answer folder file cert said good = said
+  emitted_into (text ∷ []) answer folder file cert said good = covered (Writes folder) _ _ text answer said good
+  emitted_into (text ∷ certificate ∷ []) answer folder file cert said good = covered (Writes folder) _ _ text answer said good
+  emitted_into (text ∷ certificate ∷ more ∷ texts) answer folder file cert said good = said
 
   -- where this is said of what the names give, and reported with the status 0, that holds which it says of an answer with that status
   says_clean : (gives : Giving) (names texts : List Text) (IsSaidOf : List Text → Result Answer Failure → Type 0) (P : Type 0)
@@ -345,3 +371,6 @@ module _ (law : Law) (runs : LawOfRuns) (nowhere : SpelledFailsNowhere) where
   clean_of shown gives (Compare files) texts said bytes status is reported good = tt
   clean_of shown gives (Emit part file cert) texts said bytes status is reported good =
       says_clean gives _ texts (IsEmitted part) _ said bytes status (λ answer is well. emitted texts answer part file cert is well) is reported good
+  clean_of shown gives (EmitInto folder file cert) texts said bytes status is reported good =
+      says_clean gives _ texts (IsEmittedInto folder) _ said bytes status
+      (λ answer is well. emitted_into texts answer folder file cert is well) is reported good

@@ -6,18 +6,21 @@ use Rattle.std.specs.Io.KnownBytes.{Appends}
 use Rattle.flt_details.specs.Reports.{texts_of}
 use Rattle.flt_details.specs.declared.sources.Source.{Source}
 use Rattle.flt_forms.specs.declared.unread.UnreadFile.{UnreadFile}
-use Rattle.flt_notes.specs.Whole.{Look}
+use Rattle.flt_notes.specs.Whole.{IsPrint, Look, look_for}
+use Rattle.flt_notes.specs.declared.explaining.Asking.{Asking}
 use Rattle.flt_notes.specs.declared.explaining.Told.{Told}
+use Rattle.flt_notes.specs.declared.noted.Noted.{Noted}
 use Rattle.flt_warning_details.specs.declared.options.WarningOptions.{WarningOptions}
 use Rattle.flt_words.specs.declared.request.Form.{Form}
 use Rattle.flt_commands.proofs.Sent.{cut_short}
 use Rattle.flt_commands.specs.Answer.{sent_in}
 use Rattle.flt_commands.specs.Commands.{IsReported}
-use Rattle.flt_commands.specs.Explain.{AreNotedFor, HoldsBack, IsCutIn, IsCutShort, IsCutUnder, IsExplained, IsNoteTold, IsPrintTold, IsSent, IsTold, IsToldOrUnwritten, IsToldUnder, names_in, said_of, told_name}
+use Rattle.flt_commands.specs.Explain.{AreNotedFor, HasReport, HoldsBack, IsCutIn, IsCutShort, IsCutUnder, IsExplained, IsNoteTold, IsPrintTold, IsSent, IsTold, IsToldOrUnwritten, IsToldUnder, look_of, names_in, said_of, told_name}
 use Rattle.flt_commands.specs.Explain as explain
 use Rattle.flt_commands.specs.Inputs.{AreReadIn, Giving, Text}
 use Rattle.flt_commands.specs.Remarks.{unread_in, unread_lines}
 use Rattle.flt_commands.specs.declared.answer.Answer.{Answer}
+use Rattle.flt_commands.specs.declared.explain.Asked.{Asked}
 use Rattle.flt_commands.specs.declared.explain.Explanation.{Explanation}
 use Rattle.flt_commands.specs.declared.explain.Explanation.TheVariants.{Told as Said, Unwritten}
 use Rattle.flt_commands.specs.declared.failure.Failure.{Failure}
@@ -40,7 +43,7 @@ holds_some form journal name same = rw same tt
 
 pub told_under : (form : Form) (look : Look) (journal : Option Text) (names texts : List Text) (unread : List UnreadFile) (sources : List Source)
     (result : Result Told CommandFault) → names_in sources ≡ map (told_name form) names → texts_of sources ≡ texts →
-    IfOk result (λ t. IsTold form look.options sources unread t.explained) → IfOk result (λ t. AreNotedFor form journal (texts_of sources) t.noted) →
+    IfOk result (IsTold form look.options sources unread) → IfOk result (λ t. AreNotedFor form journal (texts_of sources) t.noted) →
     IfOk result (IsNoteTold form (texts_of sources) look.states) → IfOk result (IsPrintTold form look sources) →
     IfOk result (IsToldUnder form look journal names texts unread)
 told_under form look journal names texts unread sources (Ok t) named given told noted notes print = record {
@@ -53,6 +56,17 @@ told_under form look journal names texts unread sources (Ok t) named given told 
   print = print;
 }
 told_under form look journal names texts unread sources (Err e) named given told noted notes print = tt
+
+-- a report has these notes, if they are those of one that is asked for so
+pub reported : (asked : Asked) (asking : Asking) (sources : List Source) (t : Told) (notes : List Noted) →
+    asking.coloured ≡ asked.coloured → asking.states ≡ asked.states → asking.options ≡ asked.options →
+    IsPrint (look_for asking) sources t.noted t.explained.output.items t.explained.status → notes ≡ t.noted →
+    HasReport (look_of asked) sources notes
+reported asked asking sources t notes coloured states options print same = record {
+  printed = t.explained.output.items;
+  status = t.explained.status;
+  print = rw same (rw (coloured, states, options) at print);
+}
 
 pub cut_some : (form : Form) (options : WarningOptions) (states : ℕ) (names texts : List Text) (sources : List Source) (result : Result Told CommandFault)
     (old new : Option Text) → names_in sources ≡ map (told_name form) names → texts_of sources ≡ texts →

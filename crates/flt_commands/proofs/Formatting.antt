@@ -4,6 +4,7 @@ use Rattle.std.proofs.lemmas.List.Elements.{All-push, All-weaker}
 use Rattle.std.specs.List.{All, list_any}
 use Rattle.flt_commands.proofs.Firsts.{any_more, one_more}
 use Rattle.flt_commands.specs.Answer.{told_status}
+use Rattle.flt_commands.specs.Attempts.{Attempt}
 use Rattle.flt_commands.specs.Commands.{IsKept, IsReported}
 use Rattle.flt_commands.specs.Format.{AreFormatted, AreOutcomes, IsDone, IsFileDone, IsOutcome, is_wanted, one_more as an_outcome_more}
 use Rattle.flt_commands.specs.Inputs.{AreReadIn, Giving, Text}
@@ -77,13 +78,14 @@ none_checked : (files : List FileOutcome) → list_any (λ (f : FileOutcome). is
 none_checked [] = refl
 none_checked (f ∷ fs) = none_checked fs
 
-pub kept_formatted : (written : Text → Text → Type 0) (untouched : Type 0) (mode : FormatMode) (files texts : List Text) (found : Outcomes) →
+pub kept_formatted : (written : Text → Text → Type 0) (does : List Attempt → Type 0) (mode : FormatMode) (files texts : List Text)
+    (found : Outcomes) →
     All (IsFileDone written mode) found.files.items →
-    (list_any (λ (f : FileOutcome). is_wanted mode f.outcome) found.files.items ≡ false → untouched) →
-    IsKept written untouched (Format mode files) texts (Ok (Formatted mode found))
-kept_formatted written untouched modes.Print files texts found done still = still (none_printed found.files.items)
-kept_formatted written untouched modes.Check files texts found done still = still (none_checked found.files.items)
-kept_formatted written untouched modes.Write files texts found done still = (done, still)
+    (list_any (λ (f : FileOutcome). is_wanted mode f.outcome) found.files.items ≡ false → does []) →
+    IsKept written does (Format mode files) texts (Ok (Formatted mode found))
+kept_formatted written does modes.Print files texts found done still = still (none_printed found.files.items)
+kept_formatted written does modes.Check files texts found done still = still (none_checked found.files.items)
+kept_formatted written does modes.Write files texts found done still = (done, still)
 
 pub formatted_of : (gives : Giving) (mode : FormatMode) (files : List Text) (r : ReadFiles) (outcomes : Vec FileOutcome Global) →
     AreReadIn gives files r →

@@ -4,6 +4,7 @@ pub mod Drawing
 pub mod Ended
 pub mod Explaining
 pub mod Faults
+pub mod FindingRuns
 pub mod Firsts
 pub mod Formatting
 pub mod InTurn
@@ -23,6 +24,7 @@ pub mod OneReading
 pub mod OneThin
 pub mod OneVerdict
 pub mod Paged
+pub mod Putting
 pub mod Readings
 pub mod Reported
 pub mod Sent

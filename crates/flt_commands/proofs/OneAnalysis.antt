@@ -15,7 +15,7 @@ use Rattle.flt_commands.specs.Check.{HasPoints}
 use Rattle.flt_commands.specs.Inputs.{Text}
 use Rattle.flt_commands.specs.Single.{AreSame, SaysOne, seen, told}
 use Rattle.flt_commands.specs.declared.answer.Answer.{Answer}
-use Rattle.flt_commands.specs.declared.answer.Answer.TheVariants.{Accepted, Refused, Certificate as Written, Judged, Ran, FileRefused, Explained, Extracted, Formatted, Pages, Shown, Emitted, NotEmitted, Compared}
+use Rattle.flt_commands.specs.declared.answer.Answer.TheVariants.{Accepted, Refused, Certificate as Written, Judged, Ran, FileRefused, Explained, Extracted, Formatted, Pages, Shown, Emitted, NotEmitted, EmittedInto, Compared}
 use Rattle.flt_commands.specs.declared.failure.Failure.{Failure}
 use Rattle.flt_commands.specs.declared.failure.Failure.TheVariants.{Syntax, OutOfMemory}
 
@@ -55,6 +55,7 @@ module _ (graph : (text : Text) (g h : Graph) → HasPoints text g → HasPoints
   answered text (Pages t) x = absurd x
   answered text (Emitted bytes) x = absurd x
   answered text (NotEmitted why) x = absurd x
+  answered text (EmittedInto driver) x = absurd x
   answered text (Compared why) x = absurd x
 
   answers_once : (text : Text) (a b : Answer) → Judges text (Ok a) → Judges text (Ok b) → seen (Ok a) ≡ seen (Ok b)
@@ -73,6 +74,7 @@ module _ (graph : (text : Text) (g h : Graph) → HasPoints text g → HasPoints
   answers_once text (Written c) (Pages t) x y = absurd y
   answers_once text (Written c) (Emitted bytes) x y = absurd y
   answers_once text (Written c) (NotEmitted why) x y = absurd y
+  answers_once text (Written c) (EmittedInto driver) x y = absurd y
   answers_once text (Written c) (Compared why) x y = absurd y
   answers_once text (Refused f) Accepted x y = absurd y
   answers_once text (Refused f) (Judged v) x y = absurd y
@@ -85,6 +87,7 @@ module _ (graph : (text : Text) (g h : Graph) → HasPoints text g → HasPoints
   answers_once text (Refused f) (Pages t) x y = absurd y
   answers_once text (Refused f) (Emitted bytes) x y = absurd y
   answers_once text (Refused f) (NotEmitted why) x y = absurd y
+  answers_once text (Refused f) (EmittedInto driver) x y = absurd y
   answers_once text (Refused f) (Compared why) x y = absurd y
   answers_once text Accepted b x y = absurd x
   answers_once text (Judged v) b x y = absurd x
@@ -97,6 +100,7 @@ module _ (graph : (text : Text) (g h : Graph) → HasPoints text g → HasPoints
   answers_once text (Pages t) b x y = absurd x
   answers_once text (Emitted bytes) b x y = absurd x
   answers_once text (NotEmitted why) b x y = absurd x
+  answers_once text (EmittedInto driver) b x y = absurd x
   answers_once text (Compared why) b x y = absurd x
 
   not_both : (text : Text) (a : Answer) (f : Failure) → Judges text (Ok a) → IsFailure text f → f ≢ OutOfMemory → ⊥

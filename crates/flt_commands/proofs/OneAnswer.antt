@@ -8,6 +8,7 @@ use Rattle.flt_commands.proofs.OneLayout.{layouts_said_once}
 use Rattle.flt_commands.proofs.OneReading.{says_once}
 use Rattle.flt_commands.specs.Analyse.{IsAnalysed}
 use Rattle.flt_commands.specs.Answer.{output, status_of}
+use Rattle.flt_commands.specs.Attempts.{Attempt}
 use Rattle.flt_commands.specs.Check.{IsChecked}
 use Rattle.flt_commands.specs.Commands.{AnswersFor, IsReported, IsSaid, giving_for}
 use Rattle.flt_commands.specs.Compare.{IsCompared}
@@ -17,7 +18,7 @@ use Rattle.flt_commands.specs.Names.{names_of}
 use Rattle.flt_commands.specs.Replay.{IsReplayed}
 use Rattle.flt_commands.specs.Single.{AreSame, AskForOne, GivesOne, HasOneAnswer, SaysOne, seen, told}
 use Rattle.flt_commands.specs.Thin.{IsThinned}
-use Rattle.flt_words.specs.Request.{Asked, Check, Analyse, Thin, Run, Replay, Show, Explain, Extract, Format, Pages, Emit, Compare}
+use Rattle.flt_words.specs.Request.{Asked, Check, Analyse, Thin, Run, Replay, Show, Explain, Extract, Format, Pages, Emit, EmitInto, Compare}
 use Rattle.flt_commands.specs.declared.answer.Answer.{Answer}
 use Rattle.flt_commands.specs.declared.failure.Failure.{Failure}
 use Rattle.flt_commands.specs.declared.failure.Failure.TheVariants.{OutOfMemory}
@@ -90,6 +91,7 @@ module _ (gives : Giving) (one : GivesOne gives) where
   gives_one (Format mode files) = one
   gives_one (Pages names) = one
   gives_one (Emit part file cert) = but_once cert
+  gives_one (EmitInto folder file cert) = but_once cert
   gives_one (Compare files) = one
 
 module _ (checked : SaysOne IsChecked) (analysed : SaysOne IsAnalysed) (thinned : SaysOne IsThinned) (replayed : SaysOne IsReplayed)
@@ -117,16 +119,17 @@ module _ (checked : SaysOne IsChecked) (analysed : SaysOne IsAnalysed) (thinned 
   said_once gives shown showing (Format modes.Write files) texts more a b has one x y = absurd has
   said_once gives shown showing (Pages names) texts more a b has one x y = absurd has
   said_once gives shown showing (Emit part file cert) texts more a b has one x y = absurd has
+  said_once gives shown showing (EmitInto folder file cert) texts more a b has one x y = absurd has
   said_once gives shown showing (Compare files) texts more a b has one x y =
       says_once gives one (names_of (Compare files)) (IsCompared files) (compares_once files) texts more a b x y
 
   -- one thing is printed at most, with one exit status
-  pub printed_once : (gives : Giving) (written others : Text → Text → Type 0) (untouched kept : Type 0) (shown showing : Bool) (request : Option Asked)
-      (r s : Report) →
-      AskForOne request → GivesOne gives → AnswersFor shown gives written untouched request r → AnswersFor showing gives others kept request s →
+  pub printed_once : (gives : Giving) (written others : Text → Text → Type 0) (does did : List Attempt → Type 0) (shown showing : Bool)
+      (request : Option Asked) (r s : Report) →
+      AskForOne request → GivesOne gives → AnswersFor shown gives written does request r → AnswersFor showing gives others did request s →
       (r.output.items ≡ s.output.items) × (r.status ≡ s.status)
-  printed_once gives written others untouched kept shown showing None r s has one x y = (x.0.0 ∙ sym y.0.0, x.0.1 ∙ sym y.0.1)
-  printed_once gives written others untouched kept shown showing (Some request) r s has one x y =
+  printed_once gives written others does did shown showing None r s has one x y = (x.0.0 ∙ sym y.0.0, x.0.1 ∙ sym y.0.1)
+  printed_once gives written others does did shown showing (Some request) r s has one x y =
       reported_once r.output.items s.output.items r.status s.status x.said y.said
       (said_once (giving_for request gives) shown showing request x.texts y.texts x.said y.said has (gives_one gives one request) x.is y.is)
       x.reported y.reported

@@ -7,7 +7,7 @@ use Rattle.flt_check.specs.declared.checker.Refusal.{Refusal}
 use Rattle.flt_commands.proofs.OneDecision.{DecidesOne}
 use Rattle.flt_commands.specs.Check.{Decides}
 use Rattle.flt_commands.specs.Single.{seen}
-use Rattle.flt_commands.specs.declared.answer.Answer.TheVariants.{Accepted, Refused, Certificate as Written, Judged, Ran, FileRefused, Explained, Extracted, Formatted, Pages, Shown, Emitted, NotEmitted, Compared}
+use Rattle.flt_commands.specs.declared.answer.Answer.TheVariants.{Accepted, Refused, Certificate as Written, Judged, Ran, FileRefused, Explained, Extracted, Formatted, Pages, Shown, Emitted, NotEmitted, EmittedInto, Compared}
 
 -- the laws' clauses
 abbrev pub HasOneFault : Type 0
@@ -32,6 +32,7 @@ module _ (one : HasOneFault) (none : CoversWithoutFault) where
   checks_once g c Accepted (Pages t) x y = absurd y
   checks_once g c Accepted (Emitted bytes) x y = absurd y
   checks_once g c Accepted (NotEmitted why) x y = absurd y
+  checks_once g c Accepted (EmittedInto driver) x y = absurd y
   checks_once g c Accepted (Compared why) x y = absurd y
   checks_once g c (Refused f) Accepted x y = absurd (none g c f y x)
   checks_once g c (Refused f) (Refused h) x y = ap (λ r. seen (Ok (Refused r))) (one g c f h x y)
@@ -46,6 +47,7 @@ module _ (one : HasOneFault) (none : CoversWithoutFault) where
   checks_once g c (Refused f) (Pages t) x y = absurd y
   checks_once g c (Refused f) (Emitted bytes) x y = absurd y
   checks_once g c (Refused f) (NotEmitted why) x y = absurd y
+  checks_once g c (Refused f) (EmittedInto driver) x y = absurd y
   checks_once g c (Refused f) (Compared why) x y = absurd y
   checks_once g c (Written d) b x y = absurd x
   checks_once g c (Judged v) b x y = absurd x
@@ -58,4 +60,5 @@ module _ (one : HasOneFault) (none : CoversWithoutFault) where
   checks_once g c (Pages t) b x y = absurd x
   checks_once g c (Emitted bytes) b x y = absurd x
   checks_once g c (NotEmitted why) b x y = absurd x
+  checks_once g c (EmittedInto driver) b x y = absurd x
   checks_once g c (Compared why) b x y = absurd x

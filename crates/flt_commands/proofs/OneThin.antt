@@ -4,7 +4,7 @@ use Rattle.flt_commands.proofs.OneCheck.{CoversWithoutFault, HasOneFault}
 use Rattle.flt_commands.proofs.OneDecision.{DecidesOne}
 use Rattle.flt_commands.specs.Single.{seen}
 use Rattle.flt_commands.specs.Thin.{Decides}
-use Rattle.flt_commands.specs.declared.answer.Answer.TheVariants.{Accepted, Refused, Certificate as Written, Judged, Ran, FileRefused, Explained, Extracted, Formatted, Pages, Shown, Emitted, NotEmitted, Compared}
+use Rattle.flt_commands.specs.declared.answer.Answer.TheVariants.{Accepted, Refused, Certificate as Written, Judged, Ran, FileRefused, Explained, Extracted, Formatted, Pages, Shown, Emitted, NotEmitted, EmittedInto, Compared}
 
 module _ (one : HasOneFault) (none : CoversWithoutFault) where
   -- of a graph and a certificate one answer is decided at most
@@ -22,6 +22,7 @@ module _ (one : HasOneFault) (none : CoversWithoutFault) where
   thins_once g c (Written d) (Pages t) x y = absurd y
   thins_once g c (Written d) (Emitted bytes) x y = absurd y
   thins_once g c (Written d) (NotEmitted why) x y = absurd y
+  thins_once g c (Written d) (EmittedInto driver) x y = absurd y
   thins_once g c (Written d) (Compared why) x y = absurd y
   thins_once g c (Refused f) (Written d) x y = absurd (none g c f y.0 x)
   thins_once g c (Refused f) (Refused h) x y = ap (λ r. seen (Ok (Refused r))) (one g c f h x y)
@@ -36,6 +37,7 @@ module _ (one : HasOneFault) (none : CoversWithoutFault) where
   thins_once g c (Refused f) (Pages t) x y = absurd y
   thins_once g c (Refused f) (Emitted bytes) x y = absurd y
   thins_once g c (Refused f) (NotEmitted why) x y = absurd y
+  thins_once g c (Refused f) (EmittedInto driver) x y = absurd y
   thins_once g c (Refused f) (Compared why) x y = absurd y
   thins_once g c Accepted b x y = absurd x
   thins_once g c (Judged v) b x y = absurd x
@@ -48,4 +50,5 @@ module _ (one : HasOneFault) (none : CoversWithoutFault) where
   thins_once g c (Pages t) b x y = absurd x
   thins_once g c (Emitted bytes) b x y = absurd x
   thins_once g c (NotEmitted why) b x y = absurd x
+  thins_once g c (EmittedInto driver) b x y = absurd x
   thins_once g c (Compared why) b x y = absurd x

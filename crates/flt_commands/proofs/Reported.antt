@@ -4,7 +4,9 @@ use Rattle.std.proofs.Math.Path.{subst}
 use Rattle.flt_syntax.specs.TextFails.{SpelledFailsNowhere}
 use Rattle.flt_commands.proofs.Covered.{Law, LawOfRuns, clean_of}
 use Rattle.flt_commands.specs.Commands.{Answers, AnswersFor, AnswersSomehow, AreThose, HoldsBack, IsAnswered, IsBefore, IsCutShort, IsKept, IsKeptAs, IsRemarked, NamesNoJournal, IsRemarkedAfter, IsReported, IsSaid, giving_for, texts_in}
+use Rattle.flt_commands.specs.Attempts.{Attempt}
 use Rattle.flt_commands.specs.Drawn.{IsDrawnFor}
+use Rattle.flt_commands.specs.EmitInto.{ArePut}
 use Rattle.flt_commands.specs.Explain.{ArePaged, IsSpelledAs, IsWritten}
 use Rattle.flt_commands.specs.Format.{AreChanged}
 use Rattle.flt_notes.specs.Noted.{first_journal}
@@ -14,13 +16,13 @@ use Rattle.flt_commands.specs.Remarks.{IsFound, unread_in, unread_lines}
 use Rattle.flt_commands.specs.Answer.{status_of, told_status}
 use Rattle.flt_forms.specs.declared.unread.UnreadFile.{UnreadFile}
 use Rattle.flt_model.specs.JournalText.{Entries}
-use Rattle.flt_words.specs.Request.{Asked, Choice, Explain, Format, Show}
+use Rattle.flt_words.specs.Request.{Asked, Choice, EmitInto, Explain, Format, Show}
 use Rattle.flt_words.specs.Words.{asked}
 use Rattle.flt_words.specs.declared.request.Colour.{Colour}
 use Rattle.flt_words.specs.declared.request.Form.{Form}
 use Rattle.flt_words.specs.declared.request.FormatMode.TheVariants.{Write}
 use Rattle.flt_commands.specs.declared.answer.Answer.{Answer}
-use Rattle.flt_commands.specs.declared.answer.Answer.TheVariants.{Accepted, Refused, Certificate, Judged, Explained, Extracted, Formatted, Pages, Ran, FileRefused, Shown, Emitted, NotEmitted, Compared}
+use Rattle.flt_commands.specs.declared.answer.Answer.TheVariants.{Accepted, Refused, Certificate, Judged, Explained, Extracted, Formatted, Pages, Ran, FileRefused, Shown, Emitted, NotEmitted, EmittedInto, Compared}
 use Rattle.flt_commands.specs.declared.failure.Failure.{Failure}
 use Rattle.flt_commands.specs.declared.fault.CommandFault.{CommandFault}
 use Rattle.flt_commands.specs.declared.fault.CommandFault.TheVariants.{OutOfMemory}
@@ -61,12 +63,12 @@ remarked_after request before said (Ok report) first is = (before, first, is)
 remarked_after request before said (Err f) first is = tt
 
 -- where a picture is named, it is written, and where none is, all that is written stays as it was
-pub kept_shown : (written : Text → Text → Type 0) (untouched : Type 0) (timeline : Bool) (picture : Option (Bor Text)) (journal : Text)
-    (files : List Text) (bytes : Text) (texts : List Text) (said : Result Answer Failure) →
-    IsDrawnFor written (option_map (λ name. name.now) picture) texts said → (picture ≡ None → untouched) →
-    IsKept written untouched (Show timeline (option_map (λ name. name.now) picture) journal files) (bytes ∷ texts) said
-kept_shown written untouched timeline (Some name) journal files bytes texts said drawn none = drawn
-kept_shown written untouched timeline None journal files bytes texts said drawn none = none refl
+pub kept_shown : (written : Text → Text → Type 0) (does : List Attempt → Type 0) (timeline : Bool) (picture : Option (Bor Text))
+    (journal : Text) (files : List Text) (bytes : Text) (texts : List Text) (said : Result Answer Failure) →
+    IsDrawnFor written (option_map (λ name. name.now) picture) texts said → (picture ≡ None → does []) →
+    IsKept written does (Show timeline (option_map (λ name. name.now) picture) journal files) (bytes ∷ texts) said
+kept_shown written does timeline (Some name) journal files bytes texts said drawn none = drawn
+kept_shown written does timeline None journal files bytes texts said drawn none = none refl
 
 -- ---- with the exit status 0 or 1 nothing is remarked
 
@@ -98,6 +100,7 @@ unread_none (Shown rows v) good = refl
 unread_none (FileRefused n f) good = refl
 unread_none (Emitted bytes) good = refl
 unread_none (NotEmitted why) good = refl
+unread_none (EmittedInto driver) good = refl
 unread_none (Compared why) good = refl
 
 -- of what `explain` says, where no file is named for a journal
@@ -115,11 +118,11 @@ quiet_for form colour states journal warnings files before said (Err e) found re
 -- ---- of a request, and of the words that ask for it
 
 module _ (words : List (List ℕ)) (request : Asked) (asks : Some request ≡ asked words) where
-  pub answers_asked : (shown : Bool) (gives : Giving) (written : Text → Text → Type 0) (untouched : Type 0)
-      (result : Result Report CommandFault) → IfOk result (IsAnswered shown gives written untouched request) →
-      IfOk result (λ report. Answers shown gives written untouched words report)
-  answers_asked shown gives written untouched (Ok report) is = rw (← asks) is
-  answers_asked shown gives written untouched (Err e) is = tt
+  pub answers_asked : (shown : Bool) (gives : Giving) (written : Text → Text → Type 0) (does : List Attempt → Type 0)
+      (result : Result Report CommandFault) → IfOk result (IsAnswered shown gives written does request) →
+      IfOk result (λ report. Answers shown gives written does words report)
+  answers_asked shown gives written does (Ok report) is = rw (← asks) is
+  answers_asked shown gives written does (Err e) is = tt
 
   pub quiet_asked : (result : Result Report CommandFault) →
       IfOk result (λ report. report.status ≢ 2 → NamesNoJournal (Some request) → report.remark.items ≡ []) →
@@ -134,7 +137,17 @@ module _ (words : List (List ℕ)) (request : Asked) (asks : Some request ≡ as
   pub held_asked : {O : Type 0} (old new : O) → (HoldsBack (Some request) → new ≡ old) → HoldsBack (asked words) → new ≡ old
   held_asked old new held = rw (← asks) held
 
--- ---- where it isn't known whether what is written stays as it was
+-- where a folder is named for a driver, nothing is said of lines beside the answer
+pub never_quiet : (words : List (List ℕ)) (folder file : Text) (cert : Option Text) → Some (EmitInto folder file cert) ≡ asked words →
+    (result : Result Report CommandFault) →
+    IfOk result (λ report. report.status ≢ 2 → NamesNoJournal (asked words) → report.remark.items ≡ [])
+never_quiet words folder file cert asks (Ok report) = rw (← asks) (λ good none. absurd none)
+never_quiet words folder file cert asks (Err e) = tt
+
+-- ---- where it isn't known what else was done to files
+
+abbrev any : List Attempt → Type 0
+any attempts = ⊤
 
 spelled_anyway : (written : Text → Text → Type 0) (untouched : Type 0) (name : Text) (journal : Option Entries) →
     IsSpelledAs written untouched name journal → IsSpelledAs written ⊤ name journal
@@ -152,20 +165,34 @@ changed_anyway : (written : Text → Text → Type 0) (untouched : Type 0) (answ
 changed_anyway written untouched (Formatted mode found) is = (is.0, λ none. tt)
 changed_anyway written untouched _ is = tt
 
-kept_anyway : (written : Text → Text → Type 0) (untouched : Type 0) (request : Asked) (texts : List Text) (said : Result Answer Failure) →
-    IsKept written untouched request texts said → IsKept written ⊤ request texts said
-kept_anyway written untouched (Explain form colour states journal warnings files) texts (Ok answer) is =
-    written_anyway written untouched journal answer is
-kept_anyway written untouched (Explain form colour states journal warnings files) texts (Err f) is = tt
-kept_anyway written untouched (Show timeline (Some picture) journal files) texts said is = is
-kept_anyway written untouched (Format Write files) texts (Ok answer) is = changed_anyway written untouched answer is
-kept_anyway written untouched (Format Write files) texts (Err f) is = tt
-kept_anyway written untouched _ texts said is = tt
+put_anyway : (written : Text → Text → Type 0) (does : List Attempt → Type 0) (folder : Text) (texts : List Text)
+    (said : Result Answer Failure) → ArePut written does folder texts said → ArePut written any folder texts said
+put_anyway written does folder (text ∷ texts) (Ok (EmittedInto driver)) is = record {
+  graph = is.graph;
+  points = is.points;
+  listed = is.listed;
+  kinds = is.kinds;
+  put = record { read = is.put.read; named = is.put.named; done = is.put.done; only = tt };
+}
+put_anyway written does folder [] (Ok (EmittedInto driver)) is = is
+put_anyway written does folder texts (Ok _) is = tt
+put_anyway written does folder texts (Err f) is = λ other. tt
 
-answered_anyway : (shown : Bool) (gives : Giving) (written : Text → Text → Type 0) (untouched : Type 0) (request : Option Asked) (report : Report) →
-    AnswersFor shown gives written untouched request report → AnswersFor shown gives written ⊤ request report
-answered_anyway shown gives written untouched None report is = (is.0, tt)
-answered_anyway shown gives written untouched (Some request) report is = record {
+kept_anyway : (written : Text → Text → Type 0) (does : List Attempt → Type 0) (request : Asked) (texts : List Text)
+    (said : Result Answer Failure) → IsKept written does request texts said → IsKept written any request texts said
+kept_anyway written does (Explain form colour states journal warnings files) texts (Ok answer) is =
+    written_anyway written (does []) journal answer is
+kept_anyway written does (Explain form colour states journal warnings files) texts (Err f) is = tt
+kept_anyway written does (Show timeline (Some picture) journal files) texts said is = is
+kept_anyway written does (Format Write files) texts (Ok answer) is = changed_anyway written (does []) answer is
+kept_anyway written does (Format Write files) texts (Err f) is = tt
+kept_anyway written does (EmitInto folder file cert) texts said is = put_anyway written does folder texts said is
+kept_anyway written does _ texts said is = tt
+
+answered_anyway : (shown : Bool) (gives : Giving) (written : Text → Text → Type 0) (does : List Attempt → Type 0) (request : Option Asked)
+    (report : Report) → AnswersFor shown gives written does request report → AnswersFor shown gives written any request report
+answered_anyway shown gives written does None report is = (is.0, tt)
+answered_anyway shown gives written does (Some request) report is = record {
   said = is.said;
   texts = is.texts;
   those = is.those;
@@ -173,26 +200,26 @@ answered_anyway shown gives written untouched (Some request) report is = record 
   reported = is.reported;
   remarked = is.remarked;
   clean = is.clean;
-  kept = kept_anyway written untouched request is.texts is.said is.kept;
+  kept = kept_anyway written does request is.texts is.said is.kept;
 }
 
-pub answers_anyway : (shown : Bool) (gives : Giving) (written : Text → Text → Type 0) (untouched : Type 0) (words : List (List ℕ))
-    (result : Result Report CommandFault) → IfOk result (Answers shown gives written untouched words) →
+pub answers_anyway : (shown : Bool) (gives : Giving) (written : Text → Text → Type 0) (does : List Attempt → Type 0) (words : List (List ℕ))
+    (result : Result Report CommandFault) → IfOk result (Answers shown gives written does words) →
     IfOk result (AnswersSomehow gives written words)
-answers_anyway shown gives written untouched words (Ok report) is =
-    (shown, answered_anyway shown gives written untouched (asked words) report is)
-answers_anyway shown gives written untouched words (Err e) is = tt
+answers_anyway shown gives written does words (Ok report) is =
+    (shown, answered_anyway shown gives written does (asked words) report is)
+answers_anyway shown gives written does words (Err e) is = tt
 
 -- ---- all of it
 
 module _ (law : Law) (runs : LawOfRuns) (nowhere : SpelledFailsNowhere) (shown : Bool) (gives : Giving)
-    (written : Text → Text → Type 0) (untouched : Type 0) where
+    (written : Text → Text → Type 0) (does : List Attempt → Type 0) where
   -- what is said of what is asked for, and reported, answers it
   pub answered_of : (request : Asked) (texts : List Text) (said : Result Answer Failure) (result : Result Report CommandFault) →
-      IsSaid shown (giving_for request gives) request texts said → IsKept written untouched request texts said →
+      IsSaid shown (giving_for request gives) request texts said → IsKept written does request texts said →
       IfOk result (λ report. AreThose request report texts said) →
       IfOk result (λ report. IsReported said report.output.items report.status) →
-      IfOk result (λ report. IsRemarked request said report.remark.items) → IfOk result (IsAnswered shown gives written untouched request)
+      IfOk result (λ report. IsRemarked request said report.remark.items) → IfOk result (IsAnswered shown gives written does request)
   answered_of request texts said (Ok report) is kept those reported remarked = record {
     said = said;
     texts = texts;
@@ -208,10 +235,10 @@ module _ (law : Law) (runs : LawOfRuns) (nowhere : SpelledFailsNowhere) (shown :
   -- the same of what the words ask for
   pub answers_of : (words : List (List ℕ)) (request : Asked) (texts : List Text) (said : Result Answer Failure)
       (result : Result Report CommandFault) → Some request ≡ asked words → IsSaid shown (giving_for request gives) request texts said →
-      IsKept written untouched request texts said → IfOk result (λ report. AreThose request report texts said) →
+      IsKept written does request texts said → IfOk result (λ report. AreThose request report texts said) →
       IfOk result (λ report. IsReported said report.output.items report.status) →
       IfOk result (λ report. IsRemarked request said report.remark.items) →
-      IfOk result (λ report. Answers shown gives written untouched words report)
+      IfOk result (λ report. Answers shown gives written does words report)
   answers_of words request texts said (Ok report) asks is kept those reported remarked =
       rw (← asks) (answered_of request texts said (Ok report) is kept those reported remarked)
   answers_of words request texts said (Err f) asks is kept those reported remarked = tt

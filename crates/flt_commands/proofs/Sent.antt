@@ -13,9 +13,9 @@ use Rattle.flt_commands.specs.Inputs.{Giving, Text}
 use Rattle.flt_details.specs.declared.sources.Source.{Source}
 use Rattle.flt_forms.specs.declared.as_lines.Style.TheVariants.{Object, Sentence}
 use Rattle.flt_warning_details.specs.declared.options.WarningOptions.{WarningOptions}
-use Rattle.flt_words.specs.Request.{Asked, Check, Analyse, Thin, Run, Replay, Show, Explain, Extract, Format, Pages, Emit, Compare}
+use Rattle.flt_words.specs.Request.{Asked, Check, Analyse, Thin, Run, Replay, Show, Explain, Extract, Format, Pages, Emit, EmitInto, Compare}
 use Rattle.flt_words.specs.declared.request.Form.{Form}
-use Rattle.flt_words.specs.declared.request.Form.TheVariants.{Html, Human, Lines, Sarif, Short}
+use Rattle.flt_words.specs.declared.request.Form.TheVariants.{Html, Human, Lines, LinesWithRuns, Sarif, SarifWithRuns, Short}
 
 -- nothing goes out at once
 pub none_sent : (old : Option Text) (sent : ℕ) (bytes : Text) → sent ≡ 0 → Appends old old (take sent bytes)
@@ -35,6 +35,8 @@ cut_nowhere Short options states sources old = no_lines Sentence options sources
 cut_nowhere Lines options states sources old = no_lines Object options sources old
 cut_nowhere Sarif options states sources old = Appends-nil old
 cut_nowhere Html options states sources old = Appends-nil old
+cut_nowhere LinesWithRuns options states sources old = Appends-nil old
+cut_nowhere SarifWithRuns options states sources old = Appends-nil old
 
 -- where nothing went out, nothing is cut short
 pub cut_under : (form : Form) (options : WarningOptions) (states : ℕ) (names texts : List Text) (old : Option Text) → IsCutUnder form options states names texts old old
@@ -59,4 +61,5 @@ cut_short_for gives (Some (Extract of_map files)) old = Appends-nil old
 cut_short_for gives (Some (Format mode files)) old = Appends-nil old
 cut_short_for gives (Some (Pages names)) old = Appends-nil old
 cut_short_for gives (Some (Emit part file cert)) old = Appends-nil old
+cut_short_for gives (Some (EmitInto folder file cert)) old = Appends-nil old
 cut_short_for gives (Some (Compare files)) old = Appends-nil old

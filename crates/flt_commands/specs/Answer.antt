@@ -12,12 +12,13 @@ use Rattle.flt_model.specs.declared.verdict.Verdict.{Verdict}
 use Rattle.flt_model.specs.declared.verdict.Verdict.TheVariants.{Legal, NotARun, Breaks}
 use Rattle.flt_model.specs.declared.verdict.Violation.{Violation}
 use Rattle.flt_model.specs.declared.verdict.Violation.TheVariants.{V1, V2, V3, V4, V5, V6, V7, V8}
+use Rattle.flt_commands.specs.Driver.{driver_status}
 use Rattle.flt_commands.specs.Outcomes.{files_status, printed}
 use Rattle.flt_commands.specs.declared.failure.Failure.{Failure}
 use Rattle.flt_commands.specs.declared.answer.Answer.{Answer}
-use Rattle.flt_commands.specs.declared.answer.Answer.TheVariants.{Accepted, Refused, Certificate, Judged, Explained, Extracted, Formatted, Pages, Ran, FileRefused, Shown, Emitted, NotEmitted, Compared}
+use Rattle.flt_commands.specs.declared.answer.Answer.TheVariants.{Accepted, Refused, Certificate, Judged, Explained, Extracted, Formatted, Pages, Ran, FileRefused, Shown, Emitted, NotEmitted, EmittedInto, Compared}
 use Rattle.flt_commands.specs.declared.emit.Unemitted.{Unemitted}
-use Rattle.flt_commands.specs.declared.emit.Unemitted.TheVariants.{Kinds, Create}
+use Rattle.flt_commands.specs.declared.emit.Unemitted.TheVariants.{Kinds, Create, Return}
 
 -- `R01` to `R15`
 abbrev pub rule_name : Rule → List ℕ
@@ -66,6 +67,7 @@ mixture stream instance =
 abbrev pub unemitted_line : Unemitted → List ℕ
 unemitted_line (Kinds line stream instance) = codes "not emitted line " ++ (decimal line ++ (codes " " ++ mixture stream instance))
 unemitted_line (Create line) = codes "not emitted line " ++ (decimal line ++ codes " a pre create that completes with STATUS_SUCCESS")
+unemitted_line (Return line) = codes "not emitted line " ++ (decimal line ++ codes " a return that does not fit its callback")
 
 -- what stands on the standard output: the certificate, a text or its map, a layout or which files differ from theirs, reports, pages with
 -- an empty line between them, the journal, a part of a driver, or a line and a line feed; of a journal that is shown, rows before that line
@@ -83,6 +85,7 @@ output (Shown rows v) = rows.items ++ (verdict_line v ++ 10 ∷ [])
 output (FileRefused file f) = file_refusal_line file f ++ 10 ∷ []
 output (Emitted bytes) = bytes.items
 output (NotEmitted why) = unemitted_line why ++ 10 ∷ []
+output (EmittedInto driver) = []
 output (Compared reports) = reports.items
 
 -- how many of these bytes went out before the end; only of reports some do
@@ -129,6 +132,7 @@ status_of (Shown rows Legal) = 0
 status_of (Shown rows _) = 1
 status_of (Emitted bytes) = 0
 status_of (NotEmitted why) = 1
+status_of (EmittedInto driver) = driver_status driver.outcome
 status_of (Compared reports) = compared_status reports.items
 
 -- how the run ended of which an answer is the journal; all other answers are whole

@@ -8,7 +8,7 @@ use Rattle.flt_model.specs.Steps.{Transition}
 use Rattle.flt_commands.specs.Inputs.{Text}
 use Rattle.flt_driven.specs.Texts.{AreSpelled}
 use Rattle.flt_commands.specs.Split.{IsCertificateStart}
-use Rattle.flt_words.specs.Request.{Asked, Check, Analyse, Thin, Run, Replay, Show, Explain, Extract, Format, Pages, Emit, Compare}
+use Rattle.flt_words.specs.Request.{Asked, Check, Analyse, Thin, Run, Replay, Show, Explain, Extract, Format, Pages, Emit, EmitInto, Compare}
 
 -- the filter that the text spells breaks nothing: whatever transitions are tried on it, in whatever order and however many
 abbrev pub BreaksNothing : Text → Type 0
@@ -43,4 +43,6 @@ IsClean (Pages names) texts = Unit {0}
 IsClean (Compare files) texts = Unit {0}
 IsClean (Emit part file cert) (text ∷ []) = BreaksNothing text
 IsClean (Emit part file cert) (text ∷ certificate ∷ []) = BreaksNothing text
+IsClean (EmitInto folder file cert) (text ∷ []) = BreaksNothing text
+IsClean (EmitInto folder file cert) (text ∷ certificate ∷ []) = BreaksNothing text
 IsClean _ _ = ⊥

@@ -6,11 +6,13 @@ use Rattle.flt_commands.specs.Allowed.{options_of}
 use Rattle.flt_commands.specs.Analyse.{IsAnalysed}
 use Rattle.flt_commands.specs.Annotated.{gives_annotations}
 use Rattle.flt_commands.specs.Answer.{ending_of, output, remark, status_of}
+use Rattle.flt_commands.specs.Attempts.{Attempt}
 use Rattle.flt_commands.specs.Check.{IsChecked}
 use Rattle.flt_commands.specs.Clean.{IsClean}
 use Rattle.flt_commands.specs.Compare.{IsCompared}
 use Rattle.flt_commands.specs.Drawn.{IsDrawn}
 use Rattle.flt_commands.specs.Emit.{IsEmitted}
+use Rattle.flt_commands.specs.EmitInto.{ArePut, IsEmittedInto, remark_in}
 use Rattle.flt_commands.specs.Explain as explain
 use Rattle.flt_commands.specs.Explain.{ArePaged, IsExplained, IsWritten, look_in}
 use Rattle.flt_commands.specs.Extract.{IsExtracted}
@@ -23,7 +25,7 @@ use Rattle.flt_commands.specs.Replay.{IsReplayed, IsShown}
 use Rattle.flt_commands.specs.Running.{IsRan}
 use Rattle.flt_commands.specs.Thin.{IsThinned}
 use Rattle.flt_model.specs.JournalText.{Entries, spelling}
-use Rattle.flt_words.specs.Request.{Asked, Check, Analyse, Thin, Run, Replay, Show, Explain, Extract, Format, Pages, Emit, Compare}
+use Rattle.flt_words.specs.Request.{Asked, Check, Analyse, Thin, Run, Replay, Show, Explain, Extract, Format, Pages, Emit, EmitInto, Compare}
 use Rattle.flt_words.specs.Words.{asked}
 use Rattle.flt_words.specs.declared.request.FormatMode.TheVariants.{Write}
 use Rattle.flt_commands.specs.declared.answer.Answer.{Answer}
@@ -44,6 +46,7 @@ giving_for (Replay journal files) = gives_but (Some journal)
 giving_for (Show timeline picture journal files) = gives_but (Some journal)
 giving_for (Explain form colour states journal warnings files) = gives_annotations
 giving_for (Emit part file cert) = gives_but cert
+giving_for (EmitInto folder file cert) = gives_but cert
 giving_for request = λ gives. gives
 
 -- what is said of what is asked for, an answer or why there is none, where the names give these texts; `explain` alone says something of
@@ -61,6 +64,7 @@ IsSaid shown gives (Extract of_map files) = Says gives (names_of (Extract of_map
 IsSaid shown gives (Format mode files) = IsFormatSaid gives mode files
 IsSaid shown gives (Pages names) = Says gives (names_of (Pages names)) (λ texts. ArePaged names)
 IsSaid shown gives (Emit part file cert) = Says gives (names_of (Emit part file cert)) (IsEmitted part)
+IsSaid shown gives (EmitInto folder file cert) = Says gives (names_of (EmitInto folder file cert)) (IsEmittedInto folder)
 IsSaid shown gives (Compare files) = Says gives (names_of (Compare files)) (IsCompared files)
 
 -- ---- how that is printed
@@ -80,12 +84,13 @@ abbrev pub IsRemarkedAfter : List ℕ → Result Answer Failure → List ℕ →
 IsRemarkedAfter before (Ok answer) bytes = bytes ≡ before ++ remark (ending_of answer)
 IsRemarkedAfter before (Err f) bytes = bytes ≡ before ++ (failure_line f ++ 10 ∷ [])
 
--- what may stand before it: which files of `explain` and `format` aren't read; why a file isn't written or has no layout; and that no run
--- is found
+-- what may stand before it: which files of `explain` and `format` aren't read; why a file isn't written or has no layout; that no run
+-- is found; and which files of a driver are as they were or aren't written
 abbrev pub IsBefore : Asked → Result Answer Failure → List ℕ → Type 0
 IsBefore (Explain form colour states journal warnings files) said bytes = IsFound journal said bytes
 IsBefore (Show timeline picture journal files) said bytes = OnOk said (bytes ≡ [])
 IsBefore (Format mode files) said bytes = IfOk said (λ answer. bytes ≡ remarks_in answer)
+IsBefore (EmitInto folder file cert) said bytes = bytes ≡ remark_in said
 IsBefore request said bytes = bytes ≡ []
 
 -- all that stands on the standard error
@@ -106,9 +111,10 @@ IsCutShort gives (Some (Explain form colour states journal warnings files)) old 
     explain.IsCutShort (gives_annotations gives) form (options_of warnings) states files old new
 IsCutShort gives request old new = Appends old new []
 
--- no file is named for the journal of a finding
+-- no file is named for the journal of a finding, and no folder for a driver
 abbrev pub NamesNoJournal : Option Asked → Type 0
 NamesNoJournal (Some (Explain form colour states (Some journal) warnings files)) = ⊥
+NamesNoJournal (Some (EmitInto folder file cert)) = ⊥
 NamesNoJournal request = Unit {0}
 
 -- ---- all of it
@@ -132,18 +138,19 @@ AreThose (Show timeline picture journal files) report texts said =
 AreThose request report texts said = texts ≡ texts_in report
 
 -- where a file is named for it, the journal of the first finding that has one, or the picture of the journal that is shown, is written
--- there; where layouts are written, each goes into its file; where no file is named for a picture or a journal, and no layout is written,
--- all that is written stays as it was
-abbrev pub IsKept : (Text → Text → Type 0) → Type 0 → Asked → List Text → Result Answer Failure → Type 0
-IsKept written untouched (Explain form colour states journal warnings files) texts said = IfOk said (IsWritten written untouched journal)
-IsKept written untouched (Show timeline (Some picture) journal files) texts said = IfOk said (IsDrawn written picture (drop 1 texts))
-IsKept written untouched (Format Write files) texts said = IfOk said (AreChanged written untouched)
-IsKept written untouched request texts said = untouched
+-- there; where layouts are written, each goes into its file; a driver's parts go into its folder; where no file is named for a picture or a
+-- journal, and no layout and no driver is written, nothing is done, and all that is written stays as it was
+abbrev pub IsKept : (Text → Text → Type 0) → (List Attempt → Type 0) → Asked → List Text → Result Answer Failure → Type 0
+IsKept written does (Explain form colour states journal warnings files) texts said = IfOk said (IsWritten written (does []) journal)
+IsKept written does (Show timeline (Some picture) journal files) texts said = IfOk said (IsDrawn written picture (drop 1 texts))
+IsKept written does (Format Write files) texts said = IfOk said (AreChanged written (does []))
+IsKept written does (EmitInto folder file cert) texts said = ArePut written does folder texts said
+IsKept written does request texts said = does []
 
 -- the report on what is asked for. All of it speaks of the same texts, which are the report's: they are what the names give; this is said of
 -- them; that is what the report has for the standard output, for the exit status and for the standard error; with the status 0 the filters
 -- that they spell break nothing; and what is written for it into a file, or that all that is written stays as it was
-pub record IsAnswered (shown : Bool) (gives : Giving) (written : Text → Text → Type 0) (untouched : Type 0) (request : Asked)
+pub record IsAnswered (shown : Bool) (gives : Giving) (written : Text → Text → Type 0) (does : List Attempt → Type 0) (request : Asked)
     (report : Report) : Type 0 where
   pub said : Result Answer Failure
   pub texts : List Text
@@ -152,16 +159,16 @@ pub record IsAnswered (shown : Bool) (gives : Giving) (written : Text → Text �
   pub reported : IsReported said report.output.items report.status
   pub remarked : IsRemarked request said report.remark.items
   pub clean : report.status ≡ 0 → IsClean request texts
-  pub kept : IsKept written untouched request texts said
+  pub kept : IsKept written does request texts said
 
 -- the report on a command line; of words that ask for nothing there is a text about their use
-abbrev pub AnswersFor : Bool → Giving → (Text → Text → Type 0) → Type 0 → Option Asked → Report → Type 0
-AnswersFor shown gives written untouched None report = IsNothing report.output.items report.status × untouched
-AnswersFor shown gives written untouched (Some request) report = IsAnswered shown gives written untouched request report
+abbrev pub AnswersFor : Bool → Giving → (Text → Text → Type 0) → (List Attempt → Type 0) → Option Asked → Report → Type 0
+AnswersFor shown gives written does None report = IsNothing report.output.items report.status × does []
+AnswersFor shown gives written does (Some request) report = IsAnswered shown gives written does request report
 
-abbrev pub Answers : Bool → Giving → (Text → Text → Type 0) → Type 0 → List (List ℕ) → Report → Type 0
-Answers shown gives written untouched words report = AnswersFor shown gives written untouched (asked words) report
+abbrev pub Answers : Bool → Giving → (Text → Text → Type 0) → (List Attempt → Type 0) → List (List ℕ) → Report → Type 0
+Answers shown gives written does words report = AnswersFor shown gives written does (asked words) report
 
--- the same, where nobody knows whether a terminal shows colours, nor whether what is written stays as it was
+-- the same, where nobody knows whether a terminal shows colours, nor what else was done to files
 abbrev pub AnswersSomehow : Giving → (Text → Text → Type 0) → List (List ℕ) → Report → Type 0
-AnswersSomehow gives written words report = (shown : Bool) × Answers shown gives written ⊤ words report
+AnswersSomehow gives written words report = (shown : Bool) × Answers shown gives written (λ attempts. ⊤) words report

@@ -1,4 +1,5 @@
 -- What `explain` says. This project's own program.
+use Rattle.std.specs.Borrow.{Bor}
 use Rattle.std.specs.Io.{StartsWith}
 use Rattle.std.specs.Io.KnownBytes.{Appends}
 use Rattle.std.specs.List.{AllZip, list_all}
@@ -6,6 +7,7 @@ use Rattle.std.specs.Prelude.{◌≡◌, ℕ, List, [], ◌∷◌, ◌++◌, Boo
 use Rattle.flt_pages.specs.Pages.{has_page, title}
 use Rattle.flt_forms.specs.Lines.{AreLines}
 use Rattle.flt_forms.specs.Sarif.{IsSarif}
+use Rattle.flt_forms.specs.declared.run.FindingRun.{FindingRun}
 use Rattle.flt_forms.specs.declared.unread.UnreadFile.{UnreadFile}
 use Rattle.flt_forms.specs.declared.as_lines.Style.TheVariants.{Object, Sentence}
 use Rattle.flt_model.specs.JournalText.{Entries, spelling}
@@ -16,16 +18,16 @@ use Rattle.flt_notes.specs.Whole.{IsPrint, Look}
 use Rattle.flt_notes.specs.declared.noted.Noted.{Noted}
 use Rattle.flt_notes.specs.declared.explaining.Told.{Told}
 use Rattle.flt_details.specs.Reports.{texts_of}
-use Rattle.flt_details.specs.declared.sources.Explained.{Explained as Reported}
 use Rattle.flt_details.specs.declared.sources.Source.{Source}
 use Rattle.flt_words.specs.declared.request.Colour.{Colour}
 use Rattle.flt_words.specs.declared.request.Colour.TheVariants.{Auto, Always, Never}
 use Rattle.flt_words.specs.declared.request.Form.{Form}
 use Rattle.flt_words.specs.Shown.{visible}
-use Rattle.flt_words.specs.declared.request.Form.TheVariants.{Html, Human, Lines, Sarif, Short}
+use Rattle.flt_words.specs.declared.request.Form.TheVariants.{Html, Human, Lines, LinesWithRuns, Sarif, SarifWithRuns, Short}
 use Rattle.flt_warning_details.specs.declared.options.WarningOptions.{WarningOptions}
 use Rattle.flt_words.specs.Request.{Choice}
 use Rattle.flt_commands.specs.Allowed.{options_of}
+use Rattle.flt_commands.specs.FindingRuns.{AreRuns}
 use Rattle.flt_commands.specs.InTurn.{AreFirstLines}
 use Rattle.flt_commands.specs.Inputs.{AreRead, Giving, Text, unread_names}
 use Rattle.flt_commands.specs.Answer.{output, sent_of}
@@ -47,14 +49,28 @@ abbrev pub told_name : Form → Text → Text
 told_name Short name = visible name
 told_name form name = name
 
+-- JSON objects with the runs of the noted findings
+pub record AreToldWithRuns (options : WarningOptions) (sources : List Source) (t : Told) : Type 0 where
+  pub runs : Bor (List FindingRun)
+  pub found : AreRuns (texts_of sources) t.noted runs.now
+  pub lines : AreLines Object options sources (Some runs) t.explained.output.items t.explained.status
+
+-- a SARIF document with them
+pub record IsToldWithRuns (options : WarningOptions) (sources : List Source) (unread : List UnreadFile) (t : Told) : Type 0 where
+  pub runs : List FindingRun
+  pub found : AreRuns (texts_of sources) t.noted runs
+  pub document : IsSarif options sources unread runs t.explained.output.items t.explained.status
+
 -- what is told in a form: reports, a sentence or a JSON object for each finding, a SARIF document, which tells of these files that they
 -- aren't read, or a page on reports
-abbrev pub IsTold : Form → WarningOptions → List Source → List UnreadFile → Reported → Type 0
-IsTold Human options sources unread e = AreReports options (texts_of sources) e.output.items e.status
-IsTold Short options sources unread e = AreLines Sentence options sources [] e.output.items e.status
-IsTold Lines options sources unread e = AreLines Object options sources [] e.output.items e.status
-IsTold Sarif options sources unread e = IsSarif options sources unread e.output.items e.status
-IsTold Html options sources unread e = IsPageOn options sources e.output.items e.status
+abbrev pub IsTold : Form → WarningOptions → List Source → List UnreadFile → Told → Type 0
+IsTold Human options sources unread t = AreReports options (texts_of sources) t.explained.output.items t.explained.status
+IsTold Short options sources unread t = AreLines Sentence options sources None t.explained.output.items t.explained.status
+IsTold Lines options sources unread t = AreLines Object options sources None t.explained.output.items t.explained.status
+IsTold Sarif options sources unread t = IsSarif options sources unread [] t.explained.output.items t.explained.status
+IsTold LinesWithRuns options sources unread t = AreToldWithRuns options sources t
+IsTold SarifWithRuns options sources unread t = IsToldWithRuns options sources unread t
+IsTold Html options sources unread t = IsPageOn options sources t.explained.output.items t.explained.status
 
 -- what came of the findings of these texts in runs, of each that is reported by itself; nothing is looked for where that is neither told
 -- nor written into a file
@@ -62,6 +78,8 @@ abbrev pub AreNotedFor : Form → Option Text → List Text → List Noted → T
 AreNotedFor form (Some name) texts noted = AreNotes texts noted
 AreNotedFor Human None texts noted = AreNotes texts noted
 AreNotedFor Html None texts noted = AreNotes texts noted
+AreNotedFor LinesWithRuns None texts noted = AreNotes texts noted
+AreNotedFor SarifWithRuns None texts noted = AreNotes texts noted
 AreNotedFor form None texts noted = noted ≡ []
 
 -- for people it is also told what came of findings in runs: in the notes' lines, and in no others
@@ -73,10 +91,19 @@ IsNoteTold _ texts states e = Unit {0}
 abbrev pub look_of : Asked → Look
 look_of asked = record { coloured = asked.coloured; states = asked.states; options = asked.options }
 
--- for people all of what is printed is the reports with the notes, to the letter; a page has these without colours, with pictures
+-- a report on these texts has exactly these notes: one for each finding that it reports by itself
+pub record HasReport (look : Look) (sources : List Source) (notes : List Noted) : Type 0 where
+  pub printed : Text
+  pub status : ℕ
+  pub print : IsPrint look sources notes printed status
+
+-- for people all of what is printed is the reports with the notes, to the letter; a page has these without colours, with pictures. The
+-- runs in other forms are those that a report has
 abbrev pub IsPrintTold : Form → Look → List Source → Told → Type 0
 IsPrintTold Human look sources e = IsPrint look sources e.noted e.explained.output.items e.explained.status
 IsPrintTold Html look sources e = IsPaged look sources e.noted e.explained.output.items e.explained.status
+IsPrintTold LinesWithRuns look sources e = HasReport look sources e.noted
+IsPrintTold SarifWithRuns look sources e = HasReport look sources e.noted
 IsPrintTold _ look sources e = Unit {0}
 
 -- the same of names and what they give, beside these files, with what came of the findings of these texts
@@ -85,7 +112,7 @@ pub record IsToldUnder (form : Form) (look : Look) (journal : Option Text) (name
   pub sources : List Source
   pub named : names_in sources ≡ map (told_name form) names
   pub given : texts_of sources ≡ texts
-  pub told : IsTold form look.options sources unread e.explained
+  pub told : IsTold form look.options sources unread e
   pub noted : AreNotedFor form journal texts e.noted
   pub notes : IsNoteTold form texts look.states e
   pub print : IsPrintTold form look sources e
@@ -150,6 +177,8 @@ abbrev pub HoldsBack : Form → Option Text → Type 0
 HoldsBack form (Some name) = Unit {0}
 HoldsBack Sarif None = Unit {0}
 HoldsBack Html None = Unit {0}
+HoldsBack LinesWithRuns None = Unit {0}
+HoldsBack SarifWithRuns None = Unit {0}
 HoldsBack form None = ⊥
 
 -- what goes out before the end where nothing is held back: for people the reports of all texts but the last, else all lines
@@ -159,6 +188,8 @@ GoesOutEarly Short options texts states e = e.sent ≡ length e.explained.output
 GoesOutEarly Lines options texts states e = e.sent ≡ length e.explained.output.items
 GoesOutEarly Sarif options texts states e = Unit {0}
 GoesOutEarly Html options texts states e = Unit {0}
+GoesOutEarly LinesWithRuns options texts states e = Unit {0}
+GoesOutEarly SarifWithRuns options texts states e = Unit {0}
 
 -- what went out of an answer; where there is none, nothing did
 abbrev pub IsSent : Option Text → Option Text → Result Answer Failure → Type 0
@@ -172,6 +203,8 @@ IsCutIn Short options states sources old new = AreFirstLines Sentence options so
 IsCutIn Lines options states sources old new = AreFirstLines Object options sources old new
 IsCutIn Sarif options states sources old new = Appends old new []
 IsCutIn Html options states sources old new = Appends old new []
+IsCutIn LinesWithRuns options states sources old new = Appends old new []
+IsCutIn SarifWithRuns options states sources old new = Appends old new []
 
 -- the same of names and what they give; or nothing went out
 pub data IsCutUnder (form : Form) (options : WarningOptions) (states : ℕ) (names texts : List Text) (old new : Option Text) : Type 0 where

@@ -1,9 +1,10 @@
 -- What is told line by line, one text's lines as soon as they are made. This project's own program.
 use Rattle.std.specs.Io.KnownBytes.{Appends}
-use Rattle.std.specs.Prelude.{◌≡◌, ℕ, List, [], ◌++◌, Option, max, take}
+use Rattle.std.specs.Prelude.{◌≡◌, ℕ, List, ◌++◌, Option, None, max, take}
 use Rattle.flt_details.specs.declared.sources.Explained.{Explained}
 use Rattle.flt_details.specs.declared.sources.Source.{Source}
 use Rattle.flt_forms.specs.Lines.{AreLines, IsPart}
+use Rattle.flt_forms.specs.RunMember.{no_run}
 use Rattle.flt_forms.specs.declared.as_lines.Style.{Style}
 use Rattle.flt_warning_details.specs.declared.options.WarningOptions.{WarningOptions}
 use Rattle.flt_commands.specs.Inputs.{Text}
@@ -13,7 +14,7 @@ pub record IsTextMore (style : Style) (options : WarningOptions) (s : Source) (b
     Type 0 where
   pub part : List ℕ
   pub own : ℕ
-  pub is : IsPart style options s part own
+  pub is : IsPart style options no_run s part own
   pub output : after.output.items ≡ before.output.items ++ part
   pub status : after.status ≡ max before.status own
   pub sent : Appends old new part
@@ -23,5 +24,5 @@ pub record AreFirstLines (style : Style) (options : WarningOptions) (sources : L
   pub count : ℕ
   pub printed : List ℕ
   pub status : ℕ
-  pub are : AreLines style options (take count sources) [] printed status
+  pub are : AreLines style options (take count sources) None printed status
   pub sent : Appends old new printed

@@ -1,7 +1,7 @@
 -- The names that a command reads. This project's own program.
 use Rattle.std.specs.Prelude.{List, [], ◌∷◌, Some, None}
 use Rattle.flt_commands.specs.Inputs.{Text}
-use Rattle.flt_words.specs.Request.{Asked, Check, Analyse, Thin, Run, Replay, Show, Explain, Extract, Format, Pages, Emit, Compare}
+use Rattle.flt_words.specs.Request.{Asked, Check, Analyse, Thin, Run, Replay, Show, Explain, Extract, Format, Pages, Emit, EmitInto, Compare}
 
 -- the names that are read, in this order
 abbrev pub names_of : Asked → List Text
@@ -19,4 +19,6 @@ names_of (Format mode files) = files
 names_of (Pages names) = []
 names_of (Emit part file None) = file ∷ []
 names_of (Emit part file (Some cert)) = file ∷ cert ∷ []
+names_of (EmitInto folder file None) = file ∷ []
+names_of (EmitInto folder file (Some cert)) = file ∷ cert ∷ []
 names_of (Compare files) = files

@@ -1,6 +1,6 @@
 -- What is one at most, where the inputs give one thing for each name. This project's own program.
 use Rattle.std.specs.Prelude.{◌≡◌, ◌≢◌, ℕ, List, Option, Some, None, Result, Ok, Err}
-use Rattle.flt_words.specs.Request.{Asked, Run, Show, Explain, Format, Pages, Emit}
+use Rattle.flt_words.specs.Request.{Asked, Run, Show, Explain, Format, Pages, Emit, EmitInto}
 use Rattle.flt_words.specs.declared.request.FormatMode.TheVariants.{Write}
 use Rattle.flt_commands.specs.Answer.{output, status_of}
 use Rattle.flt_commands.specs.Inputs.{Giving, Text}
@@ -39,6 +39,7 @@ HasOneAnswer (Explain form colour states journal warnings files) = ⊥
 HasOneAnswer (Format Write files) = ⊥
 HasOneAnswer (Pages names) = ⊥
 HasOneAnswer (Emit part file cert) = ⊥
+HasOneAnswer (EmitInto folder file cert) = ⊥
 HasOneAnswer _ = Unit {0}
 
 -- the same of words; those that ask for nothing print nothing

@@ -12,7 +12,7 @@ Holding = Text → Option Text → Type 0
 abbrev pub Unknown : Holding
 Unknown name known = known ≡ None
 
--- nor does it say which files it lacks
+-- nor does it say which files it has or lacks
 abbrev pub Unsaid : Text → Type 0
 Unsaid name = ⊤
 

@@ -3,6 +3,7 @@
 ghost use Rattle.std.specs.Prelude.{◌≡◌, ◌≢◌, [], ◌∷◌, ◌++◌, Some, IfOk, string_bytes};
 ghost use Rattle.flt_commands.specs.Answer as spec;
 
+use crate::driver::{Driver, driver_status};
 use crate::emit::Unemitted;
 use crate::outcomes::{Outcomes, files_status, printed_files};
 use flt_check::Refusal;
@@ -44,6 +45,8 @@ pub enum Answer {
     Emitted(Vec<u8>),
     /// Why an accepted text can't be emitted.
     NotEmitted(Unemitted),
+    /// The parts of the driver that an accepted text is are written, as far as that could be done.
+    EmittedInto(Driver),
     /// The reports on C files that differ from their annotations.
     Compared(Vec<u8>),
 }
@@ -68,6 +71,7 @@ impl Answer {
             Answer::Accepted | Answer::Certificate(_) | Answer::Judged(Verdict::Legal) => 0,
             Answer::Extracted(_) | Answer::Pages(_) | Answer::Shown(_, Verdict::Legal) => 0,
             Answer::Emitted(_) => 0,
+            Answer::EmittedInto(driver) => driver_status(&driver.outcome),
             Answer::Explained(told, unread) => {
                 told_status(told.explained.status, unread.as_slice())
             }
@@ -93,7 +97,8 @@ impl Answer {
             Answer::Judged(_) | Answer::Explained(_, _) | Answer::Pages(_) => Ending::Whole,
             Answer::FileRefused(_, _) | Answer::Shown(_, _) => Ending::Whole,
             Answer::Extracted(_) | Answer::Formatted(_, _) => Ending::Whole,
-            Answer::Emitted(_) | Answer::NotEmitted(_) | Answer::Compared(_) => Ending::Whole,
+            Answer::Emitted(_) | Answer::NotEmitted(_) => Ending::Whole,
+            Answer::EmittedInto(_) | Answer::Compared(_) => Ending::Whole,
         }
     }
 
@@ -105,6 +110,7 @@ impl Answer {
             Answer::Certificate(bytes) => return Ok(bytes),
             Answer::Extracted(bytes) => return Ok(bytes),
             Answer::Emitted(bytes) => return Ok(bytes),
+            Answer::EmittedInto(_) => return Ok(Vec::new(alloc)),
             Answer::Compared(reports) => return Ok(reports),
             Answer::Formatted(mode, found) => {
                 return printed_files(alloc, mode, found.files.as_slice());
@@ -306,6 +312,9 @@ fn unemitted_line(alloc: Global, why: Unemitted) -> Result<String, AllocError>
             format!(in alloc;
                 "not emitted line {line} a pre create that completes with STATUS_SUCCESS"
             )
+        }
+        Unemitted::Return { line } => {
+            format!(in alloc; "not emitted line {line} a return that does not fit its callback")
         }
     }
 }

@@ -2,6 +2,7 @@
 
 ghost use Rattle.std.specs.Io.KnownBytes.{Appends};
 ghost use Rattle.std.specs.Prelude.{◌≡◌, ◌≢◌, ◌⊎◌, [], OnOk, IfOk, IfErr, drop, map, option_map, string_bytes, take, unwrap_or};
+ghost use Rattle.flt_commands.specs.Attempts.{Does};
 ghost use Rattle.flt_commands.specs.Commands as spec;
 ghost use Rattle.flt_commands.specs.Explain.{is_coloured as is_coloured_as};
 ghost use Rattle.flt_words.specs.Words.{asked};
@@ -13,6 +14,7 @@ use crate::clean::{covered_texts_break_nothing, driven_texts_break_nothing};
 use crate::compare::compare_files;
 use crate::deadlock::tell_deadlock;
 use crate::emit::emit_files;
+use crate::emit_into::{emit_files_into, into_remark};
 use crate::explain::{Asked, pages_of};
 use crate::explained::report_on_files;
 use crate::extract::extract_files;
@@ -68,8 +70,8 @@ fn report_of<'a, R: Threads + Wait + Sync, I: Inputs, P: Pictures, O: Sink, W: W
     out: &mut O,
     watch: &mut W,
 ) -> Result<Report, CommandFault>
-    ensures answers { IfOk result (spec.Answers coloured (I.gives inputs.now) (P.written pictures.new) (pictures.new ≡ pictures.old)
-        (map string_bytes words.now)) }
+    ensures answers { IfOk result (spec.Answers coloured (I.gives inputs.now) (P.written pictures.new)
+        (Does (pictures.new ≡ pictures.old) (P.tried pictures.old) (P.tried pictures.new)) (map string_bytes words.now)) }
     ensures quiet { IfOk result (λ report. report.status ≢ 2 → spec.NamesNoJournal (asked (map string_bytes words.now)) →
         report.remark.items ≡ []) }
     ensures sent { IfOk result (λ report. Appends (O.taken out.old) (O.taken out.new) (take report.sent report.output.items)) }
@@ -214,6 +216,22 @@ fn report_of<'a, R: Threads + Wait + Sync, I: Inputs, P: Pictures, O: Sink, W: W
             );
             report_on(alloc, Vec::new(alloc), said, contents)
         }
+        Request::EmitInto { folder, file, cert } => {
+            let said = emit_files_into(
+                alloc,
+                &Texts {
+                    inputs,
+                    whole: cert,
+                },
+                folder,
+                file,
+                cert,
+                pictures,
+                &mut contents,
+            );
+            let before = into_remark(alloc, &said)?;
+            report_on(alloc, before, said, contents)
+        }
         Request::Compare { files } => {
             let said = compare_files(alloc, inputs, files.as_slice(), &mut contents);
             report_on(alloc, Vec::new(alloc), said, contents)
@@ -244,8 +262,8 @@ fn write_report<O: Sink, E: Sink>(
 
 /// Runs the command of a program's words, without its own name, and returns the report on it once it is written. The answer goes to `out`;
 /// the line that says why there is no answer, `full`, `detached already`, `receipts differ`, or that no run is found for a journal goes to
-/// `err`; a picture, a journal or a layout for a file goes to `pictures`. The output of `explain` for a file is written as soon as it is
-/// made, unless it is one document or a file is named for a journal. Reports of `explain` have the colours of a terminal if `coloured`,
+/// `err`; a picture, a journal, a layout or a driver for files goes to `pictures`. The output of `explain` for a file is written as soon as
+/// it is made, unless it is one document or a file is named for a journal. Reports of `explain` have the colours of a terminal if `coloured`,
 /// unless the words say when. A command that drives filters reports each line of the script to `watch`, unless the words ask for quiet, and
 /// one that searches for runs how far it has come, if the words allow more states than the default. Threads are started by `run` alone, if
 /// it has more than one worker.
@@ -274,8 +292,8 @@ pub fn command<
     err: &mut E,
     watch: &mut W,
 ) -> Result<Report, CommandFault>
-    ensures answers { IfOk result (spec.Answers coloured (I.gives inputs.now) (P.written pictures.new) (pictures.new ≡ pictures.old)
-        (map string_bytes words.now)) }
+    ensures answers { IfOk result (spec.Answers coloured (I.gives inputs.now) (P.written pictures.new)
+        (Does (pictures.new ≡ pictures.old) (P.tried pictures.old) (P.tried pictures.new)) (map string_bytes words.now)) }
     ensures prints { IfOk result (λ report. Appends (O.taken out.old) (O.taken out.new) report.output.items) }
     ensures remarks { IfOk result (λ report. Appends (E.taken err.old) (E.taken err.new) report.remark.items) }
     ensures write { IfErr result (λ e. e ≡ CommandFault.Write → (O.failures out.new ≢ O.failures out.old)

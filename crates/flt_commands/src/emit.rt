@@ -3,10 +3,12 @@
 ghost use Rattle.flt_commands.specs.Emit as spec;
 ghost use Rattle.flt_commands.specs.Inputs.{Says};
 ghost use Rattle.flt_commands.specs.Names.{names_of};
+ghost use Rattle.flt_emit_read.specs.AsRead.{returns_fit};
 ghost use Rattle.flt_graph.specs.Lowering.{IsLowered};
 ghost use Rattle.flt_kinds.specs.Kinds.{AreKinds, IsMixed};
+ghost use Rattle.flt_tree.specs.WellFormed.{IsWellFormed};
 ghost use Rattle.flt_words.specs.Request.{Emit};
-ghost use Rattle.std.specs.Prelude.{◌≡◌, ◌<◌, ◌++◌, IfOk, OnOk, map, option_map};
+ghost use Rattle.std.specs.Prelude.{◌≡◌, ◌<◌, ◌++◌, IfOk, OnOk, map, option_map, true};
 
 use crate::answer::Answer;
 use crate::failure::Failure;
@@ -15,6 +17,7 @@ use crate::report::Contents;
 use flt_analyse::{AnalyseFault, Ticks, analyse};
 use flt_check::check;
 use flt_emit::{Allocation, emit, emit_header, emit_installation};
+use flt_emit_read::{reads_back_whole, unfit_return};
 use flt_graph::{Graph, Tree, lower};
 use flt_kinds::{ContextKinds, Mixed, Spot, completed_create, context_kinds};
 use flt_syntax::parse;
@@ -36,6 +39,11 @@ pub enum Unemitted {
     Create {
         line: usize,
     },
+    /// A `return` isn't one of its place, and C has no words for it: it has no status in a pre or a post callback, or has one elsewhere. It
+    /// is the first one in the text. No run comes to it.
+    Return {
+        line: usize,
+    },
 }
 
 // ---- a part of a driver
@@ -54,17 +62,25 @@ fn add_allocations(out: &mut Vec<Allocation>, spots: &[Spot]) -> Result<(), Allo
 }
 
 /// The source in which these statements allocate contexts of the instance.
-fn source_of(alloc: Global, tree: &Tree, listed: &[Spot]) -> Result<Vec<u8>, AllocError>
-    ensures { IfOk result (λ bytes. bytes.items ≡ spec.part_text Part.Source listed.now tree.now.filter) }
+pub(crate) fn source_of(alloc: Global, tree: &Tree, listed: &[Spot]) -> Result<Vec<u8>, AllocError>
+    requires well_formed { IsWellFormed tree.now.filter }
+    requires fit { returns_fit tree.now.filter ≡ true }
+    ensures written { IfOk result (λ bytes. bytes.items ≡ spec.part_text Part.Source listed.now tree.now.filter) }
+    ensures read { IfOk result (λ bytes. spec.IsReadBack Part.Source tree.now.filter bytes.items) }
 {
     let mut instances = Vec::new(alloc);
     add_allocations(&mut instances, listed)?;
-    emit(alloc, tree, instances.as_slice())
+    let source = emit(alloc, tree, instances.as_slice())?;
+    reads_back_whole();
+    Ok(source)
 }
 
 /// The part of the driver in which these statements allocate contexts of the instance.
 fn part_of(alloc: Global, part: Part, tree: &Tree, listed: &[Spot]) -> Result<Vec<u8>, AllocError>
-    ensures { IfOk result (λ bytes. bytes.items ≡ spec.part_text part listed.now tree.now.filter) }
+    requires well_formed { IsWellFormed tree.now.filter }
+    requires fit { returns_fit tree.now.filter ≡ true }
+    ensures written { IfOk result (λ bytes. bytes.items ≡ spec.part_text part listed.now tree.now.filter) }
+    ensures read { IfOk result (λ bytes. spec.IsReadBack part tree.now.filter bytes.items) }
 {
     match part {
         Part::Source => source_of(alloc, tree, listed),
@@ -81,13 +97,22 @@ fn line_of(graph: &Graph, at: Spot) -> usize
 }
 
 /// The lines of the statements that say that a context has two kinds.
-fn mixed_lines(graph: &Graph, mixed: Mixed) -> Unemitted
+pub(crate) fn mixed_lines(graph: &Graph, mixed: Mixed) -> Unemitted
     ensures { result ≡ spec.mixed_lines graph.now mixed }
 {
     Unemitted::Kinds {
         line: line_of(graph, mixed.site),
         stream: line_of(graph, mixed.stream),
         instance: line_of(graph, mixed.instance),
+    }
+}
+
+/// The line in which an open is completed.
+pub(crate) fn create_in(graph: &Graph, at: Spot) -> Unemitted
+    ensures { result ≡ spec.create_line graph.now at }
+{
+    Unemitted::Create {
+        line: line_of(graph, at),
     }
 }
 
@@ -99,24 +124,24 @@ fn emit_known(
     graph: &Graph,
     listed: Vec<Spot>,
 ) -> Result<Answer, AllocError>
-    requires { AreKinds graph.now listed.items }
+    requires kinds { AreKinds graph.now listed.items }
+    requires well_formed { IsWellFormed tree.now.filter }
     ensures { IfOk result (spec.Emits part tree.now.filter graph.now) }
 {
-    match completed_create(graph) {
-        Some(at) => {
-            let line = line_of(graph, at);
-            Ok(Answer::NotEmitted(Unemitted::Create { line }))
-        }
-        None => {
-            let bytes = part_of(alloc, part, tree, listed.as_slice())?;
-            Ok(Answer::Emitted(bytes))
-        }
+    if let Some(at) = completed_create(graph) {
+        return Ok(Answer::NotEmitted(create_in(graph, at)));
     }
+    if let Some(line) = unfit_return(tree) {
+        return Ok(Answer::NotEmitted(Unemitted::Return { line }));
+    }
+    let bytes = part_of(alloc, part, tree, listed.as_slice())?;
+    Ok(Answer::Emitted(bytes))
 }
 
 /// The part of a filter, or why there is none.
 fn emit_filter(alloc: Global, part: Part, tree: &Tree, graph: &Graph) -> Result<Answer, AllocError>
-    requires { IsLowered tree.now.filter graph.now }
+    requires lowered { IsLowered tree.now.filter graph.now }
+    requires well_formed { IsWellFormed tree.now.filter }
     ensures { IfOk result (spec.Emits part tree.now.filter graph.now) }
 {
     match context_kinds(alloc, tree, graph)? {
@@ -137,7 +162,7 @@ fn emit_analysed<'a, L: Ledger>(
     requires name { blank.name ≡ L.name }
     requires parts { blank.parts ≡ L.parts }
     requires some { 0 < blank.parts }
-    ensures { spec.JudgesAlone part text.now result }
+    ensures { spec.JudgesAlone (spec.Emits part) text.now result }
 {
     let tree = parse(alloc, text)?;
     let graph = lower(alloc, &tree)?;
@@ -156,7 +181,7 @@ fn emit_checked<'a>(
     text: &[u8],
     certificate: &[u8],
 ) -> Result<Answer, Failure<'a>>
-    ensures { spec.JudgesBeside part text.now certificate.now result }
+    ensures { spec.JudgesBeside (spec.Emits part) text.now certificate.now result }
 {
     let tree = parse(alloc, text)?;
     let cert = flt_cert::read(alloc, certificate)?;

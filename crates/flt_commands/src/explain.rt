@@ -11,6 +11,7 @@ ghost use Rattle.flt_details.specs.Reports.{texts_of};
 use crate::answer::Answer;
 use crate::failure::Failure;
 use crate::fault::CommandFault;
+use crate::finding_runs::runs_of;
 use crate::html::page_on;
 use crate::in_turn::lines_in_turn;
 use crate::inputs::{Inputs, Pictures, read_each};
@@ -162,6 +163,57 @@ fn told_page<O: Sink, W: SearchWatch>(
     Ok(unsent(Explained { output, status }, told.noted))
 }
 
+/// The lines of some texts with the runs of their findings, before anything is written.
+fn lines_with_runs<O: Sink, W: SearchWatch>(
+    alloc: Global,
+    asked: Asked<'_>,
+    sources: &[Source<'_>],
+    out: &mut O,
+    watch: &mut W,
+) -> Result<Told, CommandFault>
+    ensures told { IfOk result (spec.AreToldWithRuns asked.entry.options sources.now) }
+    ensures print { IfOk result (λ t. spec.HasReport (spec.look_of asked.entry) sources.now t.noted) }
+    ensures noted { IfOk result (λ t. AreNotes (texts_of sources.now) t.noted) }
+    ensures sent { IfOk result (λ t. t.sent ≡ 0) }
+    ensures held { out.new ≡ out.old }
+    ensures err { IfErr result (λ e. e ≡ CommandFault.OutOfMemory) }
+{
+    let told = explain(alloc, asking(asked, true), sources, out, watch)?;
+    let runs = runs_of(alloc, sources, told.noted.as_slice())?;
+    let explained = lines(
+        alloc,
+        Style::Object,
+        asked.options,
+        sources,
+        Some(runs.as_slice()),
+    )?;
+    let noted = told.noted;
+    Ok(unsent(explained, noted))
+}
+
+/// The same as a document, with files that aren't read.
+fn sarif_with_runs<O: Sink, W: SearchWatch>(
+    alloc: Global,
+    asked: Asked<'_>,
+    sources: &[Source<'_>],
+    unread: &[UnreadFile],
+    out: &mut O,
+    watch: &mut W,
+) -> Result<Told, CommandFault>
+    ensures told { IfOk result (spec.IsToldWithRuns asked.entry.options sources.now unread.now) }
+    ensures print { IfOk result (λ t. spec.HasReport (spec.look_of asked.entry) sources.now t.noted) }
+    ensures noted { IfOk result (λ t. AreNotes (texts_of sources.now) t.noted) }
+    ensures sent { IfOk result (λ t. t.sent ≡ 0) }
+    ensures held { out.new ≡ out.old }
+    ensures err { IfErr result (λ e. e ≡ CommandFault.OutOfMemory) }
+{
+    let told = explain(alloc, asking(asked, true), sources, out, watch)?;
+    let runs = runs_of(alloc, sources, told.noted.as_slice())?;
+    let explained = sarif(alloc, asked.options, sources, unread, runs.as_slice())?;
+    let noted = told.noted;
+    Ok(unsent(explained, noted))
+}
+
 /// The output for some texts, in a form, with files that aren't read. Each text's part is written as soon as it is made, unless the form is
 /// one document.
 #[tactic(auto, using(crate::proofs::Sent::none_sent, crate::proofs::Faults::write_of, crate::proofs::Faults::memory_of))]
@@ -173,7 +225,7 @@ fn told_in_turn<O: Sink, W: SearchWatch>(
     out: &mut O,
     watch: &mut W,
 ) -> Result<Told, CommandFault>
-    ensures told { IfOk result (λ t. spec.IsTold asked.entry.form asked.entry.options sources.now unread.now t.explained) }
+    ensures told { IfOk result (spec.IsTold asked.entry.form asked.entry.options sources.now unread.now) }
     ensures noted { IfOk result (λ t. spec.AreNotedFor asked.entry.form None (texts_of sources.now) t.noted) }
     ensures notes { IfOk result (spec.IsNoteTold asked.entry.form (texts_of sources.now) asked.entry.states) }
     ensures print { IfOk result (spec.IsPrintTold asked.entry.form (spec.look_of asked.entry) sources.now) }
@@ -196,7 +248,12 @@ fn told_in_turn<O: Sink, W: SearchWatch>(
             alloc,
             lines_in_turn(alloc, Style::Object, options, sources, out)?,
         )),
-        Form::Sarif => Ok(unsent(sarif(alloc, options, sources, unread)?, Items::new(alloc))),
+        Form::Sarif => Ok(unsent(
+            sarif(alloc, options, sources, unread, &[])?,
+            Items::new(alloc),
+        )),
+        Form::LinesWithRuns => lines_with_runs(alloc, asked, sources, out, watch),
+        Form::SarifWithRuns => sarif_with_runs(alloc, asked, sources, unread, out, watch),
         Form::Html => told_page(alloc, asked, sources, out, watch),
     }
 }
@@ -211,7 +268,7 @@ fn told_whole<O: Sink, W: SearchWatch>(
     out: &mut O,
     watch: &mut W,
 ) -> Result<Told, CommandFault>
-    ensures told { IfOk result (λ t. spec.IsTold asked.entry.form asked.entry.options sources.now unread.now t.explained) }
+    ensures told { IfOk result (spec.IsTold asked.entry.form asked.entry.options sources.now unread.now) }
     ensures noted { IfOk result (λ t. AreNotes (texts_of sources.now) t.noted) }
     ensures notes { IfOk result (spec.IsNoteTold asked.entry.form (texts_of sources.now) asked.entry.states) }
     ensures print { IfOk result (spec.IsPrintTold asked.entry.form (spec.look_of asked.entry) sources.now) }
@@ -222,9 +279,11 @@ fn told_whole<O: Sink, W: SearchWatch>(
     let held = asking(asked, true);
     let explained = match asked.form {
         Form::Human => return Ok(explain(alloc, held, sources, out, watch)?),
-        Form::Short => lines(alloc, Style::Sentence, asked.options, sources)?,
-        Form::Lines => lines(alloc, Style::Object, asked.options, sources)?,
-        Form::Sarif => sarif(alloc, asked.options, sources, unread)?,
+        Form::Short => lines(alloc, Style::Sentence, asked.options, sources, None)?,
+        Form::Lines => lines(alloc, Style::Object, asked.options, sources, None)?,
+        Form::Sarif => sarif(alloc, asked.options, sources, unread, &[])?,
+        Form::LinesWithRuns => return lines_with_runs(alloc, asked, sources, out, watch),
+        Form::SarifWithRuns => return sarif_with_runs(alloc, asked, sources, unread, out, watch),
         Form::Html => return told_page(alloc, asked, sources, out, watch),
     };
     let told = explain(alloc, held, sources, out, watch)?;
@@ -242,7 +301,7 @@ fn told<O: Sink, W: SearchWatch>(
     out: &mut O,
     watch: &mut W,
 ) -> Result<Told, CommandFault>
-    ensures told { IfOk result (λ t. spec.IsTold asked.entry.form asked.entry.options sources.now unread.now t.explained) }
+    ensures told { IfOk result (spec.IsTold asked.entry.form asked.entry.options sources.now unread.now) }
     ensures noted { IfOk result (λ t. spec.AreNotedFor asked.entry.form (option_map (λ name. name.now) asked.entry.journal)
         (texts_of sources.now) t.noted) }
     ensures notes { IfOk result (spec.IsNoteTold asked.entry.form (texts_of sources.now) asked.entry.states) }

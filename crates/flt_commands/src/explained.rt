@@ -4,6 +4,7 @@ ghost use Rattle.std.specs.Io.KnownBytes.{Appends};
 ghost use Rattle.std.specs.Prelude.{◌≡◌, ◌≢◌, [], Bool, IfErr, IfOk, OnOk, Some, map, option_map, take};
 ghost use Rattle.flt_commands.specs.Allowed.{options_of};
 ghost use Rattle.flt_commands.specs.Annotated.{gives_annotations};
+ghost use Rattle.flt_commands.specs.Attempts.{Does};
 ghost use Rattle.flt_commands.specs.Commands.{IsAnswered, NamesNoJournal};
 ghost use Rattle.flt_commands.specs.Explain as spec;
 ghost use Rattle.flt_words.specs.Request.{Choice, Explain};
@@ -34,7 +35,8 @@ pub(crate) fn report_on_files<'a, I: Inputs, P: Pictures, O: Sink, W: SearchWatc
 ) -> Result<Report, CommandFault>
     ensures answered { (colour : Colour) → (shown : Bool) → (warnings : Choice) → asked.entry.coloured ≡ spec.is_coloured colour shown →
         asked.entry.options ≡ options_of warnings →
-        IfOk result (IsAnswered shown (I.gives inputs.now) (P.written pictures.new) (pictures.new ≡ pictures.old)
+        IfOk result (IsAnswered shown (I.gives inputs.now) (P.written pictures.new)
+        (Does (pictures.new ≡ pictures.old) (P.tried pictures.old) (P.tried pictures.new))
         (Explain asked.entry.form colour asked.entry.states (option_map (λ name. name.now) asked.entry.journal) warnings
         (map (λ name. name.now) files.now))) }
     ensures quiet { (colour : Colour) → (warnings : Choice) → IfOk result (λ report. report.status ≢ 2 →

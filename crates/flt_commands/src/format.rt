@@ -2,6 +2,7 @@
 
 ghost use Rattle.std.specs.List.{All, list_any};
 ghost use Rattle.std.specs.Prelude.{◌≡◌, ◌≢◌, ◌++◌, ℕ, [], Bool, List, IfErr, IfOk, Ok, length, map, string_bytes, true, false};
+ghost use Rattle.flt_commands.specs.Attempts.{Does};
 ghost use Rattle.flt_commands.specs.Commands.{IsAnswered, IsKept};
 ghost use Rattle.flt_commands.specs.Format as spec;
 ghost use Rattle.flt_words.specs.Request.{Format};
@@ -173,7 +174,8 @@ fn format_files<I: Inputs, P: Pictures>(
 ) -> Result<Outcomes, AllocError>
     ensures said { IfOk result (spec.AreFormatted (I.gives inputs.now) mode (map (λ name. name.now) files.now)
         (map (λ text. text.items) contents.new.texts.items)) }
-    ensures kept { IfOk result (λ found. IsKept (P.written pictures.new) (pictures.new ≡ pictures.old)
+    ensures kept { IfOk result (λ found. IsKept (P.written pictures.new)
+        (Does (pictures.new ≡ pictures.old) (P.tried pictures.old) (P.tried pictures.new))
         (Format mode (map (λ name. name.now) files.now)) (map (λ text. text.items) contents.new.texts.items)
         (Ok (Answer.Formatted mode found))) }
 {
@@ -200,7 +202,8 @@ pub(crate) fn report_on_layouts<I: Inputs, P: Pictures>(
     pictures: &mut P,
 ) -> Result<Report, CommandFault>
     ensures answered { (shown : Bool) → IfOk result (IsAnswered shown (I.gives inputs.now) (P.written pictures.new)
-        (pictures.new ≡ pictures.old) (Format mode (map (λ name. name.now) files.now))) }
+        (Does (pictures.new ≡ pictures.old) (P.tried pictures.old) (P.tried pictures.new))
+        (Format mode (map (λ name. name.now) files.now))) }
     ensures quiet { IfOk result (λ report. report.status ≢ 2 → report.remark.items ≡ []) }
     ensures sent { IfOk result (λ report. report.sent ≡ 0) }
     ensures err { IfErr result (λ e. e ≡ CommandFault.OutOfMemory) }

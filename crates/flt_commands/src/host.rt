@@ -95,6 +95,8 @@ impl System for Host<'_> {
 
     ghost lacks = { λ _. Unsaid };
 
+    ghost has = { λ _. Unsaid };
+
     ghost fails = { λ _. ⊤ };
 
     ghost makes = { λ _. Unknown };

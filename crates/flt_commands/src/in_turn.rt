@@ -1,7 +1,7 @@
 //! Output line by line: the lines of each text are written as soon as they are made.
 
 ghost use Rattle.std.specs.Io.KnownBytes.{Appends};
-ghost use Rattle.std.specs.Prelude.{◌≡◌, ◌≢◌, [], IfErr, IfOk, OnOk};
+ghost use Rattle.std.specs.Prelude.{◌≡◌, ◌≢◌, IfErr, IfOk, None, OnOk};
 ghost use Rattle.flt_commands.specs.InTurn as spec;
 ghost use Rattle.flt_forms.specs.Lines.{AreLines};
 
@@ -28,7 +28,7 @@ fn put_text<O: Sink>(
     ensures write { IfErr result (λ e. e ≡ CommandFault.Write → O.failures out.new ≢ O.failures out.old) }
     ensures memory { IfErr result (λ e. e ≡ CommandFault.OutOfMemory → out.new ≡ out.old) }
 {
-    let one = lines(alloc, style, options, &[source])?;
+    let one = lines(alloc, style, options, &[source], None)?;
     told.output.extend_from_slice(one.output.as_slice())?;
     told.status = max(told.status, one.status);
     put_all(out, one.output.as_slice())?;
@@ -44,7 +44,7 @@ pub(crate) fn lines_in_turn<O: Sink>(
     sources: &[Source<'_>],
     out: &mut O,
 ) -> Result<Explained, CommandFault>
-    ensures told { IfOk result (λ e. AreLines style options sources.now [] e.output.items e.status) }
+    ensures told { IfOk result (λ e. AreLines style options sources.now None e.output.items e.status) }
     ensures sent { IfOk result (λ e. Appends (O.taken out.old) (O.taken out.new) e.output.items) }
     ensures fine { OnOk result (O.failures out.new ≡ O.failures out.old) }
     ensures write { IfErr result (λ e. e ≡ CommandFault.Write → O.failures out.new ≢ O.failures out.old) }

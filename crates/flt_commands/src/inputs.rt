@@ -4,6 +4,7 @@ ghost use Rattle.std.specs.Io.KnownBytes.{Consumes, IsAtEnd};
 ghost use Rattle.std.specs.Prelude.{◌≡◌, ◌≢◌, ◌⊎◌, ◌≤◌, ◌<◌, [], ◌∷◌, ◌++◌, ℕ, List, Option, IfOk, IfErr, IfNone, IfSome, OnErr, OnOk, ◌&&◌, None, Some, false, length, map, option_map, true};
 ghost use Rattle.std.specs.List.{list_any};
 ghost use Rattle.std.specs.Prelude;
+ghost use Rattle.flt_commands.specs.Attempts as attempts;
 ghost use Rattle.flt_commands.specs.Inputs as spec;
 ghost use Rattle.flt_commands.specs.System as system;
 
@@ -49,10 +50,16 @@ pub trait Inputs {
     }
 }
 
-/// The files into which pictures, journals and layouts are written.
+/// The files into which pictures, journals, layouts and drivers are written.
 pub trait Pictures {
     // What holds once these bytes are written under a name.
     ghost written: { Self → List ℕ → List ℕ → Type 0 };
+
+    // What was done so far under names, in order, where that is known.
+    ghost tried: { Self → Option (List attempts.Attempt) };
+
+    // Something is there under this name.
+    ghost has: { Self → List ℕ → Type 0 };
 
     /// Writes these bytes as the file of this name, unless it is one of the inputs. Returns why that failed, if it did; a regular file is
     /// then as it was.
@@ -64,7 +71,21 @@ pub trait Pictures {
         bytes: &[u8],
     ) -> Result<Result<(), Unwritten>, AllocError>
         ensures done { IfOk result (λ done. OnOk done (written self.new name.now bytes.now)) }
+        ensures wrote { IfOk result (λ done. OnOk done (attempts.Grows (tried self.old) (tried self.new)
+            (attempts.Wrote name.now bytes.now ∷ []))) }
+        ensures failed { IfOk result (λ done. OnErr done (attempts.Grows (tried self.old) (tried self.new)
+            (attempts.Failed name.now ∷ []))) }
         // What was written before is written still.
+        ensures kept { (other held : List ℕ) → written self.old other held → written self.new other held };
+
+    /// Writes these bytes as a new file of this name. Returns false if something of this name is there, which stays as it is; or why no
+    /// file could be made.
+    fn write_new(&mut self, name: &str, bytes: &[u8]) -> Result<bool, Unwritten>
+        ensures done { IfOk result (λ is_new. attempts.IsDone (written self.new) (attempts.made is_new name.now bytes.now)) }
+        ensures made { IfOk result (λ is_new. attempts.Grows (tried self.old) (tried self.new)
+            (attempts.made is_new name.now bytes.now ∷ [])) }
+        ensures taken { IfOk result (λ is_new. is_new ≡ false → has self.new name.now) }
+        ensures failed { OnErr result (attempts.Grows (tried self.old) (tried self.new) (attempts.Failed name.now ∷ [])) }
         ensures kept { (other held : List ℕ) → written self.old other held → written self.new other held };
 }
 

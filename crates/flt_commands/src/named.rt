@@ -1,6 +1,6 @@
 //! The files of a system by their names.
 
-ghost use Rattle.std.specs.Prelude.{◌≡◌, ◌⊎◌, IfNone, IfOk, IfSome, IsNone, IsTrue, OnOk, string_bytes};
+ghost use Rattle.std.specs.Prelude.{◌≡◌, ◌⊎◌, IfNone, IfOk, IfSome, IsNone, IsTrue, OnOk, false, string_bytes};
 ghost use Rattle.std.specs.Io.KnownBytes.{Appends};
 ghost use Rattle.flt_commands.specs.System as spec;
 
@@ -137,6 +137,24 @@ fn replace<S: System>(
     Ok(Err(Unwritten::Refused(fault)))
 }
 
+/// Writes these bytes into a new file of a name, or leaves none. Returns false if something of this name is there, which stays as it is.
+fn add_new<S: System>(system: &S, name: &str, bytes: &[u8]) -> Result<bool, Unwritten>
+    ensures new { IfOk result (λ is_new. IsTrue is_new → spec.IsFilled (S.makes system.now) name.now bytes.now) }
+    ensures taken { IfOk result (λ is_new. is_new ≡ false → S.has system.now name.now) }
+{
+    let Some(file) = system.create(name)? else {
+        return Ok(false);
+    };
+    let mut file = file;
+    match fill(&mut file, bytes) {
+        Ok(()) => Ok(true),
+        Err(why) => {
+            system.discard(name);
+            Err(why)
+        }
+    }
+}
+
 /// The files of a system by their names, and its standard input as `-`.
 #[derive(Drop)]
 pub struct Named<'a, S: System> {
@@ -208,8 +226,14 @@ impl<S: System> Inputs for Named<'_, S> {
 
 impl<S: System> Pictures for Named<'_, S> {
     ghost use Rattle.flt_commands.specs.System.{IsWritten};
+    ghost use Rattle.std.specs.Prelude.{None};
 
     ghost written = { λ named. IsWritten (S.makes named.system.now) (S.puts named.system.now) };
+
+    // A system doesn't say what was done to its files so far.
+    ghost tried = { λ _. None };
+
+    ghost has = { λ named. S.has named.system.now };
 
     fn write(
         &mut self,
@@ -223,5 +247,9 @@ impl<S: System> Pictures for Named<'_, S> {
             Ok(Place::File) => replace(alloc, self.system, name, bytes),
             Err(why) => Ok(Err(why)),
         }
+    }
+
+    fn write_new(&mut self, name: &str, bytes: &[u8]) -> Result<bool, Unwritten> {
+        add_new(self.system, name, bytes)
     }
 }

@@ -200,7 +200,7 @@ fn fault_line(
 }
 
 /// The line that says that a file isn't written, after those that say why.
-fn unwritten_line(alloc: Global, name: &str, why: &[u8]) -> Result<Vec<u8>, AllocError>
+pub(crate) fn unwritten_line(alloc: Global, name: &str, why: &[u8]) -> Result<Vec<u8>, AllocError>
     ensures { IfOk result (λ lines. lines.items ≡ why.now ++ spec.unwritten_line name.now) }
 {
     let name = visible(alloc, name)?;

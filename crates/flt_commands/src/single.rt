@@ -2,6 +2,7 @@
 
 ghost use Rattle.std.specs.Prelude.{◌≡◌, ℕ, Bool, List, Result};
 ghost use Rattle.flt_commands.specs.Analyse.{IsAnalysed};
+ghost use Rattle.flt_commands.specs.Attempts.{Does};
 ghost use Rattle.flt_commands.specs.Check.{HasPoints, IsChecked};
 ghost use Rattle.flt_commands.specs.Commands.{Answers, IsSaid};
 ghost use Rattle.flt_commands.specs.Inputs.{Text};
@@ -81,8 +82,10 @@ fn one_verdict_at_most()
 /// there is no answer, unless memory ran out. It does nothing at run time: its clauses are the law.
 pub fn one_answer_at_most<I: Inputs, P: Pictures>()
     ensures one { (inputs : I) (before pictures past others : P) (shown showing : Bool) (words : List (List ℕ)) (a b : Report) → spec.AskForOne (asked words) →
-        spec.GivesOne (I.gives inputs) → Answers shown (I.gives inputs) (P.written pictures) (pictures ≡ before) words a →
-        Answers showing (I.gives inputs) (P.written others) (others ≡ past) words b → (a.output.items ≡ b.output.items) × (a.status ≡ b.status) }
+        spec.GivesOne (I.gives inputs) → Answers shown (I.gives inputs) (P.written pictures)
+        (Does (pictures ≡ before) (P.tried before) (P.tried pictures)) words a →
+        Answers showing (I.gives inputs) (P.written others)
+        (Does (others ≡ past) (P.tried past) (P.tried others)) words b → (a.output.items ≡ b.output.items) × (a.status ≡ b.status) }
     ensures said { (inputs : I) (shown showing : Bool) (request : Asked) (texts others : List Text) (a b : Result Answer Failure) → spec.HasOneAnswer request →
         spec.GivesOne (I.gives inputs) → IsSaid shown (I.gives inputs) request texts a → IsSaid showing (I.gives inputs) request others b →
         spec.AreSame a b }

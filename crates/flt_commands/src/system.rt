@@ -57,6 +57,9 @@ pub trait System {
     // Nothing can be opened under this name.
     ghost lacks: { Self → List ℕ → Type 0 };
 
+    // Something is there under this name.
+    ghost has: { Self → List ℕ → Type 0 };
+
     // A read may fail.
     ghost fails: { Self → Type 0 };
 
@@ -88,7 +91,8 @@ pub trait System {
 
     /// A new and empty file of a name; none if the name is taken.
     fn create(&self, name: &str) -> Result<Option<Self::Made>, Unwritten>
-        ensures { IfOk result (λ made. IfSome made (λ file. makes self.now name.now (Self.Made.contents file))) };
+        ensures made { IfOk result (λ made. IfSome made (λ file. makes self.now name.now (Self.Made.contents file))) }
+        ensures taken { IfOk result (λ made. IfNone made (has self.now name.now)) };
 
     /// Puts a file that was made under one name in the place of another, once the system keeps its bytes.
     fn put(&self, file: Self::Made, made: &str, name: &str) -> Result<(), Unwritten>

@@ -1,3 +1,4 @@
+pub mod AllFit
 pub mod Asked
 pub mod Counted
 pub mod Plain

@@ -6,3 +6,4 @@ pub mod Lines
 pub mod Seen
 pub mod Sources
 pub mod Stacks
+pub mod Unfit

@@ -15,5 +15,7 @@ mod numbers;
 mod parts;
 mod statements;
 mod words;
+mod unfit;
 
 pub use laws::{reads_back, reads_back_whole, says_one_filter};
+pub use unfit::unfit_return;

@@ -3,7 +3,7 @@ use Rattle.std.proofs.Common.{◌≡◌, ◌∙◌, ℕ, suc, ◌+◌, ◌<◌, 
 use Rattle.std.proofs.Math.Seq.{take-suc}
 use Rattle.json.specs.Token.{Token}
 use Rattle.json.specs.Written.{Written}
-use Rattle.flt_forms.specs.Fingerprints.{fingerprint, numbered}
+use Rattle.flt_forms.specs.Fingerprints.{numbered}
 use Rattle.flt_forms.specs.Members.{Added}
 use Rattle.flt_forms.proofs.Adding.{both}
 
@@ -24,27 +24,23 @@ module _ {A : Type 0} (key : A → List ℕ) where
         after ≡ map key (take (i + 1) all)
     key_more before after sofar more = rw (more, sofar, one_more) (sym (map_push (take i all) one))
 
-module _ {A : Type 0} (key : A → List ℕ) (f : List ℕ → A → List Token) where
-  -- one result more, whose number counts all keys before
+module _ {A : Type 0} (key : A → List ℕ) (f : List (List ℕ) → A → List Token) where
+  -- one result more, by all keys before
   numbered_push : (before : List (List ℕ)) (xs : List A) (x : A) →
-      numbered key f before (xs ++ x ∷ []) ≡ numbered key f before xs ++ f (fingerprint (before ++ map key xs) (key x)) x
-  numbered_push before [] x =
-      append-nil (f (fingerprint before (key x)) x) ∙ ap (λ b. f (fingerprint b (key x)) x) (sym (append-nil before))
+      numbered key f before (xs ++ x ∷ []) ≡ numbered key f before xs ++ f (before ++ map key xs) x
+  numbered_push before [] x = append-nil (f before x) ∙ ap (λ b. f b x) (sym (append-nil before))
   numbered_push before (y ∷ ys) x =
-      let own = f (fingerprint before (key y)) y in
       let next = before ++ key y ∷ [] in
-      let later : numbered key f next (ys ++ x ∷ []) ≡ numbered key f next ys ++ f (fingerprint (next ++ map key ys) (key x)) x =
-      numbered_push next ys x in
+      let later : numbered key f next (ys ++ x ∷ []) ≡ numbered key f next ys ++ f (next ++ map key ys) x = numbered_push next ys x in
       let same : next ++ map key ys ≡ before ++ key y ∷ map key ys = append_assoc before (key y ∷ []) (map key ys) in
-      rw (later, same) (sym (append_assoc own (numbered key f next ys) (f (fingerprint (before ++ key y ∷ map key ys) (key x)) x)))
+      rw (later, same) (sym (append_assoc (f before y) (numbered key f next ys) (f (before ++ key y ∷ map key ys) x)))
 
   module _ (all : List A) (i : ℕ) (one : A) (within : i < length all) (is : one ≡ get_or all i one) where
     -- the results so far, and the next one
     pub one_result_more : {a b c : Written} (before : List (List ℕ)) → before ≡ map key (take i all) →
-        Added a b (numbered key f [] (take i all)) → Added b c (f (fingerprint before (key one)) one) →
-        Added a c (numbered key f [] (take (i + 1) all))
+        Added a b (numbered key f [] (take i all)) → Added b c (f before one) → Added a c (numbered key f [] (take (i + 1) all))
     one_result_more before sofar first second =
         let next : take (i + 1) all ≡ take i all ++ one ∷ [] = one_more key all i one within is in
-        let more : numbered key f [] (take (i + 1) all) ≡ numbered key f [] (take i all) ++ f (fingerprint (map key (take i all)) (key one)) one =
+        let more : numbered key f [] (take (i + 1) all) ≡ numbered key f [] (take i all) ++ f (map key (take i all)) one =
         ap (λ xs. numbered key f [] xs) next ∙ numbered_push [] (take i all) one in
         rw more (both first (rw sofar at second))

@@ -30,3 +30,7 @@ names_of sources = with_names [] (map (λ s. s.name) sources)
 -- the file of a text, in a document of files of these names
 abbrev pub file_of : List (Bor (List ℕ)) → Source → File
 file_of names s = record { reference = reference_of s.name.now; number = number_of names s.name.now; lines = s.text.now }
+
+-- the same of several texts
+abbrev pub files_of : List (Bor (List ℕ)) → List Source → List File
+files_of names sources = map (file_of names) sources

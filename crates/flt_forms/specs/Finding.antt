@@ -11,6 +11,7 @@ use Rattle.flt_explain.specs.declared.finding.Finding.{Finding}
 use Rattle.flt_graph.specs.declared.graph.Graph.{Graph}
 use Rattle.flt_places.specs.declared.places.Region.{Region}
 use Rattle.flt_tree.specs.Names.{Text}
+use Rattle.flt_forms.specs.Counted.{counted}
 use Rattle.flt_forms.specs.Members.{filled_member, line_of, marks_members, string_member, text_member, number_member, null_member}
 use Rattle.flt_forms.specs.Points.{region_at}
 use Rattle.flt_forms.specs.Preface.{preface}
@@ -47,12 +48,20 @@ path region r =
 abbrev pub route : (ℕ → Region) → Route → List Token
 route region r = state r.state ++ (maker_member (codes "origin") r.origin ++ path region r)
 
--- a finding of a file, where the points of its callback are there
-abbrev pub finding : List ℕ → (ℕ → Region) → Detail → List Token
-finding name region d =
+-- a finding of a file, where the points of its callback are there, with its run
+abbrev pub finding : List ℕ → (ℕ → Region) → List Token → Detail → List Token
+finding name region run d =
     begin_object ∷ preface (codes "finding") name ++ (place d ++ (rule d.finding ++ (words d.words
-    ++ (route region d.route ++ end_object ∷ []))))
+    ++ (route region d.route ++ (run ++ end_object ∷ [])))))
 
 -- the line of a finding
-abbrev pub finding_line : List ℕ → Text → Graph → Detail → List ℕ
-finding_line name text graph d = line_of (finding name (region_at text graph d.finding.callback) d)
+abbrev pub finding_line : List ℕ → Text → Graph → List Token → Detail → List ℕ
+finding_line name text graph run d = line_of (finding name (region_at text graph d.finding.callback) run d)
+
+-- the line of the finding of a number, with the run of that number
+abbrev pub numbered_line : List ℕ → Text → Graph → (ℕ → List Token) → ℕ → Detail → List ℕ
+numbered_line name text graph run number d = finding_line name text graph (run number) d
+
+-- a line for each finding, in their order
+abbrev pub finding_lines : List ℕ → Text → Graph → (ℕ → List Token) → List Detail → List ℕ
+finding_lines name text graph run details = counted (numbered_line name text graph run) 0 details

@@ -72,7 +72,7 @@ labelled key number = key ++ codes "; " ++ decimal number
 abbrev pub fingerprint : List (List ℕ) → List ℕ → List ℕ
 fingerprint before key = labelled key (times before key)
 
--- the results of several, each with its fingerprint, where these are the keys of those before
-abbrev pub numbered : {A : Type 0} → (A → List ℕ) → (List ℕ → A → List Token) → List (List ℕ) → List A → List Token
+-- the results of several, each by the keys of those before it, where these are the keys of those before the first
+abbrev pub numbered : {A : Type 0} → (A → List ℕ) → (List (List ℕ) → A → List Token) → List (List ℕ) → List A → List Token
 numbered key f before [] = []
-numbered key f before (x ∷ xs) = f (fingerprint before (key x)) x ++ numbered key f (before ++ key x ∷ []) xs
+numbered key f before (x ∷ xs) = f before x ++ numbered key f (before ++ key x ∷ []) xs

@@ -1,5 +1,6 @@
 pub mod Clean
 pub mod Columns
+pub mod Counted
 pub mod Fault
 pub mod Files
 pub mod Finding
@@ -11,6 +12,9 @@ pub mod Points
 pub mod Preface
 pub mod Results
 pub mod Rules
+pub mod Run
+pub mod RunFlow
+pub mod RunMember
 pub mod Sarif
 pub mod Short
 pub mod Steps

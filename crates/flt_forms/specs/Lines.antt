@@ -1,5 +1,6 @@
 -- What is found of texts, line by line. This project's own formats.
-use Rattle.std.specs.Prelude.{◌≡◌, ℕ, List, [], ◌∷◌, ◌++◌, flat_map, max}
+use Rattle.std.specs.Prelude.{◌≡◌, ℕ, ◌+◌, List, [], ◌∷◌, ◌++◌, Option, flat_map, max}
+use Rattle.std.specs.Borrow.{Bor}
 use Rattle.flt_explain.specs.declared.finding.Finding.{Finding}
 use Rattle.flt_details.specs.Reports.{IsJudged}
 use Rattle.flt_details.specs.Stages.{AreDetails}
@@ -14,18 +15,22 @@ use Rattle.flt_warning_details.specs.declared.detail.WarningDetail.{WarningDetai
 use Rattle.flt_warning_details.specs.declared.options.WarningOptions.{WarningOptions}
 use Rattle.flt_forms.specs.Clean.{clean_lines}
 use Rattle.flt_forms.specs.Fault.{IsFaultLine}
-use Rattle.flt_forms.specs.Finding.{finding_line}
+use Rattle.flt_forms.specs.Finding.{finding_lines}
+use Rattle.flt_forms.specs.RunMember.{run_members}
 use Rattle.flt_forms.specs.Short as short
 use Rattle.flt_forms.specs.Warned.{AreWarned, status_of}
 use Rattle.flt_forms.specs.Warning.{warning_line}
 use Rattle.flt_forms.specs.declared.as_lines.Style.{Style}
 use Rattle.flt_forms.specs.declared.as_lines.Style.TheVariants.{Object, Sentence}
+use Rattle.flt_forms.specs.declared.run.FindingRun.{FindingRun}
+use Rattle.json.specs.Token.{Token}
 
--- one JSON object for each of these findings, in their order
-pub record AreFindingLines (name : List ℕ) (text : Text) (filter : Filter) (graph : Graph) (found : List Finding) (printed : List ℕ) : Type 0 where
+-- one JSON object for each of these findings, in their order, with its run
+pub record AreFindingLines (name : List ℕ) (run : ℕ → List Token) (text : Text) (filter : Filter) (graph : Graph) (found : List Finding)
+    (printed : List ℕ) : Type 0 where
   pub details : List Detail
   pub each : AreDetails text filter graph found details
-  pub lines : printed ≡ flat_map (finding_line name text graph) details
+  pub lines : printed ≡ finding_lines name text graph run details
 
 -- one sentence for each of these findings, in their order
 pub record AreShortLines (name : List ℕ) (text : Text) (filter : Filter) (graph : Graph) (found : List Finding) (printed : List ℕ) : Type 0 where
@@ -33,12 +38,12 @@ pub record AreShortLines (name : List ℕ) (text : Text) (filter : Filter) (grap
   pub each : AreDetails text filter graph found details
   pub lines : printed ≡ flat_map (short.finding_line name) details
 
--- what is printed of a text: one line where it doesn't parse, else one for each finding
-abbrev pub IsPrinted : Style → Source → Judged → List ℕ → Type 0
-IsPrinted Object s (Unread f) printed = IsFaultLine s.name.now s.text.now printed
-IsPrinted Object s (Known tree graph found) printed = AreFindingLines s.name.now s.text.now tree.filter graph found printed
-IsPrinted Sentence s (Unread f) printed = short.IsFaultLine s.name.now s.text.now printed
-IsPrinted Sentence s (Known tree graph found) printed = AreShortLines s.name.now s.text.now tree.filter graph found printed
+-- what is printed of a text: one line where it doesn't parse, else one for each finding; an object has its run, by the finding's number
+abbrev pub IsPrinted : Style → (ℕ → List Token) → Source → Judged → List ℕ → Type 0
+IsPrinted Object run s (Unread f) printed = IsFaultLine s.name.now s.text.now printed
+IsPrinted Object run s (Known tree graph found) printed = AreFindingLines s.name.now run s.text.now tree.filter graph found printed
+IsPrinted Sentence run s (Unread f) printed = short.IsFaultLine s.name.now s.text.now printed
+IsPrinted Sentence run s (Known tree graph found) printed = AreShortLines s.name.now s.text.now tree.filter graph found printed
 
 -- one line for each of these warnings, in their order; no sentence where a comment allows one
 abbrev pub warning_lines : Style → List ℕ → List WarningDetail → List ℕ
@@ -46,19 +51,25 @@ warning_lines Object name warned = flat_map (warning_line name) warned
 warning_lines Sentence name warned = flat_map (short.warning_line name) warned
 
 -- what is printed of a text with its warnings last, or with the line of one in which there is nothing, and its status, which comes of the same findings and warnings
-pub record IsPart (style : Style) (options : WarningOptions) (s : Source) (printed : List ℕ) (status : ℕ) : Type 0 where
+pub record IsPart (style : Style) (options : WarningOptions) (run : ℕ → List Token) (s : Source) (printed : List ℕ) (status : ℕ)
+    : Type 0 where
   pub judged : Judged
   pub is : IsJudged s.text.now judged
   pub warned : List WarningDetail
   pub are : AreWarned s options.allowed judged warned
   pub own : status ≡ status_of options.is_strict judged warned
   pub first : List ℕ
-  pub lines : IsPrinted style s judged first
+  pub lines : IsPrinted style run s judged first
   pub all : printed ≡ first ++ (warning_lines style s.name.now warned ++ clean_lines style s.name.now judged warned)
 
--- the lines of several texts behind what is there, one text's behind the other's; the status is the greatest of theirs
-abbrev pub AreLines : Style → WarningOptions → List Source → List ℕ → List ℕ → ℕ → Type 0
-AreLines style options [] before printed status = (printed ≡ before) × (status ≡ 0)
-AreLines style options (s ∷ ss) before printed status =
-    (part : List ℕ) × (first : ℕ) × (others : ℕ) × IsPart style options s part first
-    × AreLines style options ss (before ++ part) printed others × (status ≡ max first others)
+-- the lines of several texts, of which the first has this number, after what is there, in the order of the texts; the status is the
+-- greatest of theirs. Their findings have these runs, by the number of the text and by their own
+abbrev pub AreLinesFrom : Style → WarningOptions → (ℕ → ℕ → List Token) → ℕ → List Source → List ℕ → List ℕ → ℕ → Type 0
+AreLinesFrom style options runs number [] before printed status = (printed ≡ before) × (status ≡ 0)
+AreLinesFrom style options runs number (s ∷ ss) before printed status =
+    (part : List ℕ) × (first : ℕ) × (others : ℕ) × IsPart style options (runs number) s part first
+    × AreLinesFrom style options runs (number + 1) ss (before ++ part) printed others × (status ≡ max first others)
+
+-- the lines of several texts, with these runs of their findings, or without a word on runs
+abbrev pub AreLines : Style → WarningOptions → List Source → Option (Bor (List FindingRun)) → List ℕ → ℕ → Type 0
+AreLines style options sources runs printed status = AreLinesFrom style options (run_members sources runs) 0 sources [] printed status

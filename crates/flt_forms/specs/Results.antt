@@ -12,12 +12,14 @@ use Rattle.flt_tree.specs.Names.{Text}
 use Rattle.flt_tree.specs.declared.filter.Position.{Position}
 use Rattle.json.specs.Token.{Token, begin_object, end_object, key}
 use Rattle.flt_forms.specs.Columns.{column_behind, column_of}
-use Rattle.flt_forms.specs.Fingerprints.{finding_key, numbered}
+use Rattle.flt_forms.specs.Fingerprints.{finding_key, fingerprint, numbered}
 use Rattle.flt_forms.specs.Members.{array_member, filled_member, number_member, object_member, string_member, text_member}
 use Rattle.flt_forms.specs.Rules.{of_rule}
 use Rattle.flt_forms.specs.declared.file.File.{File}
 use Rattle.flt_forms.specs.declared.rules.Reported.TheVariants.{Broken, Unread}
 use Rattle.flt_forms.specs.declared.uri.Reference.{Reference}
+use Rattle.flt_graph.specs.declared.graph.Graph.{Graph}
+use Rattle.flt_forms.specs.Points.{region_at}
 
 -- an object with these members, in an array
 abbrev pub item : List Token → List Token
@@ -42,24 +44,21 @@ abbrev pub artifact_location : File → List Token
 artifact_location file =
     key (codes "artifactLocation") ∷ begin_object ∷ (reference file.reference ++ (number_member (codes "index") file.number ++ end_object ∷ []))
 
--- a place in a text, from 1
-abbrev pub region : Text → Position → List Token
-region text at =
-    object_member (codes "region") (number_member (codes "startLine") at.line ++ number_member (codes "startColumn") (column_of text at))
-
-abbrev pub physical : File → Position → List Token
-physical file at =
-    key (codes "physicalLocation") ∷ begin_object ∷ (artifact_location file ++ (region file.lines at ++ end_object ∷ []))
-
--- the same with words
-abbrev pub location : File → Position → List ℕ → List Token
-location file at words = begin_object ∷ (physical file at ++ (message words ++ end_object ∷ []))
-
 -- where something in a text begins and ends, from 1; the last column is one behind its last byte
 abbrev pub whole_region : List ℕ → Text → Region → List Token
 whole_region name text r =
     object_member name (number_member (codes "startLine") r.first.line ++ (number_member (codes "startColumn") (column_of text r.first)
     ++ (number_member (codes "endLine") r.end.line ++ number_member (codes "endColumn") (column_of text r.end))))
+
+-- where a region of a file is
+abbrev pub physical : File → Region → List Token
+physical file r =
+    key (codes "physicalLocation") ∷ begin_object
+    ∷ (artifact_location file ++ (whole_region (codes "region") file.lines r ++ end_object ∷ []))
+
+-- the same with words
+abbrev pub location : File → Region → List ℕ → List Token
+location file r words = begin_object ∷ (physical file r ++ (message words ++ end_object ∷ []))
 
 -- what is marked: what a finding names, with the statement round it, or else the statement
 abbrev pub marked_regions : Text → Region → Option Region → List Token
@@ -81,55 +80,56 @@ locations file m words = array_member (codes "locations") (marked_location file 
 
 -- ---- ways
 
--- a place on a way
-abbrev pub flow_location : File → Position → List ℕ → List Token
-flow_location file at words = item (key (codes "location") ∷ location file at words)
+-- a statement on a path
+abbrev pub flow_location : File → Region → List ℕ → List Token
+flow_location file r words = item (key (codes "location") ∷ location file r words)
 
 -- a step at which nothing is asked isn't shown
-abbrev pub flow_step_by : File → Stage → List ℕ → List Token
-flow_step_by file s [] = []
-flow_step_by file s (b ∷ words) = flow_location file s.place (b ∷ words)
+abbrev pub flow_step_by : File → Region → List ℕ → List Token
+flow_step_by file r [] = []
+flow_step_by file r (b ∷ words) = flow_location file r (b ∷ words)
 
-abbrev pub flow_step : File → Stage → List Token
-flow_step file s = flow_step_by file s s.words.items
+-- a step of a callback whose points are in these regions
+abbrev pub flow_step : File → (ℕ → Region) → Stage → List Token
+flow_step file region s = flow_step_by file (region s.point) s.words.items
 
 -- the end of a way
 abbrev pub finding_place : File → Detail → List Token
 finding_place file d = item (key (codes "location") ∷ marked_location file d.marks d.words.title.items)
 
 -- the places of a way to a finding, with the finding last
-abbrev pub thread_places : File → Detail → List Stage → List Token
-thread_places file d stages = flat_map (flow_step file) stages ++ finding_place file d
+abbrev pub thread_places : File → (ℕ → Region) → Detail → List Stage → List Token
+thread_places file region d stages = flat_map (flow_step file region) stages ++ finding_place file d
 
-abbrev pub thread : File → Detail → List Stage → List Token
-thread file d stages = item (array_member (codes "locations") (thread_places file d stages))
+abbrev pub thread : File → (ℕ → Region) → Detail → List Stage → List Token
+thread file region d stages = item (array_member (codes "locations") (thread_places file region d stages))
 
 -- a way to a finding
-abbrev pub flow : File → Detail → List Stage → List Token
-flow file d stages = item (array_member (codes "threadFlows") (thread file d stages))
+abbrev pub flow : File → (ℕ → Region) → Detail → List Stage → List Token
+flow file region d stages = item (array_member (codes "threadFlows") (thread file region d stages))
 
 -- the other way, if there is one
-abbrev pub other_flow : File → Detail → Option (List Stage) → List Token
-other_flow file d None = []
-other_flow file d (Some stages) = flow file d stages
+abbrev pub other_flow : File → (ℕ → Region) → Detail → Option (List Stage) → List Token
+other_flow file region d None = []
+other_flow file region d (Some stages) = flow file region d stages
 
-abbrev pub both_flows : File → Detail → List Token
-both_flows file d = flow file d d.route.stages ++ other_flow file d d.route.other
+abbrev pub both_flows : File → (ℕ → Region) → Detail → List Token
+both_flows file region d = flow file region d d.route.stages ++ other_flow file region d d.route.other
 
 -- the ways, where one was found
-abbrev pub flows_by : WayKind → File → Detail → List Token
-flows_by Clean file d = both_flows file d
-flows_by Behind file d = both_flows file d
-flows_by Unreached file d = []
-flows_by Unknown file d = []
+abbrev pub flows_by : WayKind → File → (ℕ → Region) → Detail → List Token
+flows_by Clean file region d = both_flows file region d
+flows_by Behind file region d = both_flows file region d
+flows_by Unreached file region d = []
+flows_by Unknown file region d = []
 
 -- none where another finding's serve
-abbrev pub own_flows : Option ℕ → File → Detail → List Token
-own_flows None file d = flows_by d.route.kind file d
-own_flows (Some n) file d = []
+abbrev pub own_flows : Option ℕ → File → (ℕ → Region) → Detail → List Token
+own_flows None file region d = flows_by d.route.kind file region d
+own_flows (Some n) file region d = []
 
-abbrev pub flows : File → Detail → List Token
-flows file d = own_flows d.route.like file d
+abbrev pub flows : File → (ℕ → Region) → Detail → List Token
+flows file region d = own_flows d.route.like file region d
 
 -- ---- results
 
@@ -161,20 +161,25 @@ properties d =
     ++ (number_member (codes "point") d.finding.point ++ (text_member (codes "help") d.words.help.items
     ++ filled_member (codes "note") d.words.note.items)))
 
--- a finding of this fingerprint
-abbrev pub result_members : File → List ℕ → Detail → List Token
-result_members file print d =
+-- a finding of this fingerprint; the code flow of its run is the last
+abbrev pub result_members : File → (ℕ → Region) → List ℕ → List Token → Detail → List Token
+result_members file region print run d =
     of_rule (Broken d.finding.rule) ++ (level ++ (message d.words.title.items ++ (locations file d.marks d.words.title.items
     ++ (array_member (codes "relatedLocations") (related file d.route.origin)
-    ++ (array_member (codes "codeFlows") (flows file d) ++ (fingerprints d.words.head.items d.words.subject.items print
+    ++ (array_member (codes "codeFlows") (flows file region d ++ run) ++ (fingerprints d.words.head.items d.words.subject.items print
     ++ (properties d ++ not_suppressed)))))))
 
-abbrev pub result : File → List ℕ → Detail → List Token
-result file print d = item (result_members file print d)
+abbrev pub result : File → (ℕ → Region) → List ℕ → List Token → Detail → List Token
+result file region print run d = item (result_members file region print run d)
 
--- findings of a text in their order, each with its fingerprint
-abbrev pub results_of : File → List Detail → List Token
-results_of file details = numbered (finding_key file.lines) (result file) [] details
+-- a finding after those of these keys, with its fingerprint, and the run of its number
+abbrev pub next_result : File → Graph → (ℕ → List Token) → List (List ℕ) → Detail → List Token
+next_result file graph run before d =
+    result file (region_at file.lines graph d.finding.callback) (fingerprint before (finding_key file.lines d)) (run (length before)) d
+
+-- findings of a text with these points in their order, each with its fingerprint and its run
+abbrev pub results_of : File → Graph → (ℕ → List Token) → List Detail → List Token
+results_of file graph run details = numbered (finding_key file.lines) (next_result file graph run) [] details
 
 -- how to mend a fault of a text
 abbrev pub fault_properties : List ℕ → List Token

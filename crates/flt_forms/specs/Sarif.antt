@@ -1,5 +1,5 @@
 -- What is found of texts, as SARIF 2.1.0 (OASIS).
-use Rattle.std.specs.Prelude.{◌≡◌, ℕ, List, [], ◌∷◌, ◌++◌, Some, Bool, codes, true, false, flat_map, max, string_bytes}
+use Rattle.std.specs.Prelude.{◌≡◌, ℕ, ◌+◌, List, [], ◌∷◌, ◌++◌, Some, Bool, codes, true, false, flat_map, max, string_bytes}
 use Rattle.std.specs.Borrow.{Bor}
 use Rattle.flt_explain.specs.declared.finding.Finding.{Finding}
 use Rattle.flt_hints.specs.Telling.{title_of}
@@ -18,14 +18,16 @@ use Rattle.flt_warning_details.specs.declared.detail.WarningDetail.{WarningDetai
 use Rattle.flt_warning_details.specs.declared.options.WarningOptions.{WarningOptions}
 use Rattle.json.specs.Token.{Token, begin_object, boolean, end_object, key, string}
 use Rattle.flt_forms.specs.Fault.{help_of}
-use Rattle.flt_forms.specs.Files.{file_of, names_of}
+use Rattle.flt_forms.specs.Files.{file_of, files_of, names_of}
 use Rattle.flt_forms.specs.Members.{array_member, line_of, number_member, object_member, string_member}
 use Rattle.flt_forms.specs.Results.{fault_result, item, level, reference, results_of}
 use Rattle.flt_forms.specs.Rules.{AreRules, all, tool}
+use Rattle.flt_forms.specs.RunFlow.{run_flows}
 use Rattle.flt_forms.specs.Uri.{reference_of}
 use Rattle.flt_forms.specs.Warned.{AreWarned, status_of}
 use Rattle.flt_forms.specs.WarningResults as warning
 use Rattle.flt_forms.specs.declared.file.File.{File}
+use Rattle.flt_forms.specs.declared.run.FindingRun.{FindingRun}
 use Rattle.flt_forms.specs.declared.unread.UnreadFile.{UnreadFile}
 use Rattle.flt_forms.specs.declared.uri.Reference.{Reference}
 
@@ -35,20 +37,22 @@ pub record IsFaultResult (file : File) (text : Text) (tokens : List Token) : Typ
   pub described : IsDescribed text (Some trouble)
   pub result : tokens ≡ fault_result file trouble.spot.fault trouble.spot.bytes.now (title_of trouble) (help_of trouble)
 
--- one result for each of these findings, in their order
-pub record AreFindingResults (file : File) (text : Text) (filter : Filter) (graph : Graph) (found : List Finding) (tokens : List Token) : Type 0 where
+-- one result for each of these findings, in their order, with its run
+pub record AreFindingResults (file : File) (run : ℕ → List Token) (text : Text) (filter : Filter) (graph : Graph) (found : List Finding)
+    (tokens : List Token) : Type 0 where
   pub details : List Detail
   pub each : AreDetails text filter graph found details
-  pub results : tokens ≡ results_of file details
+  pub results : tokens ≡ results_of file graph run details
 
 -- the results of a text: one where it doesn't parse, else one for each finding
-unfoldable pub HasResults : File → Text → Judged → List Token → Type 0
-HasResults file text (Unread f) tokens = IsFaultResult file text tokens
-HasResults file text (Known tree graph found) tokens = AreFindingResults file text tree.filter graph found tokens
+unfoldable pub HasResults : File → (ℕ → List Token) → Text → Judged → List Token → Type 0
+HasResults file run text (Unread f) tokens = IsFaultResult file text tokens
+HasResults file run text (Known tree graph found) tokens = AreFindingResults file run text tree.filter graph found tokens
 
 -- the same with those of its warnings last, and its status, which comes of the same findings and warnings, in a document of files of
--- these names
-pub record IsPart (options : WarningOptions) (names : List (Bor (List ℕ))) (s : Source) (tokens : List Token) (status : ℕ) : Type 0 where
+-- these names; its findings have these runs, by their numbers
+pub record IsPart (options : WarningOptions) (names : List (Bor (List ℕ))) (run : ℕ → List Token) (s : Source) (tokens : List Token)
+    (status : ℕ) : Type 0 where
   pub file : File
   pub of : file ≡ file_of names s
   pub judged : Judged
@@ -57,15 +61,16 @@ pub record IsPart (options : WarningOptions) (names : List (Bor (List ℕ))) (s 
   pub are : AreWarned s options.allowed judged warned
   pub own : status ≡ status_of options.is_strict judged warned
   pub first : List Token
-  pub results : HasResults file s.text.now judged first
+  pub results : HasResults file run s.text.now judged first
   pub all : tokens ≡ first ++ warning.results_of file warned
 
--- the results of several texts, one text's behind the other's; the status is the greatest of theirs
-abbrev pub AreResults : WarningOptions → List (Bor (List ℕ)) → List Source → List Token → ℕ → Type 0
-AreResults options names [] tokens status = (tokens ≡ []) × (status ≡ 0)
-AreResults options names (s ∷ ss) tokens status =
-    (part : List Token) × (rest : List Token) × (first : ℕ) × (others : ℕ) × IsPart options names s part first
-    × AreResults options names ss rest others × (tokens ≡ part ++ rest) × (status ≡ max first others)
+-- the results of several texts, of which the first has this number, in the order of the texts; the status is the greatest of theirs. Their
+-- findings have these runs, by the number of the text and by their own
+abbrev pub AreResults : WarningOptions → List (Bor (List ℕ)) → (ℕ → ℕ → List Token) → ℕ → List Source → List Token → ℕ → Type 0
+AreResults options names runs number [] tokens status = (tokens ≡ []) × (status ≡ 0)
+AreResults options names runs number (s ∷ ss) tokens status =
+    (part : List Token) × (rest : List Token) × (first : ℕ) × (others : ℕ) × IsPart options names (runs number) s part first
+    × AreResults options names runs (number + 1) ss rest others × (tokens ≡ part ++ rest) × (status ≡ max first others)
 
 -- ---- files that aren't read
 
@@ -142,12 +147,12 @@ run_members rules names unread results status =
     tool rules ++ (setting names ++ (array_member (codes "results") results ++ invocations unread status))
 
 -- the rules with their pages, and the results of several texts with their status
-pub record IsRun (options : WarningOptions) (names : List (Bor (List ℕ))) (sources : List Source) (unread : List UnreadFile)
-    (tokens : List Token) (status : ℕ) : Type 0 where
+pub record IsRun (options : WarningOptions) (names : List (Bor (List ℕ))) (runs : ℕ → ℕ → List Token) (sources : List Source)
+    (unread : List UnreadFile) (tokens : List Token) (status : ℕ) : Type 0 where
   pub rules : List Token
   pub described : AreRules all rules
   pub results : List Token
-  pub found : AreResults options names sources results status
+  pub found : AreResults options names runs 0 sources results status
   pub members : tokens ≡ run_members rules names unread results status
 
 -- the whole document, of this run
@@ -156,7 +161,12 @@ document run =
     begin_object ∷ (string_member (codes "$schema") (codes "https://json.schemastore.org/sarif-2.1.0.json")
     ++ (string_member (codes "version") (codes "2.1.0") ++ (array_member (codes "runs") (item run) ++ end_object ∷ [])))
 
--- one document for several texts, beside which these files aren't read
-unfoldable pub IsSarif : WarningOptions → List Source → List UnreadFile → List ℕ → ℕ → Type 0
-IsSarif options sources unread printed status =
-    (run : List Token) × IsRun options (names_of sources) sources unread run status × (printed ≡ line_of (document run))
+-- the code flows of runs of findings, in a document of these texts
+abbrev pub flows_of : List Source → List FindingRun → ℕ → ℕ → List Token
+flows_of sources runs = run_flows (files_of (names_of sources) sources) runs
+
+-- one document for several texts, beside which these files aren't read, with these runs of their findings
+unfoldable pub IsSarif : WarningOptions → List Source → List UnreadFile → List FindingRun → List ℕ → ℕ → Type 0
+IsSarif options sources unread runs printed status =
+    (run : List Token) × IsRun options (names_of sources) (flows_of sources runs) sources unread run status
+    × (printed ≡ line_of (document run))

@@ -4,7 +4,7 @@ use Rattle.json.specs.Token.{Token}
 use Rattle.flt_warnings.specs.declared.warning.Site.{Site}
 use Rattle.flt_warning_details.specs.declared.detail.RelatedPlace.{RelatedPlace}
 use Rattle.flt_warning_details.specs.declared.detail.WarningDetail.{WarningDetail}
-use Rattle.flt_forms.specs.Fingerprints.{numbered, warning_key}
+use Rattle.flt_forms.specs.Fingerprints.{fingerprint, numbered, warning_key}
 use Rattle.flt_forms.specs.Members.{array_member, filled_member, object_member, string_member, text_member}
 use Rattle.flt_forms.specs.Results.{fingerprints, item, locations, marked_location, message, not_suppressed}
 use Rattle.flt_forms.specs.Rules.{of_rule}
@@ -58,6 +58,10 @@ result_members file print d title head =
 abbrev pub result : File → List ℕ → WarningDetail → List Token
 result file print d = item (result_members file print d d.title d.head)
 
+-- a warning after those of these keys, with its fingerprint
+abbrev pub next_result : File → List (List ℕ) → WarningDetail → List Token
+next_result file before d = result file (fingerprint before (warning_key file.lines d)) d
+
 -- warnings of a text in their order, each with its fingerprint
 abbrev pub results_of : File → List WarningDetail → List Token
-results_of file warned = numbered (warning_key file.lines) (result file) [] warned
+results_of file warned = numbered (warning_key file.lines) (next_result file) [] warned

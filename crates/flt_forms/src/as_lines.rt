@@ -4,12 +4,15 @@ ghost use Rattle.std.specs.Prelude.{◌≡◌, ◌++◌, [], IfOk, List, ℕ, ma
 ghost use Rattle.flt_forms.specs.Fault.{IsFaultLine};
 ghost use Rattle.flt_forms.specs.Finding as of_finding;
 ghost use Rattle.flt_forms.specs.Lines as spec;
+ghost use Rattle.flt_forms.specs.RunMember.{members_in, no_member, own_member};
 ghost use Rattle.flt_details.specs.Reports.{IsJudged};
 ghost use Rattle.flt_syntax.specs.TextFails.{Fails};
 
 use crate::clean::put_clean_lines;
 use crate::fault::{help_of, put_fault_line};
 use crate::finding::put_lines;
+use crate::run::FindingRun;
+use crate::run_member::{TextRuns, texts_in};
 use crate::short::{put_short_fault, put_short_lines, put_short_warnings};
 use crate::warned::{status_of, warned_of};
 use crate::warning::put_warnings;
@@ -53,39 +56,62 @@ fn unread(
     Ok(written)
 }
 
-/// Adds the lines of the findings in a text that parses to the output.
+/// Adds the lines of the findings in a text of a number that parses to the output.
 fn known(
     alloc: Global,
     out: Vec<u8>,
+    runs: TextRuns<'_, '_>,
+    number: usize,
     source: Source<'_>,
     tree: &Tree,
     graph: &Graph,
     found: &[Finding],
 ) -> Result<Vec<u8>, AllocError>
     ensures { IfOk result (λ v. (printed : List ℕ) ×
-        spec.AreFindingLines source.entry.name.now source.entry.text.now tree.now.filter graph.now found.now printed
+        spec.AreFindingLines source.entry.name.now (members_in runs.entry number) source.entry.text.now tree.now.filter graph.now
+        found.now printed
         × (v.items ≡ out.items ++ printed)) }
 {
     let details = details(alloc, source.text, tree, graph, found)?;
     let lines = Lines::of(alloc, source.text)?;
-    put_lines(alloc, out, source.name, &lines, graph, details.as_slice())
+    put_lines(
+        alloc,
+        out,
+        source.name,
+        &lines,
+        graph,
+        runs,
+        number,
+        details.as_slice(),
+    )
 }
 
 fn put_judged(
     alloc: Global,
     out: Vec<u8>,
     style: Style,
+    runs: TextRuns<'_, '_>,
+    number: usize,
     source: Source<'_>,
     judged: &Judged,
 ) -> Result<Vec<u8>, AllocError>
     requires { IsJudged source.text.now judged.now }
-    ensures { IfOk result (λ v. (printed : List ℕ) × spec.IsPrinted style source.entry judged.now printed
+    ensures { IfOk result (λ v. (printed : List ℕ) × spec.IsPrinted style (members_in runs.entry number) source.entry judged.now printed
         × (v.items ≡ out.items ++ printed)) }
 {
     match (style, judged) {
         (Style::Object, Judged::Unread(fault)) => unread(alloc, out, source, *fault),
         (Style::Object, Judged::Known(tree, graph, found)) => {
-            known(alloc, out, source, tree, graph, found.as_slice())
+            known(
+                alloc,
+                out,
+                runs,
+                number,
+                source,
+                tree,
+                graph,
+                found.as_slice(),
+            )
         }
         (Style::Sentence, Judged::Unread(fault)) => put_short_fault(alloc, out, source, *fault),
         (Style::Sentence, Judged::Known(tree, graph, found)) => {
@@ -110,20 +136,22 @@ fn put_warned(
     }
 }
 
-/// Adds the lines of a text to the output; returns the text's status, too.
+/// Adds the lines of the text of a number to the output; returns the text's status, too.
 fn put_source(
     alloc: Global,
     out: Vec<u8>,
     style: Style,
     options: WarningOptions,
+    runs: TextRuns<'_, '_>,
+    number: usize,
     source: Source<'_>,
 ) -> Result<Explained, AllocError>
-    ensures { IfOk result (λ e. (printed : List ℕ) × spec.IsPart style options source.entry printed e.status
+    ensures { IfOk result (λ e. (printed : List ℕ) × spec.IsPart style options (members_in runs.entry number) source.entry printed e.status
         × (e.output.items ≡ out.items ++ printed)) }
 {
     let judged = judge(alloc, source.text)?;
     let warned = warned_of(alloc, options.allowed, source, &judged)?;
-    let first = put_judged(alloc, out, style, source, &judged)?;
+    let first = put_judged(alloc, out, style, runs, number, source, &judged)?;
     let shown = put_warned(alloc, first, style, source.name, warned.as_slice())?;
     let output = put_clean_lines(shown, style, source.name, &judged, warned.as_slice())?;
     Ok(Explained {
@@ -144,17 +172,19 @@ fn put_sources(
     out: Vec<u8>,
     style: Style,
     options: WarningOptions,
+    runs: TextRuns<'_, '_>,
     sources: &[Source<'_>],
 ) -> Result<Explained, AllocError>
-    ensures { IfOk result (λ e. spec.AreLines style options sources.now out.items e.output.items e.status) }
+    ensures { IfOk result (λ e.
+        spec.AreLinesFrom style options (members_in runs.entry) 0 sources.now out.items e.output.items e.status) }
 {
     let mut told = Explained {
         output: out,
         status: 0,
     };
-    for source in sources {
+    for (number, source) in sources.iter().enumerate() {
         let before = told.status;
-        let one = put_source(alloc, told.output, style, options, *source)?;
+        let one = put_source(alloc, told.output, style, options, runs, number, *source)?;
         told = Explained {
             output: one.output,
             status: greater(before, one.status),
@@ -163,10 +193,47 @@ fn put_sources(
     Ok(told)
 }
 
+/// The lines of some texts, with the runs of their findings.
+fn with_runs(
+    alloc: Global,
+    style: Style,
+    options: WarningOptions,
+    sources: &[Source<'_>],
+    runs: &[FindingRun],
+) -> Result<Explained, AllocError>
+    ensures { IfOk result (λ e.
+        spec.AreLinesFrom style options (own_member sources.now runs.now) 0 sources.now [] e.output.items e.status) }
+{
+    let texts = texts_in(alloc, sources)?;
+    let runs = TextRuns {
+        sources,
+        texts: texts.as_slice(),
+        runs: Some(runs),
+    };
+    put_sources(alloc, Vec::new(alloc), style, options, runs, sources)
+}
+
+/// The lines of some texts, without a word on runs.
+fn without_runs(
+    alloc: Global,
+    style: Style,
+    options: WarningOptions,
+    sources: &[Source<'_>],
+) -> Result<Explained, AllocError>
+    ensures { IfOk result (λ e. spec.AreLinesFrom style options no_member 0 sources.now [] e.output.items e.status) }
+{
+    let runs = TextRuns {
+        sources,
+        texts: &[],
+        runs: None,
+    };
+    put_sources(alloc, Vec::new(alloc), style, options, runs, sources)
+}
+
 /// The findings and warnings of some texts, line by line: a line for each finding of a text that parses, in their order, and one for a text
 /// that doesn't; then one for each of its warnings; and, with objects, one for a text that has none of these. docs/FORMATS.md says how they
-/// are written. The status is that of `explain`: 0 if nothing is found, 1 if there are findings, or if warnings count and one is shown, 2
-/// if a text doesn't parse.
+/// are written. If there are `runs`, the object of a finding has the first one that is its own, or null. The status is that of `explain`: 0
+/// if nothing is found, 1 if there are findings, or if warnings count and one is shown, 2 if a text doesn't parse.
 ///
 /// # Errors
 ///
@@ -176,8 +243,12 @@ pub fn lines(
     style: Style,
     options: WarningOptions,
     sources: &[Source<'_>],
+    runs: Option<&[FindingRun]>,
 ) -> Result<Explained, AllocError>
-    ensures { IfOk result (λ e. spec.AreLines style options sources.now [] e.output.items e.status) }
+    ensures { IfOk result (λ e. spec.AreLines style options sources.now runs.entry e.output.items e.status) }
 {
-    put_sources(alloc, Vec::new(alloc), style, options, sources)
+    match runs {
+        None => without_runs(alloc, style, options, sources),
+        Some(runs) => with_runs(alloc, style, options, sources, runs),
+    }
 }

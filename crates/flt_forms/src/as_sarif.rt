@@ -3,6 +3,7 @@
 ghost use Rattle.std.specs.Prelude.{IfOk, List, codes};
 ghost use Rattle.flt_forms.specs.Members.{Added, array_member};
 ghost use Rattle.flt_forms.specs.Results.{item};
+ghost use Rattle.flt_forms.specs.RunFlow.{flows_in};
 ghost use Rattle.flt_forms.specs.Sarif as spec;
 ghost use Rattle.flt_details.specs.Reports.{IsJudged};
 ghost use Rattle.flt_syntax.specs.TextFails.{Fails};
@@ -11,10 +12,12 @@ ghost use Rattle.json.specs.Token.{Token};
 use crate::artifacts::put_setting;
 use crate::as_lines::greater;
 use crate::fault::help_of;
-use crate::file::{File, file_of, names_of};
+use crate::file::{File, file_of, files_of, names_of};
 use crate::members::{close_array, close_object, open_array, open_object, put_key, put_string};
 use crate::results::{put_fault_result, put_results};
 use crate::rules::put_tool;
+use crate::run::FindingRun;
+use crate::run_flow::FileRuns;
 use crate::unread::{UnreadFile, put_invocations};
 use crate::warned::{status_of, warned_of};
 use crate::warning_results::put_warning_results;
@@ -59,21 +62,24 @@ fn put_unread(
     Ok(())
 }
 
-/// Writes the results of a text that parses.
+/// Writes the results of a text of a number that parses.
 fn put_known(
     alloc: Global,
     writer: &mut Writer,
     file: &File<'_>,
+    runs: FileRuns<'_, '_>,
+    number: usize,
     text: &[u8],
     tree: &Tree,
     graph: &Graph,
     found: &[Finding],
 ) -> Result<(), AllocError>
     ensures { IfOk result (λ _. (ts : List Token) ×
-        spec.AreFindingResults file.now text.now tree.now.filter graph.now found.now ts × Added writer.old writer.new ts) }
+        spec.AreFindingResults file.now (flows_in runs.entry number) text.now tree.now.filter graph.now found.now ts
+        × Added writer.old writer.new ts) }
 {
     let details = details(alloc, text, tree, graph, found)?;
-    put_results(alloc, writer, file, details.as_slice())
+    put_results(alloc, writer, file, graph, runs, number, details.as_slice())
 }
 
 #[tactic(auto, unfolding(crate::specs::Sarif::HasResults))]
@@ -81,35 +87,48 @@ fn put_judged(
     alloc: Global,
     writer: &mut Writer,
     file: &File<'_>,
+    runs: FileRuns<'_, '_>,
+    number: usize,
     text: &[u8],
     judged: &Judged,
 ) -> Result<(), AllocError>
     requires { IsJudged text.now judged.now }
-    ensures { IfOk result (λ _. (ts : List Token) × spec.HasResults file.now text.now judged.now ts × Added writer.old writer.new ts) }
+    ensures { IfOk result (λ _. (ts : List Token) × spec.HasResults file.now (flows_in runs.entry number) text.now judged.now ts
+        × Added writer.old writer.new ts) }
 {
     match judged {
         Judged::Unread(fault) => put_unread(alloc, writer, file, text, *fault),
-        Judged::Known(tree, graph, found) => {
-            put_known(alloc, writer, file, text, tree, graph, found.as_slice())
-        }
+        Judged::Known(tree, graph, found) => put_known(
+            alloc,
+            writer,
+            file,
+            runs,
+            number,
+            text,
+            tree,
+            graph,
+            found.as_slice(),
+        ),
     }
 }
 
-/// Writes the results of a text, in a document of files of these names; returns the text's status.
+/// Writes the results of the text of a number, in a document of files of these names; returns the text's status.
 fn put_source(
     alloc: Global,
     writer: &mut Writer,
     options: WarningOptions,
     names: &[&str],
+    runs: FileRuns<'_, '_>,
+    number: usize,
     source: Source<'_>,
 ) -> Result<u8, AllocError>
-    ensures { IfOk result (λ status. (ts : List Token) × spec.IsPart options names.now source.entry ts status
+    ensures { IfOk result (λ status. (ts : List Token) × spec.IsPart options names.now (flows_in runs.entry number) source.entry ts status
         × Added writer.old writer.new ts) }
 {
     let file = file_of(alloc, names, source)?;
     let judged = judge(alloc, source.text)?;
     let warned = warned_of(alloc, options.allowed, source, &judged)?;
-    put_judged(alloc, writer, &file, source.text, &judged)?;
+    put_judged(alloc, writer, &file, runs, number, source.text, &judged)?;
     put_warning_results(alloc, writer, &file, warned.as_slice())?;
     Ok(status_of(options.is_strict, &judged, warned.as_slice()))
 }
@@ -120,14 +139,15 @@ fn put_sources(
     writer: &mut Writer,
     options: WarningOptions,
     names: &[&str],
+    runs: FileRuns<'_, '_>,
     sources: &[Source<'_>],
 ) -> Result<u8, AllocError>
-    ensures { IfOk result (λ status. (ts : List Token) × spec.AreResults options names.now sources.now ts status
+    ensures { IfOk result (λ status. (ts : List Token) × spec.AreResults options names.now (flows_in runs.entry) 0 sources.now ts status
         × Added writer.old writer.new ts) }
 {
     let mut status = 0;
-    for source in sources {
-        let own = put_source(alloc, writer, options, names, *source)?;
+    for (number, source) in sources.iter().enumerate() {
+        let own = put_source(alloc, writer, options, names, runs, number, *source)?;
         status = greater(status, own);
     }
     Ok(status)
@@ -138,14 +158,15 @@ fn put_results_member(
     writer: &mut Writer,
     options: WarningOptions,
     names: &[&str],
+    runs: FileRuns<'_, '_>,
     sources: &[Source<'_>],
 ) -> Result<u8, AllocError>
-    ensures { IfOk result (λ status. (ts : List Token) × spec.AreResults options names.now sources.now ts status
+    ensures { IfOk result (λ status. (ts : List Token) × spec.AreResults options names.now (flows_in runs.entry) 0 sources.now ts status
         × Added writer.old writer.new (array_member (codes "results") ts)) }
 {
     put_key(writer, "results")?;
     open_array(writer)?;
-    let status = put_sources(alloc, writer, options, names, sources)?;
+    let status = put_sources(alloc, writer, options, names, runs, sources)?;
     close_array(writer)?;
     Ok(status)
 }
@@ -157,15 +178,16 @@ fn put_run_members(
     writer: &mut Writer,
     options: WarningOptions,
     names: &[&str],
+    runs: FileRuns<'_, '_>,
     sources: &[Source<'_>],
     unread: &[UnreadFile],
 ) -> Result<u8, AllocError>
-    ensures { IfOk result (λ status. (ts : List Token) × spec.IsRun options names.now sources.now unread.now ts status
+    ensures { IfOk result (λ status. (ts : List Token) × spec.IsRun options names.now (flows_in runs.entry) sources.now unread.now ts status
         × Added writer.old writer.new ts) }
 {
     put_tool(alloc, writer)?;
     put_setting(alloc, writer, names)?;
-    let status = put_results_member(alloc, writer, options, names, sources)?;
+    let status = put_results_member(alloc, writer, options, names, runs, sources)?;
     put_invocations(alloc, writer, unread, status)?;
     Ok(status)
 }
@@ -175,14 +197,15 @@ fn put_run(
     writer: &mut Writer,
     options: WarningOptions,
     names: &[&str],
+    runs: FileRuns<'_, '_>,
     sources: &[Source<'_>],
     unread: &[UnreadFile],
 ) -> Result<u8, AllocError>
-    ensures { IfOk result (λ status. (ts : List Token) × spec.IsRun options names.now sources.now unread.now ts status
+    ensures { IfOk result (λ status. (ts : List Token) × spec.IsRun options names.now (flows_in runs.entry) sources.now unread.now ts status
         × Added writer.old writer.new (item ts)) }
 {
     open_object(writer)?;
-    let status = put_run_members(alloc, writer, options, names, sources, unread)?;
+    let status = put_run_members(alloc, writer, options, names, runs, sources, unread)?;
     close_object(writer)?;
     Ok(status)
 }
@@ -192,16 +215,17 @@ fn put_runs(
     writer: &mut Writer,
     options: WarningOptions,
     names: &[&str],
+    runs: FileRuns<'_, '_>,
     sources: &[Source<'_>],
     unread: &[UnreadFile],
 ) -> Result<u8, AllocError>
-    ensures { IfOk result (λ status. (ts : List Token) × spec.IsRun options names.now sources.now unread.now ts status
+    ensures { IfOk result (λ status. (ts : List Token) × spec.IsRun options names.now (flows_in runs.entry) sources.now unread.now ts status
         × Added writer.old writer.new
         (array_member (codes "runs") (item ts))) }
 {
     put_key(writer, "runs")?;
     open_array(writer)?;
-    let status = put_run(alloc, writer, options, names, sources, unread)?;
+    let status = put_run(alloc, writer, options, names, runs, sources, unread)?;
     close_array(writer)?;
     Ok(status)
 }
@@ -211,10 +235,11 @@ fn put_document(
     writer: &mut Writer,
     options: WarningOptions,
     names: &[&str],
+    runs: FileRuns<'_, '_>,
     sources: &[Source<'_>],
     unread: &[UnreadFile],
 ) -> Result<u8, AllocError>
-    ensures { IfOk result (λ status. (ts : List Token) × spec.IsRun options names.now sources.now unread.now ts status
+    ensures { IfOk result (λ status. (ts : List Token) × spec.IsRun options names.now (flows_in runs.entry) sources.now unread.now ts status
         × Added writer.old writer.new (spec.document ts)) }
 {
     open_object(writer)?;
@@ -224,15 +249,16 @@ fn put_document(
         "https://json.schemastore.org/sarif-2.1.0.json",
     )?;
     put_string(writer, "version", "2.1.0")?;
-    let status = put_runs(alloc, writer, options, names, sources, unread)?;
+    let status = put_runs(alloc, writer, options, names, runs, sources, unread)?;
     close_object(writer)?;
     Ok(status)
 }
 
 /// The findings and warnings of some texts, as one SARIF 2.1.0 document and a line feed: a result for each finding of a text that parses,
 /// in their order, and one for a text that doesn't; then one for each of its warnings. The document has each file once, by its name as a
-/// reference, and says how the program ran, with a notification for each file that isn't read. The status is that of the texts: 0 if
-/// nothing is found, 1 if there are findings, or if warnings count and one is shown, 2 if a text doesn't parse.
+/// reference, and says how the program ran, with a notification for each file that isn't read. The first of `runs` that is the finding's
+/// own is the last code flow of its result. The status is that of the texts: 0 if nothing is found, 1 if there are findings, or if warnings
+/// count and one is shown, 2 if a text doesn't parse.
 ///
 /// # Errors
 ///
@@ -243,16 +269,23 @@ pub fn sarif(
     options: WarningOptions,
     sources: &[Source<'_>],
     unread: &[UnreadFile],
+    runs: &[FindingRun],
 ) -> Result<Explained, AllocError>
-    ensures { IfOk result (λ e. spec.IsSarif options sources.now unread.now e.output.items e.status) }
+    ensures { IfOk result (λ e. spec.IsSarif options sources.now unread.now runs.now e.output.items e.status) }
 {
     let names = names_of(alloc, sources)?;
+    let files = files_of(alloc, names.as_slice(), sources)?;
+    let runs = FileRuns {
+        files: files.as_slice(),
+        runs,
+    };
     let mut writer = Writer::new(Vec::new(alloc));
     let status = put_document(
         alloc,
         &mut writer,
         options,
         names.as_slice(),
+        runs,
         sources,
         unread,
     )?;

@@ -75,3 +75,19 @@ pub(crate) fn file_of<'a>(
         lines: Lines::of(alloc, source.text)?,
     })
 }
+
+/// The files of several texts, in a document of files of these names.
+pub(crate) fn files_of<'s>(
+    alloc: Global,
+    names: &[&str],
+    sources: &[Source<'s>],
+) -> Result<Vec<File<'s>>, AllocError>
+    ensures { IfOk result (λ files. files.items ≡ spec.files_of names.now sources.now) }
+{
+    let mut files = Vec::new(alloc);
+    for source in sources {
+        let file = file_of(alloc, names, *source)?;
+        files.push(file)?;
+    }
+    Ok(files)
+}

@@ -1,9 +1,10 @@
 //! Findings, as JSON.
 
-ghost use Rattle.std.specs.Prelude.{◌≡◌, ◌++◌, codes, flat_map, IfOk};
+ghost use Rattle.std.specs.Prelude.{◌≡◌, ◌++◌, codes, IfOk};
 ghost use Rattle.flt_forms.specs.Finding as spec;
 ghost use Rattle.flt_forms.specs.Members.{Adds, string_member};
 ghost use Rattle.flt_forms.specs.Points.{regions};
+ghost use Rattle.flt_forms.specs.RunMember.{member_of, members_in};
 ghost use Rattle.flt_rules.specs.Rule.{text as rule_text};
 ghost use Rattle.flt_details.specs.Closing.{rule_name};
 
@@ -13,6 +14,7 @@ use crate::members::{
 };
 use crate::points::Points;
 use crate::preface::put_preface;
+use crate::run_member::{OwnRun, TextRuns, put_run_member};
 use crate::steps::{put_kind, put_like, put_maker_member, put_steps, put_steps_member};
 use flt_details::{Detail, Route, RuleName, Words};
 use flt_explain::Finding;
@@ -104,14 +106,16 @@ fn put_route(
     put_path(alloc, writer, points, route)
 }
 
+/// Writes a finding of a number of a text of a number, with its run.
 fn put_finding(
     alloc: Global,
     writer: &mut Writer,
     name: &str,
     points: &Points<'_>,
+    own: OwnRun<'_, '_>,
     detail: &Detail,
 ) -> Result<(), AllocError>
-    ensures { Adds result writer.old writer.new (spec.finding name.now (regions points.now) detail.now) }
+    ensures { Adds result writer.old writer.new (spec.finding name.now (regions points.now) (member_of own.entry) detail.now) }
 {
     open_object(writer)?;
     put_preface(writer, "finding", name)?;
@@ -119,6 +123,7 @@ fn put_finding(
     put_rule(alloc, writer, &detail.finding)?;
     put_words(alloc, writer, &detail.words)?;
     put_route(alloc, writer, points, &detail.route)?;
+    put_run_member(alloc, writer, own)?;
     close_object(writer)
 }
 
@@ -129,9 +134,10 @@ fn put_line(
     name: &str,
     lines: &Lines<'_>,
     graph: &Graph,
+    own: OwnRun<'_, '_>,
     detail: &Detail,
 ) -> Result<Vec<u8>, AllocError>
-    ensures { IfOk result (λ v. v.items ≡ out.items ++ spec.finding_line name.now lines.now graph.now detail.now) }
+    ensures { IfOk result (λ v. v.items ≡ out.items ++ spec.finding_line name.now lines.now graph.now (member_of own.entry) detail.now) }
 {
     let points = Points {
         lines,
@@ -139,26 +145,34 @@ fn put_line(
         callback: detail.finding.callback,
     };
     let mut writer = Writer::new(out);
-    put_finding(alloc, &mut writer, name, &points, detail)?;
+    put_finding(alloc, &mut writer, name, &points, own, detail)?;
     let mut out = writer.into_inner();
     out.push(b'\n')?;
     Ok(out)
 }
 
-/// Adds a line for each finding of a text with this graph to the output.
+/// Adds a line for each finding of the text of a number to the output, with its run.
 pub(crate) fn put_lines(
     alloc: Global,
     out: Vec<u8>,
     name: &str,
     lines: &Lines<'_>,
     graph: &Graph,
+    runs: TextRuns<'_, '_>,
+    source: usize,
     details: &[Detail],
 ) -> Result<Vec<u8>, AllocError>
-    ensures { IfOk result (λ v. v.items ≡ out.items ++ flat_map (spec.finding_line name.now lines.now graph.now) details.now) }
+    ensures { IfOk result (λ v. v.items
+        ≡ out.items ++ spec.finding_lines name.now lines.now graph.now (members_in runs.entry source) details.now) }
 {
     let mut out = out;
-    for detail in details {
-        out = put_line(alloc, out, name, lines, graph, detail)?;
+    for (finding, detail) in details.iter().enumerate() {
+        let own = OwnRun {
+            runs,
+            source,
+            finding,
+        };
+        out = put_line(alloc, out, name, lines, graph, own, detail)?;
     }
     Ok(out)
 }

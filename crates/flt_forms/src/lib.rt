@@ -1,5 +1,5 @@
-//! The findings of `explain` for other programs: line by line, or as SARIF. It exports `lines` and `sarif`, and `UnreadFile`, by which
-//! SARIF reports a file that isn't read.
+//! The findings of `explain` for other programs: line by line, or as SARIF. It exports `lines` and `sarif`, `UnreadFile`, by which SARIF
+//! reports a file that isn't read, and `FindingRun`, a run that breaks something because of a finding.
 #![tactic(auto)]
 
 mod artifacts;
@@ -17,6 +17,9 @@ mod points;
 mod preface;
 mod results;
 mod rules;
+mod run;
+mod run_flow;
+mod run_member;
 mod short;
 mod steps;
 mod unread;
@@ -27,4 +30,5 @@ mod warning_results;
 
 pub use as_lines::{Style, lines};
 pub use as_sarif::sarif;
+pub use run::FindingRun;
 pub use unread::UnreadFile;

@@ -2,9 +2,11 @@
 
 ghost use Rattle.std.specs.Prelude.{◌≡◌, ◌∷◌, ◌++◌, [], IfOk, codes, flat_map, length};
 ghost use Rattle.flt_forms.specs.Columns.{column_behind, column_of};
-ghost use Rattle.flt_forms.specs.Fingerprints.{finding_key, fingerprint};
+ghost use Rattle.flt_forms.specs.Fingerprints.{finding_key};
 ghost use Rattle.flt_forms.specs.Members.{Added, Adds, array_member, number_member};
+ghost use Rattle.flt_forms.specs.Points.{regions};
 ghost use Rattle.flt_forms.specs.Results as spec;
+ghost use Rattle.flt_forms.specs.RunFlow.{flow_of, flows_in};
 
 use crate::columns::{column_behind, column_of};
 use crate::file::File;
@@ -13,9 +15,12 @@ use crate::members::{
     close_array, close_object, open_array, open_object, put_filled, put_items, put_key, put_number,
     put_string, put_text,
 };
+use crate::points::Points;
 use crate::rules::{Reported, put_of_rule};
+use crate::run_flow::{FileRuns, OwnFlow, put_run_flow};
 use crate::uri::Reference;
 use flt_details::{Detail, Maker, Marks, Stage, WayKind};
+use flt_graph::Graph;
 use flt_places::{Lines, Region};
 use flt_syntax::SyntaxFault;
 use flt_tree::Position;
@@ -61,7 +66,11 @@ pub(crate) fn put_reference(
 }
 
 /// Writes a file, by its name and its number.
-fn put_artifact(alloc: Global, writer: &mut Writer, file: &File<'_>) -> Result<(), AllocError>
+pub(crate) fn put_artifact(
+    alloc: Global,
+    writer: &mut Writer,
+    file: &File<'_>,
+) -> Result<(), AllocError>
     ensures { Adds result writer.old writer.new (spec.artifact_location file.now) }
 {
     put_key(writer, "artifactLocation")?;
@@ -83,50 +92,8 @@ fn put_column(
     put_number(writer, name, column_of(lines, place))
 }
 
-fn put_region(writer: &mut Writer, lines: &Lines<'_>, place: Position) -> Result<(), AllocError>
-    ensures { Adds result writer.old writer.new (spec.region lines.now place) }
-{
-    put_key(writer, "region")?;
-    open_object(writer)?;
-    put_number(writer, "startLine", place.line)?;
-    put_column(writer, "startColumn", lines, place)?;
-    close_object(writer)
-}
-
-/// Writes a place in a file.
-fn put_physical(
-    alloc: Global,
-    writer: &mut Writer,
-    file: &File<'_>,
-    place: Position,
-) -> Result<(), AllocError>
-    ensures { Adds result writer.old writer.new (spec.physical file.now place) }
-{
-    put_key(writer, "physicalLocation")?;
-    open_object(writer)?;
-    put_artifact(alloc, writer, file)?;
-    put_region(writer, &file.lines, place)?;
-    close_object(writer)
-}
-
-/// Writes a place in a file, with words.
-fn put_location(
-    alloc: Global,
-    writer: &mut Writer,
-    file: &File<'_>,
-    place: Position,
-    words: &Vec<u8>,
-) -> Result<(), AllocError>
-    ensures { Adds result writer.old writer.new (spec.location file.now place words.now.items) }
-{
-    open_object(writer)?;
-    put_physical(alloc, writer, file, place)?;
-    put_message(alloc, writer, words)?;
-    close_object(writer)
-}
-
 /// Writes where a region begins and ends.
-fn put_whole_region(
+pub(crate) fn put_whole_region(
     writer: &mut Writer,
     name: &str,
     lines: &Lines<'_>,
@@ -140,6 +107,38 @@ fn put_whole_region(
     put_column(writer, "startColumn", lines, region.first)?;
     put_number(writer, "endLine", region.end.line)?;
     put_column(writer, "endColumn", lines, region.end)?;
+    close_object(writer)
+}
+
+/// Writes where a region of a file is.
+fn put_physical(
+    alloc: Global,
+    writer: &mut Writer,
+    file: &File<'_>,
+    region: Region,
+) -> Result<(), AllocError>
+    ensures { Adds result writer.old writer.new (spec.physical file.now region) }
+{
+    put_key(writer, "physicalLocation")?;
+    open_object(writer)?;
+    put_artifact(alloc, writer, file)?;
+    put_whole_region(writer, "region", &file.lines, region)?;
+    close_object(writer)
+}
+
+/// Writes where a region of a file is, with words.
+fn put_location(
+    alloc: Global,
+    writer: &mut Writer,
+    file: &File<'_>,
+    region: Region,
+    words: &Vec<u8>,
+) -> Result<(), AllocError>
+    ensures { Adds result writer.old writer.new (spec.location file.now region words.now.items) }
+{
+    open_object(writer)?;
+    put_physical(alloc, writer, file, region)?;
+    put_message(alloc, writer, words)?;
     close_object(writer)
 }
 
@@ -210,19 +209,19 @@ pub(crate) fn put_marked_locations(
 
 // ---- ways
 
-/// Writes a place on a path.
+/// Writes a statement on a path.
 fn put_flow_location(
     alloc: Global,
     writer: &mut Writer,
     file: &File<'_>,
-    place: Position,
+    region: Region,
     words: &Vec<u8>,
 ) -> Result<(), AllocError>
-    ensures { Adds result writer.old writer.new (spec.flow_location file.now place words.now.items) }
+    ensures { Adds result writer.old writer.new (spec.flow_location file.now region words.now.items) }
 {
     open_object(writer)?;
     put_key(writer, "location")?;
-    put_location(alloc, writer, file, place, words)?;
+    put_location(alloc, writer, file, region, words)?;
     close_object(writer)
 }
 
@@ -231,13 +230,22 @@ fn put_flow_step(
     alloc: Global,
     writer: &mut Writer,
     file: &File<'_>,
+    points: &Points<'_>,
     stage: &Stage,
 ) -> Result<(), AllocError>
-    ensures { Adds result writer.old writer.new (spec.flow_step file.now stage.now) }
+    ensures { Adds result writer.old writer.new (spec.flow_step file.now (regions points.now) stage.now) }
 {
     match stage.words.as_slice() {
         [] => Ok(()),
-        [_, ..] => { put_flow_location(alloc, writer, file, stage.place, &stage.words) }
+        [_, ..] => {
+            put_flow_location(
+                alloc,
+                writer,
+                file,
+                points.region(stage.point),
+                &stage.words,
+            )
+        }
     }
 }
 
@@ -245,12 +253,13 @@ fn put_flow_steps(
     alloc: Global,
     writer: &mut Writer,
     file: &File<'_>,
+    points: &Points<'_>,
     stages: &Items<Stage>,
 ) -> Result<(), AllocError>
-    ensures { Adds result writer.old writer.new (flat_map (spec.flow_step file.now) stages.now) }
+    ensures { Adds result writer.old writer.new (flat_map (spec.flow_step file.now (regions points.now)) stages.now) }
 {
     for stage in stages.as_slice() {
-        put_flow_step(alloc, writer, file, stage)?;
+        put_flow_step(alloc, writer, file, points, stage)?;
     }
     Ok(())
 }
@@ -274,12 +283,13 @@ fn put_thread_places(
     alloc: Global,
     writer: &mut Writer,
     file: &File<'_>,
+    points: &Points<'_>,
     detail: &Detail,
     stages: &Items<Stage>,
 ) -> Result<(), AllocError>
-    ensures { Adds result writer.old writer.new (spec.thread_places file.now detail.now stages.now) }
+    ensures { Adds result writer.old writer.new (spec.thread_places file.now (regions points.now) detail.now stages.now) }
 {
-    put_flow_steps(alloc, writer, file, stages)?;
+    put_flow_steps(alloc, writer, file, points, stages)?;
     put_finding_place(alloc, writer, file, detail)
 }
 
@@ -287,15 +297,16 @@ fn put_thread_locations(
     alloc: Global,
     writer: &mut Writer,
     file: &File<'_>,
+    points: &Points<'_>,
     detail: &Detail,
     stages: &Items<Stage>,
 ) -> Result<(), AllocError>
     ensures { Adds result writer.old writer.new
-        (array_member (codes "locations") (spec.thread_places file.now detail.now stages.now)) }
+        (array_member (codes "locations") (spec.thread_places file.now (regions points.now) detail.now stages.now)) }
 {
     put_key(writer, "locations")?;
     open_array(writer)?;
-    put_thread_places(alloc, writer, file, detail, stages)?;
+    put_thread_places(alloc, writer, file, points, detail, stages)?;
     close_array(writer)
 }
 
@@ -303,13 +314,14 @@ fn put_thread(
     alloc: Global,
     writer: &mut Writer,
     file: &File<'_>,
+    points: &Points<'_>,
     detail: &Detail,
     stages: &Items<Stage>,
 ) -> Result<(), AllocError>
-    ensures { Adds result writer.old writer.new (spec.thread file.now detail.now stages.now) }
+    ensures { Adds result writer.old writer.new (spec.thread file.now (regions points.now) detail.now stages.now) }
 {
     open_object(writer)?;
-    put_thread_locations(alloc, writer, file, detail, stages)?;
+    put_thread_locations(alloc, writer, file, points, detail, stages)?;
     close_object(writer)
 }
 
@@ -317,15 +329,16 @@ fn put_threads(
     alloc: Global,
     writer: &mut Writer,
     file: &File<'_>,
+    points: &Points<'_>,
     detail: &Detail,
     stages: &Items<Stage>,
 ) -> Result<(), AllocError>
     ensures { Adds result writer.old writer.new
-        (array_member (codes "threadFlows") (spec.thread file.now detail.now stages.now)) }
+        (array_member (codes "threadFlows") (spec.thread file.now (regions points.now) detail.now stages.now)) }
 {
     put_key(writer, "threadFlows")?;
     open_array(writer)?;
-    put_thread(alloc, writer, file, detail, stages)?;
+    put_thread(alloc, writer, file, points, detail, stages)?;
     close_array(writer)
 }
 
@@ -334,13 +347,14 @@ fn put_flow(
     alloc: Global,
     writer: &mut Writer,
     file: &File<'_>,
+    points: &Points<'_>,
     detail: &Detail,
     stages: &Items<Stage>,
 ) -> Result<(), AllocError>
-    ensures { Adds result writer.old writer.new (spec.flow file.now detail.now stages.now) }
+    ensures { Adds result writer.old writer.new (spec.flow file.now (regions points.now) detail.now stages.now) }
 {
     open_object(writer)?;
-    put_threads(alloc, writer, file, detail, stages)?;
+    put_threads(alloc, writer, file, points, detail, stages)?;
     close_object(writer)
 }
 
@@ -349,14 +363,15 @@ fn put_other_flow(
     alloc: Global,
     writer: &mut Writer,
     file: &File<'_>,
+    points: &Points<'_>,
     detail: &Detail,
     stages: &Option<Items<Stage>>,
 ) -> Result<(), AllocError>
-    ensures { Adds result writer.old writer.new (spec.other_flow file.now detail.now stages.now) }
+    ensures { Adds result writer.old writer.new (spec.other_flow file.now (regions points.now) detail.now stages.now) }
 {
     match stages {
         None => Ok(()),
-        Some(stages) => put_flow(alloc, writer, file, detail, stages),
+        Some(stages) => put_flow(alloc, writer, file, points, detail, stages),
     }
 }
 
@@ -365,25 +380,27 @@ fn put_both_flows(
     alloc: Global,
     writer: &mut Writer,
     file: &File<'_>,
+    points: &Points<'_>,
     detail: &Detail,
 ) -> Result<(), AllocError>
-    ensures { Adds result writer.old writer.new (spec.both_flows file.now detail.now) }
+    ensures { Adds result writer.old writer.new (spec.both_flows file.now (regions points.now) detail.now) }
 {
-    put_flow(alloc, writer, file, detail, &detail.route.stages)?;
-    put_other_flow(alloc, writer, file, detail, &detail.route.other)
+    put_flow(alloc, writer, file, points, detail, &detail.route.stages)?;
+    put_other_flow(alloc, writer, file, points, detail, &detail.route.other)
 }
 
 fn put_found_flows(
     alloc: Global,
     writer: &mut Writer,
     file: &File<'_>,
+    points: &Points<'_>,
     detail: &Detail,
     kind: WayKind,
 ) -> Result<(), AllocError>
-    ensures { Adds result writer.old writer.new (spec.flows_by kind file.now detail.now) }
+    ensures { Adds result writer.old writer.new (spec.flows_by kind file.now (regions points.now) detail.now) }
 {
     match kind {
-        WayKind::Clean | WayKind::Behind => put_both_flows(alloc, writer, file, detail),
+        WayKind::Clean | WayKind::Behind => put_both_flows(alloc, writer, file, points, detail),
         WayKind::Unreached | WayKind::Unknown => Ok(()),
     }
 }
@@ -393,29 +410,46 @@ fn put_own_flows(
     alloc: Global,
     writer: &mut Writer,
     file: &File<'_>,
+    points: &Points<'_>,
     detail: &Detail,
 ) -> Result<(), AllocError>
-    ensures { Adds result writer.old writer.new (spec.flows file.now detail.now) }
+    ensures { Adds result writer.old writer.new (spec.flows file.now (regions points.now) detail.now) }
 {
     match detail.route.like {
-        None => put_found_flows(alloc, writer, file, detail, detail.route.kind),
+        None => put_found_flows(alloc, writer, file, points, detail, detail.route.kind),
         Some(_) => Ok(()),
     }
 }
 
-/// Writes the paths of a result.
+/// Writes the paths of a result, and its run.
+fn put_all_flows(
+    alloc: Global,
+    writer: &mut Writer,
+    file: &File<'_>,
+    points: &Points<'_>,
+    own: OwnFlow<'_, '_>,
+    detail: &Detail,
+) -> Result<(), AllocError>
+    ensures { Adds result writer.old writer.new (spec.flows file.now (regions points.now) detail.now ++ flow_of own.entry) }
+{
+    put_own_flows(alloc, writer, file, points, detail)?;
+    put_run_flow(alloc, writer, own)
+}
+
 fn put_flows(
     alloc: Global,
     writer: &mut Writer,
     file: &File<'_>,
+    points: &Points<'_>,
+    own: OwnFlow<'_, '_>,
     detail: &Detail,
 ) -> Result<(), AllocError>
     ensures { Adds result writer.old writer.new
-        (array_member (codes "codeFlows") (spec.flows file.now detail.now)) }
+        (array_member (codes "codeFlows") (spec.flows file.now (regions points.now) detail.now ++ flow_of own.entry)) }
 {
     put_key(writer, "codeFlows")?;
     open_array(writer)?;
-    put_own_flows(alloc, writer, file, detail)?;
+    put_all_flows(alloc, writer, file, points, own, detail)?;
     close_array(writer)
 }
 
@@ -512,17 +546,19 @@ fn put_result_members(
     alloc: Global,
     writer: &mut Writer,
     file: &File<'_>,
+    points: &Points<'_>,
+    own: OwnFlow<'_, '_>,
     detail: &Detail,
     print: &str,
 ) -> Result<(), AllocError>
-    ensures { Adds result writer.old writer.new (spec.result_members file.now print.now detail.now) }
+    ensures { Adds result writer.old writer.new (spec.result_members file.now (regions points.now) print.now (flow_of own.entry) detail.now) }
 {
     put_of_rule(alloc, writer, Reported::Broken(detail.finding.rule))?;
     put_level(writer)?;
     put_message(alloc, writer, &detail.words.title)?;
     put_marked_locations(alloc, writer, file, detail.marks, &detail.words.title)?;
     put_related(alloc, writer, file, &detail.route.origin)?;
-    put_flows(alloc, writer, file, detail)?;
+    put_flows(alloc, writer, file, points, own, detail)?;
     put_fingerprints(
         alloc,
         writer,
@@ -539,45 +575,73 @@ fn put_result(
     alloc: Global,
     writer: &mut Writer,
     file: &File<'_>,
+    points: &Points<'_>,
+    own: OwnFlow<'_, '_>,
     detail: &Detail,
     print: &str,
 ) -> Result<(), AllocError>
-    ensures { Adds result writer.old writer.new (spec.result file.now print.now detail.now) }
+    ensures { Adds result writer.old writer.new (spec.result file.now (regions points.now) print.now (flow_of own.entry) detail.now) }
 {
     open_object(writer)?;
-    put_result_members(alloc, writer, file, detail, print)?;
+    put_result_members(alloc, writer, file, points, own, detail, print)?;
     close_object(writer)
 }
 
-/// Writes a finding with its fingerprint, after findings with the keys `before`, to which its key is added.
+/// Writes a finding of the text of a number with its fingerprint and its run, after findings with the keys `before`, to which its key is
+/// added.
 fn put_next_result(
     alloc: Global,
     writer: &mut Writer,
     file: &File<'_>,
+    graph: &Graph,
+    runs: FileRuns<'_, '_>,
+    source: usize,
     before: &mut Items<Items<u8>>,
     detail: &Detail,
 ) -> Result<(), AllocError>
     ensures { IfOk result (λ _. (before.new ≡ before.old ++ finding_key file.now.lines detail.now ∷ []) × Added writer.old writer.new
-        (spec.result file.now (fingerprint before.old (finding_key file.now.lines detail.now)) detail.now)) }
+        (spec.next_result file.now graph.now (flows_in runs.entry source) before.old detail.now)) }
 {
+    let own = OwnFlow {
+        runs,
+        source,
+        finding: before.len(),
+    };
+    let points = Points {
+        lines: &file.lines,
+        graph,
+        callback: detail.finding.callback,
+    };
     let key = keys::finding_key(alloc, &file.lines, detail)?;
     let print = keys::next_fingerprint(alloc, before, key.as_str())?;
-    put_result(alloc, writer, file, detail, print.as_str())?;
+    put_result(alloc, writer, file, &points, own, detail, print.as_str())?;
     Ok(())
 }
 
-/// Writes findings, in their order.
+/// Writes findings of the text of a number, in their order.
 pub(crate) fn put_results(
     alloc: Global,
     writer: &mut Writer,
     file: &File<'_>,
+    graph: &Graph,
+    runs: FileRuns<'_, '_>,
+    source: usize,
     details: &[Detail],
 ) -> Result<(), AllocError>
-    ensures { Adds result writer.old writer.new (spec.results_of file.now details.now) }
+    ensures { Adds result writer.old writer.new (spec.results_of file.now graph.now (flows_in runs.entry source) details.now) }
 {
     let mut before = Items::new(alloc);
     for detail in details {
-        put_next_result(alloc, writer, file, &mut before, detail)?;
+        put_next_result(
+            alloc,
+            writer,
+            file,
+            graph,
+            runs,
+            source,
+            &mut before,
+            detail,
+        )?;
     }
     Ok(())
 }

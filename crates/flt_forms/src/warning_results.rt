@@ -1,7 +1,7 @@
 //! Results of SARIF: warnings.
 
 ghost use Rattle.std.specs.Prelude.{◌≡◌, ◌∷◌, ◌++◌, [], IfOk, codes, flat_map};
-ghost use Rattle.flt_forms.specs.Fingerprints.{fingerprint, warning_key};
+ghost use Rattle.flt_forms.specs.Fingerprints.{warning_key};
 ghost use Rattle.flt_forms.specs.Members.{Added, Adds, array_member};
 ghost use Rattle.flt_forms.specs.WarningResults as spec;
 
@@ -197,7 +197,7 @@ fn put_next_result(
     detail: &WarningDetail,
 ) -> Result<(), AllocError>
     ensures { IfOk result (λ _. (before.new ≡ before.old ++ warning_key file.now.lines detail.now ∷ []) × Added writer.old writer.new
-        (spec.result file.now (fingerprint before.old (warning_key file.now.lines detail.now)) detail.now)) }
+        (spec.next_result file.now before.old detail.now)) }
 {
     let key = keys::warning_key(alloc, &file.lines, detail)?;
     let print = keys::next_fingerprint(alloc, before, key.as_str())?;

@@ -1,3 +1,4 @@
 pub mod Reading
 pub mod Sending
 pub mod Served
+pub mod Written

@@ -1,9 +1,9 @@
 -- A header is read byte by byte, and a body after it.
-use Rattle.std.proofs.Common.{◌≡◌, ◌≢◌, ◌<◌, ◌≤◌, ◌+◌, ◌-◌, ◌++◌, ◌∷◌, ◌∙◌, [], ℕ, suc, List, Option, Some, None, ap, sym, subst, refl, length, take, drop, arith}
+use Rattle.std.proofs.Common.{◌≡◌, ◌≢◌, ◌<◌, ◌≤◌, ◌+◌, ◌-◌, ◌++◌, ◌∷◌, ◌∙◌, [], ℕ, suc, List, Option, None, ap, sym, refl, length, arith}
 use Rattle.std.proofs.KnownBytes.{Consumes-nil, Consumes-trans}
 use Rattle.std.proofs.Math.Seq.{take-append_seam, drop-append_seam}
 use Rattle.std.proofs.lemmas.Bool.{lt-ltb, le-ltb}
-use Rattle.std.proofs.lemmas.List.{append_assoc, append-nil, length-append}
+use Rattle.std.proofs.lemmas.List.{append_assoc, length-append}
 use Rattle.std.specs.Io.KnownBytes.{Consumes, IsAtEnd}
 use Rattle.flt_frames.specs.Line.{Text}
 use Rattle.flt_frames.specs.Frames.{Front, Gives, GivesAll, IsHead, at_end, body_of, cut, front_of, in_header, malformed, whole}
@@ -101,7 +101,7 @@ header_too_long old new at line said high before =
 
 -- ---- the body
 
-body_with : (body more : Text) → body_of (length body) (body ++ more) ≡ whole body more
+pub body_with : (body more : Text) → body_of (length body) (body ++ more) ≡ whole body more
 body_with body more =
     let long : length body ≤ length (body ++ more) = omega (arith, length-append body more) in
     rw (le-ltb _ _ long, take-append_seam body more, drop-append_seam body more) refl

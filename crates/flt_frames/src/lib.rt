@@ -9,6 +9,7 @@ mod frame;
 mod handler;
 mod header;
 mod incoming;
+mod laws;
 mod line;
 mod serving;
 
@@ -16,4 +17,5 @@ pub use fault::ServeFault;
 pub use frame::{Frame, push_frame, read_frame};
 pub use handler::{Answered, Handler};
 pub use incoming::Incoming;
+pub use laws::{streams_have_one_reading, written_frames_are_read};
 pub use serving::serve;

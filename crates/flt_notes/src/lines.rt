@@ -312,7 +312,7 @@ fn none_words(alloc: Global, states: u32, noted: &Noted) -> Result<Vec<u8>, Allo
 // ---- notes
 
 /// The trees of the filters in whose runs a finding of the filter of a number has its outcome.
-pub(crate) fn own_trees<'t>(trees: &'t [Tree], number: usize, scheduled: &Scheduled) -> &'t [Tree]
+pub fn own_trees<'t>(trees: &'t [Tree], number: usize, scheduled: &Scheduled) -> &'t [Tree]
     ensures { result.now ≡ own_of trees.now number scheduled.now }
 {
     match scheduled {

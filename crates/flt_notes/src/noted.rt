@@ -37,7 +37,7 @@ pub struct Noted {
 }
 
 /// The outcome of a finding, in whichever runs.
-pub(crate) fn schedule_of(scheduled: &Scheduled) -> &Schedule
+pub fn schedule_of(scheduled: &Scheduled) -> &Schedule
     ensures { result.now ≡ spec.schedule_of scheduled.now }
 {
     match scheduled {

@@ -62,7 +62,7 @@ fn callback_for(callbacks: &[Callback], place: Place) -> usize
 }
 
 /// The callbacks of the filter of a number; none if there is no such filter.
-fn callbacks_at<'a>(filters: &[&'a Filter], filter: usize) -> &'a [Callback]
+pub fn callbacks_at<'a>(filters: &[&'a Filter], filter: usize) -> &'a [Callback]
     ensures { result.now ≡ program.callbacks_at (filters_behind filters.now) filter }
 {
     match filters.get(filter) {
@@ -89,7 +89,7 @@ fn callback_of(
 }
 
 /// The callback that an activation runs, whose routine is known if a work item started it.
-pub(crate) fn start_of(
+pub fn start_of(
     filters: &[&Filter],
     world: &World<'_>,
     activation: usize,

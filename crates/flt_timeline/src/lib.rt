@@ -24,6 +24,10 @@ mod text;
 mod timeline;
 mod words;
 
+pub use callbacks::{callbacks_at, start_of};
+pub use filters::filters_of;
 pub use folds::Fold;
 pub use rows::Row;
+pub use telling::Started;
 pub use timeline::Timeline;
+pub use words::put_callback;

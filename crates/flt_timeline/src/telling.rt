@@ -16,10 +16,10 @@ pub(crate) enum Column {
 
 /// A callback that starts: the number of its filter, from the highest altitude, and its own in the text, both from 0.
 #[derive(Clone, Copy)]
-pub(crate) struct Started {
-    pub(crate) filter: usize,
-    pub(crate) callback: usize,
-    pub(crate) draining: bool,
+pub struct Started {
+    pub filter: usize,
+    pub callback: usize,
+    pub draining: bool,
 }
 
 /// The event of an entry. The operation's own number isn't in it, so that two operations on the same path have the same descriptions.

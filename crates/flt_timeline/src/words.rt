@@ -199,7 +199,7 @@ fn put_filter(out: &mut String, filters: usize, filter: &Filter) -> Result<(), A
 }
 
 /// A callback by its head, with the name of its filter if there are several.
-pub(crate) fn put_callback(
+pub fn put_callback(
     out: &mut String,
     filters: &[&Filter],
     started: Started,

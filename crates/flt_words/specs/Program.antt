@@ -65,6 +65,10 @@ states_rule = record (new_rule (codes "states")) {
 abbrev pub written_rule : Rule
 written_rule = record (new_rule (codes "journal")) { long = Some (codes "journal"); value_names = 1 }
 
+-- `--runs`
+abbrev pub runs_rule : Rule
+runs_rule = record (new_rule (codes "runs")) { long = Some (codes "runs"); action = Some SetTrue }
+
 -- `--strict`
 abbrev pub strict_rule : Rule
 strict_rule = record (new_rule (codes "strict")) { long = Some (codes "strict"); action = Some SetTrue }
@@ -96,6 +100,10 @@ write_rule = record (new_rule (codes "write")) { long = Some (codes "write"); ac
 -- `--part PART`
 abbrev pub part_rule : Rule
 part_rule = record (new_rule (codes "part")) { long = Some (codes "part"); value_names = 1 }
+
+-- `--into FOLDER`
+abbrev pub into_rule : Rule
+into_rule = record (new_rule (codes "into")) { long = Some (codes "into"); value_names = 1 }
 
 -- ---- commands
 
@@ -134,11 +142,11 @@ replay_app = with_rule (with_rule (with_rule (with_rule bare_replay_app timeline
 abbrev pub bare_explain_app : App
 bare_explain_app = new_app (codes "explain")
 
--- `explain [--form FORM] [--color WHEN] [--states N] [--journal FILE] [--strict] [--allow KIND].. FILE..`
+-- `explain [--form FORM] [--color WHEN] [--states N] [--journal FILE] [--runs] [--strict] [--allow KIND].. FILE..`
 abbrev pub explain_app : App
 explain_app =
-    with_rule (with_rule (with_rule (with_rule (with_rule (with_rule (with_rule bare_explain_app form_rule) colour_rule) states_rule)
-    written_rule) strict_rule) allow_rule) texts_rule
+    with_rule (with_rule (with_rule (with_rule (with_rule (with_rule (with_rule (with_rule bare_explain_app form_rule) colour_rule)
+    states_rule) written_rule) runs_rule) strict_rule) allow_rule) texts_rule
 
 abbrev pub bare_extract_app : App
 bare_extract_app = new_app (codes "extract")
@@ -157,9 +165,9 @@ format_app = with_rule (with_rule (with_rule bare_format_app check_rule) write_r
 abbrev pub bare_emit_app : App
 bare_emit_app = new_app (codes "emit")
 
--- `emit [--part PART] FILE [CERT]`
+-- `emit [--part PART] [--into FOLDER] FILE [CERT]`
 abbrev pub emit_app : App
-emit_app = with_rule (with_rule (with_rule bare_emit_app part_rule) text_rule) cert_rule
+emit_app = with_rule (with_rule (with_rule (with_rule bare_emit_app part_rule) into_rule) text_rule) cert_rule
 
 abbrev pub bare_compare_app : App
 bare_compare_app = new_app (codes "compare")

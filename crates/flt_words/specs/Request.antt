@@ -30,6 +30,7 @@ pub data Asked : Type 0 where
   Format : (mode : FormatMode) (files : List Text) → Asked
   Pages : (names : List Text) → Asked
   Emit : (part : Part) (file : Text) (cert : Option Text) → Asked
+  EmitInto : (folder file : Text) (cert : Option Text) → Asked
   Compare : (files : List Text) → Asked
 
 -- what a request asks for, none where it is for a text of the program's own: its use, or its version
@@ -48,4 +49,5 @@ asked_of (request.Format mode files) = Some (Format mode (map (λ name. name.now
 asked_of (request.Pages names) = Some (Pages (map (λ name. name.now) names.items))
 asked_of (request.Usage text) = None
 asked_of (request.Emit part file cert) = Some (Emit part file.now (option_map (λ name. name.now) cert))
+asked_of (request.EmitInto folder file cert) = Some (EmitInto folder.now file.now (option_map (λ name. name.now) cert))
 asked_of (request.Compare files) = Some (Compare (map (λ name. name.now) files.items))

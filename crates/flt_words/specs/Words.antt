@@ -14,14 +14,14 @@ use Rattle.clap.specs.declared.error.kind.ErrorKind.TheVariants.{OutOfMemory}
 use Rattle.flt_words.specs.Program.{program_app}
 use Rattle.flt_pages.specs.Pages.{has_page}
 use Rattle.flt_words.specs.declared.request.Form.{Form}
-use Rattle.flt_words.specs.declared.request.Form.TheVariants.{Html, Human, Lines, Sarif, Short}
+use Rattle.flt_words.specs.declared.request.Form.TheVariants.{Html, Human, Lines, LinesWithRuns, Sarif, SarifWithRuns, Short}
 use Rattle.flt_words.specs.declared.request.FormatMode.TheVariants.{Print, Check as CheckOnly, Write}
 use Rattle.flt_words.specs.declared.request.Part.{Part}
 use Rattle.flt_words.specs.declared.request.Part.TheVariants.{Source, User, Inf}
 use Rattle.flt_words.specs.declared.request.Colour.{Colour}
 use Rattle.flt_words.specs.declared.request.Colour.TheVariants.{Auto, Always, Never}
 use Rattle.flt_words.specs.Workers.{within}
-use Rattle.flt_words.specs.Request.{Asked, Choice, Check, Analyse, Thin, Run, Replay, Show, Explain, Extract, Format, Pages, Emit, Compare}
+use Rattle.flt_words.specs.Request.{Asked, Choice, Check, Analyse, Thin, Run, Replay, Show, Explain, Extract, Format, Pages, Emit, EmitInto, Compare}
 
 -- ---- values
 
@@ -66,8 +66,26 @@ form_named name =
     else (if bytes_eq name (codes "short") then Some Short else None))))
 
 -- the form behind `--form`, that for people where there is none
+abbrev pub named_form : List Row → Option Form
+named_form rows = option_map_or form_named (first_of (codes "form") rows) (Some Human)
+
+-- a form with runs; those for people have them always, and the short one never
+abbrev pub form_with_runs : Form → Form
+form_with_runs Html = Html
+form_with_runs Human = Human
+form_with_runs Short = Short
+form_with_runs Lines = LinesWithRuns
+form_with_runs LinesWithRuns = LinesWithRuns
+form_with_runs Sarif = SarifWithRuns
+form_with_runs SarifWithRuns = SarifWithRuns
+
+-- the same where they are asked for
+abbrev pub with_runs : Bool → Form → Form
+with_runs is_asked form = if is_asked then form_with_runs form else form
+
+-- the form behind `--form`, with runs behind `--runs`
 abbrev pub form_of : List Row → Option Form
-form_of rows = option_map_or form_named (first_of (codes "form") rows) (Some Human)
+form_of rows = option_map (with_runs (is_set (codes "runs") rows)) (named_form rows)
 
 -- when there are colours, by its name
 abbrev pub colour_named : Text → Option Colour
@@ -194,9 +212,21 @@ explain_by rows = option_and_then (explain_as rows) (form_of rows)
 abbrev pub emit_with : List Row → Part → Asked
 emit_with rows part = Emit part (text_of (codes "FILE") rows) (first_of (codes "CERT") rows)
 
--- a part that there isn't asks for nothing
+abbrev pub emit_into : List Row → Text → Asked
+emit_into rows folder = EmitInto folder (text_of (codes "FILE") rows) (first_of (codes "CERT") rows)
+
+-- a folder without a name asks for nothing
+abbrev pub emit_in : List Row → Text → Option Asked
+emit_in rows folder = if bytes_eq folder [] then None else Some (emit_into rows folder)
+
+-- the name of a part and a folder exclude each other, and a part that there isn't asks for nothing
+abbrev pub emit_by : List Row → Option Text → Option Text → Option Asked
+emit_by rows part None = option_map (emit_with rows) (part_of rows)
+emit_by rows None (Some folder) = emit_in rows folder
+emit_by rows (Some part) (Some folder) = None
+
 abbrev pub emit_of : List Row → Option Asked
-emit_of rows = option_map (emit_with rows) (part_of rows)
+emit_of rows = emit_by rows (first_of (codes "part") rows) (first_of (codes "into") rows)
 
 abbrev pub compare_of : List Row → Asked
 compare_of rows = Compare (files_of rows)

@@ -146,6 +146,19 @@ fn written_argument<'a>(alloc: Global) -> Arg<'a>
         .help("Write the journal of the first finding that has one into this file")
 }
 
+/// The flag `--runs`.
+fn runs_argument<'a>(alloc: Global) -> Arg<'a>
+    ensures rule { rule_of result ≡ spec.runs_rule }
+    ensures own { result.global ≡ false }
+{
+    Arg::new(alloc, "runs")
+        .long("runs")
+        .action(ArgAction::SetTrue)
+        .help(
+            "Add to the forms `lines` and `sarif` a run that breaks something because of each finding, where one is found",
+        )
+}
+
 /// The flag `--strict`.
 fn strict_argument<'a>(alloc: Global) -> Arg<'a>
     ensures rule { rule_of result ≡ spec.strict_rule }
@@ -232,6 +245,19 @@ fn part_argument<'a>(alloc: Global) -> Arg<'a>
     Arg::new(alloc, "part").long("part").value_name("PART").help(
         "The part that is printed: `source`, `user` (the user's header) or `inf`; `source` if none is named",
     )
+}
+
+/// The option `--into`.
+fn into_argument<'a>(alloc: Global) -> Arg<'a>
+    ensures rule { rule_of result ≡ spec.into_rule }
+    ensures own { result.global ≡ false }
+{
+    Arg::new(alloc, "into")
+        .long("into")
+        .value_name("FOLDER")
+        .help(
+            "Write all three parts into this folder; a user's header that is there stays as it is",
+        )
 }
 
 // ---- commands
@@ -352,7 +378,7 @@ fn bare_explain<'a>(alloc: Global) -> Command<'a>
             "Says all that is wrong with filters' texts, where it comes from, how to get there and how to fix it",
         )
         .override_usage(
-            "fltstack explain [--form <FORM>] [--color <WHEN>] [--states <N>] [--journal <JOURNAL>] [--strict] [--allow <KIND>]... <FILE>...\n       fltstack explain <R01 to R15, W00 to W07, V1 to V8, E01 to E08, a call or a status>...",
+            "fltstack explain [--form <FORM>] [--color <WHEN>] [--states <N>] [--journal <JOURNAL>] [--runs] [--strict] [--allow <KIND>]... <FILE>...\n       fltstack explain <R01 to R15, W00 to W07, V1 to V8, E01 to E08, a call or a status>...",
         )
         .after_help(
             "Prints a report for each finding, with a run that breaks something because of it, and last what `analyse`\nsays (exit 1), or a report for each warning and `nothing found` (exit 0; with `--strict` warnings make it 1).\nWhere a text doesn't parse, it says where and why (exit 2). `--form short` prints a line for each of them,\n`--form lines` a JSON object, `--form sarif` a SARIF document. `--form html` is a page with the texts, the reports and\npictures. A comment `# allow W03: why`, alone on the line before a statement, leaves a warning out there. Of rules,\nwarnings, violations, faults of a text, calls or statuses it prints the pages (exit 0); `./R02` is a file of that name.\nOf a C file (`.c`, `.h`, `.cc`, `.cpp`) it reads the annotations, and its places are those of the C file. Errors go to\nthe standard error with exit 2.\n\nExample: fltstack explain examples/leaked_context.flt",
@@ -366,6 +392,7 @@ fn explain_command<'a>(alloc: Global) -> Result<Command<'a>, AllocError>
     let command = with_argument(command, colour_argument(alloc));
     let command = with_argument(command, states_argument(alloc));
     let command = with_argument(command, written_argument(alloc));
+    let command = with_argument(command, runs_argument(alloc));
     let command = with_argument(command, strict_argument(alloc));
     let command = with_argument(command, allow_argument(alloc));
     with_argument(
@@ -432,9 +459,11 @@ fn bare_emit<'a>(alloc: Global) -> Command<'a>
         .about(
             "Prints the C source of the driver that a filter's text is, its user's header or its INF file",
         )
-        .override_usage("fltstack emit [--part <PART>] <FILE> [CERT]")
+        .override_usage(
+            "fltstack emit [--part <PART>] <FILE> [CERT]\n       fltstack emit --into <FOLDER> <FILE> [CERT]",
+        )
         .after_help(
-            "Analyses the text, or checks CERT. Prints the part (exit 0); or the point and rule for which there is no\ncertificate, or `not emitted`, the line and why (exit 1). Errors go to the standard error with exit 2.\n\n`docs/EMIT.md` has the form of each line, and says which parts you must fill in.\n\nExample: fltstack emit examples/pending_reads.flt",
+            "Analyses the text, or checks CERT. Prints the part, or writes NAME.c, NAME_user.h and NAME.inf (exit 0); or the\npoint and rule for which there is no certificate, or `not emitted`, the line and why (exit 1). Errors go to the\nstandard error with exit 2.\n\n`docs/EMIT.md` has the form of each line, and says which parts you must fill in.\n\nExample: fltstack emit examples/pending_reads.flt",
         )
 }
 
@@ -442,6 +471,7 @@ fn emit_command<'a>(alloc: Global) -> Result<Command<'a>, AllocError>
     ensures { IfOk result (λ c. spec.IsCommand c spec.emit_app) }
 {
     let command = with_argument(Ok(bare_emit(alloc)), part_argument(alloc));
+    let command = with_argument(command, into_argument(alloc));
     let command = with_argument(command, text_argument(alloc));
     with_argument(command, certificate_argument(alloc))
 }

@@ -15,6 +15,10 @@ pub enum Form {
     Sarif,
     /// One line a finding, in the form of compilers.
     Short,
+    /// A JSON object a line, with the runs of findings.
+    LinesWithRuns,
+    /// SARIF 2.1.0, with the runs of findings.
+    SarifWithRuns,
 }
 
 /// When reports for people have the colours of a terminal.
@@ -128,6 +132,13 @@ pub enum Request<'a> {
     /// Emit a part of the driver that the text of a file is, with the certificate of another one or after an analysis.
     Emit {
         part: Part,
+        file: &'a str,
+        cert: Option<&'a str>,
+    },
+    /// Write all parts of the driver into a folder.
+    EmitInto {
+        /// It isn't empty.
+        folder: &'a str,
         file: &'a str,
         cert: Option<&'a str>,
     },

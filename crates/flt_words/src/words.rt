@@ -27,19 +27,19 @@ pub const DEFAULT_STATES: u32 = 40_000;
 
 /// The error if no form has the given name.
 const NO_FORM: &str =
-    "error: `--form` takes `human`, `html`, `short`, `lines` or `sarif`\n\nUsage: fltstack explain [--form <FORM>] [--color <WHEN>] [--states <N>] [--journal <JOURNAL>] [--strict] [--allow <KIND>]... <FILE>...\n\nFor more information, try '--help'.\n";
+    "error: `--form` takes `human`, `html`, `short`, `lines` or `sarif`\n\nUsage: fltstack explain [--form <FORM>] [--color <WHEN>] [--states <N>] [--journal <JOURNAL>] [--runs] [--strict] [--allow <KIND>]... <FILE>...\n\nFor more information, try '--help'.\n";
 
 /// The error if no time of colours has the given name.
 const NO_COLOUR: &str =
-    "error: `--color` takes `auto`, `always` or `never`\n\nUsage: fltstack explain [--form <FORM>] [--color <WHEN>] [--states <N>] [--journal <JOURNAL>] [--strict] [--allow <KIND>]... <FILE>...\n\nFor more information, try '--help'.\n";
+    "error: `--color` takes `auto`, `always` or `never`\n\nUsage: fltstack explain [--form <FORM>] [--color <WHEN>] [--states <N>] [--journal <JOURNAL>] [--runs] [--strict] [--allow <KIND>]... <FILE>...\n\nFor more information, try '--help'.\n";
 
 /// The error if no kind of warning has the given name.
 const NO_KIND: &str =
-    "error: `--allow` takes `W00` to `W07`\n\nUsage: fltstack explain [--form <FORM>] [--color <WHEN>] [--states <N>] [--journal <JOURNAL>] [--strict] [--allow <KIND>]... <FILE>...\n\nFor more information, try '--help'.\n";
+    "error: `--allow` takes `W00` to `W07`\n\nUsage: fltstack explain [--form <FORM>] [--color <WHEN>] [--states <N>] [--journal <JOURNAL>] [--runs] [--strict] [--allow <KIND>]... <FILE>...\n\nFor more information, try '--help'.\n";
 
 /// The error if a journal would be written to the standard input.
 const NO_JOURNAL: &str =
-    "error: `--journal` takes the name of a file\n\nUsage: fltstack explain [--form <FORM>] [--color <WHEN>] [--states <N>] [--journal <JOURNAL>] [--strict] [--allow <KIND>]... <FILE>...\n\nFor more information, try '--help'.\n";
+    "error: `--journal` takes the name of a file\n\nUsage: fltstack explain [--form <FORM>] [--color <WHEN>] [--states <N>] [--journal <JOURNAL>] [--runs] [--strict] [--allow <KIND>]... <FILE>...\n\nFor more information, try '--help'.\n";
 
 /// The error if a picture would be written to the standard input.
 const NO_PICTURE: &str =
@@ -59,7 +59,15 @@ const NO_INPUT: &str =
 
 /// The error for an unknown part of a driver.
 const NO_PART: &str =
-    "error: `--part` takes `source`, `user` or `inf`\n\nUsage: fltstack emit [--part <PART>] <FILE> [CERT]\n\nFor more information, try '--help'.\n";
+    "error: `--part` takes `source`, `user` or `inf`\n\nUsage: fltstack emit [--part <PART>] <FILE> [CERT]\n       fltstack emit --into <FOLDER> <FILE> [CERT]\n\nFor more information, try '--help'.\n";
+
+/// The error for a part that is both printed and written.
+const BOTH_OUTPUTS: &str =
+    "error: `emit` takes `--part` or `--into`, not both\n\nUsage: fltstack emit [--part <PART>] <FILE> [CERT]\n       fltstack emit --into <FOLDER> <FILE> [CERT]\n\nFor more information, try '--help'.\n";
+
+/// The error for a folder without a name.
+const NO_FOLDER: &str =
+    "error: `--into` takes the name of a folder\n\nUsage: fltstack emit [--part <PART>] <FILE> [CERT]\n       fltstack emit --into <FOLDER> <FILE> [CERT]\n\nFor more information, try '--help'.\n";
 
 /// The error for malformed words if `clap` reports none for them.
 const NO_WORDS: &str = "error: these words can't be taken\n\nFor more information, try '--help'.\n";
@@ -139,12 +147,42 @@ fn form_named(name: &str) -> Option<Form>
 }
 
 /// The form that `--form` names, if there is such a form. Without the option it is the form for people.
-fn form_of(matches: &ArgMatches) -> Option<Form>
-    ensures { result ≡ spec.form_of (rows_of (found_of matches.now)) }
+fn named_form(matches: &ArgMatches) -> Option<Form>
+    ensures { result ≡ spec.named_form (rows_of (found_of matches.now)) }
 {
     match matches.get_str("form") {
         Some(name) => form_named(name),
         None => Some(Form::Human),
+    }
+}
+
+/// A form with runs. Those for people have them always, and the short one never.
+fn form_with_runs(form: Form) -> Form
+    ensures { result ≡ spec.form_with_runs form }
+{
+    match form {
+        Form::Html => Form::Html,
+        Form::Human => Form::Human,
+        Form::Short => Form::Short,
+        Form::Lines | Form::LinesWithRuns => Form::LinesWithRuns,
+        Form::Sarif | Form::SarifWithRuns => Form::SarifWithRuns,
+    }
+}
+
+/// A form, with runs if they are requested.
+fn with_runs(is_asked: bool, form: Form) -> Form
+    ensures { result ≡ spec.with_runs is_asked form }
+{
+    if is_asked { form_with_runs(form) } else { form }
+}
+
+/// The form that `--form` and `--runs` name, if there is such a form.
+fn form_of(matches: &ArgMatches) -> Option<Form>
+    ensures { result ≡ spec.form_of (rows_of (found_of matches.now)) }
+{
+    match named_form(matches) {
+        Some(form) => Some(with_runs(is_set(matches, "runs"), form)),
+        None => None,
     }
 }
 
@@ -523,14 +561,61 @@ fn emit_with<'a>(emit: &ArgMatches<'a>, part: Part) -> Request<'a>
     }
 }
 
-/// The request of the matches of `emit`.
-fn asked_emit<'a>(alloc: Global, emit: &ArgMatches<'a>) -> Result<Request<'a>, AllocError>
-    ensures { IfOk result (λ r. asked_of r ≡ spec.emit_of (rows_of (found_of emit.now))) }
+/// The request of the matches of `emit`, of a part or of one that there isn't.
+fn emit_part<'a>(alloc: Global, emit: &ArgMatches<'a>) -> Result<Request<'a>, AllocError>
+    ensures { IfOk result (λ r. asked_of r ≡ option_map (spec.emit_with (rows_of (found_of emit.now))) (spec.part_of (rows_of (found_of emit.now)))) }
 {
     let Some(part) = part_of(emit) else {
         return Ok(Request::Usage(String::from_str(alloc, NO_PART)?));
     };
     Ok(emit_with(emit, part))
+}
+
+/// The request of the matches of `emit`, of a folder.
+fn emit_into<'a>(emit: &ArgMatches<'a>, folder: &'a str) -> Request<'a>
+    ensures { asked_of result ≡ Some (spec.emit_into (rows_of (found_of emit.now)) folder.entry.now) }
+{
+    let file = text_of(emit, "FILE");
+    let cert = emit.get_str("CERT");
+    Request::EmitInto { folder, file, cert }
+}
+
+/// The same, if the folder has a name.
+fn emit_in<'a>(
+    alloc: Global,
+    emit: &ArgMatches<'a>,
+    folder: &'a str,
+) -> Result<Request<'a>, AllocError>
+    ensures { IfOk result (λ r. asked_of r ≡ spec.emit_in (rows_of (found_of emit.now)) folder.entry.now) }
+{
+    if folder == "" {
+        return Ok(Request::Usage(String::from_str(alloc, NO_FOLDER)?));
+    }
+    Ok(emit_into(emit, folder))
+}
+
+/// The request of the matches of `emit`, of these options.
+fn emit_by<'a>(
+    alloc: Global,
+    emit: &ArgMatches<'a>,
+    part: Option<&'a str>,
+    folder: Option<&'a str>,
+) -> Result<Request<'a>, AllocError>
+    ensures { IfOk result (λ r. asked_of r ≡ spec.emit_by (rows_of (found_of emit.now))
+        (option_map (λ name. name.now) part.entry) (option_map (λ name. name.now) folder.entry)) }
+{
+    match (part, folder) {
+        (_, None) => emit_part(alloc, emit),
+        (None, Some(folder)) => emit_in(alloc, emit, folder),
+        (Some(_), Some(_)) => Ok(Request::Usage(String::from_str(alloc, BOTH_OUTPUTS)?)),
+    }
+}
+
+/// The request of the matches of `emit`.
+fn asked_emit<'a>(alloc: Global, emit: &ArgMatches<'a>) -> Result<Request<'a>, AllocError>
+    ensures { IfOk result (λ r. asked_of r ≡ spec.emit_of (rows_of (found_of emit.now))) }
+{
+    emit_by(alloc, emit, emit.get_str("part"), emit.get_str("into"))
 }
 
 /// The request of the matches of `compare`.

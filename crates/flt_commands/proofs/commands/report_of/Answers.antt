@@ -1,37 +1,50 @@
-use Rattle.std.proofs.Common.{ap, map, option_map, refl}
-use Rattle.flt_commands.proofs.Reported.{answers_asked, answers_of, cut_asked, held_asked, kept_shown, quiet_asked, remarked_after, says_of_pages, those_after, those_of}
-use Rattle.flt_words.specs.Request.{Check, Analyse, Thin, Run, Replay, Show, Extract, Pages, Emit, Compare, choice_of}
+use Rattle.std.proofs.Common.{◌≡◌, ap, map, option_map, refl}
+use Rattle.flt_commands.proofs.Reported.{answers_asked, answers_of, cut_asked, held_asked, kept_shown, never_quiet, quiet_asked, remarked_after, says_of_pages, those_after, those_of}
+use Rattle.flt_words.specs.Request.{Check, Analyse, Thin, Run, Replay, Show, Extract, Pages, Emit, EmitInto, Compare, choice_of}
+use Rattle.flt_commands.specs.Attempts.{Does}
 use Rattle.flt_commands.proofs.commands.report_of.Goals as goal
 
 pub returns-in-Check-clause-answers : goal.returns-in-Check-clause-answers
 returns-in-Check-clause-answers g c =
     let request = Check c.in-Check.file.now (option_map (λ name. name.now) c.in-Check.cert) in
+    let does =
+    Does (c.args.pictures.now ≡ c.args.pictures.now) (g.P.Pictures.tried c.args.pictures.now)
+    (g.P.Pictures.tried c.args.pictures.now) in
     answers_of c.covered_texts_break_nothing.ensures c.driven_texts_break_nothing.ensures
-    c.fails_exactly_where_nothing_is_spelled.ensures.nowhere _ _ _ _ _ request _ _ _
+    c.fails_exactly_where_nothing_is_spelled.ensures.nowhere _ _ _ does _ request _ _ _
     (rw c.in-Check.is at c.in_ok-text.ensures) (rw c.last_of.ensures at c.check_files-said.ensures) refl (those_of _ _ c.report_on.ensures.texts)
     c.report_on.ensures.reported (remarked_after request _ _ _ c.new.ensures.items c.report_on.ensures.remarked)
 
 pub returns-in-Analyse-clause-answers : goal.returns-in-Analyse-clause-answers
 returns-in-Analyse-clause-answers g c =
     let request = Analyse c.in-Analyse.file.now in
+    let does =
+    Does (c.args.pictures.now ≡ c.args.pictures.now) (g.P.Pictures.tried c.args.pictures.now)
+    (g.P.Pictures.tried c.args.pictures.now) in
     answers_of c.covered_texts_break_nothing.ensures c.driven_texts_break_nothing.ensures
-    c.fails_exactly_where_nothing_is_spelled.ensures.nowhere _ _ _ _ _ request _ _ _
+    c.fails_exactly_where_nothing_is_spelled.ensures.nowhere _ _ _ does _ request _ _ _
     (rw c.in-Analyse.is at c.in_ok-text.ensures) c.analyse_file-said.ensures refl (those_of _ _ c.report_on-in-Analyse.ensures.texts)
     c.report_on-in-Analyse.ensures.reported (remarked_after request _ _ _ c.new-in-Analyse.ensures.items c.report_on-in-Analyse.ensures.remarked)
 
 pub returns-in-Thin-clause-answers : goal.returns-in-Thin-clause-answers
 returns-in-Thin-clause-answers g c =
     let request = Thin c.in-Thin.file.now (option_map (λ name. name.now) c.in-Thin.cert) in
+    let does =
+    Does (c.args.pictures.now ≡ c.args.pictures.now) (g.P.Pictures.tried c.args.pictures.now)
+    (g.P.Pictures.tried c.args.pictures.now) in
     answers_of c.covered_texts_break_nothing.ensures c.driven_texts_break_nothing.ensures
-    c.fails_exactly_where_nothing_is_spelled.ensures.nowhere _ _ _ _ _ request _ _ _
+    c.fails_exactly_where_nothing_is_spelled.ensures.nowhere _ _ _ does _ request _ _ _
     (rw c.in-Thin.is at c.in_ok-text.ensures) (rw c.last_of-in-Thin.ensures at c.thin_files-said.ensures) refl (those_of _ _ c.report_on-in-Thin.ensures.texts)
     c.report_on-in-Thin.ensures.reported (remarked_after request _ _ _ c.new-in-Thin.ensures.items c.report_on-in-Thin.ensures.remarked)
 
 pub returns-in-Run-default-true-default-default-clause-answers : goal.returns-in-Run-default-true-default-default-clause-answers
 returns-in-Run-default-true-default-default-clause-answers g c =
     let request = Run c.in-Run-default-true-default-default.workers.count c.in-Run-default-true-default-default.quiet c.in-Run-default-true-default-default.script.now (map (λ name. name.now) c.in-Run-default-true-default-default.files.items) in
+    let does =
+    Does (c.args.pictures.now ≡ c.args.pictures.now) (g.P.Pictures.tried c.args.pictures.now)
+    (g.P.Pictures.tried c.args.pictures.now) in
     answers_of c.covered_texts_break_nothing.ensures c.driven_texts_break_nothing.ensures
-    c.fails_exactly_where_nothing_is_spelled.ensures.nowhere _ _ _ _ _ request _ _
+    c.fails_exactly_where_nothing_is_spelled.ensures.nowhere _ _ _ does _ request _ _
     _ (rw c.in-Run-default-true-default-default.is at c.in_ok-text.ensures)
     (rw c.as_slice-files.ensures.value at c.run_files-said.ensures) refl
     (those_of _ _ c.report_on-in-Run-default-true-default-default.ensures.texts)
@@ -40,8 +53,11 @@ returns-in-Run-default-true-default-default-clause-answers g c =
 pub returns-in_ok-tell_deadlock-in-Run-clause-answers : goal.returns-in_ok-tell_deadlock-in-Run-clause-answers
 returns-in_ok-tell_deadlock-in-Run-clause-answers g c =
     let request = Run c.in-Run.workers.count c.in-Run.quiet c.in-Run.script.now (map (λ name. name.now) c.in-Run.files.items) in
+    let does =
+    Does (c.args.pictures.now ≡ c.args.pictures.now) (g.P.Pictures.tried c.args.pictures.now)
+    (g.P.Pictures.tried c.args.pictures.now) in
     answers_of c.covered_texts_break_nothing.ensures c.driven_texts_break_nothing.ensures
-    c.fails_exactly_where_nothing_is_spelled.ensures.nowhere _ _ _ _ _ request _ _
+    c.fails_exactly_where_nothing_is_spelled.ensures.nowhere _ _ _ does _ request _ _
     _ (rw c.in-Run.is at c.in_ok-text.ensures) (rw c.as_slice.ensures.value at c.run_files-said-in-Run.ensures) refl
     (those_of _ _ c.report_on-in-Run.ensures.texts) c.report_on-in-Run.ensures.reported (remarked_after request _ _ _ c.new-in-Run.ensures.items c.report_on-in-Run.ensures.remarked)
 
@@ -49,8 +65,11 @@ pub returns-in-Replay-clause-answers : goal.returns-in-Replay-clause-answers
 returns-in-Replay-clause-answers g c =
     let request = Replay c.in-Replay.journal.now (map (λ name. name.now) c.in-Replay.files.items) in
     let said = rw c.as_slice-files-in-Replay.ensures.value at c.replay_files-said.ensures in
+    let does =
+    Does (c.args.pictures.now ≡ c.args.pictures.now) (g.P.Pictures.tried c.args.pictures.now)
+    (g.P.Pictures.tried c.args.pictures.now) in
     answers_of c.covered_texts_break_nothing.ensures c.driven_texts_break_nothing.ensures
-    c.fails_exactly_where_nothing_is_spelled.ensures.nowhere _ _ _ _ _ request _ _
+    c.fails_exactly_where_nothing_is_spelled.ensures.nowhere _ _ _ does _ request _ _
     _ (rw c.in-Replay.is at c.in_ok-text.ensures) said.1 refl
     (those_after _ _ _ _ _ c.report_on-in-Replay.ensures.texts c.report_on-in-Replay.ensures.journal said.2)
     c.report_on-in-Replay.ensures.reported (remarked_after request _ _ _ c.new-in-Replay.ensures.items c.report_on-in-Replay.ensures.remarked)
@@ -59,10 +78,13 @@ pub returns-in_ok-before-in-Show-clause-answers : goal.returns-in_ok-before-in-S
 returns-in_ok-before-in-Show-clause-answers g c =
     let request = Show c.in-Show.timeline (option_map (λ name. name.now) c.in-Show.picture) c.in-Show.journal.now (map (λ name. name.now) c.in-Show.files.items) in
     let said = rw c.as_slice-files-in-Show.ensures.value at c.show_files-said.ensures.said in
+    let does =
+    Does (c.show_files-said.new.pictures ≡ c.args.pictures.now) (g.P.Pictures.tried c.args.pictures.now)
+    (g.P.Pictures.tried c.show_files-said.new.pictures) in
     answers_of c.covered_texts_break_nothing.ensures c.driven_texts_break_nothing.ensures
-    c.fails_exactly_where_nothing_is_spelled.ensures.nowhere _ _ _ _ _ request _ _
+    c.fails_exactly_where_nothing_is_spelled.ensures.nowhere _ _ _ does _ request _ _
     _ (rw c.in-Show.is at c.in_ok-text.ensures) said.1
-    (kept_shown (g.P.Pictures.written c.show_files-said.new.pictures) _ c.in-Show.timeline c.in-Show.picture c.in-Show.journal.now
+    (kept_shown (g.P.Pictures.written c.show_files-said.new.pictures) does c.in-Show.timeline c.in-Show.picture c.in-Show.journal.now
     (map (λ name. name.now) c.in-Show.files.items) _ _ c.show_files-said.result c.show_files-said.ensures.drawn
     c.show_files-said.ensures.untouched)
     (those_after _ _ _ _ _ c.report_on-in-Show.ensures.texts c.report_on-in-Show.ensures.journal said.2)
@@ -71,8 +93,11 @@ returns-in_ok-before-in-Show-clause-answers g c =
 pub returns-in-Extract-clause-answers : goal.returns-in-Extract-clause-answers
 returns-in-Extract-clause-answers g c =
     let request = Extract c.in-Extract.map (map (λ name. name.now) c.in-Extract.files.items) in
+    let does =
+    Does (c.args.pictures.now ≡ c.args.pictures.now) (g.P.Pictures.tried c.args.pictures.now)
+    (g.P.Pictures.tried c.args.pictures.now) in
     answers_of c.covered_texts_break_nothing.ensures c.driven_texts_break_nothing.ensures
-    c.fails_exactly_where_nothing_is_spelled.ensures.nowhere _ _ _ _ _ request _ _ _
+    c.fails_exactly_where_nothing_is_spelled.ensures.nowhere _ _ _ does _ request _ _ _
     (rw c.in-Extract.is at c.in_ok-text.ensures) (rw c.as_slice-in-Extract.ensures.value at c.extract_files-said.ensures) refl
     (those_of _ _ c.report_on-in-Extract.ensures.texts) c.report_on-in-Extract.ensures.reported
     (remarked_after request _ _ _ c.new-in-Extract.ensures.items c.report_on-in-Extract.ensures.remarked)
@@ -80,8 +105,11 @@ returns-in-Extract-clause-answers g c =
 pub returns-in-Pages-clause-answers : goal.returns-in-Pages-clause-answers
 returns-in-Pages-clause-answers g c =
     let request = Pages (map (λ name. name.now) c.in-Pages.names.items) in
+    let does =
+    Does (c.args.pictures.now ≡ c.args.pictures.now) (g.P.Pictures.tried c.args.pictures.now)
+    (g.P.Pictures.tried c.args.pictures.now) in
     answers_of c.covered_texts_break_nothing.ensures c.driven_texts_break_nothing.ensures
-    c.fails_exactly_where_nothing_is_spelled.ensures.nowhere _ _ _ _ _ request _ _ _
+    c.fails_exactly_where_nothing_is_spelled.ensures.nowhere _ _ _ does _ request _ _ _
     (rw c.in-Pages.is at c.in_ok-text.ensures)
     (says_of_pages _ _ _ _ (ap (map (λ t. t.items)) c.new-contents.ensures.texts) (rw c.as_slice-in-Pages.ensures.value at c.pages_of-said.ensures)) refl
     (those_of _ _ c.report_on-in-Pages.ensures.texts) c.report_on-in-Pages.ensures.reported (remarked_after request _ _ _ c.new-in-Pages.ensures.items c.report_on-in-Pages.ensures.remarked)
@@ -89,10 +117,29 @@ returns-in-Pages-clause-answers g c =
 pub returns-in-Emit-clause-answers : goal.returns-in-Emit-clause-answers
 returns-in-Emit-clause-answers g c =
     let request = Emit c.in-Emit.part c.in-Emit.file.now (option_map (λ name. name.now) c.in-Emit.cert) in
+    let does =
+    Does (c.args.pictures.now ≡ c.args.pictures.now) (g.P.Pictures.tried c.args.pictures.now)
+    (g.P.Pictures.tried c.args.pictures.now) in
     answers_of c.covered_texts_break_nothing.ensures c.driven_texts_break_nothing.ensures
-    c.fails_exactly_where_nothing_is_spelled.ensures.nowhere _ _ _ _ _ request _ _ _
+    c.fails_exactly_where_nothing_is_spelled.ensures.nowhere _ _ _ does _ request _ _ _
     (rw c.in-Emit.is at c.in_ok-text.ensures) c.emit_files-said.ensures refl (those_of _ _ c.report_on-in-Emit.ensures.texts)
     c.report_on-in-Emit.ensures.reported (remarked_after request _ _ _ c.new-in-Emit.ensures.items c.report_on-in-Emit.ensures.remarked)
+
+pub returns-in_ok-before-in-EmitInto-clause-answers : goal.returns-in_ok-before-in-EmitInto-clause-answers
+returns-in_ok-before-in-EmitInto-clause-answers g c =
+    let request = EmitInto c.in-EmitInto.folder.now c.in-EmitInto.file.now (option_map (λ name. name.now) c.in-EmitInto.cert) in
+    let does =
+    Does (c.emit_files_into-said.new.pictures ≡ c.args.pictures.now) (g.P.Pictures.tried c.args.pictures.now)
+    (g.P.Pictures.tried c.emit_files_into-said.new.pictures) in
+    answers_of c.covered_texts_break_nothing.ensures c.driven_texts_break_nothing.ensures
+    c.fails_exactly_where_nothing_is_spelled.ensures.nowhere _ _ _ does _ request _ _ _
+    (rw c.in-EmitInto.is at c.in_ok-text.ensures) c.emit_files_into-said.ensures.said c.emit_files_into-said.ensures.put
+    (those_of _ _ c.report_on-in-EmitInto.ensures.texts) c.report_on-in-EmitInto.ensures.reported
+    (remarked_after request _ _ _ c.in_ok-before-in-EmitInto.ensures c.report_on-in-EmitInto.ensures.remarked)
+
+pub returns-in_ok-before-in-EmitInto-clause-quiet : goal.returns-in_ok-before-in-EmitInto-clause-quiet
+returns-in_ok-before-in-EmitInto-clause-quiet g c =
+    never_quiet _ _ _ _ (rw c.in-EmitInto.is at c.in_ok-text.ensures) _
 
 pub returns-in-Explain-clause-answers : goal.returns-in-Explain-clause-answers
 returns-in-Explain-clause-answers g c =
@@ -121,8 +168,11 @@ returns-in-Format-clause-answers g c =
 pub returns-in-Compare-clause-answers : goal.returns-in-Compare-clause-answers
 returns-in-Compare-clause-answers g c =
     let request = Compare (map (λ name. name.now) c.in-Compare.files.items) in
+    let does =
+    Does (c.args.pictures.now ≡ c.args.pictures.now) (g.P.Pictures.tried c.args.pictures.now)
+    (g.P.Pictures.tried c.args.pictures.now) in
     answers_of c.covered_texts_break_nothing.ensures c.driven_texts_break_nothing.ensures
-    c.fails_exactly_where_nothing_is_spelled.ensures.nowhere _ _ _ _ _ request _ _ _
+    c.fails_exactly_where_nothing_is_spelled.ensures.nowhere _ _ _ does _ request _ _ _
     (rw c.in-Compare.is at c.in_ok-text.ensures) (rw c.as_slice-in-Compare.ensures.value at c.compare_files-said.ensures) refl
     (those_of _ _ c.report_on-in-Compare.ensures.texts) c.report_on-in-Compare.ensures.reported
     (remarked_after request _ _ _ c.new-in-Compare.ensures.items c.report_on-in-Compare.ensures.remarked)

@@ -1,6 +1,8 @@
+use Rattle.std.proofs.Common.{◌≡◌, map}
 use Rattle.flt_commands.proofs.Formatting.{formatted_of, kept_formatted}
 use Rattle.flt_commands.proofs.SomeRead.{read_many}
 use Rattle.flt_commands.proofs.format.format_files.Goals as goal
+use Rattle.flt_commands.specs.Attempts.{Does}
 
 pub file_outcomes-requires : goal.file_outcomes-requires
 file_outcomes-requires g c =
@@ -12,4 +14,9 @@ returns-clause-said g c =
     (rw (c.as_slice.ensures.value, c.as_slice-2.ensures.value) at c.in_ok-files.ensures.are)
 
 pub returns-clause-kept : goal.returns-clause-kept
-returns-clause-kept g c = kept_formatted _ _ c.args.mode _ _ _ c.in_ok-files.ensures.done c.in_ok-files.ensures.still
+returns-clause-kept g c =
+    kept_formatted (g.P.Pictures.written c.file_outcomes.new.pictures)
+    (Does (c.file_outcomes.new.pictures ≡ c.args.pictures.now) (g.P.Pictures.tried c.args.pictures.now)
+    (g.P.Pictures.tried c.file_outcomes.new.pictures))
+    c.args.mode (map (λ name. name.now) c.args.files.now) _ (record { files = c.in_ok-files.files; unread = c.in_ok-read.read.unread })
+    c.in_ok-files.ensures.done c.in_ok-files.ensures.still

@@ -1,5 +1,6 @@
 use Rattle.std.proofs.Common.{◌≡◌}
 use Rattle.flt_commands.proofs.OneAnswer.{printed_once, said_once}
+use Rattle.flt_commands.specs.Attempts.{Does}
 use Rattle.flt_words.specs.Words.{asked}
 use Rattle.flt_commands.proofs.single.one_answer_at_most.Goals as goal
 
@@ -12,6 +13,8 @@ returns g c =
     let nowhere = c.fails_exactly_where_nothing_is_spelled.ensures.nowhere in
     record {
       one = λ inputs before pictures past others shown showing words. printed_once checked analysed thinned replayed nowhere
-          (g.I.Inputs.gives inputs) (g.P.Pictures.written pictures) (g.P.Pictures.written others) (pictures ≡ before) (others ≡ past) shown showing (asked words);
+          (g.I.Inputs.gives inputs) (g.P.Pictures.written pictures) (g.P.Pictures.written others)
+          (Does (pictures ≡ before) (g.P.Pictures.tried before) (g.P.Pictures.tried pictures))
+          (Does (others ≡ past) (g.P.Pictures.tried past) (g.P.Pictures.tried others)) shown showing (asked words);
       said = λ inputs. said_once checked analysed thinned replayed nowhere (g.I.Inputs.gives inputs);
     }

@@ -1,6 +1,7 @@
-use Rattle.std.proofs.Common.{◌≡◌, ◌++◌, ap, ◌∙◌, refl, append_assoc}
+use Rattle.std.proofs.Common.{◌++◌, ap, ◌∙◌, refl, append_assoc}
 use Rattle.flt_forms.specs.Clean.{clean_lines}
 use Rattle.flt_forms.specs.Lines.{IsPart, warning_lines}
+use Rattle.flt_forms.specs.RunMember.{members_in}
 use Rattle.flt_forms.specs.Warned.{status_of}
 use Rattle.flt_forms.proofs.as_lines.put_source.Goals as goal
 
@@ -10,7 +11,8 @@ returns c =
     let name = c.args.source.name.now in
     let shown = warning_lines c.args.style name c.in_ok-warned.warned in
     let clean = clean_lines c.args.style name c.in_ok-judged.judged c.in_ok-warned.warned in
-    let is : IsPart c.args.style c.args.options c.args.source (first.0 ++ (shown ++ clean)) c.status_of.result = record {
+    let runs = members_in c.args.runs c.args.number in
+    let is : IsPart c.args.style c.args.options runs c.args.source (first.0 ++ (shown ++ clean)) c.status_of.result = record {
       judged = c.in_ok-judged.judged;
       is = c.in_ok-judged.ensures;
       warned = c.in_ok-warned.warned;

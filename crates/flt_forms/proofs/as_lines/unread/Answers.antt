@@ -1,7 +1,6 @@
 use Rattle.std.proofs.Common.{◌≡◌, Some, ap, ◌∙◌}
 use Rattle.flt_forms.specs.Fault.{IsFaultLine, fault, help_in, help_of}
 use Rattle.flt_forms.specs.Members.{line_of}
-use Rattle.flt_hints.specs.Telling.{title_of}
 use Rattle.flt_hints.specs.Trouble.{IsDescribed}
 use Rattle.flt_forms.proofs.as_lines.unread.Goals as goal
 

@@ -1,4 +1,5 @@
-use Rattle.std.proofs.Common.{◌≡◌, ◌++◌, ap, ◌∙◌, refl}
+use Rattle.std.proofs.Common.{◌++◌, ap, ◌∙◌, refl}
+use Rattle.flt_forms.specs.RunFlow.{flows_in}
 use Rattle.flt_forms.specs.Sarif.{IsPart}
 use Rattle.flt_forms.specs.Warned.{status_of}
 use Rattle.flt_forms.specs.WarningResults.{results_of}
@@ -9,7 +10,8 @@ pub returns : goal.returns
 returns c =
     let first = c.in_ok-put_judged.ensures in
     let shown = results_of c.in_ok-file.file c.in_ok-warned.warned in
-    let is : IsPart c.args.options c.args.names.now c.args.source (first.0 ++ shown) c.status_of.result = record {
+    let runs = flows_in c.args.runs c.args.number in
+    let is : IsPart c.args.options c.args.names.now runs c.args.source (first.0 ++ shown) c.status_of.result = record {
       file = c.in_ok-file.file;
       of = c.in_ok-file.ensures;
       judged = c.in_ok-judged.judged;

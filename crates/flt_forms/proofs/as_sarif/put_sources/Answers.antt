@@ -1,14 +1,15 @@
 use Rattle.std.proofs.Common.{◌++◌, arith}
+use Rattle.flt_forms.specs.RunFlow.{flows_in}
 use Rattle.flt_forms.proofs.Adding.{both}
 use Rattle.flt_forms.proofs.Sources.{one_more_shown}
 use Rattle.flt_forms.proofs.as_sarif.put_sources.Goals as goal
 
-pub loop-source-preserved : goal.loop-source-preserved
-loop-source-preserved c =
-    let sofar = c.loop-source.invariant in
+pub loop-number-preserved : goal.loop-number-preserved
+loop-number-preserved c =
+    let sofar = c.loop-number.invariant in
     let one = c.in_ok-own.ensures in (
       sofar.0 ++ one.0,
-      one_more_shown c.args.sources.now c.loop-source.source-index _ (omega (arith, c.loop-source-test.true)) c.args.options c.args.names.now sofar.0 one.0 _ _ _ sofar.1 one.1
-          c.greater-status.ensures,
+      one_more_shown c.args.sources.now c.loop-number.number _ (omega (arith, c.loop-number-test.true)) c.args.options c.args.names.now
+          (flows_in c.args.runs) sofar.0 one.0 _ _ _ sofar.1 one.1 c.greater-status.ensures,
       both sofar.2 one.2,
     )

@@ -1,9 +1,16 @@
 use Rattle.std.proofs.Common.{arith}
-use Rattle.flt_forms.specs.Finding.{finding_line}
-use Rattle.flt_forms.proofs.Adding.{one_line_more}
+use Rattle.flt_forms.specs.Finding.{numbered_line}
+use Rattle.flt_forms.specs.RunMember.{members_in}
+use Rattle.flt_forms.proofs.Counting.{all_counted, one_counted_more}
 use Rattle.flt_forms.proofs.finding.put_lines.Goals as goal
 
-pub loop-detail-preserved : goal.loop-detail-preserved
-loop-detail-preserved c =
-    one_line_more (finding_line c.args.name.now c.args.lines.now c.args.graph.now) c.args.details.now c.loop-detail.detail-index c.detail-item.result _ _ _
-    (omega (arith, c.loop-detail-test.true)) c.detail-item.is c.loop-detail.invariant c.in_ok-out.ensures
+pub loop-finding-preserved : goal.loop-finding-preserved
+loop-finding-preserved c =
+    let line = numbered_line c.args.name.now c.args.lines.now c.args.graph.now (members_in c.args.runs c.args.source) in
+    one_counted_more line c.args.details.now c.loop-finding.finding c.index-details-finding.result (omega (arith, c.loop-finding-test.true))
+    c.index-details-finding.is _ _ _ c.loop-finding.invariant c.in_ok-out.ensures
+
+pub returns : goal.returns
+returns c =
+    let line = numbered_line c.args.name.now c.args.lines.now c.args.graph.now (members_in c.args.runs c.args.source) in
+    all_counted line c.args.details.now c.loop-finding.finding _ _ (omega (arith, c.loop-finding-test.false)) c.loop-finding.invariant

@@ -1,6 +1,11 @@
-use Rattle.std.proofs.Common.{◌≡◌, ◌++◌, flat_map, take}
-use Rattle.flt_forms.specs.Finding.{finding_line}
+use Rattle.std.proofs.Common.{◌≡◌, ◌++◌, drop}
+use Rattle.flt_forms.specs.Counted.{counted}
+use Rattle.flt_forms.specs.Finding.{finding_lines, numbered_line}
+use Rattle.flt_forms.specs.RunMember.{members_in}
 use Rattle.flt_forms.proofs.finding.put_lines.Given as goal
 
-abbrev pub invariant-loop-detail : goal.invariant-loop-detail
-invariant-loop-detail l = l.out.items ≡ l.initial.out.items ++ flat_map (finding_line l.name l.lines l.graph) (take l.detail-index l.details)
+-- the lines so far, with those of the other findings
+abbrev pub invariant-loop-finding : goal.invariant-loop-finding
+invariant-loop-finding l =
+    l.out.items ++ counted (numbered_line l.name l.lines l.graph (members_in l.runs l.source)) l.finding (drop l.finding l.details)
+    ≡ l.initial.out.items ++ finding_lines l.name l.lines l.graph (members_in l.runs l.source) l.details

@@ -3,4 +3,4 @@ use Rattle.flt_forms.proofs.results.put_flows.Goals as goal
 
 pub returns : goal.returns
 returns c =
-    behind c.in_ok-put_key.ensures.ok (behind c.in_ok-open_array.ensures.ok (behind c.in_ok-put_own_flows.ensures.ok c.close_array.ensures))
+    behind c.in_ok-put_key.ensures.ok (behind c.in_ok-open_array.ensures.ok (behind c.in_ok-put_all_flows.ensures.ok c.close_array.ensures))

@@ -1,4 +1,3 @@
-use Rattle.std.proofs.Common.{rules}
 use Rattle.flt_frames.proofs.Reading.{body_read, body_cut}
 use Rattle.flt_frames.proofs.frame.read_frame.Goals as goal
 

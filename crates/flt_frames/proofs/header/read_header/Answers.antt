@@ -1,4 +1,4 @@
-use Rattle.std.proofs.Common.{rules, arith, Some, None, refl}
+use Rattle.std.proofs.Common.{rules, arith, refl}
 use Rattle.flt_frames.proofs.Reading.{none_read, reads_more, header_read, header_cut, header_too_long, stream_ended}
 use Rattle.flt_frames.proofs.header.read_header.Goals as goal
 use Rattle.flt_frames.proofs.header.read_header.Goals.{then-at-eq0, else-at-eq0}

@@ -6,6 +6,7 @@ returns c =
     let two = c.with_argument-command-2.ensures _ _ one c.colour_argument.ensures.rule c.colour_argument.ensures.own in
     let three = c.with_argument-command-3.ensures _ _ two c.states_argument.ensures.rule c.states_argument.ensures.own in
     let four = c.with_argument-command-4.ensures _ _ three c.written_argument.ensures.rule c.written_argument.ensures.own in
-    let five = c.with_argument-command-5.ensures _ _ four c.strict_argument.ensures.rule c.strict_argument.ensures.own in
-    let six = c.with_argument-command-6.ensures _ _ five c.allow_argument.ensures.rule c.allow_argument.ensures.own in
-    c.with_argument.ensures _ _ six c.texts_argument.ensures.rule c.texts_argument.ensures.own
+    let five = c.with_argument-command-5.ensures _ _ four c.runs_argument.ensures.rule c.runs_argument.ensures.own in
+    let six = c.with_argument-command-6.ensures _ _ five c.strict_argument.ensures.rule c.strict_argument.ensures.own in
+    let seven = c.with_argument-command-7.ensures _ _ six c.allow_argument.ensures.rule c.allow_argument.ensures.own in
+    c.with_argument.ensures _ _ seven c.texts_argument.ensures.rule c.texts_argument.ensures.own

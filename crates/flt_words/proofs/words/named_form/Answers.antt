@@ -4,7 +4,7 @@ use Rattle.clap.specs.Matches.{found_of}
 use Rattle.flt_words.specs.Words.{form_named}
 use Rattle.flt_words.specs.declared.request.Form.TheVariants.{Human}
 use Rattle.flt_words.proofs.Requests.{value_or, no_value_or}
-use Rattle.flt_words.proofs.words.form_of.Goals as goal
+use Rattle.flt_words.proofs.words.named_form.Goals as goal
 
 pub returns-in-Some : goal.returns-in-Some
 returns-in-Some c =

@@ -1,0 +1,7 @@
+use Rattle.std.proofs.Common.{take}
+use Rattle.flt_details.specs.Reports.{texts_of}
+use Rattle.flt_commands.specs.FindingRuns.{AreTrees}
+use Rattle.flt_commands.proofs.finding_runs.parsed_of.Given as goal
+
+abbrev pub invariant-loop-number : goal.invariant-loop-number
+invariant-loop-number l = AreTrees (texts_of (take l.number l.sources)) l.parsed.trees.items l.parsed.numbers

@@ -1,0 +1,77 @@
+-- The runs of findings, for the forms that have them. This project's own program.
+use Rattle.std.specs.Prelude.{◌≡◌, ℕ, List, [], ◌∷◌, ◌++◌, None, get_or, length}
+use Rattle.flt_syntax.specs.Spelling.{Spells}
+use Rattle.flt_syntax.specs.TextFails.{Fails}
+use Rattle.flt_syntax.specs.declared.fault.SyntaxFault.{SyntaxFault}
+use Rattle.flt_tree.specs.declared.tree.Tree.{Tree}
+use Rattle.flt_flows.specs.Flows.{IsFlow}
+use Rattle.flt_flows.specs.Running.{run_of}
+use Rattle.flt_flows.specs.declared.flows.Flow.{Flow}
+use Rattle.flt_forms.specs.declared.run.FindingRun.{FindingRun}
+use Rattle.flt_model.specs.Program.{by_altitude, filters_of}
+use Rattle.flt_notes.specs.Noted.{own_of, schedule_of}
+use Rattle.flt_notes.specs.declared.noted.Noted.{Noted}
+use Rattle.flt_schedules.specs.declared.schedules.Schedule.{Schedule}
+use Rattle.flt_schedules.specs.declared.schedules.Schedule.TheVariants.{Breaks}
+use Rattle.flt_schedules.specs.declared.schedules.Scheduled.{Scheduled}
+use Rattle.flt_schedules.specs.declared.schedules.Scheduled.TheVariants.{Together, Alone}
+use Rattle.flt_search.specs.declared.judging.Broken.{Broken}
+use Rattle.flt_commands.specs.Inputs.{Text}
+
+-- ---- trees
+
+-- the tree of one more text, of this number, if it parses
+pub data IsOneMore (number : ℕ) (text : Text) (trees : List Tree) (numbers : List ℕ) : List Tree → List ℕ → Type 0 where
+  fails : {e : SyntaxFault} → Fails text e → IsOneMore number text trees numbers trees numbers
+  parses : (tree : Tree) → Spells text tree.filter → IsOneMore number text trees numbers (trees ++ tree ∷ []) (numbers ++ number ∷ [])
+
+-- the trees of the texts that parse, and the numbers of these texts
+pub data AreTrees : List Text → List Tree → List ℕ → Type 0 where
+  no_text : AreTrees [] [] []
+  one_more : {ts : List Text} {t : Text} {trees more : List Tree} {numbers others : List ℕ} → AreTrees ts trees numbers →
+      IsOneMore (length ts) t trees numbers more others → AreTrees (ts ++ t ∷ []) more others
+
+-- ---- runs
+
+-- the numbers of the texts of the filters in whose runs something came of a finding
+abbrev pub own_numbers : List ℕ → ℕ → Scheduled → List ℕ
+own_numbers numbers place (Together s) = numbers
+own_numbers numbers place (Alone s) = get_or numbers place 0 ∷ []
+
+-- the run of a noted finding, with its flow
+abbrev pub run_by : List ℕ → Noted → Broken → Flow → FindingRun
+run_by numbers n b flow = record {
+  source = get_or numbers n.filter 0;
+  finding = n.finding;
+  sources = own_numbers numbers n.filter n.scheduled;
+  violation = b.violation;
+  entry = b.entry;
+  flow = flow;
+}
+
+-- the run of a finding that breaks something is added; none is where its journal is no run of its filters
+pub data IsAdded (trees : List Tree) (numbers : List ℕ) (n : Noted) (b : Broken) (runs : List FindingRun) : List FindingRun → Type 0 where
+  no_flow : run_of (by_altitude (filters_of (own_of trees n.filter n.scheduled))) b.journal ≡ None → IsAdded trees numbers n b runs runs
+  flow : {f : Flow} → IsFlow (own_of trees n.filter n.scheduled) b.journal f →
+      IsAdded trees numbers n b runs (runs ++ run_by numbers n b f ∷ [])
+
+-- the same by what came of it
+abbrev pub IsNextBy : List Tree → List ℕ → Noted → List FindingRun → List FindingRun → Schedule → Type 0
+IsNextBy trees numbers n runs after (Breaks b) = IsAdded trees numbers n b runs after
+IsNextBy trees numbers n runs after _ = after ≡ runs
+
+abbrev pub IsNext : List Tree → List ℕ → Noted → List FindingRun → List FindingRun → Type 0
+IsNext trees numbers n runs after = IsNextBy trees numbers n runs after (schedule_of n.scheduled)
+
+-- the runs of all noted findings, in their order
+pub data AreRunsOf (trees : List Tree) (numbers : List ℕ) : List Noted → List FindingRun → Type 0 where
+  no_note : AreRunsOf trees numbers [] []
+  one_note_more : {ns : List Noted} {runs after : List FindingRun} (n : Noted) → AreRunsOf trees numbers ns runs →
+      IsNext trees numbers n runs after → AreRunsOf trees numbers (ns ++ n ∷ []) after
+
+-- the same of findings of these texts
+pub record AreRuns (texts : List Text) (notes : List Noted) (runs : List FindingRun) : Type 0 where
+  pub trees : List Tree
+  pub numbers : List ℕ
+  pub parsed : AreTrees texts trees numbers
+  pub each : AreRunsOf trees numbers notes runs

@@ -1,0 +1,155 @@
+//! The runs that break something because of findings, for the forms that have them.
+
+ghost use Rattle.std.specs.Prelude.{◌≡◌, IfOk, get_or};
+ghost use Rattle.flt_details.specs.Reports.{texts_of};
+ghost use Rattle.flt_commands.specs.FindingRuns as spec;
+
+use flt_details::Source;
+use flt_flows::Flow;
+use flt_forms::FindingRun;
+use flt_notes::{Noted, own_trees, schedule_of};
+use flt_schedules::{Schedule, Scheduled};
+use flt_search::Broken;
+use flt_syntax::{ParseError, parse};
+use flt_tree::Tree;
+use sqlite_items::Items;
+use std::alloc::{AllocError, Global};
+
+/// The trees of texts that parse, and the numbers of these texts among all, from 0.
+#[derive(Drop)]
+struct Parsed {
+    trees: Vec<Tree>,
+    numbers: Items<usize>,
+}
+
+/// Adds the tree of a text, if it parses, with the text's number.
+fn add_parsed(
+    alloc: Global,
+    parsed: &mut Parsed,
+    number: usize,
+    text: &[u8],
+) -> Result<(), AllocError>
+    ensures { IfOk result (λ _. spec.IsOneMore number text.now parsed.old.trees.items parsed.old.numbers parsed.new.trees.items
+        parsed.new.numbers) }
+{
+    match parse(alloc, text) {
+        Ok(tree) => {
+            parsed.numbers.push(number)?;
+            parsed.trees.push(tree)?;
+            Ok(())
+        }
+        Err(ParseError::Syntax(_)) => Ok(()),
+        Err(ParseError::OutOfMemory) => Err(AllocError),
+    }
+}
+
+/// The trees of some texts.
+fn parsed_of(alloc: Global, sources: &[Source<'_>]) -> Result<Parsed, AllocError>
+    ensures { IfOk result (λ p. spec.AreTrees (texts_of sources.now) p.trees.items p.numbers) }
+{
+    let mut parsed = Parsed {
+        trees: Vec::new(alloc),
+        numbers: Items::new(alloc),
+    };
+    for (number, source) in sources.iter().enumerate() {
+        add_parsed(alloc, &mut parsed, number, source.text)?;
+    }
+    Ok(parsed)
+}
+
+/// The number of the text of a tree; 0 if there is no such tree.
+fn number_of(numbers: &[usize], tree: usize) -> usize
+    ensures { result ≡ get_or numbers.now tree 0 }
+{
+    match numbers.get(tree) {
+        Some(number) => *number,
+        None => 0,
+    }
+}
+
+/// The numbers of the texts of the filters in whose runs a finding has its outcome.
+fn own_numbers(alloc: Global, numbers: &[usize], noted: &Noted) -> Result<Items<usize>, AllocError>
+    ensures { IfOk result (λ own. own ≡ spec.own_numbers numbers.now noted.now.filter noted.now.scheduled) }
+{
+    match &noted.scheduled {
+        Scheduled::Together(_) => Items::from_slice(alloc, numbers),
+        Scheduled::Alone(_) => Items::from_slice(alloc, &[number_of(numbers, noted.filter)]),
+    }
+}
+
+/// The run of a finding that has this outcome.
+fn run_by(
+    alloc: Global,
+    parsed: &Parsed,
+    noted: &Noted,
+    broken: &Broken,
+    flow: Flow,
+) -> Result<FindingRun, AllocError>
+    ensures { IfOk result (λ run. run ≡ spec.run_by parsed.now.numbers noted.now broken.now flow) }
+{
+    Ok(FindingRun {
+        source: number_of(parsed.numbers.as_slice(), noted.filter),
+        finding: noted.finding,
+        sources: own_numbers(alloc, parsed.numbers.as_slice(), noted)?,
+        violation: broken.violation,
+        entry: broken.entry,
+        flow,
+    })
+}
+
+/// Adds the run of a finding with its outcome, if it has one.
+fn add_broken(
+    alloc: Global,
+    runs: &mut Vec<FindingRun>,
+    parsed: &Parsed,
+    noted: &Noted,
+    broken: &Broken,
+) -> Result<(), AllocError>
+    ensures { IfOk result (λ _. spec.IsAdded parsed.now.trees.items parsed.now.numbers noted.now broken.now runs.old.items runs.new.items) }
+{
+    let own = own_trees(parsed.trees.as_slice(), noted.filter, &noted.scheduled);
+    let found = Flow::of(alloc, own, &broken.journal)?;
+    match found {
+        Some(flow) => {
+            let run = run_by(alloc, parsed, noted, broken, flow)?;
+            runs.push(run)?;
+            Ok(())
+        }
+        None => Ok(()),
+    }
+}
+
+/// Adds the run of a finding, if it has one.
+fn add_run(
+    alloc: Global,
+    runs: &mut Vec<FindingRun>,
+    parsed: &Parsed,
+    noted: &Noted,
+) -> Result<(), AllocError>
+    ensures { IfOk result (λ _. spec.IsNext parsed.now.trees.items parsed.now.numbers noted.now runs.old.items runs.new.items) }
+{
+    match schedule_of(&noted.scheduled) {
+        Schedule::Breaks(broken) => add_broken(alloc, runs, parsed, noted, broken),
+        Schedule::NotWithin
+        | Schedule::Cut
+        | Schedule::NeverHanded
+        | Schedule::NeverStarted
+        | Schedule::NeverGot(_) => Ok(()),
+    }
+}
+
+/// The runs of the findings in some texts, by the notes on these.
+pub(crate) fn runs_of(
+    alloc: Global,
+    sources: &[Source<'_>],
+    noted: &[Noted],
+) -> Result<Vec<FindingRun>, AllocError>
+    ensures { IfOk result (λ runs. spec.AreRuns (texts_of sources.now) noted.now runs.items) }
+{
+    let parsed = parsed_of(alloc, sources)?;
+    let mut runs = Vec::new(alloc);
+    for one in noted {
+        add_run(alloc, &mut runs, &parsed, one)?;
+    }
+    Ok(runs)
+}

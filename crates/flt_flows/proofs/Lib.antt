@@ -1,0 +1,4 @@
+pub mod Mapped
+pub mod Moves
+pub mod Runs
+pub mod SeenSteps
