@@ -2,17 +2,21 @@
 #![tactic(auto)]
 
 mod blocks;
+mod callbacks;
 mod calls;
 mod conditions;
 mod front;
 mod globals;
+mod heads;
 mod laws;
 mod line;
 mod lines;
 mod locks;
 mod numbers;
 mod parts;
+mod source;
 mod statements;
 mod words;
 
 pub use laws::{reads_back, reads_back_whole, says_one_filter};
+pub use source::read_source;
