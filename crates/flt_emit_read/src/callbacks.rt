@@ -35,7 +35,7 @@ fn past_empty(z: &[u8]) -> Option<&[u8]>
 
 /// The same head once more.
 fn copied(alloc: Global, head: &Head) -> Result<Head, AllocError>
-    ensures { IfOk result (λ copy. copy ≡ head.now) }
+    ensures { IfOk result (λ found. found ≡ head.now) }
 {
     match head {
         Head::Pre(kind) => Ok(Head::Pre(*kind)),
