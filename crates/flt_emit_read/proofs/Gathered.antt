@@ -4,10 +4,11 @@ use Rattle.std.specs.Prelude.{Some, None}
 use Rattle.flt_tree.specs.Names.{Text}
 use Rattle.flt_tree.specs.declared.filter.Callback.{Callback}
 use Rattle.flt_emit_read.specs.Front.{Front, ◌>>=◌}
+use Rattle.flt_emit_read.specs.Seen.{found_after}
 
 -- one more is found, and then others
 pub gathered : (o : Front (List Callback)) (found : List Callback) (c : Callback) →
-    ((o >>= λ cs. Some (c ∷ cs.0, cs.1)) >>= λ cs. Some (found ++ cs.0, cs.1)) ≡ (o >>= λ cs. Some ((found ++ c ∷ []) ++ cs.0, cs.1))
+    found_after found (o >>= λ cs. Some (c ∷ cs.0, cs.1)) ≡ found_after (found ++ c ∷ []) o
 gathered None found c = refl
 gathered (Some cs) found c = ap (λ l. Some (l, cs.1)) (sym (append_assoc found (c ∷ []) cs.0))
 

@@ -1,8 +1,7 @@
 //! Reads callbacks.
 
-ghost use Rattle.std.specs.Prelude.{◌≡◌, ◌≤◌, ◌+◌, ◌<◌, ◌^◌, ◌++◌, length, true, IfOk, Some};
-ghost use Rattle.flt_emit_read.specs.Front.{◌>>=◌};
-ghost use Rattle.flt_emit_read.specs.Seen.{front_of, rest_of};
+ghost use Rattle.std.specs.Prelude.{◌≡◌, ◌+◌, ◌<◌, ◌^◌, length, true, IfOk};
+ghost use Rattle.flt_emit_read.specs.Seen.{front_of, found_after, rest_of};
 ghost use Rattle.flt_emit_read.specs.Sources as spec;
 ghost use Rattle.flt_tree.specs.declared.filter.Head.TheVariants.{DeferredPre};
 
@@ -147,8 +146,7 @@ pub(crate) fn callbacks<'a>(
     z: &'a [u8],
 ) -> Result<Option<(Items<Callback>, &'a [u8])>, AllocError>
     requires { number + length heads.now < 2 ^ 64 }
-    ensures { IfOk result (λ all. front_of all ≡
-        (spec.callbacks_at locks.now number heads.now z.now >>= λ more. Some (found ++ more.0, more.1))) }
+    ensures { IfOk result (λ all. front_of all ≡ found_after found (spec.callbacks_at locks.now number heads.now z.now)) }
 {
     let [head, others @ ..] = heads else {
         return Ok(Some((found, z)));
