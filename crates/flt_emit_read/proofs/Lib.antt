@@ -6,6 +6,7 @@ pub mod Declared
 pub mod Exclusive
 pub mod Fits
 pub mod Fronts
+pub mod Gathered
 pub mod Nested
 pub mod Returns
 pub mod Runs

@@ -1,9 +1,10 @@
 -- What functions that read return, as the definitions have it.
-use Rattle.std.specs.Prelude.{ℕ, Bool, Option, Some, None}
+use Rattle.std.specs.Prelude.{ℕ, Bool, List, ◌++◌, Option, Some, None}
 use Rattle.std.specs.Borrow.{Bor}
 use Rattle.flt_rules.specs.declared.call.LockKind.{LockKind}
 use Rattle.flt_rules.specs.declared.place.Operation.{Operation}
 use Rattle.flt_tree.specs.Names.{Text}
+use Rattle.flt_tree.specs.declared.filter.Callback.{Callback}
 use Rattle.flt_tree.specs.declared.filter.Condition.TheVariants as made
 use Rattle.flt_tree.specs.declared.filter.FallibleCall.{FallibleCall}
 use Rattle.flt_tree.specs.declared.filter.Head.{Head}
@@ -60,3 +61,8 @@ event_of made (Some x) = Some (made x.0, x.1.now)
 abbrev pub routine_of : (Text → Head) → Option (Bor Text × Bor Text) → Front Head
 routine_of made None = None
 routine_of made (Some x) = Some (made x.0.now, x.1.now)
+
+-- callbacks after those found
+abbrev pub found_after : List Callback → Front (List Callback) → Front (List Callback)
+found_after found None = None
+found_after found (Some more) = Some (found ++ more.0, more.1)

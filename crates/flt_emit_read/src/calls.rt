@@ -15,7 +15,7 @@ use flt_tree::{Condition, ContextVariable, FallibleCall, Position, Routine};
 use sqlite_items::Items;
 use std::alloc::{AllocError, Global};
 
-const NOWHERE: Position = Position { line: 0, column: 0 };
+pub(crate) const NOWHERE: Position = Position { line: 0, column: 0 };
 
 /// The instance, as a callback of the place names it.
 fn instance(place: Place) -> &'static [u8]

@@ -2,6 +2,7 @@
 #![tactic(auto)]
 
 mod blocks;
+mod callbacks;
 mod calls;
 mod conditions;
 mod front;
@@ -13,9 +14,11 @@ mod lines;
 mod locks;
 mod numbers;
 mod parts;
+mod source;
 mod statements;
-mod words;
 mod unfit;
+mod words;
 
 pub use laws::{reads_back, reads_back_whole, says_one_filter};
+pub use source::read_source;
 pub use unfit::unfit_return;
