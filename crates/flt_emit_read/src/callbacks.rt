@@ -40,8 +40,14 @@ fn copied(alloc: Global, head: &Head) -> Result<Head, AllocError>
         Head::Pre(kind) => Ok(Head::Pre(*kind)),
         Head::Post(kind) => Ok(Head::Post(*kind)),
         Head::Canceled => Ok(Head::Canceled),
-        Head::DeferredPre(name) => Ok(Head::DeferredPre(Items::from_slice(alloc, name.as_slice())?)),
-        Head::DeferredPost(name) => Ok(Head::DeferredPost(Items::from_slice(alloc, name.as_slice())?)),
+        Head::DeferredPre(name) => Ok(Head::DeferredPre(Items::from_slice(
+            alloc,
+            name.as_slice(),
+        )?)),
+        Head::DeferredPost(name) => Ok(Head::DeferredPost(Items::from_slice(
+            alloc,
+            name.as_slice(),
+        )?)),
         Head::Generic(name) => Ok(Head::Generic(Items::from_slice(alloc, name.as_slice())?)),
     }
 }

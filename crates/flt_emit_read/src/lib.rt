@@ -20,5 +20,5 @@ mod unfit;
 mod words;
 
 pub use laws::{reads_back, reads_back_whole, says_one_filter};
-pub use source::read_source;
+pub use source::{is_read_back, read_source};
 pub use unfit::unfit_return;

@@ -1,7 +1,8 @@
 //! Reads a whole source.
 
-ghost use Rattle.std.specs.Prelude.{◌≡◌, IfOk};
+ghost use Rattle.std.specs.Prelude.{◌≡◌, ◌↔◌, IfOk, IsTrue, Some};
 ghost use Rattle.flt_emit_read.specs.Sources as spec;
+ghost use Rattle.flt_print.specs.Reprinting.{without_places};
 
 use crate::callbacks::callbacks;
 use crate::calls::NOWHERE;
@@ -9,6 +10,7 @@ use crate::globals::{locks, queue, title};
 use crate::heads::heads;
 use crate::parts::past;
 use flt_emit::{Part, emit_part};
+use flt_same::is_without_places;
 use flt_tree::{Filter, Position};
 use sqlite_items::Items;
 use std::alloc::{AllocError, Global};
@@ -80,5 +82,19 @@ pub fn read_source(alloc: Global, source: &[u8]) -> Result<Option<Filter>, Alloc
             };
             whole(alloc, filter, z)
         }
+    }
+}
+
+/// Whether a C source is read back to a filter apart from its places.
+///
+/// # Errors
+///
+/// `AllocError` if a growth is refused.
+pub fn is_read_back(alloc: Global, source: &[u8], filter: &Filter) -> Result<bool, AllocError>
+    ensures { IfOk result (λ is_back. IsTrue is_back ↔ (spec.read_back source.now ≡ Some (without_places filter.now))) }
+{
+    match read_source(alloc, source)? {
+        None => Ok(false),
+        Some(found) => Ok(is_without_places(&found, filter)),
     }
 }
