@@ -11,6 +11,7 @@ pub mod InTurn
 pub mod Lengths
 pub mod MoreDrawn
 pub mod MoreParsed
+pub mod NewServers
 pub mod OneAnalysis
 pub mod OneAnnotation
 pub mod OneAnswer
@@ -28,5 +29,4 @@ pub mod Putting
 pub mod Readings
 pub mod Reported
 pub mod Sent
-pub mod Serving
 pub mod SomeRead
