@@ -67,8 +67,7 @@ pub fn read_source(alloc: Global, source: &[u8]) -> Result<Option<Filter>, Alloc
     let Some(z) = past(alloc, Part::Helpers(queue), z)? else {
         return Ok(None);
     };
-    let none = Items::new(alloc);
-    match callbacks(alloc, locks.as_slice(), 0, heads.as_slice(), none, z)? {
+    match callbacks(alloc, locks.as_slice(), heads.as_slice(), z)? {
         None => Ok(None),
         Some((callbacks, z)) => {
             let name = Items::from_slice(alloc, name)?;
