@@ -142,8 +142,8 @@ fn callback<'a>(
 }
 
 /// Callbacks of these heads, from a number on, after those found.
-#[tactic(auto, using(crate::proofs::Gathered::gathered, crate::proofs::Gathered::all_gathered))]
-pub(crate) fn callbacks<'a>(
+#[tactic(auto, using(crate::proofs::Gathered::gathered, crate::proofs::Gathered::none_left))]
+fn callbacks_after<'a>(
     alloc: Global,
     locks: &[Lock],
     number: usize,
@@ -162,7 +162,20 @@ pub(crate) fn callbacks<'a>(
         Some((next, rest)) => {
             let mut found = found;
             found.push(next)?;
-            callbacks(alloc, locks, number + 1, others, found, rest)
+            callbacks_after(alloc, locks, number + 1, others, found, rest)
         }
     }
+}
+
+/// The callbacks of these heads.
+#[tactic(auto, using(crate::proofs::Gathered::none_before))]
+pub(crate) fn callbacks<'a>(
+    alloc: Global,
+    locks: &[Lock],
+    heads: &[Head],
+    z: &'a [u8],
+) -> Result<Option<(Items<Callback>, &'a [u8])>, AllocError>
+    ensures { IfOk result (λ all. front_of all ≡ spec.callbacks_at locks.now 0 heads.now z.now) }
+{
+    callbacks_after(alloc, locks, 0, heads, Items::new(alloc), z)
 }

@@ -11,7 +11,7 @@ use crate::heads::heads;
 use crate::parts::past;
 use flt_emit::{Part, emit_part};
 use flt_same::is_without_places;
-use flt_tree::{Filter, Position};
+use flt_tree::{Filter, Head, Lock, Position};
 use sqlite_items::Items;
 use std::alloc::{AllocError, Global};
 
@@ -41,6 +41,35 @@ fn whole(alloc: Global, filter: Filter, z: &[u8]) -> Result<Option<Filter>, Allo
     }
 }
 
+/// The filter of a frame, by its callbacks.
+fn with_callbacks(
+    alloc: Global,
+    name: &[u8],
+    altitude: u64,
+    locks: Items<Lock>,
+    queue: bool,
+    heads: &[Head],
+    z: &[u8],
+) -> Result<Option<Filter>, AllocError>
+    ensures { IfOk result (λ filter. filter ≡ spec.filter_at name.now altitude locks queue heads.now z.now) }
+{
+    match callbacks(alloc, locks.as_slice(), heads, z)? {
+        None => Ok(None),
+        Some((callbacks, rest)) => {
+            let name = Items::from_slice(alloc, name)?;
+            let queue = queue_of(queue);
+            let filter = Filter {
+                name,
+                altitude,
+                locks,
+                queue,
+                callbacks,
+            };
+            whole(alloc, filter, rest)
+        }
+    }
+}
+
 /// The filter of a C source, apart from places, if the source is one of a filter: each place of the result is line 0 and column 0, or
 /// byte 0 of line 0. The result is `None` if any byte differs from those that the emitter writes, apart from the lines that comments name,
 /// from the variables that callbacks declare and from the kinds of contexts that they allocate.
@@ -67,22 +96,7 @@ pub fn read_source(alloc: Global, source: &[u8]) -> Result<Option<Filter>, Alloc
     let Some(z) = past(alloc, Part::Helpers(queue), z)? else {
         return Ok(None);
     };
-    let none = Items::new(alloc);
-    match callbacks(alloc, locks.as_slice(), 0, heads.as_slice(), none, z)? {
-        None => Ok(None),
-        Some((callbacks, z)) => {
-            let name = Items::from_slice(alloc, name)?;
-            let queue = queue_of(queue);
-            let filter = Filter {
-                name,
-                altitude,
-                locks,
-                queue,
-                callbacks,
-            };
-            whole(alloc, filter, z)
-        }
-    }
+    with_callbacks(alloc, name, altitude, locks, queue, heads.as_slice(), z)
 }
 
 /// Whether a C source is read back to a filter apart from its places.
