@@ -3,9 +3,10 @@
 //! An edit for a finding is offered only if its callback has fewer findings after it. No other callback's depend on it.
 
 use crate::edits::{Edit, findings_in, is_better, put_action};
-use crate::faults::{byte_of_fault, is_on, is_too_long};
-use crate::focus::{Focus, focus_by, focus_on, symbols_in};
+use crate::faults::is_too_long;
+use crate::focus::{Focus, focus_by, symbols_in};
 use crate::places::Document;
+use crate::trial::trial_text;
 use flt_details::{Judged, call_name, judge, word_of};
 use flt_explain::{Finding, Subject};
 use flt_graph::{Graph, Instruction, Place};
@@ -78,20 +79,6 @@ fn put_replacing(
     put_action(alloc, writer, document, &edit)
 }
 
-/// The edit for a fault whose words are tried in all of the text.
-fn put_for_fault_in_all(
-    alloc: Global,
-    writer: &mut Writer,
-    document: &Document<'_>,
-    part: Part,
-) -> Result<(), AllocError> {
-    match describe(alloc, document.text)? {
-        Some(trouble) => put_replacing(alloc, writer, document, &trouble, 0, part),
-        None => Ok(()),
-    }
-}
-
-/// The edit for a fault. Words are tried in its callback, if the fault is the same without the others.
 fn put_for_fault(
     alloc: Global,
     writer: &mut Writer,
@@ -99,12 +86,10 @@ fn put_for_fault(
     fault: SyntaxFault,
     part: Part,
 ) -> Result<(), AllocError> {
-    let focus = focus_on(alloc, document.text, byte_of_fault(document.text, fault))?;
+    let focus = trial_text(alloc, document.text, fault)?;
     match describe(alloc, focus.text.as_slice())? {
-        Some(trouble) if is_on(&trouble, fault) => {
-            put_replacing(alloc, writer, document, &trouble, focus.left_out, part)
-        }
-        _ => put_for_fault_in_all(alloc, writer, document, part),
+        Some(trouble) => put_replacing(alloc, writer, document, &trouble, focus.left_out, part),
+        None => Ok(()),
     }
 }
 

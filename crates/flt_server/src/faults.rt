@@ -1,13 +1,12 @@
 //! Diagnostics of a text that doesn't parse.
 
-use crate::focus::focus_on;
 use crate::members::{add_line, put_number, put_string, put_text};
 use crate::places::Document;
+use crate::trial::trial_text;
 use flt_details::fault_name;
 use flt_hints::{Told, Trouble, describe, tell};
-use flt_outline::{Part, byte_of};
+use flt_outline::Part;
 use flt_places::{Region, lines_of};
-use flt_session::{Encoding, Spot};
 use flt_syntax::SyntaxFault;
 use flt_tree::Position;
 use json::Writer;
@@ -73,47 +72,17 @@ fn put_fault(
     writer.end_object()
 }
 
-/// The byte of a text's fault, from 0.
-pub(crate) fn byte_of_fault(text: &[u8], fault: SyntaxFault) -> usize {
-    let spot = Spot {
-        line: fault.line.saturating_sub(1),
-        character: fault.column.saturating_sub(1),
-    };
-    byte_of(text, Encoding::Utf8, spot)
-}
-
-/// Whether a report is on this fault.
-pub(crate) fn is_on(trouble: &Trouble<'_>, fault: SyntaxFault) -> bool {
-    let found = trouble.spot.fault;
-    found.line == fault.line
-        && found.column == fault.column
-        && fault_name(found.kind) == fault_name(fault.kind)
-}
-
-/// The diagnostic of a text whose words are tried in all of it.
-fn put_unread_whole(
-    alloc: Global,
-    writer: &mut Writer,
-    document: &Document<'_>,
-) -> Result<(), AllocError> {
-    match describe(alloc, document.text)? {
-        Some(trouble) => put_fault(alloc, writer, document, &trouble),
-        None => Ok(()),
-    }
-}
-
-/// The diagnostic of a text that doesn't parse. Words are tried in the callback of its fault, if the fault is the same without the others.
+/// The diagnostic of a text that doesn't parse.
 pub(crate) fn put_unread(
     alloc: Global,
     writer: &mut Writer,
     document: &Document<'_>,
     fault: SyntaxFault,
 ) -> Result<(), AllocError> {
-    let byte = byte_of_fault(document.text, fault);
-    let focus = focus_on(alloc, document.text, byte)?;
+    let focus = trial_text(alloc, document.text, fault)?;
     match describe(alloc, focus.text.as_slice())? {
-        Some(trouble) if is_on(&trouble, fault) => put_fault(alloc, writer, document, &trouble),
-        _ => put_unread_whole(alloc, writer, document),
+        Some(trouble) => put_fault(alloc, writer, document, &trouble),
+        None => Ok(()),
     }
 }
 

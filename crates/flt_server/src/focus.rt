@@ -22,7 +22,7 @@ fn add_blanks(out: &mut Vec<u8>, count: usize) -> Result<(), AllocError> {
 }
 
 /// Adds the line feeds of some bytes, and a blank for each byte after the last of them.
-fn add_hollow(out: &mut Vec<u8>, bytes: &[u8]) -> Result<(), AllocError> {
+pub(crate) fn add_hollow(out: &mut Vec<u8>, bytes: &[u8]) -> Result<(), AllocError> {
     let mut blanks: usize = 0;
     for byte in bytes {
         if *byte == b'\n' {

@@ -5,24 +5,19 @@ use crate::facts::say_facts;
 use crate::faults::is_too_long;
 use crate::members::{null, put_string, put_text};
 use crate::places::Document;
-use flt_details::{Judged, Page, judge};
+use flt_details::Page;
+use flt_graph::lower;
 use flt_pages::page;
+use flt_syntax::{ParseError, Tree, parse};
 use json::Writer;
 use std::alloc::{AllocError, Global};
 
-/// The facts of the statement at a byte, if the text parses.
-fn say_judged(
-    alloc: Global,
-    out: &mut Page,
-    judged: &Judged,
-    byte: usize,
-) -> Result<(), AllocError> {
-    match judged {
-        Judged::Known(tree, graph, _) => say_facts(alloc, out, tree, graph, byte),
-        Judged::Unread(_) => Ok(()),
-    }
+fn say_known(alloc: Global, out: &mut Page, tree: &Tree, byte: usize) -> Result<(), AllocError> {
+    let graph = lower(alloc, tree)?;
+    say_facts(alloc, out, tree, &graph, byte)
 }
 
+/// The facts of the statement at a byte, if the text parses.
 fn say_place(
     alloc: Global,
     out: &mut Page,
@@ -32,8 +27,11 @@ fn say_place(
     if is_too_long(document.text) {
         return Ok(());
     }
-    let judged = judge(alloc, document.text)?;
-    say_judged(alloc, out, &judged, byte)
+    match parse(alloc, document.text) {
+        Ok(tree) => say_known(alloc, out, &tree, byte),
+        Err(ParseError::Syntax(_)) => Ok(()),
+        Err(ParseError::OutOfMemory) => Err(AllocError),
+    }
 }
 
 /// The page of the word at a byte, if it has one.

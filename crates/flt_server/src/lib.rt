@@ -17,9 +17,11 @@ mod focus;
 mod folds;
 mod hover;
 mod members;
+mod narrow;
 mod places;
 mod server;
 mod symbols;
+mod trial;
 mod uses;
 mod warned;
 
