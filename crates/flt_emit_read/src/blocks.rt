@@ -192,7 +192,7 @@ const PRE_UNREACHED: &[u8] =
 const POST_UNREACHED: &[u8] =
     b"\n    FLT_ASSERT( FALSE );    // no run of the text comes here\n    return FLT_POSTOP_FINISHED_PROCESSING;\n}\n";
 
-/// What follows the first of two texts that is at the front.
+/// The text after the first of two texts that is at the front.
 fn after_either<'a>(one: &[u8], other: &[u8], z: &'a [u8]) -> Option<&'a [u8]>
     ensures { rest_of result ≡ spec.after_one (one.now ∷ other.now ∷ []) z.now }
 {
@@ -202,7 +202,7 @@ fn after_either<'a>(one: &[u8], other: &[u8], z: &'a [u8]) -> Option<&'a [u8]>
     after(other, z)
 }
 
-/// What follows the end of a callback of a place.
+/// The text after the end of a callback of a place.
 #[tactic(auto, unfolding(flt_emit::specs::Fixed::unreached, flt_emit::specs::Fixed::free_deferred, flt_emit::specs::Fixed::free_generic))]
 fn past_ending(place: Place, z: &[u8]) -> Option<&[u8]>
     ensures { rest_of result ≡ spec.after_one (spec.endings place) z.now }
@@ -224,7 +224,7 @@ fn past_ending(place: Place, z: &[u8]) -> Option<&[u8]>
     }
 }
 
-/// What follows the end of the callback, if no block is open.
+/// The text after the end of the callback, if no block is open.
 #[tactic(auto, using(crate::proofs::Stacked::open_ends_nowhere))]
 fn past_end<'a>(open_blocks: &[Open], place: Place, z: &'a [u8]) -> Option<&'a [u8]>
     ensures { rest_of result ≡ spec.past_end (innermost_first open_blocks.now) place z.now }

@@ -16,7 +16,7 @@ use flt_tree::{Callback, Head, Lock};
 use sqlite_items::Items;
 use std::alloc::{AllocError, Global};
 
-/// What follows the next empty line, from the beginning of a line on.
+/// The text after the next empty line, from the beginning of a line on.
 fn past_empty(z: &[u8]) -> Option<&[u8]>
     ensures { rest_of result ≡ spec.past_empty true z.now }
 {

@@ -27,7 +27,7 @@ fn instance(place: Place) -> &'static [u8]
     }
 }
 
-/// What a call about a context is given first, if it is about a stream's.
+/// The first argument of a call about a context, if it is about a stream's.
 fn stream(place: Place) -> &'static [u8]
     ensures { result.now ≡ spec.stream_given place }
 {
@@ -37,7 +37,7 @@ fn stream(place: Place) -> &'static [u8]
     }
 }
 
-/// What a call about a context is given first.
+/// The first argument of a call about a context.
 fn given(place: Place, anchor: Anchor) -> &'static [u8]
     ensures { result.now ≡ spec.anchor_given place anchor }
 {
@@ -91,7 +91,7 @@ fn remove(z: &[u8]) -> Option<(FallibleCall, &[u8])>
     Some((FallibleCall::RemoveNextIo(o, c), rest))
 }
 
-/// What follows the kind of a context that is allocated.
+/// The text after the kind of a context that is allocated.
 fn past_kind(z: &[u8]) -> Option<&[u8]>
     ensures { rest_of result ≡ spec.past_kind z.now }
 {
@@ -139,7 +139,7 @@ fn deferred(alloc: Global, z: &[u8]) -> Result<Option<(FallibleCall, &[u8])>, Al
     }
 }
 
-/// What follows the instance of a work item without an operation.
+/// The text after the instance of a work item without an operation.
 fn past_instance(place: Place, z: &[u8]) -> Option<&[u8]>
     ensures { rest_of result ≡ spec.past_instance place z.now }
 {
@@ -249,7 +249,7 @@ fn tested(z: &[u8]) -> Option<((bool, Condition), &[u8])>
     Some(((turned, Condition::Test(found)), rest))
 }
 
-/// What an `if` asks, and whether it is the opposite.
+/// The question of an `if`, and whether it is the opposite.
 #[tactic(auto, unfolding(crate::specs::Lines::condition_at))]
 pub(crate) fn condition(
     alloc: Global,

@@ -1,8 +1,8 @@
-//! What a line says.
+//! The meanings of lines.
 
 use flt_tree::{Condition, Statement};
 
-/// What a line of a callback says.
+/// The meaning of a line of a callback.
 #[derive(Drop)]
 pub(crate) enum Line {
     /// A whole statement.

@@ -37,7 +37,7 @@ pub(crate) fn atom(z: &[u8]) -> Option<(Atom, &[u8])>
     Some((Atom::Variable(n), rest))
 }
 
-/// What follows the label of a statement, which has this point.
+/// The text after the label of a statement, which has this point.
 #[tactic(auto, unfolding(crate::specs::Lines::labelled))]
 pub(crate) fn labelled(point: usize, z: &[u8]) -> Option<&[u8]>
     ensures { rest_of result ≡ spec.labelled point z.now }
@@ -48,7 +48,7 @@ pub(crate) fn labelled(point: usize, z: &[u8]) -> Option<&[u8]>
     after(b"\n", past_digits(z))
 }
 
-/// What follows this end of a line and its label.
+/// The text after this end of a line and its label.
 pub(crate) fn ended<'a>(end: &[u8], point: usize, z: &'a [u8]) -> Option<&'a [u8]>
     ensures { rest_of result ≡ spec.ended end.now point z.now }
 {
@@ -91,7 +91,7 @@ fn set_number(point: usize, n: NumberVariable, e: Expression, z: &[u8]) -> Optio
     act(point, b";", Action::SetNumber(n, e), z)
 }
 
-/// What follows the first atom of an expression.
+/// The text after the first atom of an expression.
 #[tactic(auto, unfolding(crate::specs::Lines::expression_after))]
 fn expression_after(point: usize, n: NumberVariable, x: Atom, z: &[u8]) -> Option<(Line, &[u8])>
     ensures { front_of result ≡ spec.expression_after point n x z.now }

@@ -38,7 +38,7 @@ fn lock_number(locks: &[Lock], kind: LockKind, name: &[u8]) -> Option<LockNumber
     }
 }
 
-/// What follows the end of a call on a spin lock, which names where the level before is kept.
+/// The text after the end of a call on a spin lock, which names where the level before is kept.
 #[tactic(auto, using(crate::proofs::Runs::after_three))]
 fn past_spin<'a>(level: &[u8], name: &[u8], point: usize, z: &'a [u8]) -> Option<&'a [u8]>
     ensures { rest_of result ≡ spec.ended (level.now ++ (name.now ++ codes " );")) point z.now }
@@ -49,7 +49,7 @@ fn past_spin<'a>(level: &[u8], name: &[u8], point: usize, z: &'a [u8]) -> Option
     labelled(point, z)
 }
 
-/// What follows the end of a call on a lock.
+/// The text after the end of a call on a lock.
 fn past_lock<'a>(level: Option<&[u8]>, name: &[u8], point: usize, z: &'a [u8]) -> Option<&'a [u8]>
     ensures { rest_of result ≡ spec.ended (spec.lock_end (rest_of level.entry) name.now) point z.now }
 {

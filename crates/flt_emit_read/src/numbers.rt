@@ -9,7 +9,7 @@ ghost use Rattle.std.specs.List.{list_all};
 
 use crate::front::after;
 
-/// What follows the blanks at the front.
+/// The text after the blanks at the front.
 pub(crate) fn past_blanks(z: &[u8]) -> &[u8]
     ensures { result.now ≡ spec.past_blanks z.now }
 {
@@ -20,7 +20,7 @@ pub(crate) fn past_blanks(z: &[u8]) -> &[u8]
     left
 }
 
-/// What follows the digits at the front.
+/// The text after the digits at the front.
 pub(crate) fn past_digits(z: &[u8]) -> &[u8]
     ensures left { result.now ≡ spec.past_while is_ascii_digit z.now }
     ensures within { length result.now ≤ length z.now }
@@ -138,7 +138,7 @@ pub(crate) fn name(z: &[u8]) -> Option<(&[u8], &[u8])>
     }
 }
 
-/// What follows this number, if it is at the front.
+/// The text after this number, if it is at the front.
 #[tactic(auto, using(crate::proofs::Runs::after_digit, crate::proofs::Runs::after_more))]
 pub(crate) fn after_number(n: u64, z: &[u8]) -> Option<&[u8]>
     ensures { rest_of result ≡ spec.after (decimal n) z.now }

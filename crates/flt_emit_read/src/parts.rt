@@ -1,4 +1,4 @@
-//! Passes over parts of a source that don't depend on what is read.
+//! Passes over parts of a source that are the same for all that is read before.
 
 ghost use Rattle.std.specs.Prelude.{◌≡◌, IfOk};
 ghost use Rattle.flt_emit.specs.Parts.{part_text};
@@ -9,7 +9,7 @@ use crate::front::after;
 use flt_emit::{Part, emit_part};
 use std::alloc::{AllocError, Global};
 
-/// What follows a part, if it is at the front.
+/// The text after a part, if it is at the front.
 pub(crate) fn past<'a>(
     alloc: Global,
     part: Part<'_>,

@@ -28,7 +28,7 @@ fn queue_of(queue: bool) -> Option<Position>
     if queue { Some(NOWHERE) } else { None }
 }
 
-/// The filter, if what is left is what follows its callbacks.
+/// The filter, if the rest of the source is that after its callbacks.
 #[tactic(auto, unfolding(crate::specs::Sources::whole_filter))]
 fn whole(alloc: Global, filter: Filter, z: &[u8]) -> Result<Option<Filter>, AllocError>
     ensures { IfOk result (λ found. found ≡ spec.whole_filter filter z.now) }
