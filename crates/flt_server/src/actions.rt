@@ -21,7 +21,7 @@ use std::alloc::{AllocError, Global};
 const MAX_TRIED: usize = 16;
 
 /// How many points and findings of callbacks are analysed for one request, but for those of the last edit.
-const MAX_ANALYSED: usize = 2_500;
+const MAX_ANALYSED: usize = 1_000;
 
 fn meets(part: Part, other: Part) -> bool {
     other.start <= part.end && part.start <= other.end

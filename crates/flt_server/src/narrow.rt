@@ -7,8 +7,9 @@ use flt_syntax::{Kind, Token};
 use sqlite_items::Items;
 use std::alloc::{AllocError, Global};
 
-/// How many statements a callback has at most whose statements are left out: with more of them the limit of points may be the fault.
-const MAX_STATEMENTS: usize = 500;
+/// How many statements a callback has at most whose statements are left out. A callback has at most 512 points, with its end: with more statements
+/// that limit may be why a word isn't legal.
+const MAX_STATEMENTS: usize = 508;
 
 /// The bytes from one up to another.
 #[derive(Clone, Copy)]
