@@ -49,7 +49,7 @@ fn asking() -> Asking
     }
 }
 
-/// What `explain` prints of a text under a name.
+/// The output of `explain` for a text under a name.
 fn printed(alloc: Global, name: &str, text: &[u8]) -> Result<Vec<u8>, AllocError>
     ensures { IfOk result (λ out. spec.IsExplained name.now text.now out.items) }
 {

@@ -8,7 +8,7 @@ use std::alloc::{AllocError, Global};
 use std::test::Fail;
 
 /// A language of numbers. The diagnostics of a text are an array of how columns are counted and the text; the result of a question is an
-/// array of what is asked, how columns are counted, the document, and its text.
+/// array of the question, how columns are counted, the document, and its text.
 #[derive(Drop)]
 struct Numbers;
 
