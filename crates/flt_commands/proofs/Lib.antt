@@ -28,5 +28,5 @@ pub mod Putting
 pub mod Readings
 pub mod Reported
 pub mod Sent
-pub mod Serving
+pub mod ServedRuns
 pub mod SomeRead

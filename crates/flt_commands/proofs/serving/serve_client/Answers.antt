@@ -1,4 +1,4 @@
-use Rattle.flt_commands.proofs.Serving.{serves, serves_so_far}
+use Rattle.flt_commands.proofs.ServedRuns.{serves, serves_so_far}
 use Rattle.flt_commands.proofs.serving.serve_client.Goals as goal
 
 pub returns-clause-served : goal.returns-clause-served
