@@ -49,7 +49,7 @@ fn asking() -> Asking
     }
 }
 
-/// What `explain` prints of a text under a name.
+/// The report of `explain` on a text under a name.
 fn printed(alloc: Global, name: &str, text: &[u8]) -> Result<Vec<u8>, AllocError>
     ensures { IfOk result (λ out. spec.IsExplained name.now text.now out.items) }
 {
@@ -71,7 +71,7 @@ fn as_string(alloc: Global, bytes: &[u8]) -> Result<Vec<u8>, AllocError>
     to_vec(alloc, &value)
 }
 
-/// Reports on a text as `explain` does, with runs.
+/// A reporter that reports as `explain` does, with runs.
 #[derive(Clone, Copy)]
 pub struct Explaining;
 

@@ -89,7 +89,7 @@ impl Copying<'_> {
         Ok(())
     }
 
-    /// Copies a symbol, and what is before it.
+    /// Copies a symbol, and the bytes before it.
     fn add(&mut self, symbol: Symbol) -> Result<(), AllocError> {
         if self.at <= symbol.name.end && is_elsewhere(symbol, self.byte) {
             self.keep(symbol.name.end)?;

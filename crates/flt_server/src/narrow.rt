@@ -71,12 +71,12 @@ fn begins(text: &[u8], marked: Marked, between: Between) -> bool {
     }
 }
 
-/// What is known of the statements up to a token.
+/// The statements up to a token.
 #[derive(Drop)]
 struct Statements {
     /// The blocks that are open.
     blocks: Vec<Begun>,
-    /// What may be left out, in order.
+    /// The bytes that may be left out, in order.
     over: Vec<Stretch>,
     count: usize,
     has_repeat: bool,
