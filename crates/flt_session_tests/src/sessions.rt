@@ -343,7 +343,7 @@ fn bodies_that_are_no_requests_are_answered_within_memory(rt: HostRuntime) -> Re
 type Row = (&'static str, &'static str, &'static str, Option<u8>);
 
 /// A session from `initialize` to `exit`.
-static WHOLE: [Row; 55] = [
+static WHOLE: [Row; 43] = [
     (
         "{\"jsonrpc\":\"2.0\",\"id\":1,\"method\":\"initialize\",\"params\":{\"processId\":null,\"rootUri\":null,\"capabilities\":{}}}",
         "{\"jsonrpc\":\"2.0\",\"id\":1,\"result\":{\"capabilities\":{\"positionEncoding\":\"utf-16\",\"textDocumentSync\":{\"openClose\":true,\"change\":1},\"hoverProvider\":true,\"completionProvider\":{},\"definitionProvider\":true,\"referencesProvider\":true,\"documentSymbolProvider\":true,\"foldingRangeProvider\":true,\"codeActionProvider\":{\"codeActionKinds\":[\"quickfix\"]},\"executeCommandProvider\":{\"commands\":[\"fltstack.explain\"]}},\"serverInfo\":{\"name\":\"fltstack\"}}}",
@@ -561,6 +561,70 @@ static WHOLE: [Row; 55] = [
         None,
     ),
     (
+        "{\"jsonrpc\":\"2.0\",\"id\":\"end\",\"method\":\"shutdown\"}",
+        "{\"jsonrpc\":\"2.0\",\"id\":\"end\",\"result\":null}",
+        SILENT,
+        None,
+    ),
+    (
+        "{\"jsonrpc\":\"2.0\",\"id\":24,\"method\":\"textDocument/hover\",\"params\":{\"textDocument\":{\"uri\":\"file:///a\"},\"position\":{\"line\":3,\"character\":4}}}",
+        "{\"jsonrpc\":\"2.0\",\"id\":24,\"error\":{\"code\":-32600,\"message\":\"this is no request that may be made now\"}}",
+        SILENT,
+        None,
+    ),
+    (
+        "{\"jsonrpc\":\"2.0\",\"id\":25,\"method\":\"initialize\",\"params\":{\"capabilities\":{}}}",
+        "{\"jsonrpc\":\"2.0\",\"id\":25,\"error\":{\"code\":-32600,\"message\":\"this is no request that may be made now\"}}",
+        SILENT,
+        None,
+    ),
+    (
+        "{\"jsonrpc\":\"2.0\",\"id\":26,\"method\":\"shutdown\"}",
+        "{\"jsonrpc\":\"2.0\",\"id\":26,\"error\":{\"code\":-32600,\"message\":\"this is no request that may be made now\"}}",
+        SILENT,
+        None,
+    ),
+    (
+        "{\"jsonrpc\":\"2.0\",\"method\":\"textDocument/didOpen\",\"params\":{\"textDocument\":{\"uri\":\"file:///a\",\"languageId\":\"flt\",\"version\":2,\"text\":\"1\"}}}",
+        SILENT,
+        SILENT,
+        None,
+    ),
+    (
+        "{\"jsonrpc\":\"2.0\",\"method\":\"textDocument/didClose\",\"params\":{\"textDocument\":{\"uri\":\"file:///b\"}}}",
+        SILENT,
+        SILENT,
+        None,
+    ),
+    (
+        "{\"jsonrpc\":\"2.0\",\"method\":\"exit\"}",
+        SILENT,
+        SILENT,
+        Some(0),
+    ),
+];
+
+/// A session of commands.
+static COMMANDS: [Row; 15] = [
+    (
+        "{\"jsonrpc\":\"2.0\",\"id\":1,\"method\":\"initialize\"}",
+        "{\"jsonrpc\":\"2.0\",\"id\":1,\"result\":{\"capabilities\":{\"positionEncoding\":\"utf-16\",\"textDocumentSync\":{\"openClose\":true,\"change\":1},\"hoverProvider\":true,\"completionProvider\":{},\"definitionProvider\":true,\"referencesProvider\":true,\"documentSymbolProvider\":true,\"foldingRangeProvider\":true,\"codeActionProvider\":{\"codeActionKinds\":[\"quickfix\"]},\"executeCommandProvider\":{\"commands\":[\"fltstack.explain\"]}},\"serverInfo\":{\"name\":\"fltstack\"}}}",
+        SILENT,
+        None,
+    ),
+    (
+        "{\"jsonrpc\":\"2.0\",\"method\":\"textDocument/didOpen\",\"params\":{\"textDocument\":{\"uri\":\"file:///b\",\"text\":\"\\n6\"}}}",
+        SILENT,
+        "{\"jsonrpc\":\"2.0\",\"method\":\"textDocument/publishDiagnostics\",\"params\":{\"uri\":\"file:///b\",\"diagnostics\":[16,\n6]}}",
+        None,
+    ),
+    (
+        "{\"jsonrpc\":\"2.0\",\"method\":\"textDocument/didOpen\",\"params\":{\"textDocument\":{\"uri\":\"file:///a\",\"text\":\"9\"}}}",
+        SILENT,
+        "{\"jsonrpc\":\"2.0\",\"method\":\"textDocument/publishDiagnostics\",\"params\":{\"uri\":\"file:///a\",\"diagnostics\":[16,9]}}",
+        None,
+    ),
+    (
         "{\"jsonrpc\":\"2.0\",\"id\":101,\"method\":\"workspace/executeCommand\",\"params\":{\"command\":\"fltstack.explain\",\"arguments\":[\"file:///a\"]}}",
         "{\"jsonrpc\":\"2.0\",\"id\":101,\"result\":[\"report\",\"file:///a\",9]}",
         SILENT,
@@ -631,48 +695,6 @@ static WHOLE: [Row; 55] = [
         "{\"jsonrpc\":\"2.0\",\"id\":112,\"error\":{\"code\":-32602,\"message\":\"the server doesn't know this command, or its argument is no open document\"}}",
         SILENT,
         None,
-    ),
-    (
-        "{\"jsonrpc\":\"2.0\",\"id\":\"end\",\"method\":\"shutdown\"}",
-        "{\"jsonrpc\":\"2.0\",\"id\":\"end\",\"result\":null}",
-        SILENT,
-        None,
-    ),
-    (
-        "{\"jsonrpc\":\"2.0\",\"id\":24,\"method\":\"textDocument/hover\",\"params\":{\"textDocument\":{\"uri\":\"file:///a\"},\"position\":{\"line\":3,\"character\":4}}}",
-        "{\"jsonrpc\":\"2.0\",\"id\":24,\"error\":{\"code\":-32600,\"message\":\"this is no request that may be made now\"}}",
-        SILENT,
-        None,
-    ),
-    (
-        "{\"jsonrpc\":\"2.0\",\"id\":25,\"method\":\"initialize\",\"params\":{\"capabilities\":{}}}",
-        "{\"jsonrpc\":\"2.0\",\"id\":25,\"error\":{\"code\":-32600,\"message\":\"this is no request that may be made now\"}}",
-        SILENT,
-        None,
-    ),
-    (
-        "{\"jsonrpc\":\"2.0\",\"id\":26,\"method\":\"shutdown\"}",
-        "{\"jsonrpc\":\"2.0\",\"id\":26,\"error\":{\"code\":-32600,\"message\":\"this is no request that may be made now\"}}",
-        SILENT,
-        None,
-    ),
-    (
-        "{\"jsonrpc\":\"2.0\",\"method\":\"textDocument/didOpen\",\"params\":{\"textDocument\":{\"uri\":\"file:///a\",\"languageId\":\"flt\",\"version\":2,\"text\":\"1\"}}}",
-        SILENT,
-        SILENT,
-        None,
-    ),
-    (
-        "{\"jsonrpc\":\"2.0\",\"method\":\"textDocument/didClose\",\"params\":{\"textDocument\":{\"uri\":\"file:///b\"}}}",
-        SILENT,
-        SILENT,
-        None,
-    ),
-    (
-        "{\"jsonrpc\":\"2.0\",\"method\":\"exit\"}",
-        SILENT,
-        SILENT,
-        Some(0),
     ),
 ];
 
@@ -800,6 +822,13 @@ fn sessions_go_by_the_protocol_within_memory(rt: HostRuntime) -> Result<(), Fail
     assert!(rt; late.is_none());
     let short = first_wrong(rt.alloc(), SHORT.as_slice())?;
     assert!(rt; short.is_none());
+    Ok(())
+}
+
+#[test]
+fn commands_have_reports_within_memory(rt: HostRuntime) -> Result<(), Fail> {
+    let commands = first_wrong(rt.alloc(), COMMANDS.as_slice())?;
+    assert!(rt; commands.is_none());
     Ok(())
 }
 
