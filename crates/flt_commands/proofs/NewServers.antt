@@ -1,7 +1,7 @@
--- What a server's run on a new server comes to.
-use Rattle.std.proofs.Common.{◌≢◌, ℕ, Option, Result, Ok, Err, IfErr, IfOk}
+-- What a server's run on a new server comes to, and the report on a document.
+use Rattle.std.proofs.Common.{◌≡◌, ◌≢◌, ℕ, Option, Result, Ok, Err, IfErr, IfOk}
 use Rattle.flt_commands.specs.Inputs.{Text}
-use Rattle.flt_commands.specs.Served.{IsNew, MayAnswer, Serves, ServesSoFar}
+use Rattle.flt_commands.specs.Served.{IsExplained, IsNew, IsReport, MayAnswer, Serves, ServesSoFar, as_string}
 use Rattle.flt_frames.specs.Handling.{IsServed, IsServedSoFar}
 use Rattle.flt_frames.specs.declared.fault.ServeFault.{ServeFault}
 use Rattle.flt_frames.specs.declared.fault.ServeFault.TheVariants.{Write}
@@ -20,3 +20,9 @@ module _ (first last : Server Explaining) (is : IsNew first) where
       IfErr r (λ e. e ≢ Write → IsServedSoFar MayAnswer first had old new) → IfErr r (λ e. e ≢ Write → ServesSoFar had old new)
   serves_so_far had old new (Ok status) served = served
   serves_so_far had old new (Err fault) served = λ other. (first, is, served other)
+
+-- what `explain` prints, written as a string, is the report on a document
+pub reported : {V : Type 0} {E : Type 0} (items : V → Text) (name text printed : Text) (r : Result V E) → IsExplained name text printed →
+    IfOk r (λ v. items v ≡ as_string printed) → IfOk r (λ v. IsReport name text (items v))
+reported items name text printed (Ok v) is written = (printed, is, written)
+reported items name text printed (Err e) is written = written
