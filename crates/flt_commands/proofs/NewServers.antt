@@ -1,5 +1,5 @@
--- What a server's run on a new server comes to, and the report on a document.
-use Rattle.std.proofs.Common.{◌≡◌, ◌≢◌, ℕ, Option, Result, Ok, Err, IfErr, IfOk}
+-- What a server's run on a new server comes to, the report on a document, and who asks for a server.
+use Rattle.std.proofs.Common.{◌≡◌, ◌≢◌, ◌↔◌, ℕ, Option, Some, None, Result, Ok, Err, IfErr, IfOk, IfSome, IsTrue, refl, true}
 use Rattle.flt_commands.specs.Inputs.{Text}
 use Rattle.flt_commands.specs.Served.{IsExplained, IsNew, IsReport, MayAnswer, Serves, ServesSoFar, as_string}
 use Rattle.flt_frames.specs.Handling.{IsServed, IsServedSoFar}
@@ -8,12 +8,12 @@ use Rattle.flt_frames.specs.declared.fault.ServeFault.TheVariants.{Write}
 use Rattle.flt_commands.specs.declared.serving.Explaining.{Explaining}
 use Rattle.flt_server.specs.declared.server.Server.{Server}
 
-module _ (first last : Server Explaining) (is : IsNew first) where
+module _ (first : Server Explaining) (is : IsNew first) where
   -- it ended with a status
-  pub serves : (had left old new : Option Text) (r : Result ℕ ServeFault) →
+  pub serves : (last : Server Explaining) (had left old new : Option Text) (r : Result ℕ ServeFault) →
       IfOk r (IsServed MayAnswer first last had left old new) → IfOk r (Serves had left old new)
-  serves had left old new (Ok status) served = (first, last, is, served)
-  serves had left old new (Err fault) served = served
+  serves last had left old new (Ok status) served = (first, last, is, served)
+  serves last had left old new (Err fault) served = served
 
   -- it stopped
   pub serves_so_far : (had old new : Option Text) (r : Result ℕ ServeFault) →
@@ -26,3 +26,8 @@ pub reported : {V : Type 0} {E : Type 0} (items : V → Text) (name text printed
     IfOk r (λ v. items v ≡ as_string printed) → IfOk r (λ v. IsReport name text (items v))
 reported items name text printed (Ok v) is written = (printed, is, written)
 reported items name text printed (Err e) is written = written
+
+-- a server ends only where the words ask for one
+pub asked_for : {A : Type 0} (P : Type 0) (ended : Option A) → (IsTrue true ↔ P) → IfSome ended (λ _. P)
+asked_for P (Some status) asks = asks.0 refl
+asked_for P None asks = tt

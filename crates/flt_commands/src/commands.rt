@@ -9,6 +9,7 @@ ghost use Rattle.flt_words.specs.Words.{asked};
 
 use crate::allowed::options_of;
 use crate::analyse::analyse_file;
+use crate::answer::Answer;
 use crate::check::check_files;
 use crate::clean::{covered_texts_break_nothing, driven_texts_break_nothing};
 use crate::compare::compare_files;
@@ -57,6 +58,13 @@ fn is_coloured(colour: Colour, shown: bool) -> bool
         Colour::Always => true,
         Colour::Never => false,
     }
+}
+
+/// Why a report answers no request for a server: no name gives it the standard input.
+fn unserved() -> Result<Answer, Failure<'static>>
+    ensures { spec.IsUnserved result }
+{
+    Err(Failure::CannotRead("-"))
 }
 
 /// The report on a program's words, without its own name. A part of the output of `explain` may be written already.
@@ -237,10 +245,7 @@ fn report_of<'a, R: Threads + Wait + Sync, I: Inputs, P: Pictures, O: Sink, W: W
             let said = compare_files(alloc, inputs, files.as_slice(), &mut contents);
             report_on(alloc, Vec::new(alloc), said, contents)
         }
-        Request::Serve => {
-            let said = Err(Failure::CannotRead("-"));
-            report_on(alloc, Vec::new(alloc), said, contents)
-        }
+        Request::Serve => { report_on(alloc, Vec::new(alloc), unserved(), contents) }
     }
 }
 

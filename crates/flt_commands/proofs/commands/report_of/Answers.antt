@@ -147,8 +147,8 @@ returns-in-Serve-clause-answers g c =
     Does (c.args.pictures.now ≡ c.args.pictures.now) (g.P.Pictures.tried c.args.pictures.now)
     (g.P.Pictures.tried c.args.pictures.now) in
     answers_of c.covered_texts_break_nothing.ensures c.driven_texts_break_nothing.ensures
-    c.fails_exactly_where_nothing_is_spelled.ensures.nowhere _ _ _ does _ Serve _ _ _
-    (rw c.in-Serve.is at c.in_ok-text.ensures) refl refl
+    c.fails_exactly_where_nothing_is_spelled.ensures.nowhere _ _ _ does _ Serve _ c.unserved.result _
+    (rw c.in-Serve.is at c.in_ok-text.ensures) c.unserved.ensures refl
     (those_of _ _ c.report_on-in-Serve.ensures.texts) c.report_on-in-Serve.ensures.reported
     (remarked_after Serve _ _ _ c.new-in-Serve.ensures.items c.report_on-in-Serve.ensures.remarked)
 
