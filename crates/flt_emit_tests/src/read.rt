@@ -31,7 +31,7 @@ fn is_whole(filter: &Filter) -> bool {
     let [read, canceled, second] = filter.callbacks.as_slice() else {
         return false;
     };
-    let name = filter.name.as_slice() == b"whole" && filter.altitude == 70;
+    let name = filter.name.as_slice() == b"whole".as_slice() && filter.altitude == 70;
     let globals = filter.locks.len() == 2 && filter.queue.is_some();
     let heads = matches!(read.head, Head::Pre(_))
         && matches!(canceled.head, Head::Canceled)
