@@ -50,16 +50,33 @@ fn sources_are_read_back_within_memory(rt: HostRuntime) -> Result<(), Fail> {
     Ok(())
 }
 
+/// Whether no filter is read.
+fn is_unread(alloc: Global, source: &[u8]) -> Result<bool, Fail> {
+    Ok(read_source(alloc, source)?.is_none())
+}
+
+/// The bytes with a blank in place of the first.
+fn with_another_start(alloc: Global, source: &[u8]) -> Result<Vec<u8>, Fail> {
+    let mut other = Vec::new(alloc);
+    other.push(b' ')?;
+    if let [_, rest @ ..] = source {
+        other.extend_from_slice(rest)?;
+    }
+    Ok(other)
+}
+
 #[test]
 fn sources_with_another_byte_are_not_read_within_memory(rt: HostRuntime) -> Result<(), Fail> {
     let mut source = source(rt.alloc(), WHOLE)?;
-    let last = source.len() - 1;
-    assert!(rt; read_source(rt.alloc(), &source.as_slice()[..last])?.is_none());
-    source[last] = b' ';
-    assert!(rt; read_source(rt.alloc(), source.as_slice())?.is_none());
-    source[last] = b'\n';
-    source[0] = b' ';
-    assert!(rt; read_source(rt.alloc(), source.as_slice())?.is_none());
+    let other = with_another_start(rt.alloc(), source.as_slice())?;
+    assert!(rt; is_unread(rt.alloc(), other.as_slice())?);
+    source.pop();
+    assert!(rt; is_unread(rt.alloc(), source.as_slice())?);
+    source.push(b' ')?;
+    assert!(rt; is_unread(rt.alloc(), source.as_slice())?);
+    source.pop();
+    source.push(b'\n')?;
+    assert!(rt; !is_unread(rt.alloc(), source.as_slice())?);
     Ok(())
 }
 
