@@ -116,7 +116,8 @@ taken : (hs : List HeldLock) (l : LockNumber) (a : Access) (b : Bool) → holds_
 taken hs l a true e h = h
 taken hs l a false e h = are_locks_more hs l a h e
 
-still_locks : (hs : List HeldLock) (l : LockNumber) (change : LockChange) → are_locks hs ≡ true → are_locks (changed_locks hs l change) ≡ true
+still_locks : (hs : List HeldLock) (l : LockNumber) (change : LockChange) →
+    are_locks hs ≡ true → are_locks (changed_locks hs l change) ≡ true
 still_locks hs l list.Stays h = h
 still_locks hs l (list.Taken a) h = taken hs l a (holds_lock l hs) refl h
 still_locks hs l list.Released h = are_locks_without l hs h
