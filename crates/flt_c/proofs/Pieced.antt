@@ -95,7 +95,8 @@ module _ (front : Front) (depth : ℕ) where
   }
 
   pub block_on : (add next : List ℕ → List ℕ) (b : ℕ) (z text pre : List ℕ) → (b == 42) ≡ false →
-      ((body : List ℕ) → pre ++ next body ≡ add (b ∷ body)) → InBlock front depth next z text → InBlock front depth add (b ∷ z) (pre ++ text)
+      ((body : List ℕ) → pre ++ next body ≡ add (b ∷ body)) → InBlock front depth next z text →
+      InBlock front depth add (b ∷ z) (pre ++ text)
   block_on add next b z text pre e h i = record {
     body = b ∷ i.body;
     rest = i.rest;
@@ -134,7 +135,8 @@ module _ (front : Front) (depth : ℕ) where
   }
 
   -- after a `*` another one, which may end it
-  pub star_stays : (add next : List ℕ → List ℕ) (b : ℕ) (z text pre : List ℕ) → b ≡ 42 → ((body : List ℕ) → pre ++ next body ≡ add (42 ∷ body)) →
+  pub star_stays : (add next : List ℕ → List ℕ) (b : ℕ) (z text pre : List ℕ) →
+      b ≡ 42 → ((body : List ℕ) → pre ++ next body ≡ add (42 ∷ body)) →
       InBlock front depth next (42 ∷ z) text → InBlock front depth add (42 ∷ b ∷ z) (pre ++ text)
   star_stays add next b z text pre e h i = subst (λ c. InBlock front depth add (42 ∷ c ∷ z) (pre ++ text)) (sym e) (record {
     body = 42 ∷ i.body;
@@ -185,7 +187,8 @@ next_of_marker w v other = elim v [
   | inl e ↦ rw e (inr (inl refl))
   | inr v ↦ elim v [
     | inl e ↦ rw e (inr (inr (inl refl)))
-    | inr v ↦ elim v [ inl e ↦ rw e (inr (inr (inr refl))) | inr e ↦ let no : (w == 116) ≡ true = rw e refl in elim (differ (sym other ∙ no)) [ ] ]
+    | inr v ↦ elim
+        v [ inl e ↦ rw e (inr (inr (inr refl))) | inr e ↦ let no : (w == 116) ≡ true = rw e refl in elim (differ (sym other ∙ no)) [ ] ]
   ]
 ]
 
@@ -206,7 +209,8 @@ module _ (depth w : ℕ) (v : IsOfMarker w) where
   marker_fails b body e = rw (first_of_marker w v, e) (read_nothing depth)
 
   -- the next byte of the marker
-  pub marker_goes_on : (b : ℕ) (body : List ℕ) → (b == w) ≡ true → marking depth (marker_after w) body ≡ marking depth (marker_from w) (b ∷ body)
+  pub marker_goes_on : (b : ℕ) (body : List ℕ) → (b == w) ≡ true →
+      marking depth (marker_after w) body ≡ marking depth (marker_from w) (b ∷ body)
   marker_goes_on b body e = rw (first_of_marker w v, e) refl
 
 -- in code that compilers read, and in code that they skip
@@ -240,10 +244,12 @@ InQuotes quote escaped front depth z text = IsClosed quote escaped front depth z
 
 module _ (quote : ℕ) (front : Front) (depth b : ℕ) (z text : List ℕ) where
   -- a byte more: where this says of each rest that it may stand before it
-  pub quote_on : (old new : Bool) → ((closed : Bool) (body : List ℕ) → is_quoted quote closed new body ≡ true → is_quoted quote closed old (b ∷ body) ≡ true) →
+  pub quote_on : (old new : Bool) → ((closed : Bool) (body : List ℕ) →
+      is_quoted quote closed new body ≡ true → is_quoted quote closed old (b ∷ body) ≡ true) →
       InQuotes quote new front depth z text → InQuotes quote old front depth (b ∷ z) text
   quote_on old new h i = elim i [
-    | inl i ↦ inl (record { body = b ∷ i.body; rest = i.rest; split = ap (λ l. b ∷ l) i.split; plain = h true i.body i.plain; pieces = i.pieces })
+    | inl i ↦
+        inl (record { body = b ∷ i.body; rest = i.rest; split = ap (λ l. b ∷ l) i.split; plain = h true i.body i.plain; pieces = i.pieces })
     | inr i ↦ inr (record {
       body = b ∷ i.body;
       rest = i.rest;
