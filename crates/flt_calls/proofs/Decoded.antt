@@ -54,11 +54,15 @@ asked_is cs (fallible.SetContext on existing c old) = refl
 asked_is cs (fallible.DeleteContextOf on old) = refl
 asked_is cs (fallible.InsertIo c) = refl
 asked_is cs (fallible.RemoveNextIo o d) = refl
-asked_is cs (fallible.QueueDeferredIoWorkItem r c) = ap (λ (n : ℕ). Some (asked.Defer n c)) (first_or_end (λ (x : Callback). is_named r.name x.head) cs)
-asked_is cs (fallible.QueueGenericWorkItem r c) = ap (λ (n : ℕ). Some (asked.Queue n c)) (first_or_end (λ (x : Callback). is_named r.name x.head) cs)
+asked_is cs (fallible.QueueDeferredIoWorkItem r c) =
+    ap (λ (n : ℕ). Some (asked.Defer n c)) (first_or_end (λ (x : Callback). is_named r.name x.head) cs)
+asked_is cs (fallible.QueueGenericWorkItem r c) =
+    ap (λ (n : ℕ). Some (asked.Queue n c)) (first_or_end (λ (x : Callback). is_named r.name x.head) cs)
 
-pub step_is : (p : List Filter) (t : List Event) (w : World) (a : ℕ) (grant : Bool) (granted refused : List Statement) (call : FallibleCall) →
-    fallible_step p t w a (choice_of call grant) granted refused call ≡ asked_step w a grant granted refused (asked_of (callbacks_at p (actor_at w a).filter) call)
+pub step_is : (p : List Filter) (t : List Event) (w : World) (a : ℕ) (grant : Bool)
+    (granted refused : List Statement) (call : FallibleCall) →
+    fallible_step p t w a (choice_of call grant) granted refused call ≡
+    asked_step w a grant granted refused (asked_of (callbacks_at p (actor_at w a).filter) call)
 step_is p t w a grant granted refused (fallible.AllocateContext d) = refl
 step_is p t w a grant granted refused (fallible.GetContext on d) = refl
 step_is p t w a grant granted refused (fallible.SetContext on existing c old) = refl
@@ -69,9 +73,11 @@ step_is p t w a grant granted refused (fallible.QueueDeferredIoWorkItem r c) = r
 step_is p t w a grant granted refused (fallible.QueueGenericWorkItem r c) = refl
 
 -- a plan of a call by its operands is a plan of the call
-pub asked_planned : (p : List Filter) (t : List Event) (s : Store) (c : Caller) (plan : Plan) (x : Asked) (call : FallibleCall) (grant : Bool) → x ≡ asked_of (callbacks_at p c.filter) call →
+pub asked_planned : (p : List Filter) (t : List Event) (s : Store) (c : Caller) (plan : Plan) (x : Asked) (call : FallibleCall)
+    (grant : Bool) → x ≡ asked_of (callbacks_at p c.filter) call →
     Plans s c plan (λ (w : World) (granted refused : List Statement). asked_step w c.activation grant granted refused x) →
-    Plans s c plan (λ (w : World) (granted refused : List Statement). fallible_step p t w c.activation (choice_of call grant) granted refused call)
+    Plans s c plan (λ (w : World) (granted refused : List Statement). fallible_step p t w c.activation
+    (choice_of call grant) granted refused call)
 asked_planned p t s c plan x call grant is planned = λ actors acts granted refused h.
     let w = world_of s actors acts in
     subst (IsPlanned w c.activation plan [] granted refused)
@@ -88,7 +94,8 @@ as_many_graphs all (c ∷ cs) (g ∷ gs) made = ap suc (as_many_graphs all cs gs
 as_many_graphs all [] (g ∷ gs) made = absurd made
 as_many_graphs all (c ∷ cs) [] made = absurd made
 
-pub callbacks_are : (p : List Filter) (gs : List Graph) (n : ℕ) → AreGraphsOfFilters p gs → length (graph_at gs n).callbacks ≡ length (callbacks_at p n)
+pub callbacks_are : (p : List Filter) (gs : List Graph) (n : ℕ) →
+    AreGraphsOfFilters p gs → length (graph_at gs n).callbacks ≡ length (callbacks_at p n)
 callbacks_are [] [] n made = refl
 callbacks_are (f ∷ p) (h ∷ gs) zero made = as_many_graphs f.callbacks f.callbacks h.callbacks made.0.lowered.callbacks
 callbacks_are (f ∷ p) (h ∷ gs) (suc n) made = callbacks_are p gs n made.1

@@ -118,7 +118,8 @@ module _ (w : World) (a : ℕ) where
   got_up_to d granted refused None = (tt, omega arith)
   got_up_to d granted refused (Some x) = ((refl, tt), omega arith)
 
-  pub get_up_to : (d : ContextVariable) (granted refused : List Statement) (l : Option Link) → AreUpTo a 8 (get_by w a d granted refused l).events
+  pub get_up_to : (d : ContextVariable) (granted refused : List Statement) (l : Option Link) →
+      AreUpTo a 8 (get_by w a d granted refused l).events
   get_up_to d granted refused None = (tt, omega arith)
   get_up_to d granted refused (Some l) = got_up_to d granted refused (linked_at w.store l)
 
@@ -129,7 +130,8 @@ module _ (w : World) (a : ℕ) where
   more_unlinked : (y : ℕ) (old : Option ContextVariable) → AreUpTo a 8 (events_of_unlink a w.store y old)
   more_unlinked y old = ((unlink_up_to a w.store y old).0, omega (arith, (unlink_up_to a w.store y old).1))
 
-  set_there_up_to : (existing : Existing) (old : Option ContextVariable) (granted refused : List Statement) (x : ℕ) (l : Link) (y : Option ℕ) →
+  set_there_up_to : (existing : Existing) (old : Option ContextVariable) (granted refused : List Statement) (x : ℕ)
+      (l : Link) (y : Option ℕ) →
       AreUpTo a 8 (set_there w a existing old granted refused x l y).events
   set_there_up_to existing old granted refused x l None = (tt, omega arith)
   set_there_up_to Keep old granted refused x l (Some y) = kept_up_to old refused y
@@ -141,15 +143,18 @@ module _ (w : World) (a : ℕ) where
   set_up_to existing old granted refused (Some x) None = (tt, omega arith)
   set_up_to existing old granted refused (Some x) (Some l) = chosen (cannot_set w a x)
     where
-      chosen : (b : Bool) → AreUpTo a 8 (if b then gives_nothing w a old refused else set_there w a existing old granted refused x l (linked_at w.store l)).events
+      chosen : (b : Bool) → AreUpTo a 8
+          (if b then gives_nothing w a old refused else set_there w a existing old granted refused x l (linked_at w.store l)).events
       chosen true = (tt, omega arith)
       chosen false = set_there_up_to existing old granted refused x l (linked_at w.store l)
 
-  unlinked_up_to : (old : Option ContextVariable) (granted refused : List Statement) (y : Option ℕ) → AreUpTo a 8 (unlinked w a old granted refused y).events
+  unlinked_up_to : (old : Option ContextVariable) (granted refused : List Statement) (y : Option ℕ) →
+      AreUpTo a 8 (unlinked w a old granted refused y).events
   unlinked_up_to old granted refused None = (tt, omega arith)
   unlinked_up_to old granted refused (Some y) = more_unlinked y old
 
-  pub delete_at_up_to : (old : Option ContextVariable) (granted refused : List Statement) (l : Option Link) → AreUpTo a 8 (delete_by w a old granted refused l).events
+  pub delete_at_up_to : (old : Option ContextVariable) (granted refused : List Statement) (l : Option Link) →
+      AreUpTo a 8 (delete_by w a old granted refused l).events
   delete_at_up_to old granted refused None = (tt, omega arith)
   delete_at_up_to old granted refused (Some l) = unlinked_up_to old granted refused (linked_at w.store l)
 
@@ -157,7 +162,8 @@ module _ (w : World) (a : ℕ) where
   deleted_up_to rest None = (tt, omega arith)
   deleted_up_to rest (Some x) = chosen (is_some (context_at w.store x).link)
     where
-      chosen : (b : Bool) → AreUpTo a 8 (if b then goes_on w a (onward w a rest) (after_unlink w.store x None) (freed_by_drop w.store x) else unchanged w a rest).events
+      chosen : (b : Bool) → AreUpTo a 8
+          (if b then goes_on w a (onward w a rest) (after_unlink w.store x None) (freed_by_drop w.store x) else unchanged w a rest).events
       chosen true = more_unlinked x None
       chosen false = (tt, omega arith)
 

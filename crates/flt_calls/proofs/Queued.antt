@@ -22,7 +22,8 @@ use Rattle.flt_calls.proofs.Owned.{AreUpTo, own_call, gains_up_to, loses_up_to}
 pub owned_call : (store : Store) (c : Caller) (plan : Plan) (k : Call) (own es : List Event) (needs : List (Option Object))
     (effect : World → List Statement → List Statement → Step) →
     es ≡ event.Call c.activation k ∷ (own ++ (uses c.activation needs ++ empties c.activation needs)) → Follows store c es plan effect →
-    AreUpTo c.activation 1 own → length needs ≤ 4 → ((w : World) → AreUpTo c.activation 8 (effect w [] []).events) → AreOwn c.activation plan.events
+    AreUpTo c.activation 1 own → length needs ≤ 4 → ((w : World) → AreUpTo c.activation 8 (effect w [] []).events) →
+    AreOwn c.activation plan.events
 owned_call store c plan k own es needs effect is planned mine small done =
     of_events (AreOwn c.activation) store c plan (λ w granted refused. calling w c.activation k own needs (effect w granted refused))
     (λ actors activations granted refused h.
@@ -49,7 +50,8 @@ module _ (w : World) (a : ℕ) where
       chosen true = one_more a (event.Lose a (Visit v)) (loses_context a x) (refl, tt) (loses_up_to a x)
       chosen false = (tt, omega arith)
 
-  pub insert_up_to : (granted refused : List Statement) (v : Option ℕ) (c : Option (Option ℕ)) → AreUpTo a 8 (insert_by w a granted refused v c).events
+  pub insert_up_to : (granted refused : List Statement) (v : Option ℕ) (c : Option (Option ℕ)) →
+      AreUpTo a 8 (insert_by w a granted refused v c).events
   insert_up_to granted refused None c = (tt, omega arith)
   insert_up_to granted refused (Some v) (Some None) = (tt, omega arith)
   insert_up_to granted refused (Some v) (Some (Some x)) = enqueued_up_to granted refused v (Some x)
