@@ -226,7 +226,8 @@ module _ (text : Text) (long : length text ≡ 23) (bounds : InBounds text) wher
         let behind_one : length (drop 1 text) ≡ length text - 1 = length-drop 1 text in
         let nine : length contexts ≡ 9 = contexts_spelled.count ∙ length-take-le 9 (drop 1 text) (omega (arith, behind_one, long)) in
         let behind_eleven : length (drop 11 text) ≡ length text - 11 = length-drop 11 text in
-        let five : length operations ≡ 5 = operations_spelled.count ∙ length-take-le 5 (drop 11 text) (omega (arith, behind_eleven, long)) in
+        let five : length operations ≡ 5 =
+        operations_spelled.count ∙ length-take-le 5 (drop 11 text) (omega (arith, behind_eleven, long)) in
         and_from _ _ (eq-eqb (length contexts) 9 nine) (and_from _ _ (eq-eqb (length operations) 5 five)
         (and_from _ _ contexts_spelled.possible (and_from _ _ operations_spelled.possible
         (and_from _ _ (mode_possible (get_or text 17 0) some modes_known)
@@ -235,8 +236,8 @@ module _ (text : Text) (long : length text ≡ 23) (bounds : InBounds text) wher
     -- whose text they are
     pub fixed_spelled : text ≡ 32 ∷ (state_text (state_of contexts operations some answers []) ++ 10 ∷ [])
     fixed_spelled =
-        in_one contexts operations some answers text (drop 1 text) (drop 10 text) (drop 11 text) (drop 16 text) (drop 17 text) (drop 18 text)
-        (drop 19 text) (drop 20 text) (drop 21 text) (drop 22 text) (drop 23 text)
+        in_one contexts operations some answers text (drop 1 text) (drop 10 text) (drop 11 text) (drop 16 text)
+        (drop 17 text) (drop 18 text) (drop 19 text) (drop 20 text) (drop 21 text) (drop 22 text) (drop 23 text)
         (only_byte text 0 32 (omega arith) long refl refl bounds)
         (field text (digits contexts) 1 9 contexts_spelled.spells)
         (only_byte text 10 32 (omega arith) long refl refl bounds)
