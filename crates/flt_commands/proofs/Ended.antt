@@ -20,7 +20,8 @@ read_too_long (Some xs) (Some ys) bytes taken many = omega (arith, ap length tak
 -- what was read of a reader that was opened under a name is given for it, as it is or as the bytes of another value
 module _ (holds : Holding) (lacks : Text → Type 0) (fails X : Type 0) (name : Text) (known : Option Text) (may : X → fails)
     (opened : holds name known) where
-  given_found : (found : Option Text) → IfSome found (AreAll known) → IfNone found (X ⊎ IsTooLong known) → IsGiven holds lacks fails name found
+  given_found : (found : Option Text) → IfSome found (AreAll known) → IfNone found (X ⊎ IsTooLong known) →
+      IsGiven holds lacks fails name found
   given_found (Some bytes) all none = record { known = known; opened = opened; all = all }
   given_found None all (inl x) = failed (may x)
   given_found None all (inr long) = too_long known opened long

@@ -38,7 +38,8 @@ those_of texts (Err f) same = tt
 
 -- of a journal and texts
 pub those_after : (bytes : Text) (texts : Vec (Vec ℕ Global) Global) (journal : Option Entries) (said : Result Answer Failure)
-    (result : Result Report CommandFault) → IfOk result (λ report. report.texts ≡ texts) → IfOk result (λ report. report.journal ≡ journal) →
+    (result : Result Report CommandFault) → IfOk result (λ report. report.texts ≡ texts) →
+    IfOk result (λ report. report.journal ≡ journal) →
     IsKeptAs journal bytes said →
     IfOk result (λ report. (first : Text) × (bytes ∷ map (λ text. text.items) texts.items ≡ first ∷ texts_in report)
     × IsKeptAs report.journal first said)
@@ -104,11 +105,13 @@ unread_none (EmittedInto driver) good = refl
 unread_none (Compared why) good = refl
 
 -- of what `explain` says, where no file is named for a journal
-pub quiet_for : (form : Form) (colour : Colour) (states : ℕ) (journal : Option Text) (warnings : Choice) (files : List Text) (before : List ℕ)
+pub quiet_for : (form : Form) (colour : Colour) (states : ℕ) (journal : Option Text) (warnings : Choice)
+    (files : List Text) (before : List ℕ)
     (said : Result Answer Failure) (result : Result Report CommandFault) → IsFound journal said before →
     IfOk result (λ report. IsReported said report.output.items report.status) →
     IfOk result (λ report. report.status ≢ 2 → report.remark.items ≡ before) →
-    IfOk result (λ report. report.status ≢ 2 → NamesNoJournal (Some (Explain form colour states journal warnings files)) → report.remark.items ≡ [])
+    IfOk result (λ report. report.status ≢ 2 → NamesNoJournal (Some (Explain form colour states journal warnings files)) →
+    report.remark.items ≡ [])
 quiet_for form colour states (Some name) warnings files before said (Ok report) found reported same = λ good names. absurd names
 quiet_for form colour states None warnings files before (Ok answer) (Ok report) found reported same =
     λ good names. same good ∙ found ∙ ap (λ lines. lines ++ []) (unread_none answer (λ two. good (reported.1 ∙ two)))
@@ -227,7 +230,8 @@ module _ (law : Law) (runs : LawOfRuns) (nowhere : SpelledFailsNowhere) (shown :
     is = is;
     reported = reported;
     remarked = remarked;
-    clean = λ good. clean_of law runs nowhere shown (giving_for request gives) request texts said report.output.items report.status is reported good;
+    clean = λ good. clean_of law runs nowhere shown (giving_for request gives) request texts said report.output.items
+        report.status is reported good;
     kept = kept;
   }
   answered_of request texts said (Err f) is kept those reported remarked = tt

@@ -7,7 +7,8 @@ use Rattle.flt_forms.specs.declared.unread.UnreadFile.{UnreadFile}
 use Rattle.flt_commands.specs.declared.inputs.ReadFiles.{ReadFiles}
 use Rattle.flt_commands.specs.Inputs.{AreRead, AreReadIn, Giving, IsMissing, Text, is_standard, missing, none, read, unread_names}
 
-module _ (gives : Giving) (before : List Text) (name : Bor Text) (names : List (Bor Text)) (texts : List (Vec ℕ Global)) (unread : List UnreadFile)
+module _ (gives : Giving) (before : List Text) (name : Bor Text) (names : List (Bor Text)) (texts : List (Vec ℕ Global))
+    (unread : List UnreadFile)
     (are : AreRead gives before (map (λ n. n.now) names) (map (λ t. t.items) texts) (unread_names unread)) where
   -- a name more that is read
   pub read_more : (text : Vec ℕ Global) (more : List (Bor Text)) (found : List (Vec ℕ Global)) → gives name.now (Some text.items) →
