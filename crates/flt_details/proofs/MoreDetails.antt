@@ -46,7 +46,8 @@ the_same xs n k x y is at there = let here = subst (λ m. slice_get xs m ≡ Som
 
 -- the next finding, by what shows it
 pub one_detail_more : (lines text : Text) (f : Filter) (g : Graph) (found : List Finding) (shown : List Shown) (n : ℕ) (e : Finding)
-    (s : Shown) (d : Detail) (all more : List Detail) → lines ≡ text → n ≡ length all → slice_get found n ≡ Some e → slice_get shown n ≡ Some s →
+    (s : Shown) (d : Detail) (all more : List Detail) →
+    lines ≡ text → n ≡ length all → slice_get found n ≡ Some e → slice_get shown n ≡ Some s →
     AreDetailsBy text f g found shown all → IsDetail lines f g e s d → more ≡ all ++ d ∷ [] → AreDetailsBy text f g found shown more
 one_detail_more lines text f g found shown n e s d all more same long is_one is_shown kept new after k e' s' d' finding_is shown_is
     detail_is =
@@ -97,7 +98,8 @@ one_longer found i all more d less long after =
     let one : length (d ∷ []) ≡ 1 = refl in omega (arith, short, next, longer, parts, one, long)
 
 pub all_details : (text : Text) (f : Filter) (g : Graph) (found : List Finding) (t : Traces) (i : ℕ) (all : List Detail) →
-    AreTraces g found t → length found ≤ i → length all ≡ length (take i found) → AreDetailsBy text f g found t.shown all → AreLike found all →
+    AreTraces g found t → length found ≤ i → length all ≡ length (take i found) →
+    AreDetailsBy text f g found t.shown all → AreLike found all →
     AreDetails text f g found all
 all_details text f g found t i all traced end long each like =
     record { traces = t; shown = traced; long = long ∙ ap length (take_all i found end); each = each; like = like }
