@@ -84,11 +84,13 @@ notice_parts look trees s kind n (Ok p) other is closes prints = notice_part loo
 notice_parts look trees s kind n (Err e) other is closes prints = tt
 
 -- of a text that parses
-pub known_is : (look : Look) (trees : List Tree) (k : Known) (before : Output) (p : Part) → IsKnownIn look trees k → IsSaid trees look.states before →
+pub known_is : (look : Look) (trees : List Tree) (k : Known) (before : Output) (p : Part) →
+    IsKnownIn look trees k → IsSaid trees look.states before →
     HasNotes trees k before.noted → AreFirsts k.found.now (numbers_in before.noted) →
     p.output.bytes.items ≡ before.bytes.items ++ quieted (findings_closing k.found.now) → p.output.noted ≡ before.noted →
     p.tally.status ≡ warned_status look.options.is_strict k.found.now k.details.now → p.tally.findings ≡ length k.found.now →
-    IsKnownPrint look trees k.place k.source p.output.noted p.output.bytes.items p.tally.status p.tally.findings → IsKnownPart look trees k p
+    IsKnownPrint look trees k.place k.source p.output.noted p.output.bytes.items p.tally.status p.tally.findings →
+    IsKnownPart look trees k p
 known_is look trees k before p known said notes firsts added same status count print = record {
   report = record {
     is = inl (record {

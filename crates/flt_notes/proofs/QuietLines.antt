@@ -152,7 +152,8 @@ digits_first (suc k) n acc rest is =
     go (n / 10 == 0) (digits_first k (n / 10) (digit_glyph false (n % 10) ∷ acc) rest (glyph_first (n % 10) (acc ++ rest)))
   where
     go : (z : Bool) → begins_note (digits_onto k 10 false (n / 10) (digit_glyph false (n % 10) ∷ acc) ++ rest) ≡ false →
-        begins_note ((if z then digit_glyph false (n % 10) ∷ acc else digits_onto k 10 false (n / 10) (digit_glyph false (n % 10) ∷ acc)) ++ rest)
+        begins_note
+        ((if z then digit_glyph false (n % 10) ∷ acc else digits_onto k 10 false (n / 10) (digit_glyph false (n % 10) ∷ acc)) ++ rest)
         ≡ false
     go true further = glyph_first (n % 10) (acc ++ rest)
     go false further = further
@@ -162,7 +163,8 @@ quiet_if [] first is = refl
 quiet_if (b ∷ bytes) first is = rw first is
 
 -- a line that begins with a number is quiet
-pub quiet_number : (n : ℕ) (rest : List ℕ) → begins_note rest ≡ false → is_quiet_from false rest ≡ true → is_quiet (decimal n ++ rest) ≡ true
+pub quiet_number : (n : ℕ) (rest : List ℕ) → begins_note rest ≡ false → is_quiet_from false rest ≡ true →
+    is_quiet (decimal n ++ rest) ≡ true
 unfolding digits
 quiet_number n rest first is =
     quiet_if (decimal n ++ rest) (digits_first 64 n [] rest first) (digits_plain 64 n [] rest ∙ is)

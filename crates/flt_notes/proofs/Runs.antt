@@ -57,12 +57,14 @@ outcomes_of trees k g (r ∷ reports) (s ∷ found) (o ∷ all) same suspects ar
     } in
     (first, outcomes_of trees k g reports found all same suspects.1 are.1)
 
-found_by : (p : List Filter) (cs : List Callback) (g : Graph) (f : Finding) (a : Schedule) (b : Broken) → IsSchedule p cs g f a → a ≡ Breaks b →
+found_by : (p : List Filter) (cs : List Callback) (g : Graph) (f : Finding) (a : Schedule) (b : Broken) →
+    IsSchedule p cs g f a → a ≡ Breaks b →
     IsFound p (violations_of f.rule) b
 found_by p cs g f a b is same = (subst (λ x. IsSchedule p cs g f x) same is).0
 
 -- in runs of one filter alone
-found_alone : (tree : Tree) (g : Graph) (f : Finding) (s : Scheduled) (b : Broken) → IsScheduled (tree ∷ []) 0 g f s → schedule_of s ≡ Breaks b →
+found_alone : (tree : Tree) (g : Graph) (f : Finding) (s : Scheduled) (b : Broken) →
+    IsScheduled (tree ∷ []) 0 g f s → schedule_of s ≡ Breaks b →
     IsFound (tree.filter ∷ []) (violations_of f.rule) b
 found_alone tree g f (Together a) b is same = found_by (tree.filter ∷ []) _ g f a b is.0 same
 found_alone tree g f (Alone a) b is same = found_by (tree.filter ∷ []) _ g f a b is same
@@ -70,7 +72,8 @@ found_alone tree g f (Alone a) b is same = found_by (tree.filter ∷ []) _ g f a
 same_finding : (found : List Finding) (n : ℕ) (f h : Finding) → slice_get found n ≡ Some f → slice_get found n ≡ Some h → f ≡ h
 same_finding found n f h one other = cc
 
-outcome_again : (tree : Tree) (g : Graph) (found : List Finding) (s : Suspect) (o : Outcome) → IsSuspectAgain found s → o.number ≡ s.number →
+outcome_again : (tree : Tree) (g : Graph) (found : List Finding) (s : Suspect) (o : Outcome) →
+    IsSuspectAgain found s → o.number ≡ s.number →
     IsScheduled (tree ∷ []) 0 g s.finding o.scheduled → IsOutcomeAgain (tree ∷ []) found o
 outcome_again tree g found s o suspect number scheduled =
     λ f b numbered breaks.
@@ -135,7 +138,8 @@ zip_more R (a ∷ xs) [] x y are is = absurd are
 zip_more R (a ∷ xs) (b ∷ ys) x y are is = (are.0, zip_more R xs ys x y are.1 is)
 
 -- a report's number is below the count of findings
-pub within_at : (count : ℕ) (reports : List Report) (i : ℕ) (r : Report) → All (λ (r : Report). r.finding < count) reports → i < length reports →
+pub within_at : (count : ℕ) (reports : List Report) (i : ℕ) (r : Report) →
+    All (λ (r : Report). r.finding < count) reports → i < length reports →
     r ≡ get_or reports i r → r.finding < count
 within_at count [] i r all h is = absurd (omega (arith, h))
 within_at count (x ∷ reports) zero r all h is = rw is (All-head (λ (r : Report). r.finding < count) x reports all)
@@ -200,7 +204,8 @@ pub within_all : (count : ℕ) (reports : List Report) → All (λ n. n < count)
     All (λ (r : Report). r.finding < count) reports
 within_all count [] all = All-nil (λ (r : Report). r.finding < count)
 within_all count (r ∷ reports) all =
-    All-cons (λ (r : Report). r.finding < count) r reports (All-head (λ n. n < count) r.finding (map (λ (r : Report). r.finding) reports) all)
+    All-cons (λ (r : Report). r.finding < count) r reports
+    (All-head (λ n. n < count) r.finding (map (λ (r : Report). r.finding) reports) all)
     (within_all count reports (All-tail (λ n. n < count) r.finding (map (λ (r : Report). r.finding) reports) all))
 
 pub numbers_taken : (reports : List Report) (i : ℕ) (r : Report) → i < length reports → r ≡ get_or reports i r →

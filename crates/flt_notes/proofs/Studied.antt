@@ -44,7 +44,8 @@ pub get_last : {X : Type 0} (xs : List X) (y : X) → slice_get (xs ++ y ∷ [])
 get_last [] y = refl
 get_last (x ∷ xs) y = get_last xs y
 
-pub one_taken : (each : List Studied) (i : ℕ) (s : Studied) → i < length each → s ≡ get_or each i s → take (i + 1) each ≡ take i each ++ s ∷ []
+pub one_taken : (each : List Studied) (i : ℕ) (s : Studied) →
+    i < length each → s ≡ get_or each i s → take (i + 1) each ≡ take i each ++ s ∷ []
 one_taken each i s h is = take_more each i s h ∙ ap (λ x. take i each ++ x ∷ []) (sym is)
 
 -- one more text
@@ -110,14 +111,16 @@ module _ (r : Readings) (are : AreReadings r) (s : Studied) (new : Readings) whe
   }
 
 -- each file is what it is said to be
-pub studied_at : (trees : List Tree) (place : ℕ) (each : List Studied) (i : ℕ) (d : Studied) → AreStudied trees place each → i < length each →
+pub studied_at : (trees : List Tree) (place : ℕ) (each : List Studied) (i : ℕ) (d : Studied) →
+    AreStudied trees place each → i < length each →
     IsStudied trees (get_or each i d)
 studied_at trees place [] i d are h = absurd (omega (arith, h))
 studied_at trees place (s ∷ each) zero d are h = are.0
 studied_at trees place (s ∷ each) (suc i) d are h = studied_at trees (place + known s.reading) each i d are.2 (omega (arith, h))
 
 -- and the tree of one that parses has the place that stands behind those before it
-pub placed_at : (trees : List Tree) (place : ℕ) (each : List Studied) (i : ℕ) (d : Studied) → AreStudied trees place each → i < length each →
+pub placed_at : (trees : List Tree) (place : ℕ) (each : List Studied) (i : ℕ) (d : Studied) →
+    AreStudied trees place each → i < length each →
     IsPlaced (place + known_in (take i each)) (get_or each i d).reading
 placed_at trees place [] i d are h = absurd (omega (arith, h))
 placed_at trees place (s ∷ each) zero d are h =

@@ -46,7 +46,8 @@ five_behind : (o a b c d e : List ℕ) → (o ++ a) ++ b ++ c ++ d ++ e ≡ o ++
 five_behind o a b c d e = simp append_assoc
 
 again_rows_are : (text : Text) (found : List Finding) (setting : Option Setting) (again : Option Again) (rows : List ℕ) →
-    IfSome setting (IsSetting text found) → (setting ≡ None → again ≡ None) → AreSettingRows setting again rows → AreAgainRows text again rows
+    IfSome setting (IsSetting text found) → (setting ≡ None → again ≡ None) → AreSettingRows setting again rows →
+    AreAgainRows text again rows
 again_rows_are text found None None rows is none are = are
 again_rows_are text found None (Some a) rows is none are = let no : Some a ≡ None = none refl in absurd (cc no)
 again_rows_are text found (Some s) None rows is none are = are
@@ -138,7 +139,8 @@ body_of_none look trees k lines old new none are added same = record {
 
 -- ---- the whole of one text
 
-pub known_print : TextsWithoutCirclesAreOrderly → (look : Look) (trees : List Tree) (k : Known) (first before : Output) (p : Part) → IsKnownIn look trees k →
+pub known_print : TextsWithoutCirclesAreOrderly → (look : Look) (trees : List Tree) (k : Known) (first before : Output) (p : Part) →
+    IsKnownIn look trees k →
     first.bytes.items ≡ [] → first.noted ≡ [] → AddsBody look trees k first before → HasNotes trees k before.noted →
     p.output.bytes.items ≡ before.bytes.items ++ quieted (findings_closing k.found.now) → p.output.noted ≡ before.noted →
     p.tally.status ≡ warned_status look.options.is_strict k.found.now k.details.now → p.tally.findings ≡ length k.found.now →
@@ -194,7 +196,8 @@ prints_notice look trees s alone n lines before p same are first added = record 
 
 -- one more
 pub prints_more : (look : Look) (trees : List Tree) (place : ℕ) (sources : List Source) (notes : List Noted) (printed : List ℕ)
-    (greatest findings files : ℕ) (s : Source) (r : Reading) (p : Part) → ArePrints look trees place sources notes printed greatest findings files →
+    (greatest findings files : ℕ) (s : Source) (r : Reading) (p : Part) →
+    ArePrints look trees place sources notes printed greatest findings files →
     IsPlaced place r → (known r ≡ 0 → p.output.noted ≡ []) → IsPrintOf look trees s r p →
     ArePrints look trees (place + known r) (sources ++ s ∷ []) (notes ++ p.output.noted) (printed ++ p.output.bytes.items ++ 10 ∷ [])
     (max greatest p.tally.status) (findings + p.tally.findings) (files + some p.tally.findings)
