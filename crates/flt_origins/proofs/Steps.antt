@@ -139,7 +139,8 @@ mode_behind (instruction.Repeat turns block next) outcome gives t = refl
 mode_behind (instruction.Return status) outcome gives t = refl
 mode_behind instruction.End outcome gives t = refl
 
-failed_draining : (c : Invocation) (effects : Option Effects) (gives : Bool) (t : Situation) → (failed c effects gives t).draining ≡ t.draining
+failed_draining : (c : Invocation) (effects : Option Effects) (gives : Bool) (t : Situation) →
+    (failed c effects gives t).draining ≡ t.draining
 failed_draining c (Some e) gives t = ap (λ (x : Situation). x.draining) (call_leaves c e gives t)
 failed_draining c None gives t = refl
 
@@ -257,7 +258,8 @@ found_context : (c v : ContextVariable) (s : VariableStatus) (t : Situation) (ou
     same_status s (context_now t v) ≡ true → agrees (not (is_null (context_now t c))) outcome ≡ true → finds b s outcome ≡ true
 found_context c v s t outcome true same so e =
     ap (λ x. agrees (not x) outcome) (null_alike s (context_now t v) so)
-    ∙ sym (ap (λ p. agrees (not (is_null (slice_index_or t.contexts p Null))) outcome) (eqb-true (context_place c) (context_place v) same)) ∙ e
+    ∙ sym (ap (λ p. agrees (not (is_null (slice_index_or t.contexts p Null))) outcome)
+    (eqb-true (context_place c) (context_place v) same)) ∙ e
 found_context c v s t outcome false same so e = refl
 
 found_operation : (c v : OperationVariable) (s : VariableStatus) (t : Situation) (outcome b : Bool) →
@@ -265,12 +267,14 @@ found_operation : (c v : OperationVariable) (s : VariableStatus) (t : Situation)
     agrees (not (is_null (operation_now t c))) outcome ≡ true → finds b s outcome ≡ true
 found_operation c v s t outcome true same so e =
     ap (λ x. agrees (not x) outcome) (null_alike s (operation_now t v) so)
-    ∙ sym (ap (λ p. agrees (not (is_null (slice_index_or t.operations p Null))) outcome) (eqb-true (operation_place c) (operation_place v) same)) ∙ e
+    ∙ sym (ap (λ p. agrees (not (is_null (slice_index_or t.operations p Null))) outcome)
+    (eqb-true (operation_place c) (operation_place v) same)) ∙ e
 found_operation c v s t outcome false same so e = refl
 
 test_passes : (q : Test) (outcome : Bool) (f : Fact) (t : Situation) → is_so f t ≡ true → may_find q t outcome ≡ true →
     may_find_with q f outcome ≡ true
-test_passes (test.ContextIsSome c) outcome (fact.Context v s) t so e = found_context c v s t outcome (context_place c == context_place v) refl so e
+test_passes (test.ContextIsSome c) outcome (fact.Context v s) t so e =
+    found_context c v s t outcome (context_place c == context_place v) refl so e
 test_passes (test.ContextIsSome c) outcome (fact.Operation v s) t so e = refl
 test_passes (test.ContextIsSome c) outcome (fact.Mode m) t so e = refl
 test_passes (test.ContextIsSome c) outcome (fact.Draining b) t so e = refl
