@@ -15,7 +15,8 @@ use Rattle.flt_places.specs.Places.{behind, place_in, one_column_on, part_of, re
 -- ---- places
 
 -- a byte that isn't behind the text's front stands in the line there
-before : (line start at o : ℕ) (z : Text) → at ≤ o → counted line start (starts_from o z) at ≡ record { line = line; column = at - start + 1 }
+before : (line start at o : ℕ) (z : Text) → at ≤ o →
+    counted line start (starts_from o z) at ≡ record { line = line; column = at - start + 1 }
 before line start at o [] h = refl
 before line start at o (b ∷ z) h = go (b == 10) refl (before line start at (o + 1) z (omega (arith, h)))
   where
@@ -32,13 +33,15 @@ along line start o (suc k) (b ∷ z) h few =
     go (b == 10) refl (λ l s less. along l s (o + 1) k z less (omega (arith, few)))
   where
     go : (x : Bool) → (b == 10) ≡ x →
-        ((l s : ℕ) → s ≤ o + 1 → counted l s (starts_from (o + 1) z) (o + 1 + k) ≡ behind (record { line = l; column = o + 1 - s + 1 }) (take k z)) →
+        ((l s : ℕ) → s ≤ o + 1 → counted l s (starts_from (o + 1) z) (o + 1 + k) ≡
+        behind (record { line = l; column = o + 1 - s + 1 }) (take k z)) →
         counted line start (starts_from o (b ∷ z)) (o + suc k) ≡
         behind (if b == 10 then record { line = line + 1; column = 1 } else record { line = line; column = o - start + 1 + 1 }) (take k z)
     go true e others = let more : nat_lt (o + suc k) (o + 1) ≡ false = grind (arith, common_steps) in
         let one : o + 1 - (o + 1) + 1 ≡ 1 = omega arith in
         let same : o + suc k ≡ o + 1 + k = omega arith in
-        rw (e, more, same) (others (line + 1) (o + 1) (omega arith) ∙ ap (λ c. behind (record { line = line + 1; column = c }) (take k z)) one)
+        rw (e, more, same) (others (line + 1) (o + 1) (omega arith) ∙
+        ap (λ c. behind (record { line = line + 1; column = c }) (take k z)) one)
     go false e others =
         let further : o + 1 - start + 1 ≡ o - start + 1 + 1 = omega (arith, h) in
         let same : o + suc k ≡ o + 1 + k = omega arith in
@@ -114,7 +117,8 @@ starts_behind o [] i d h = absurd (omega (arith, h))
 starts_behind o (b ∷ z) i d h = go (b == 10) refl i h (starts_behind (o + 1) z)
   where
     go : (x : Bool) → (b == 10) ≡ x → (i : ℕ) → i < length (starts_from o (b ∷ z)) →
-        ((i d : ℕ) → i < length (starts_from (o + 1) z) → o + 1 < get_or (starts_from (o + 1) z) i d) → o < get_or (starts_from o (b ∷ z)) i d
+        ((i d : ℕ) → i < length (starts_from (o + 1) z) → o + 1 < get_or (starts_from (o + 1) z) i d) →
+        o < get_or (starts_from o (b ∷ z)) i d
     go true e zero h later = rw e (omega arith)
     go true e (suc i) h later = rw e (omega (arith, later i d (let l = rw e at h in omega (arith, l))))
     go false e i h later = rw e (omega (arith, later i d (rw e at h)))
