@@ -380,7 +380,8 @@ mutual
   statement_free {scope = scope} {d = d} {o = o} (grammar.repeat {r = r} {n = n} {body = body} (words.next {t = t} e) p h q) =
       let dp = number_free p in
       shift_token t e refl (shift dp (made (block_free q) (λ j z y.
-      subst (λ l. (s : StatementAt scope d (suc r) (t ∷ (dp.taken ++ j)) (Repeat l n body) z) × (Unit {0} → front z ≡ front o → StatementOver s))
+      subst (λ l. (s : StatementAt scope d (suc r) (t ∷ (dp.taken ++ j)) (Repeat l n body) z) ×
+      (Unit {0} → front z ≡ front o → StatementOver s))
       (behind_span t dp j) (grammar.repeat (words.next e) (dp.again j) h y, λ over same. tt))))
 
   else_free : {scope : Scope} {d r : ℕ} {i o : Input} {ss : List Statement} (p : ElseAt scope d r i ss o) →
