@@ -36,7 +36,8 @@ record Agree (X : Type 0) (a b : Statement-F X → X) : Type 0 where
   acts : (m n : Span) (x : Action) → a (Statement-F.Act m x) ≡ b (Statement-F.Act n x)
   calls : (m n : Span) (c : PlainCall) → a (Statement-F.Call m c) ≡ b (Statement-F.Call n c)
   returns : (m n : Span) (s : Option Status) → a (Statement-F.Return m s) ≡ b (Statement-F.Return n s)
-  choices : (m n : Span) (c d : Condition) (gs rs : List X) → AlikeCondition c d → a (Statement-F.If m c gs rs) ≡ b (Statement-F.If n d gs rs)
+  choices : (m n : Span) (c d : Condition) (gs rs : List X) →
+      AlikeCondition c d → a (Statement-F.If m c gs rs) ≡ b (Statement-F.If n d gs rs)
   repeats : (m n : Span) (turns : ℕ) (bs : List X) → a (Statement-F.Repeat m turns bs) ≡ b (Statement-F.Repeat n turns bs)
 
 unrolled : (X : Type 0) (step : Statement-F X → X) (s : Statement) (y : Statement-F Statement) → roll-Statement y ≡ s →
@@ -222,8 +223,10 @@ body_alike p = folds_alike Statement step_without step_without without_agree p
 callbacks_alike : {cs ds : List Callback} → AlikeCallbacks cs ds → map callback_without cs ≡ map callback_without ds
 callbacks_alike no_callback = refl
 callbacks_alike (one_callback {c} {d} {cs} {ds} a r) =
-    ap (λ h. record { head = h; position = nowhere; span = no_span; body = map statement_without c.body; end = no_span } ∷ map callback_without cs) a.head
-    ∙ ap (λ b. record { head = d.head; position = nowhere; span = no_span; body = b; end = no_span } ∷ map callback_without cs) (body_alike a.body)
+    ap (λ h. record { head = h; position = nowhere; span = no_span; body = map statement_without c.body; end = no_span } ∷
+    map callback_without cs) a.head
+    ∙ ap (λ b. record { head = d.head; position = nowhere; span = no_span; body = b; end = no_span } ∷ map callback_without cs)
+    (body_alike a.body)
     ∙ ap (λ l. callback_without d ∷ l) (callbacks_alike r)
 
 queue_alike : (q r : Option Position) → is_some q ≡ is_some r → option_map (λ at. nowhere) q ≡ option_map (λ at. nowhere) r
