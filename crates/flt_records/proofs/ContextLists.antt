@@ -85,7 +85,8 @@ link_is owners vs ls x h =
 pub changed : (owners new : List Allocated) (vs ws : List ℕ) (ls ms : List (Option Link)) (x : ℕ) (c : Context) →
     length new ≡ length owners → x < length owners →
     context_from (get_or new x no_one) (get_or ws x 0) (get_or ms x None) ≡ c →
-    ((n : ℕ) → n ≢ x → (get_or new n no_one ≡ get_or owners n no_one) × (get_or ws n 0 ≡ get_or vs n 0) × (get_or ms n None ≡ get_or ls n None)) →
+    ((n : ℕ) → n ≢ x → (get_or new n no_one ≡ get_or owners n no_one) × (get_or ws n 0 ≡ get_or vs n 0) ×
+    (get_or ms n None ≡ get_or ls n None)) →
     contexts_of new ws ms ≡ set (contexts_of owners vs ls) x c
 changed owners new vs ws ls ms x c e l is same =
     let old_long = length_is owners vs ls in

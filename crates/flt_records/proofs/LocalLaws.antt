@@ -75,7 +75,8 @@ module _ (draining : Bool) (steps made : ℕ) (old : Activation) (whole : Option
   none_more is = sym unrolled ∙ ap (option_and_then (local_steps draining (steps - (made + 1)))) is
 
 -- where nothing remains, there is none
-pub none_of_ended : (draining : Bool) (steps : ℕ) (act : Activation) → (steps ≡ 0 → ⊥) → act.rest ≡ [] → local_steps draining steps act ≡ None
+pub none_of_ended : (draining : Bool) (steps : ℕ) (act : Activation) →
+    (steps ≡ 0 → ⊥) → act.rest ≡ [] → local_steps draining steps act ≡ None
 none_of_ended draining zero act some none = absurd (some refl)
 none_of_ended draining (suc n) act some none =
     ap (λ (rest : List Statement). option_and_then (local_steps draining n) (local_step draining act rest)) none

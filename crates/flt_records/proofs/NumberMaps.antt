@@ -55,7 +55,7 @@ appended old k x e n =
     ⊎_elim (λ (l : n < length old). get_or_append_left old (x ∷ []) None n l)
     (λ (l : length old ≤ n).
     let more : length old < n = grind (arith, e, l, ne) in
-    get_or_past (old ++ x ∷ []) n None (let long = length-append old (x ∷ []) in omega (arith, long, more)) ∙ sym (get_or_past old n None l))
-    (cases_lt n (length old))
+    get_or_past (old ++ x ∷ []) n None (let long = length-append old (x ∷ []) in omega (arith, long, more)) ∙
+    sym (get_or_past old n None l)) (cases_lt n (length old))
     ∙ ap (λ (b : Bool). if b then x else get_or old n None) (sym (tells_other k n ne)))
     (cases_eq n k)

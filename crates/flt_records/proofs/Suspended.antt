@@ -23,12 +23,14 @@ unfolding parts_from
 block_first b blocks [] h = refl
 block_first b blocks (r ∷ repeats) h = rw h refl
 
-repeat_first : (b : Bor (List Statement)) (blocks : List (Bor (List Statement))) (r : Begun) (repeats : List Begun) → is_place b.now ≡ true →
+repeat_first : (b : Bor (List Statement)) (blocks : List (Bor (List Statement))) (r : Begun) (repeats : List Begun) →
+    is_place b.now ≡ true →
     parts_from (b ∷ blocks) (r ∷ repeats) ≡ Repeat r.span r.turns r.body ∷ parts_from blocks repeats
 unfolding parts_from
 repeat_first b blocks r repeats h = rw h refl
 
-alone_first : (b : Bor (List Statement)) (blocks : List (Bor (List Statement))) → parts_from (b ∷ blocks) [] ≡ Block b ∷ parts_from blocks []
+alone_first : (b : Bor (List Statement)) (blocks : List (Bor (List Statement))) →
+    parts_from (b ∷ blocks) [] ≡ Block b ∷ parts_from blocks []
 unfolding parts_from
 alone_first b blocks = refl
 

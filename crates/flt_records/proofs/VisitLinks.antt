@@ -119,7 +119,8 @@ latest_added : (visits : List Visit) (x : Visit) (o : ℕ) (r : Option ℕ) (thi
 latest_added visits x o r true e h = latest_here visits x o e
 latest_added visits x o r false e h = latest_past visits x o r e h
 
-pub added : (visits : List Visit) (settled : List Bool) (before last more_last : List (Option ℕ)) (counts more_counts : List ℕ) (x : Visit) →
+pub added : (visits : List Visit) (settled : List Bool) (before last more_last : List (Option ℕ))
+    (counts more_counts : List ℕ) (x : Visit) →
     AreVisits visits settled before last counts → ((o : ℕ) → count more_counts o ≡ count counts o + one_if x.operation o) →
     ((o : ℕ) → get_or more_last o None ≡ (if x.operation == o then Some (length visits) else get_or last o None)) →
     AreVisits (visits ++ x ∷ []) (settled ++ false ∷ []) (before ++ get_or last x.operation None ∷ []) more_last more_counts

@@ -176,7 +176,8 @@ less_of : (v : ℕ) (es : List (Option Entry)) (t : ℕ) (e : Entry) → get_or 
 less_of v [] t e is = absurd (cc)
 less_of v (None ∷ es) zero e is = absurd (cc)
 less_of v (None ∷ es) (suc t) e is = less_of v es t e is
-less_of v (Some x ∷ es) zero e is = let it : x ≡ e = cc in in_cons v x (present es) ∙ ap (λ (y : Entry). one_if y.visit v + in_queue v (present es)) it
+less_of v (Some x ∷ es) zero e is = let it : x ≡ e = cc in
+    in_cons v x (present es) ∙ ap (λ (y : Entry). one_if y.visit v + in_queue v (present es)) it
 less_of v (Some x ∷ es) (suc t) e is =
     let r = less_of v es t e is in
     let a = in_cons v x (present es) in
@@ -199,7 +200,8 @@ still_taken (None ∷ es) zero (suc front) h = h
 still_taken (None ∷ es) (suc t) (suc front) h = still_taken es t front h
 still_taken (Some e ∷ es) t (suc front) h = absurd (cc)
 
-still_none : (v k t : ℕ) (es : List (Option Entry)) → has_visit v (get_or es k None) ≡ false → has_visit v (get_or (set es t None) k None) ≡ false
+still_none : (v k t : ℕ) (es : List (Option Entry)) →
+    has_visit v (get_or es k None) ≡ false → has_visit v (get_or (set es t None) k None) ≡ false
 still_none v k t [] h = refl
 still_none v zero zero (x ∷ es) h = refl
 still_none v (suc k) zero (x ∷ es) h = h
