@@ -139,7 +139,8 @@ pub less : (c d : Counted) (totals new : List ℕ) (known a x : ℕ) → AreTota
     (0 < count totals a → (b : ℕ) → count totals b ≡ count new b + one_if a b) → AreTotals d new known
 unfolding times_held
 less c d totals new known a x are some h t =
-    let within : x < known = ⊎_elim (λ (l : x < known). l) (λ (l : known ≤ x). absurd (omega (arith, are.bounded a x l, some))) (cases_lt x known) in
+    let within : x < known =
+    ⊎_elim (λ (l : x < known). l) (λ (l : known ≤ x). absurd (omega (arith, are.bounded a x l, some))) (cases_lt x known) in
     let total : 0 < count totals a = omega (arith, are.each a, sum_has known x (times_held c a) within, some) in
     record {
       each = λ b. omega (arith, t total b, are.each b, sum_of a x (times_held d) (times_held c) (times_more d c a x h) known b within);
