@@ -1,5 +1,5 @@
-//! Quick fixes of a fault or a finding: an editor may write the word that is probably meant, or release a context or a lock that is held at the end
-//! of a path.
+//! Quick fixes of a fault or a finding: an editor may write the word that is probably meant,
+//! or release a context or a lock that is held at the end of a path.
 //! An edit for a finding is offered only if the text has fewer findings after it.
 
 use crate::edits::{Edit, is_better, put_action};
