@@ -33,7 +33,8 @@ context_there cs x = get_or-map context_of cs x ctx.no_context
 -- one context is changed
 changed : (f : ctx.Context → ctx.Context) (g : Context → Context) → ((c : ctx.Context) → context_of (f c) ≡ g (context_of c)) →
     (s : Store) (t : ctx.ContextTable) (x : ℕ) →
-    with_contexts s (ctx.with_context t x (f (ctx.context_at t x))) ≡ with_context (with_contexts s t) x (g (context_at (with_contexts s t) x))
+    with_contexts s (ctx.with_context t x (f (ctx.context_at t x))) ≡
+    with_context (with_contexts s t) x (g (context_at (with_contexts s t) x))
 changed f g same s t x =
     ap (λ (cs : List Context). record s { contexts = cs }) (map-set context_of t.contexts x (f (ctx.context_at t x))
     ∙ ap (λ (c : Context). set (map context_of t.contexts) x c) (same (ctx.context_at t x) ∙ ap g (sym (context_there t.contexts x))))
@@ -91,13 +92,15 @@ link_made t new x k None wanted is none some = none is
 link_made t new x k (Some y) wanted is none some = some y is
 
 -- no filter is closed by it
-pub closed_same : (t : ctx.ContextTable) (x : ℕ) (k : at.Key) (over : Option ℕ) (wanted : Bool) → (after_link t x k over wanted).closed ≡ t.closed
+pub closed_same : (t : ctx.ContextTable) (x : ℕ) (k : at.Key) (over : Option ℕ) (wanted : Bool) →
+    (after_link t x k over wanted).closed ≡ t.closed
 closed_same t x k None wanted = refl
 closed_same t x k (Some y) true = refl
 closed_same t x k (Some y) false = refl
 
 pub link_over_carried : (s : Store) (t : ctx.ContextTable) (x : ℕ) (k : at.Key) (over : Option ℕ) (old : Option ContextVariable) →
-    with_contexts s (after_link t x k over (is_some old)) ≡ after_change (with_contexts s t) (change.Link x k.filter (key_of k.target) over old)
+    with_contexts s (after_link t x k over (is_some old)) ≡
+    after_change (with_contexts s t) (change.Link x k.filter (key_of k.target) over old)
 link_over_carried s t x k None old = put_carried s t x k
 link_over_carried s t x k (Some y) old =
     put_carried s (ctx.after_unlink t y (is_some old)) x k ∙ ap (λ (r : Store). put_link r x (link_of k)) (unlink_carried s t y old)

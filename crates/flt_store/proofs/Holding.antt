@@ -15,7 +15,8 @@ abbrev pub is_other : ℕ → Holder → Bool
 is_other a h = not (h.activation == a)
 
 -- an activation that stands nowhere is no holder
-pub none_of : (a : ℕ) (xs : List (Option Holder)) → ((q : ℕ) → is_of a (at_place xs q) ≡ false) → filter (is_other a) (standing xs) ≡ standing xs
+pub none_of : (a : ℕ) (xs : List (Option Holder)) → ((q : ℕ) → is_of a (at_place xs q) ≡ false) →
+    filter (is_other a) (standing xs) ≡ standing xs
 none_of a [] h = refl
 none_of a (None ∷ xs) h = none_of a xs (λ q. h (suc q))
 none_of a (Some x ∷ xs) h =
@@ -144,7 +145,8 @@ past_end [] = refl
 past_end (x ∷ xs) = past_end xs
 
 -- an activation that stands at a place
-pub stands : (xs : List (Option Holder)) (n : List (ℕ × ℕ)) (c k a p : ℕ) → AreNoted xs n c k → Some p ≡ place_in n a → is_of a (at_place xs p) ≡ true
+pub stands : (xs : List (Option Holder)) (n : List (ℕ × ℕ)) (c k a p : ℕ) → AreNoted xs n c k → Some p ≡ place_in n a →
+    is_of a (at_place xs p) ≡ true
 stands xs n c k a p h is = h.there a p ∙ ap (is_place p) (sym is) ∙ eqb_same p
 
 -- stands within the places
@@ -202,7 +204,8 @@ module _ (xs : List (Option Holder)) (n m : List (ℕ × ℕ)) (c k : ℕ) (x : 
       by_tests true own true last =
           let b_is = eq_of _ _ own in
           let q_is = eq_of _ _ last in
-          rw (← q_is) (ap (is_of b) (at_end xs (Some x)) ∙ own ∙ sym (ap (is_place (length xs)) (ap (place_in m) (sym b_is) ∙ here) ∙ eqb_same (length xs)))
+          rw (← q_is) (ap (is_of b) (at_end xs (Some x)) ∙ own ∙
+          sym (ap (is_place (length xs)) (ap (place_in m) (sym b_is) ∙ here) ∙ eqb_same (length xs)))
       by_tests true own false last =
           let b_is = eq_of _ _ own in
           ap (is_of b) (at_other xs (Some x) q (λ e. ne_of _ _ last (sym e))) ∙ h.there b q ∙
@@ -321,7 +324,8 @@ module _ (xs : List (Option Holder)) (n : List (ℕ × ℕ)) (c k a : ℕ) (h : 
 
 -- ---- where the holders are walked
 
-pub walk_others : (a : ℕ) (xs : List (Option Holder)) → standing (filter (λ (o : Option Holder). not (is_of a o)) xs) ≡ filter (is_other a) (standing xs)
+pub walk_others : (a : ℕ) (xs : List (Option Holder)) →
+    standing (filter (λ (o : Option Holder). not (is_of a o)) xs) ≡ filter (is_other a) (standing xs)
 walk_others a [] = refl
 walk_others a (None ∷ xs) = walk_others a xs
 walk_others a (Some x ∷ xs) = by_test (x.activation == a) refl (walk_others a xs)
@@ -357,7 +361,8 @@ stands_so a None is = absurd (cc)
 stands_so a (Some x) is = (x, refl)
 
 -- what is read at a place where the activation stands, whatever is read past the last place
-pub same_place : (a : ℕ) (xs : List (Option Holder)) (p : ℕ) (d : Option Holder) → is_of a (at_place xs p) ≡ true → get_or xs p d ≡ at_place xs p
+pub same_place : (a : ℕ) (xs : List (Option Holder)) (p : ℕ) (d : Option Holder) →
+    is_of a (at_place xs p) ≡ true → get_or xs p d ≡ at_place xs p
 same_place a [] p d so = absurd (cc)
 same_place a (x ∷ xs) zero d so = refl
 same_place a (x ∷ xs) (suc p) d so = same_place a xs p d so
