@@ -398,7 +398,8 @@ token_first : (b last : ℕ) (at : Position) (off : ℕ) (z : Text) → is_blank
     ∷ (if is_fault (token (b ∷ z)).0.kind then [] else tokens_from ((token (b ∷ z)).1 - 1) false b (past last at) (off + 1) z)
 token_first b last at off z e h = rw (h, e) refl
 
-here_token : {text : Text} {found : Input} {line from : ℕ} {end : Position} (b : ℕ) (z : Text) (r : IsCut text found line from end (b ∷ z)) →
+here_token : {text : Text} {found : Input} {line from : ℕ} {end : Position} (b : ℕ) (z : Text)
+    (r : IsCut text found line from end (b ∷ z)) →
     let t = token (b ∷ z) in
     record { word = t.0; position = past r.last r.at; start = r.off; end = r.off + t.1 } ≡ token_here text line from (b ∷ z)
 here_token {text} {line = line} {from} b z r =
@@ -433,7 +434,8 @@ takes {text} {found} {line} {from} {end} b z r e h some fits good =
         ∷ (if is_fault (token (b ∷ z)).0.kind then [] else tokens_from ((token (b ∷ z)).1 - 1) false b (past r.last r.at) (r.off + 1) z)
         ≡ token_here text line from (b ∷ z) ∷ [] ++ tokens_from len false b (past r.last r.at) (r.off + 1) z
     stands len is =
-        ap (λ (t : Token). t ∷ (if is_fault (token (b ∷ z)).0.kind then [] else tokens_from ((token (b ∷ z)).1 - 1) false b (past r.last r.at) (r.off + 1) z))
+        ap (λ (t : Token). t ∷
+        (if is_fault (token (b ∷ z)).0.kind then [] else tokens_from ((token (b ∷ z)).1 - 1) false b (past r.last r.at) (r.off + 1) z))
         (here_token b z r)
         ∙ ap (λ (i : Input). token_here text line from (b ∷ z) ∷ i)
         (ap (λ x. if x then [] else tokens_from ((token (b ∷ z)).1 - 1) false b (past r.last r.at) (r.off + 1) z) good
@@ -461,9 +463,11 @@ faults {text} {found} {line} {from} {end} b z r e h bad =
     r.same
     ∙ ap (λ x. found ++ x)
     (token_first b r.last r.at r.off z e h
-    ∙ (ap (λ (t : Token). t ∷ (if is_fault (token (b ∷ z)).0.kind then [] else tokens_from ((token (b ∷ z)).1 - 1) false b (past r.last r.at) (r.off + 1) z))
+    ∙ (ap (λ (t : Token). t ∷
+    (if is_fault (token (b ∷ z)).0.kind then [] else tokens_from ((token (b ∷ z)).1 - 1) false b (past r.last r.at) (r.off + 1) z))
     (here_token b z r)
-    ∙ ap (λ x. token_here text line from (b ∷ z) ∷ (if x then [] else tokens_from ((token (b ∷ z)).1 - 1) false b (past r.last r.at) (r.off + 1) z)) bad))
+    ∙ ap (λ x. token_here text line from (b ∷ z) ∷
+    (if x then [] else tokens_from ((token (b ∷ z)).1 - 1) false b (past r.last r.at) (r.off + 1) z)) bad))
 
 end_is : {text : Text} {found : Input} {line from : ℕ} {end : Position} (r : IsCut text found line from end []) →
     one_column_on r.at ≡ end_of line from end
@@ -529,7 +533,8 @@ feed_step text found line from end at (b ∷ z) r h e p =
     subst (λ (y : Text). IsCut text found (line + 1) (length y) at y) (sym same)
     (subst (λ (q : Position). IsCut text found (line + 1) (length z) q z) (sym place) (feeds b z r e))
 
-pub feed_spaces_step : (text : Text) (found : Input) (line from : ℕ) (end at : Position) (rest y : Text) → IsCut text found line from end rest →
+pub feed_spaces_step : (text : Text) (found : Input) (line from : ℕ) (end at : Position) (rest y : Text) →
+    IsCut text found line from end rest →
     1 ≤ length rest → slice_index rest 0 ≡ 10 →
     at ≡ record { line = line; column = from - length (take (length rest - 1) (drop 1 rest)) + 1 } →
     y ≡ after_spaces (take (length rest - 1) (drop 1 rest)) →
@@ -592,8 +597,8 @@ token_step text found more line from end [] len r h e n m is some fits = absurd 
 token_step text found more line from end (b ∷ z) len r h e n m is some fits =
     let t = token (b ∷ z) in
     subst (λ (i : Input). IsCut text i line from end (take (length (b ∷ z) - len) (drop len (b ∷ z)))) (sym m)
-    (subst (λ (n : ℕ). IsCut text (found ++ token_here text line from (b ∷ z) ∷ []) line from end (take (length (b ∷ z) - n) (drop n (b ∷ z))))
-    (sym (leads t len is some))
+    (subst (λ (n : ℕ). IsCut text (found ++ token_here text line from (b ∷ z) ∷ []) line from end
+    (take (length (b ∷ z) - n) (drop n (b ∷ z)))) (sym (leads t len is some))
     (subst (λ (y : Text). IsCut text (found ++ token_here text line from (b ∷ z) ∷ []) line from end y) (sym (all_after t.1 (b ∷ z)))
     (takes b z r e (not_equal b 35 n) fits.0 fits.1 (is_one t len is some))))
 
@@ -629,5 +634,6 @@ pub end_step : (text : Text) (found more : Input) (line from : ℕ) (end at : Po
 end_step text found more line from end at [] w r h e p m =
     m
     ∙ (ap (λ (v : Word). found ++ record { word = v; position = at; start = length text; end = length text } ∷ []) e
-    ∙ (ap (λ (q : Position). found ++ record { word = word k.End; position = q; start = length text; end = length text } ∷ []) p ∙ sym (ends r)))
+    ∙ (ap (λ (q : Position). found ++ record { word = word k.End; position = q; start = length text; end = length text } ∷ []) p ∙
+    sym (ends r)))
 end_step text found more line from end at (b ∷ z) w r h e p m = absurd (omega arith)

@@ -10,7 +10,8 @@ use Rattle.flt_syntax.specs.declared.token.Kind.{Kind}
 use Rattle.flt_tree.specs.Names.{Text, is_word}
 
 -- a table that has all words of the vocabulary with these four bytes in front has those of each text that begins with them
-pub found_by_four : (table : List (Text × Kind)) (d : ℕ) (name : Text) → 4 ≤ length name → slice_index name 0 ≡ 70 → slice_index name 1 ≡ 108 →
+pub found_by_four : (table : List (Text × Kind)) (d : ℕ) (name : Text) →
+    4 ≤ length name → slice_index name 0 ≡ 70 → slice_index name 1 ≡ 108 →
     slice_index name 2 ≡ 116 → d ≡ slice_index name 3 →
     ((rest : Text) → lookup table (70 ∷ 108 ∷ 116 ∷ d ∷ rest) ≡ lookup vocabulary (70 ∷ 108 ∷ 116 ∷ d ∷ rest)) →
     lookup table name ≡ lookup vocabulary name
