@@ -16,7 +16,8 @@ whole_le rows block = div-mul-le_self rows block
 
 -- ---- how far rows are alike
 
-cons_more : (told : List ℕ) (x y : Row) (xs ys : List Row) → tell_alike told x y ≡ true → alike told (x ∷ xs) (y ∷ ys) ≡ suc (alike told xs ys)
+cons_more : (told : List ℕ) (x y : Row) (xs ys : List Row) →
+    tell_alike told x y ≡ true → alike told (x ∷ xs) (y ∷ ys) ≡ suc (alike told xs ys)
 unfolding alike
 cons_more told x y xs ys e = rw e
 
@@ -187,7 +188,8 @@ folds_more told (r ∷ rs) folds all number f within e some so_far =
     (sym a) (λ h. next_fold told _ _ number f h some) e in
     let b : drop (f.block + f.repeated) (drop number rows) ≡ drop (number + f.block + f.repeated) rows
     = drop-drop (f.block + f.repeated) number rows ∙ ap (λ n. drop n rows) (omega arith) in
-    append_assoc folds (f ∷ []) _ ∙ ap (λ fs. folds ++ f ∷ folds_after told (number + f.block + f.repeated) 0 fs) (sym b) ∙ ap (λ fs. folds ++ fs) (sym step) ∙ so_far
+    append_assoc folds (f ∷ []) _ ∙ ap (λ fs. folds ++ f ∷ folds_after told (number + f.block + f.repeated) 0 fs) (sym b) ∙
+    ap (λ fs. folds ++ fs) (sym step) ∙ so_far
 
 -- no rows are left
 pub folds_end : (told : List ℕ) (rows : List Row) (folds all : List Fold) (number : ℕ) → length rows ≤ number →
