@@ -123,7 +123,8 @@ texts_taken o s all (Ok v) is given items = texts_or o v.items s is items ∙ ap
 texts_taken o s all (Err e) is given items = tt
 
 -- what is made of the text behind a reference, or what stands for it where there is none
-module _ {A : Type 0} (f : Text → A) (other : A) (o : Option (Bor Text)) (first : Option Text) (given : option_map (λ s. s.now) o ≡ first) where
+module _ {A : Type 0} (f : Text → A) (other : A) (o : Option (Bor Text)) (first : Option Text)
+    (given : option_map (λ s. s.now) o ≡ first) where
   pub value_or : (s : Bor Text) → o ≡ Some s → f s.now ≡ option_map_or f first other
   value_or s is = rw (← given, is) refl
 
