@@ -182,6 +182,7 @@ unbroken : (o : Option Rule) (m next : Successors) → unless_broken o m ≡ Ok 
 unbroken None m next e = cc
 unbroken (Some r) m next e = cc
 
+-- where a transfer from a proper state breaks no rule, the states to which it leads are proper
 pub transfer_proper : (g : Graph) (callback point : ℕ) (x : State) (next : Successors) → is_proper x ≡ true →
     transfer g callback point x ≡ Ok next → AreProper next
 transfer_proper g callback point x next h e =
