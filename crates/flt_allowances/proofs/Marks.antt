@@ -102,6 +102,7 @@ all_begin text (line ∷ rest) k is =
     (allowances_in (k + 1 + 1) rest)
     ∙ rw (one, others) refl
 
+-- each comment begins with its `#`
 pub begin : CommentsBeginWithMarks
 unfolding allowances_of
 begin text = all_begin text (cut text) 0 refl
