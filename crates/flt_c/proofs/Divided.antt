@@ -257,7 +257,7 @@ module _ (s : Scanner) where
       zero_stays f.Zero = refl
       zero_stays _ = refl
   at_end (m.LineMark w) e =
-    λ v. line_left (marking s.depth (marker_from w)) [] (marker_ends s.depth w v ∙ sym (end_of (marking s.depth (marker_from w) []))) e
+      λ v. line_left (marking s.depth (marker_from w)) [] (marker_ends s.depth w v ∙ sym (end_of (marking s.depth (marker_from w) []))) e
     where
       end_of : (l : List ℕ) → l ++ [] ≡ l
       end_of [] = refl
@@ -321,5 +321,6 @@ rests (joined {s = s} {next = next} {z = z} {ps = ps} p h r) =
     (subst (λ g. Rest next.mode g s.depth rest (bytes ps)) on.front
     (subst (λ d. Rest next.mode next.front d rest (bytes ps)) on.depth (rests r))))
 
+-- a file that is read is a sequence of pieces, and its text is that of their comments
 pub files_are_pieces : FilesArePieces
 files_are_pieces file text e = rests (reads file zero start text e)

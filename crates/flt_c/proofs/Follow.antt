@@ -14,6 +14,7 @@ use Rattle.flt_c.specs.Modes.{is_note, turn}
 use Rattle.flt_c.specs.Places.{past, past_continuation}
 use Rattle.flt_c.specs.Scan.{added, begins, blamed, continuation, end_by, join, join_by, last_line, open_at_end, read, step, step_by, with_front, ◌>>=◌}
 
+-- false isn't true
 pub differ : false ≡ true → ⊥
 differ e = cc
 

@@ -222,5 +222,6 @@ size_laid : (file text : List ℕ) (x : Bool) →
 size_laid file text true e = elim (differ (ap is_ok e)) [ ]
 size_laid file text false e = read_laid file text (annotations file) refl e
 
+-- each byte of the annotations of a file, where they stand in it, is in the file at the same line and column
 pub each_byte_is_in_its_place : EachByteIsInItsPlace
 each_byte_is_in_its_place file text e = size_laid file text (nat_lt 16777216 (length file)) e

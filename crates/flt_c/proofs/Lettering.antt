@@ -187,5 +187,6 @@ size_kept : (file : List ℕ) (found : List Letter) (x : Bool) →
 size_kept file found true e = elim (differ (ap is_fine e)) [ ]
 size_kept file found false e = flaw_kept file found (letters_of file) refl e
 
+-- the letters of a file are its bytes, one after the other
 pub letters_are_the_file : LettersAreTheFile
 letters_are_the_file file found e = size_kept file found (nat_lt 16777216 (length file)) e

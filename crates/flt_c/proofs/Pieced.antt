@@ -94,6 +94,7 @@ module _ (front : Front) (depth : ℕ) where
     is = ap (λ l. l ++ text) h;
   }
 
+  -- a byte of a block that isn't a `*` goes on with the block, and is added where the text has it
   pub block_on : (add next : List ℕ → List ℕ) (b : ℕ) (z text pre : List ℕ) → (b == 42) ≡ false →
       ((body : List ℕ) → pre ++ next body ≡ add (b ∷ body)) → InBlock front depth next z text →
       InBlock front depth add (b ∷ z) (pre ++ text)
@@ -182,6 +183,7 @@ first_of_marker w v = elim v [
   | inr v ↦ elim v [ inl e ↦ rw e refl | inr v ↦ elim v [ inl e ↦ rw e refl | inr e ↦ rw e refl ] ]
 ]
 
+-- after a byte of the marker that isn't its last, what follows is of the marker
 pub next_of_marker : (w : ℕ) → IsOfMarker w → (w == 116) ≡ false → IsOfMarker (following w)
 next_of_marker w v other = elim v [
   | inl e ↦ rw e (inr (inl refl))
@@ -217,6 +219,7 @@ module _ (depth w : ℕ) (v : IsOfMarker w) where
 pub read_whole : (depth : ℕ) (text : List ℕ) → nat_lt 0 depth ≡ false → text ≡ read_at depth text
 read_whole depth text e = rw e refl
 
+-- a comment of a group that is skipped has no text
 pub read_none : (depth : ℕ) (text : List ℕ) → nat_lt 0 depth ≡ true → [] ≡ read_at depth text
 read_none depth text e = rw e refl
 

@@ -46,11 +46,13 @@ module _ (front : Front) (depth b : ℕ) (z text : List ℕ) where
   abbrev depth_past : Bool → ℕ
   depth_past y = if y then depth_after depth front 10 else depth
 
+  -- one more byte of a line comment that isn't an annotation
   pub line_step : (y : Bool) → (b == 10) ≡ y → Rest (if y then m.Code else m.Line) (front_past y) (depth_past y) z text →
       InLine front depth nothing (b ∷ z) text
   line_step true e r = line_ends front depth nothing b z text [] (eqb-true b 10 e) refl r
   line_step false e r = line_on front depth nothing nothing b z text [] e (λ body. refl) r
 
+  -- one more byte of an annotation in a line comment
   pub line_text_step : (y : Bool) → (b == 10) ≡ y → Rest (if y then m.Code else m.LineText) (front_past y) (depth_past y) z text →
       InLine front depth whole (b ∷ z) (b ∷ text)
   line_text_step true e r =
@@ -113,6 +115,7 @@ module _ (front : Front) (depth b : ℕ) (z text : List ℕ) where
     next_valid : (b == w) ≡ true → (b == 116) ≡ false → IsOfMarker (following b)
     next_valid e h = subst (λ c. IsOfMarker (following c)) (sym (eqb-true b w e)) (next_of_marker w v (before_last e h))
 
+    -- one more byte of a line comment that may be marked as an annotation
     pub line_mark_step : (x y u s : Bool) → (b == w) ≡ x → (b == 10) ≡ y → (b == 116) ≡ u → nat_lt 0 depth ≡ s →
         Rest (if not x then (if y then m.Code else m.Line)
         else (if u then (if s then m.Line else m.LineMarked) else m.LineMark (following b)))
@@ -136,6 +139,7 @@ module _ (front : Front) (depth b : ℕ) (z text : List ℕ) where
         let is : c ≡ b = eqb-true c 42 first ∙ sym (eqb-true b 42 h) in
         marker_fails depth w v c body (subst (λ x. (x == w) ≡ false) (sym is) e)
 
+    -- one more byte of a block comment that may be marked as an annotation
     pub block_mark_step : (x y u s : Bool) → (b == w) ≡ x → (b == 42) ≡ y → (b == 116) ≡ u → nat_lt 0 depth ≡ s →
         Rest (if not x then (if y then m.BlockStar else m.Block)
         else (if u then (if s then m.Block else m.BlockMarked) else m.BlockMark (following b)))
@@ -155,6 +159,7 @@ module _ (front : Front) (depth b : ℕ) (z text : List ℕ) where
 
   -- ---- block comments
 
+  -- one more byte of a block comment that isn't an annotation
   pub block_step : (y : Bool) → (b == 42) ≡ y → Rest (if y then m.BlockStar else m.Block) front depth z text →
       InBlock front depth nothing (b ∷ z) text
   block_step true e r = block_at front depth nothing nothing b z text (eqb-true b 42 e) (λ body first. refl) r
@@ -168,12 +173,15 @@ module _ (front : Front) (depth b : ℕ) (z text : List ℕ) where
   pub block_marked_star : (b == 42) ≡ true → InBlock front depth whole (42 ∷ z) text → InBlock front depth marked (b ∷ z) text
   block_marked_star e r = block_at front depth marked whole b z text (eqb-true b 42 e) star_marked r
 
+  -- the byte after a block's marker, where it is neither a `*` nor a `-`, begins the annotation
   pub block_blank : (b == 42) ≡ false → (b == 45) ≡ false → InBlock front depth whole z text → InBlock front depth marked (b ∷ z) (b ∷ text)
   block_blank e dash r = block_on front depth marked whole b z text (b ∷ []) e (λ body. rw dash refl) r
 
+  -- a `-` after a block's marker makes the block no annotation
   pub block_dash : (b == 42) ≡ false → (b == 45) ≡ true → InBlock front depth nothing z text → InBlock front depth marked (b ∷ z) text
   block_dash e dash r = block_on front depth marked nothing b z text [] e (λ body. rw dash refl) r
 
+  -- the byte after a `*` in a block comment ends the block or goes on with it
   pub block_star_step : (x y : Bool) → (b == 47) ≡ x → (b == 42) ≡ y →
       Rest (if x then m.Code else (if y then m.BlockStar else m.Block)) front depth z text →
       InBlock front depth nothing (42 ∷ b ∷ z) text
@@ -190,6 +198,7 @@ module _ (front : Front) (depth b : ℕ) (z text : List ℕ) where
   AfterQuoted quote l false false true = (l ≡ true) × ArePieces f.Nothing (depth_after depth front 10) z text
   AfterQuoted quote l false false false = InQuotes quote false front depth z text
 
+  -- one more byte between quotes ends them, escapes the next or goes on
   pub quoted_step : (quote : ℕ) → (quote == 10) ≡ false → (x y u : Bool) → (b == quote) ≡ x → (b == 92) ≡ y → (b == 10) ≡ u →
       AfterQuoted quote (is_lenient front depth) x y u → InQuotes quote false front depth (b ∷ z) text
   quoted_step quote apart true y true ex ey eu r = elim (two_bytes b quote 10 ex eu apart) [ ]
@@ -206,6 +215,7 @@ module _ (front : Front) (depth b : ℕ) (z text : List ℕ) where
   AfterEscaped quote l true = (l ≡ true) × ArePieces f.Nothing (depth_after depth front 10) z text
   AfterEscaped quote l false = InQuotes quote false front depth z text
 
+  -- the byte after a backslash goes on between the quotes
   pub escaped_step : (quote : ℕ) (u : Bool) → (b == 10) ≡ u → AfterEscaped quote (is_lenient front depth) u →
       InQuotes quote true front depth (b ∷ z) text
   escaped_step quote true eu r = quote_ends quote front depth b z text true (eqb-true b 10 eu) r.0 r.1
@@ -315,6 +325,7 @@ module _ (front : Front) (depth b : ℕ) (z text : List ℕ) where
   front_slash s t true e = rw e refl
   front_slash s t false e = rw (e, s, t) refl
 
+  -- the byte after a `/` begins a comment or goes on with code
   pub slash_step : (s t : Bool) → (b == 47) ≡ s → (b == 42) ≡ t →
       Rest (after_slash b) (next_front m.Slash front b) (depth_after depth (front_after front 47) b) z text →
       ArePieces front depth (47 ∷ b ∷ z) text

@@ -153,5 +153,6 @@ files_stand files [] number text d fresh front all e =
 files_stand files (file ∷ rest) number text d fresh front all e =
     one_more files file rest (files_stand files rest) number text d fresh front all (with_file number text file) refl e
 
+-- each byte of the text of some files stands in C at its line's place plus its column
 pub each_byte_stands : EachByteStands
 each_byte_stands files text e = files_stand files files 0 empty refl refl (λ bytes lines r. r) text e

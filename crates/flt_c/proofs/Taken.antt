@@ -162,6 +162,7 @@ taken file (joined {s = s} {next = next} {z = z} {ps = ps} p h r) i =
       star = λ w. elim (differ (sym (star_is_note s.mode on.outside) ∙ w)) [ ];
     }
 
+-- no byte of an annotation is left out of the text, but a `*/` that closes it
 pub no_byte_is_left_out : NoByteIsLeftOut
 no_byte_is_left_out file text e =
     (taken file (reads file zero start text e)
