@@ -25,6 +25,7 @@ pub atom_same : (s : Standing) (rest : List Statement) (value : Atom) →
 atom_same s rest (atom.Number k) = refl
 atom_same s rest (atom.Variable n) = refl
 
+-- pairs are the same where both their parts are
 pub pair_same : {A B : Type 0} {x y : A} {u v : B} → x ≡ y → u ≡ v → ◌≡◌ {A = A × B} (x, u) (y, v)
 pair_same e h = λ i. (e i, h i)
 
@@ -61,6 +62,7 @@ whole c k read needs effect w granted refused =
 
 module _ {X : Type 0} (store : Store) (c : Caller) (k : Call) (es : List Event) (x : X) (read : Activation → X)
     (needs : X → List (Option Object)) where
+  -- a call is planned where its effect on what it names is, behind the events of the call itself
   pub answers : {E : Type 0} (effect : World → X → List Statement → List Statement → Step) (r : Result Plan E) →
       ((rest : List Statement) → read (activation_with c.standing rest) ≡ x) →
       es ≡ event.Call c.activation k ∷ (uses c.activation (needs x) ++ empties c.activation (needs x)) →
@@ -71,6 +73,7 @@ module _ {X : Type 0} (store : Store) (c : Caller) (k : Call) (es : List Event) 
       (λ plan. Plans store c plan (whole c k read needs effect))
       (λ plan p. plans_call store c plan k es x read (λ _. []) needs effect reads told p) planned
 
+  -- the same where the effect doesn't ask of which filter the caller is
   pub answers_plainly : {E : Type 0} (effect : World → X → List Statement → List Statement → Step) (r : Result Plan E) →
       ((rest : List Statement) → read (activation_with c.standing rest) ≡ x) →
       es ≡ event.Call c.activation k ∷ (uses c.activation (needs x) ++ empties c.activation (needs x)) →

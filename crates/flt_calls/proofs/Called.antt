@@ -19,6 +19,7 @@ told : (e : Event) (own used empty effect : List Event) →
     (e ∷ (own ++ (used ++ empty))) ++ effect ≡ e ∷ (((own ++ used) ++ empty) ++ effect)
 told e own used empty effect = ap (λ (es : List Event). e ∷ (es ++ effect)) (sym (append_assoc own used empty))
 
+-- a plan of a call's effect, behind the events of the call itself, is a plan of the call
 pub called : (w : World) (a : ℕ) (plan : Plan) (k : Call) (own es : List Event) (needs : List (Option Object))
     (granted refused : List Statement) (effect : Step) →
     es ≡ event.Call a k ∷ (own ++ (uses a needs ++ empties a needs)) → IsPlanned w a plan es granted refused effect →
@@ -29,6 +30,7 @@ called w a plan k own es needs granted refused effect is planned = record {
   world = planned.world;
 }
 
+-- a plan of an effect, behind the uses of what it names, is a plan of a read or a test
 pub needed : (w : World) (a : ℕ) (plan : Plan) (es : List Event) (needs : List (Option Object))
     (granted refused : List Statement) (effect : Step) →
     es ≡ uses a needs ++ empties a needs → IsPlanned w a plan es granted refused effect →
@@ -40,6 +42,7 @@ needed w a plan es needs granted refused effect is planned = record {
 
 -- ---- what is read of the activation is what is read of the standing
 
+-- what is read of the caller's standing is what is read of its activation
 pub read_is : {X : Type 0} (read : Activation → X) (c : Caller) (actors : List Actor) (activations : List Activation) (x : X) →
     IsCaller actors activations c →
     ((rest : List Statement) → read (activation_with c.standing rest) ≡ x) → x ≡ read (get_or activations c.activation nobody)
@@ -93,6 +96,7 @@ actors_with c = replicate (c.activation + 1) (record { filter = c.filter; place 
 abbrev pub activations_with : Caller → List Activation
 activations_with c = replicate (c.activation + 1) (activation_with c.standing [])
 
+-- each caller is the caller of a world with it alone in it
 pub is_caller : (c : Caller) → IsCaller (actors_with c) (activations_with c) c
 is_caller c = record {
   filter = ap (λ (x : Actor). x.filter) there;
@@ -109,6 +113,7 @@ is_caller c = record {
     here : get_or (activations_with c) c.activation nobody ≡ activation_with c.standing []
     here = get_or-replicate (c.activation + 1) c.activation (activation_with c.standing []) nobody (omega arith)
 
+-- what holds of the events of a step in each world holds of the plan's events
 pub of_events : (P : List Event → Type 0) (store : Store) (c : Caller) (plan : Plan)
     (step : World → List Statement → List Statement → Step) →
     Plans store c plan step → ((w : World) → P (step w [] []).events) → P plan.events

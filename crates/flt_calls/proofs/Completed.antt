@@ -66,6 +66,7 @@ module _ (p : List Filter) (w : World) (a : ℕ) (rest : List Statement) where
   abbrev post_step : Option ℕ → Step
   post_step v = calling w a call.CompletePendedPostOperation (status_of_post w a p v) (operation v ∷ []) (complete_post_by w a p rest v)
 
+  -- a pre completion by the operands that were read is that of the statement
   pub pre_is : (d : OperationVariable) (st : Status) (k : Possessed) (v : Option ℕ) (c : Option (Option ℕ)) (answer : Option Answer)
       (settled : Option Settled) →
       k ≡ whose d → v ≡ operation_in (activation_at w a) d → c ≡ named_in (activation_at w a) (context_of st) →
@@ -86,6 +87,7 @@ module _ (p : List Filter) (w : World) (a : ℕ) (rest : List Statement) where
       ∙ ap (λ (u : Option ℕ). pre_step d st u c) visit_is
       ∙ ap (λ (x : Option (Option ℕ)). pre_step d st (operation_in (activation_at w a) d) x) context_is
 
+  -- a post completion by the operand that was read is that of the statement
   pub post_is : (v : Option ℕ) (answer : Option Answer) (settled : Option Settled) →
       v ≡ operation_in (activation_at w a) Data → answer ≡ option_map CompletesPost v →
       IsSettledBy p w.store (record { visit = v; context = None }) answer settled →
@@ -122,6 +124,7 @@ settled_up_to w a rest (Some e) =
     ((tt, tt), omega arith) in
     ((refl, behind.0), omega (arith, behind.1))
 
+-- the events of a planned completion are the activation's own
 pub completion_own : (s : Store) (a : ℕ) (completion : Completion) (plan : Plan) →
     ((actors : List Actor) (acts : List Activation) (granted refused : List Statement) →
     IsPlanned (world_of s actors acts) a plan [] granted refused (completes (world_of s actors acts) a completion granted)) →

@@ -27,6 +27,7 @@ use Rattle.flt_calls.specs.Decoding.{plain_by, asked_by, asked_of, asked_step, c
 
 -- ---- by the operands
 
+-- a plain call is found again by its operands
 pub plain_of : (call : PlainCall) → plain_by (invocation.plain call) ≡ Some call
 plain_of (plain.DeleteContext c) = refl
 plain_of (plain.ReferenceContext c d) = refl
@@ -47,6 +48,7 @@ not_plain cs (fallible.RemoveNextIo o d) = refl
 not_plain cs (fallible.QueueDeferredIoWorkItem r c) = refl
 not_plain cs (fallible.QueueGenericWorkItem r c) = refl
 
+-- a call that can fail is found again by its operands, with its routine as the callback's number
 pub asked_is : (cs : List Callback) (call : FallibleCall) → asked_by (invocation.fallible cs call) (length cs) ≡ Some (asked_of cs call)
 asked_is cs (fallible.AllocateContext d) = refl
 asked_is cs (fallible.GetContext on d) = refl
@@ -94,6 +96,7 @@ as_many_graphs all (c ∷ cs) (g ∷ gs) made = ap suc (as_many_graphs all cs gs
 as_many_graphs all [] (g ∷ gs) made = absurd made
 as_many_graphs all (c ∷ cs) [] made = absurd made
 
+-- a graph has as many callbacks as its filter
 pub callbacks_are : (p : List Filter) (gs : List Graph) (n : ℕ) →
     AreGraphsOfFilters p gs → length (graph_at gs n).callbacks ≡ length (callbacks_at p n)
 callbacks_are [] [] n made = refl

@@ -215,7 +215,7 @@ module _ (w : World) (a : ℕ) (lives : (activation_at w a).ended ≡ false) whe
 
   enqueued : (granted refused : List Statement) (v : ℕ) (x : Option ℕ) → Lasts w a (calls.enqueued w a granted refused v x)
   enqueued granted refused v x = either (is_attached (presence_at w.store (actor_at w a).filter)) other (unchanged w a refused)
-    (record { act = onward w a granted; is = refl; lives = lives; fresh = kept }) (on refused w.store [])
+      (record { act = onward w a granted; is = refl; lives = lives; fresh = kept }) (on refused w.store [])
     where
       other : Step
       other = goes_on w a (onward w a granted) (calls.with_entry w a (record { visit = v; context = x }))
@@ -299,6 +299,7 @@ module _ (w : World) (a : ℕ) (lives : (activation_at w a).ended ≡ false) whe
   same_world : (x y : Step) → x.world ≡ y.world → Lasts w a x → Lasts w a y
   same_world x y is = like (ap (λ (u : World). u.activations) is)
 
+  -- a call that can fail leaves its activation going on
   pub asked_lasts : (grant : Bool) (granted refused : List Statement) (x : Asked) → Lasts w a (asked_step w a grant granted refused x)
   asked_lasts grant granted refused (asked.Allocate d) =
       same_world (if grant then calls.allocated w a d granted (length w.store.contexts) else gives_nothing w a (Some d) refused)
@@ -333,6 +334,7 @@ module _ (w : World) (a : ℕ) (lives : (activation_at w a).ended ≡ false) whe
       same_world (calls.queue_by w a routine grant granted refused x) (calls.queue_generic w a routine c grant granted refused) refl
       (queue_by routine grant granted refused x)
 
+  -- a plain call leaves its activation going on
   pub plain_lasts : (p : List Filter) (t : List Event) (rest : List Statement) (call : PlainCall) → Lasts w a (plain_step p t w a rest call)
   plain_lasts p t rest (plain.DeleteContext c) =
       let x = context_in (activation_at w a) c in same_world (calls.deleted w a rest x) (calls.delete w a c rest) refl (deleted rest x)
@@ -355,28 +357,34 @@ module _ (w : World) (a : ℕ) (lives : (activation_at w a).ended ≡ false) whe
       let v = operation_in (activation_at w a) Data in
       same_world (calls.complete_post_by w a p rest v) (calls.complete_post w a p rest) refl (complete_post_by p rest v)
 
+  -- a read of a context's value leaves its activation going on
   pub value_lasts : (n : NumberVariable) (c : ContextVariable) (rest : List Statement) → Lasts w a (reads.read_value w a n c rest)
   value_lasts n c rest = let x = context_in (activation_at w a) c in
       same_world (reads.read_value_of w a n rest x) (reads.read_value w a n c rest) refl (read_value n rest x)
 
+  -- a read of an operation's file leaves its activation going on
   pub file_lasts : (n : NumberVariable) (d : OperationVariable) (rest : List Statement) → Lasts w a (reads.read_file w a n d rest)
   file_lasts n d rest = let v = operation_in (activation_at w a) d in
       same_world (reads.read_file_of w a n rest v) (reads.read_file w a n d rest) refl (read_file n rest v)
 
+  -- a write of a context's value leaves its activation going on
   pub write_lasts : (c : ContextVariable) (value : Atom) (rest : List Statement) → Lasts w a (reads.write_value w a c value rest)
   write_lasts c value rest = let x = context_in (activation_at w a) c in
       same_world (reads.write_value_of w a value rest x) (reads.write_value w a c value rest) refl (write_value value rest x)
 
+  -- the test of an operation's mode leaves its activation going on
   pub test_lasts : (holds fails : List Statement) → Lasts w a (reads.test_irp w a holds fails)
   test_lasts holds fails = let v = operation_in (activation_at w a) Data in
       same_world (reads.test_irp_of w a holds fails v) (reads.test_irp w a holds fails) refl (test_irp holds fails v)
 
 module _ (s : Store) (c : Caller) (plan : Plan) where
+  -- the plan of a plain call takes no lock that the caller holds
   pub plain_takes : (call : PlainCall) → Plans s c plan (λ w granted refused. plain_step [] [] w c.activation granted call) →
       TakesNone c.standing.locks plan.write
   plain_takes call planned = takes_none s c plan (λ w granted refused. plain_step [] [] w c.activation granted call) planned
       (λ w lives. plain_lasts w c.activation lives [] [] [] call)
 
+  -- the plan of a call that can fail takes no lock that the caller holds
   pub asked_takes : (grant : Bool) (x : Asked) → Plans s c plan (λ w granted refused. asked_step w c.activation grant granted refused x) →
       TakesNone c.standing.locks plan.write
   asked_takes grant x planned = takes_none s c plan (λ w granted refused. asked_step w c.activation grant granted refused x) planned

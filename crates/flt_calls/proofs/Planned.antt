@@ -45,11 +45,13 @@ abbrev pub Told : Loaded → Caller → Instruction → Type 0
 Told l c i = (p : List Filter) (act : Activation) →
     AreLoaded p l → StandsFor (callbacks_at p c.filter) c.standing act → Remains (callbacks_at p c.filter) c.standing act.rest i
 
+-- what holds of the plan where there is one holds of the result
 pub if_ok : {E : Type 0} (r : Result Plan E) (P : Plan → Type 0) → ((x : Plan) → r ≡ Ok x → P x) → IfOk r P
 if_ok (Ok x) P holds = holds x refl
 if_ok (Err e) P holds = tt
 
 module _ (l : Loaded) (s : Store) (c : Caller) (grant : Bool) where
+  -- a plan of the action at which the caller stands is a plan of its step
   pub act_ends : {E : Type 0} (r : Result Plan E) (action : Action) (next : ℕ) → Told l c (instruction.Act action next) →
       ((p : List Filter) (t : List Event) (actors : List Actor) (acts : List Activation) (granted refused : List Statement) (step : Step) →
       IsCaller actors acts c →
@@ -65,6 +67,7 @@ module _ (l : Loaded) (s : Store) (c : Caller) (grant : Bool) where
       (act_case p t w c.activation choice step (callbacks_at p c.filter) c.standing action next
       (ap (λ (act : Activation). act.ended) h.act) board_is (told p (activation_at w c.activation) loaded stands))))
 
+  -- a plan of the test at which the caller stands is a plan of its step
   pub test_ends : {E : Type 0} (r : Result Plan E) (test : Test) (m n : ℕ) → Told l c (instruction.Test test m n) →
       ((p : List Filter) (t : List Event) (actors : List Actor) (acts : List Activation) (granted refused : List Statement) (step : Step) →
       IsCaller actors acts c →
@@ -80,6 +83,7 @@ module _ (l : Loaded) (s : Store) (c : Caller) (grant : Bool) where
       (test_case p t w c.activation choice step (callbacks_at p c.filter) c.standing test m n
       (ap (λ (act : Activation). act.ended) h.act) board_is (told p (activation_at w c.activation) loaded stands))))
 
+  -- a plan of the call at which the caller stands, plain or one that can fail, is a plan of its step
   pub call_ends : {E : Type 0} (r : Result Plan E) (made : Invocation) (m n : ℕ) → Told l c (instruction.Call made m n) →
       ((p : List Filter) (t : List Event) (call : PlainCall) → AreLoaded p l → made ≡ invocation.plain call →
       IfOk r (λ (plan : Plan). Plans s c plan
@@ -107,6 +111,7 @@ module _ (l : Loaded) (s : Store) (c : Caller) (grant : Bool) where
             (fallible p t x.call loaded x.made_is) actors acts (remaining_by rest true) (remaining_by rest false) h)
       ])
 
+  -- a plan of the return at which the caller stands is a plan of its step
   pub return_ends : {E : Type 0} (r : Result Plan E) (status : Option Status) → Told l c (instruction.Return status) →
       IfOk r (λ (plan : Plan). (p : List Filter) → AreLoaded p l →
       PlansBy s c plan (λ (t : List Event) (w : World) (granted refused : List Statement). returns p t w c.activation status)) →
@@ -122,6 +127,7 @@ module _ (l : Loaded) (s : Store) (c : Caller) (grant : Bool) where
       (told p (activation_at w c.activation) loaded stands))
       (held p loaded t counted actors acts (remaining_by rest true) (remaining_by rest false) h)) planned
 
+  -- at the end of a callback, a plan of a return without a status is a plan of the caller's step
   pub end_ends : {E : Type 0} (r : Result Plan E) → Told l c instruction.End →
       IfOk r (λ (plan : Plan). (p : List Filter) → AreLoaded p l →
       PlansBy s c plan (λ (t : List Event) (w : World) (granted refused : List Statement). returns p t w c.activation None)) →
@@ -137,6 +143,7 @@ module _ (l : Loaded) (s : Store) (c : Caller) (grant : Bool) where
       (told p (activation_at w c.activation) loaded stands))
       (held p loaded t counted actors acts (remaining_by rest true) (remaining_by rest false) h)) planned
 
+  -- where the caller stands at a `repeat` others see no step, so every plan is one of it
   pub repeat_ends : (plan : Plan) (turns m n : ℕ) → Told l c (instruction.Repeat turns m n) → IsStep l s c grant plan
   repeat_ends plan turns m n told = λ p t actors acts choice step loaded h counted stands choice_is board_is.
       let w = world_of s actors acts in

@@ -39,6 +39,7 @@ answered_is p t w a st r v way h is does led =
     (ap (λ (b : Bool). returned p t w a st b (operation_in (activation_at w a) Data)) (h.answering ∙ does) ∙
     ap (λ (o : Option ℕ). returned p t w a st true o) (h.given ∙ is))
 
+-- events that tell of the answer, of the visit and of the end are the plan of a return which answers for its operation
 pub return_planned : (p : List Filter) (t : List Event) (s : Store) (actors : List Actor) (acts : List Activation) (a : ℕ)
     (st : Option Status) (r : Returning) (v : ℕ) (x : Option ℕ) (way : own.Way) (es0 es1 es2 es3 : List Event)
     (granted refused : List Statement) →
@@ -118,6 +119,7 @@ held_is : (t : List Event) (a v : ℕ) (s : Standing) (held : Bool) →
 unfolding is_held
 held_is t a v s held is gained lost = is ∙ rw (gained, lost) refl
 
+-- what a caller's standing says of its place, its operation and its context is what a return reads
 pub is_returning : (t : List Event) (s : Store) (c : Caller) (actors : List Actor) (acts : List Activation) (st : Option Status)
     (r : Returning) → IsCaller actors acts c → IsCounted t c.activation c.standing →
     r.answers ≡ answers c.place → r.given ≡ operation_in (activation_with c.standing []) Data →

@@ -53,6 +53,7 @@ module _ (p : List Filter) (t : List Event) (w : World) (a : ℕ) (choice : Bool
       ap (λ (s : Statement-F Statement). first_step p t w a later choice s) text_is in
       allowed (may_go w a choice text) (statement_step p t w a later choice text) step (sym same ∙ going lives is)
 
+  -- where an action remains first, the step that others see is that of the action
   pub act_case : (cs : List Callback) (s : Standing) (action : Action) (next : ℕ) →
       (activation_at w a).ended ≡ false → board p t w a choice ≡ Some step →
       ActsFirst cs s (activation_at w a).rest action next → act_step p t w a (remaining_by (activation_at w a).rest true) action ≡ Some step
@@ -61,6 +62,7 @@ module _ (p : List Filter) (t : List Event) (w : World) (a : ℕ) (choice : Bool
       (remains (activation_at w a).rest x.later x.first (Statement-F.Act x.span action) true x.rest_is x.text)
       ∙ first_going x.first x.later (Statement-F.Act x.span action) lives is x.rest_is x.text
 
+  -- where a plain call remains first, the step that others see is that of the call
   pub call_case : (cs : List Callback) (s : Standing) (made : Invocation) (m n : ℕ) →
       (activation_at w a).ended ≡ false → board p t w a choice ≡ Some step →
       (x : CallsFirst cs s (activation_at w a).rest made m n) →
@@ -71,6 +73,7 @@ module _ (p : List Filter) (t : List Event) (w : World) (a : ℕ) (choice : Bool
       ∙ same_Some (plain_step p t w a x.later x.call) step
       (first_going x.first x.later (Statement-F.Call x.span x.call) lives is x.rest_is x.text)
 
+  -- where a call that can fail remains first, the step that others see is that of the call, with the choice that was made
   pub ask_case : (cs : List Callback) (s : Standing) (made : Invocation) (m n : ℕ) (grant : Bool) →
       (activation_at w a).ended ≡ false → board p t w a choice ≡ Some step →
       choice ≡ choice_at (activation_at w a).rest grant → (x : AsksCallFirst cs s (activation_at w a).rest made m n) →
@@ -88,6 +91,7 @@ module _ (p : List Filter) (t : List Event) (w : World) (a : ℕ) (choice : Bool
       ∙ same_Some (fallible_step p t w a choice (x.granted_block ++ x.later) (x.refused_block ++ x.later) x.call) step
       (first_going x.first x.later text lives is x.rest_is x.text)
 
+  -- where a test remains first, the step that others see is that of the test
   pub test_case : (cs : List Callback) (s : Standing) (test : Test) (m n : ℕ) →
       (activation_at w a).ended ≡ false → board p t w a choice ≡ Some step →
       TestsFirst cs s (activation_at w a).rest test m n →
@@ -101,17 +105,20 @@ module _ (p : List Filter) (t : List Event) (w : World) (a : ℕ) (choice : Bool
       (remains rest x.later x.first text false x.rest_is x.text)
       ∙ first_going x.first x.later text lives is x.rest_is x.text
 
+  -- where a return remains first, the step that others see is that of the return
   pub return_case : (status : Option Status) → (activation_at w a).ended ≡ false → board p t w a choice ≡ Some step →
       ReturnsFirst (activation_at w a).rest status → returns p t w a status ≡ step
   return_case status lives is x =
       same_Some (returns p t w a status) step (first_going x.first x.later (Statement-F.Return x.span status) lives is x.rest_is x.text)
 
+  -- where nothing remains, the step that others see is a return without a status
   pub end_case : (activation_at w a).ended ≡ false → board p t w a choice ≡ Some step → (activation_at w a).rest ≡ [] →
       returns p t w a None ≡ step
   end_case lives is rest_is =
       same_Some (returns p t w a None) step (allowed choice (Some (returns p t w a None)) step
       (sym (ap (λ (l : List Statement). list_step p t w a l choice) rest_is) ∙ going lives is))
 
+  -- where a `repeat` remains first, there is no step that others see
   pub repeat_case : (s : Standing) (turns : ℕ) → (activation_at w a).ended ≡ false → board p t w a choice ≡ Some step →
       RepeatsFirst s (activation_at w a).rest turns → ⊥
   repeat_case s turns lives is x = none-some step
