@@ -201,6 +201,7 @@ module _ (text : Text) (long : length text ≡ 23) (bounds : InBounds text) wher
       let here = one_to_three 17 (omega arith) refl refl in
       rw (lt-ltb 48 (get_or text 17 0) here.0, lt-ltb (get_or text 17 0) 52 here.1) refl
 
+  -- the digit of draining can be read at its place in the line
   pub draining_read : IsSome (draining_of (get_or text 19 0))
   draining_read =
       let here = one_to_three 19 (omega arith) refl refl in
