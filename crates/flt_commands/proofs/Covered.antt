@@ -68,6 +68,7 @@ Law = (text : Text) (graph : Graph) (cert : Cert) → HasPoints text graph → C
 abbrev pub LawOfRuns : Type 0
 LawOfRuns = (script : Text) (texts : List Text) (ran : Ran) → IsRun script texts ran → BreakNothing texts
 
+-- by the laws of the grammar, of covering and of the machine, what is covered breaks nothing
 pub covered_is_clean : SpellsAtMostOne → SpelledIsWellFormed → ((g : Graph) (c : Cert) → CertCovers g c → Covers g (full_of g c)) →
     AcceptedRunsBreakNothing → Law
 covered_is_clean one fine fills theorem text graph cert points covers f transitions spelled = theorem (f ∷ []) transitions all

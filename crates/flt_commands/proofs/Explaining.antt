@@ -41,6 +41,7 @@ holds_some form journal name same = rw same tt
 
 -- ---- of names and what they give
 
+-- what was said of the texts that were read is what `explain` says of these names under its look
 pub told_under : (form : Form) (look : Look) (journal : Option Text) (names texts : List Text)
     (unread : List UnreadFile) (sources : List Source)
     (result : Result Told CommandFault) → names_in sources ≡ map (told_name form) names → texts_of sources ≡ texts →
@@ -69,6 +70,7 @@ reported asked asking sources t notes coloured states options print same = recor
   print = rw same (rw (coloured, states, options) at print);
 }
 
+-- what went out before memory ran out is cut short under these names
 pub cut_some : (form : Form) (options : WarningOptions) (states : ℕ) (names texts : List Text) (sources : List Source)
     (result : Result Told CommandFault)
     (old new : Option Text) → names_in sources ≡ map (told_name form) names → texts_of sources ≡ texts →

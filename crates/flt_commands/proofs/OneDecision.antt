@@ -39,6 +39,7 @@ module _ (bytes : Text) where
       by (inl last) = let within = b.within in absurd (omega arith)
       by (inr header) = true≢false (sym header ∙ b.earlier m below)
 
+  -- a certificate's start is that of one format at most
   pub start_once : (m n : ℕ) → IsCertificateStart bytes m → IsCertificateStart bytes n → m ≡ n
   start_once m n a b = by_order (cases_order m n)
     where

@@ -44,6 +44,7 @@ pub cut_under : (form : Form) (options : WarningOptions) (states : ℕ) (names t
     IsCutUnder form options states names texts old old
 cut_under form options states names texts old = explain.none_out (Appends-nil old)
 
+-- where nothing went out, what `explain` says of files is cut short at once
 pub cut_short : (gives : Giving) (form : Form) (options : WarningOptions) (states : ℕ) (files : List Text) (old : Option Text) →
     IsCutShort gives form options states files old old
 cut_short gives form options states files old = explain.none_read (Appends-nil old)

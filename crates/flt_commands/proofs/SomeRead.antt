@@ -38,6 +38,7 @@ read_lengths gives _ _ _ _ (read {names = names} {read = got} {texts = texts} {u
 read_lengths gives _ _ _ _ (missing {names = names} {read = got} {texts = texts} {unread = others} name are lost) =
     read_lengths gives names got texts others are
 
+-- as many texts as names were read
 pub read_many : (gives : Giving) (names : List Text) (r : ReadFiles) → AreReadIn gives names r → length r.texts.items ≡ length r.names.items
 read_many gives names r are =
     sym (length-map r.texts.items (λ t. t.items)) ∙ read_lengths gives names _ _ _ are ∙ length-map r.names.items (λ n. n.now)
