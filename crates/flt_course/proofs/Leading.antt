@@ -87,6 +87,7 @@ seen : (p : List Filter) (t : List Event) (w : World) (a : ℕ) (grant made : Bo
     ComesOf (board p [] w a grant) made u earlier events → LeadsTo (after_step p w t (Board a grant)) made u
 seen p t w a grant made u earlier events comes = board_alike p t [] w a grant ∙ led (board p [] w a grant) made u earlier events comes
 
+-- a step that others see leads where the machine's step does
 pub seen_ok : {E : Type 0} (r : Result Bool E) (p : List Filter) (w : World) (a : ℕ) (grant : Bool) (u : World)
     (earlier events : List Event) →
     IfOk r (λ enabled. (t : List Event) → false ≡ holds_given t w a → ComesOf (board p t w a grant) enabled u earlier events) →
@@ -175,6 +176,7 @@ moves_on : (p : List Filter) (t : List Event) (m : Move) (made : Bool) (w u : Wo
     LeadsTo (after_step p w t (Make m)) made u → LeadsTo (after_steps p w t (Some (Make m ∷ []))) made u
 moves_on p t m made w u leads = then_seen (record { world = w; trace = t }) (make p w m) ∙ leads
 
+-- a move leads where the machine's move does
 pub moves_ok : {E : Type 0} (r : Result Bool E) (p : List Filter) (m : Move) (w u : World) →
     IfOk r (λ made. (t : List Event) → LeadsTo (after_step p w t (Make m)) made u) →
     IfOk r (λ made. (t : List Event) → LeadsTo (after_steps p w t (Some (Make m ∷ []))) made u)
@@ -191,6 +193,7 @@ goes_on p t a (suc k) n grant made w v u is went leads =
     goes_first p t (Board a grant ∷ []) a k w ∙ ap (option_and_then (then_from p t (Board a grant ∷ []))) here
     ∙ then_seen (record { world = v; trace = t }) (board p t v a grant) ∙ leads
 
+-- local steps, and then one that others see, lead where the entry's steps do
 pub goes_ok : {E : Type 0} (r : Result Bool E) (p : List Filter) (a steps n : ℕ) (grant : Bool) (w v u : World) → n + 1 ≡ steps →
     unseen n w a ≡ Some v → IfOk r (λ made. (t : List Event) → LeadsTo (after_step p v t (Board a grant)) made u) →
     IfOk r (λ made. (t : List Event) → LeadsTo (after_steps p w t (go_on a steps grant)) made u)
