@@ -116,6 +116,7 @@ module _ (locks : List Lock) (lv point : ℕ) where
         ap (line_at at locks lv point) (joined_pieces (indentation level ∷ words ∷ []) (label point line ++ r))
         ∙ starts at locks lv point level _ ∙ e
 
+    -- a return is read back from its line, as its place writes it
     pub return_reads : (at : Place) (s : Option Status) →
         line_at at locks lv point (return_text at level s ++ (label point line ++ r)) ≡ Some (whole (Return no_span (returned at s)), r)
     unfolding line_forms
