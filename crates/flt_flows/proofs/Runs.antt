@@ -71,6 +71,7 @@ module _ (p : List Filter) where
       ap (λ (ts : List Taken). ran_after ts (ran_from p after (drop (place + 1) es))) longer
       ∙ subst P (sym same) (λ w e. made_next s after all taken whole es place d w e so) within is_taken
 
+  -- where an entry can't be made, there is no run of all
   pub ran_nowhere : (s after : Course) (all : List Taken) (found : Option Taken) (whole : Option Run)
       (lent es : List JournalEntry) (place : ℕ)
       (d : JournalEntry) → lent ≡ es → place < length lent → IsEntered found after (entry_of p s (get_or lent place d)) → found ≡ None →
