@@ -13,7 +13,7 @@ returns c =
     c.in_ok-help.ensures ∙ ap help_in c.in_ok-told.ensures.notes in
     let is : IsFaultResult c.args.file.now c.args.text.now
     (fault_result c.args.file.now c.in-Some.trouble.spot.fault c.in-Some.trouble.spot.bytes.now c.in_ok-told.told.title.items
-        c.in_ok-help.help.items) = record {
+    c.in_ok-help.help.items) = record {
       trouble = c.in-Some.trouble;
       described = described;
       result = λ i. fault_result c.args.file.now c.in-Some.trouble.spot.fault c.in-Some.trouble.spot.bytes.now
