@@ -96,6 +96,7 @@ gets_rarer text name longer h some r =
           (doubled (2 ^ length name) (occurrences name text) (occurrences longer text) (2 ^ 17) r.rarer h.rare);
     }
 
+-- a longer name that is rarer occurs less often
 pub is_rarer : (text name longer : Text) → 0 < occurrences name text → IsRarer text name longer →
     occurrences longer text < occurrences name text
 is_rarer text name longer some r = omega (arith, r.rarer)
