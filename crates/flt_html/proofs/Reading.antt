@@ -23,6 +23,7 @@ byte_read b z false false true quote e f g h = rw (e, f, g) (ap (λ x. x ∷ rea
 byte_read b z false false false true e f g h = rw (e, f, g, h) (ap (λ x. x ∷ read_behind zero z) (sym (eqb-true b 34 h)))
 byte_read b z false false false false e f g h = rw (e, f, g, h) (first_plain b z (turned b 38 (38 == b) refl g))
 
+-- escaped bytes are read back
 pub all_read : (row : Text) → unescaped (escaped row) ≡ row
 all_read [] = refl
 all_read (b ∷ z) = byte_read b (escaped z) (b == 60) (b == 62) (b == 38) (b == 34) refl refl refl refl ∙ ap (λ x. b ∷ x) (all_read z)
@@ -37,6 +38,7 @@ byte_plain b z false false true quote e f g h rest = rw (e, f, g) rest
 byte_plain b z false false false true e f g h rest = rw (e, f, g, h) rest
 byte_plain b z false false false false e f g h rest = rw (e, f, g, h) (rw e rest)
 
+-- escaped bytes are plain
 pub all_plain : (row : Text) → is_plain (escaped row) ≡ true
 all_plain [] = refl
 all_plain (b ∷ z) = byte_plain b (escaped z) (b == 60) (b == 62) (b == 38) (b == 34) refl refl refl refl (all_plain z)
