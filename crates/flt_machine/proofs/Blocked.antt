@@ -94,6 +94,7 @@ list_exact : (p : List Filter) (t : List Event) (w : World) (a : ℕ) (grant dra
 list_exact p t w a grant draining act [] is = (λ e. absurd (cc), λ e. absurd (cc))
 list_exact p t w a grant draining act (s ∷ rest) is = layer_exact p t w a grant draining act rest (out-Statement s) is
 
+-- a step that others see can't be made just where it asks for a lock that another activation holds
 pub blocked_exact : (p : List Filter) (m : Moment) (a : ℕ) (grant draining : Bool) (act : Activation) →
     activation_at m.world a ≡ act → act.ended ≡ false → local_step draining act act.rest ≡ None →
     (next p m (Board a (choice_at (activation_at m.world a).rest grant)) ≡ None) ↔ (is_blocked m.world a act.rest ≡ true)

@@ -40,6 +40,7 @@ module _ (p : List Filter) (b : Situation) (advanced : Advanced) (grant : Bool) 
   abbrev pub middle : Moment
   middle = moved m advanced.frame.activation (advances p b advanced m at fresh advance).last
 
+  -- after the local steps the activation stands where they lead
   pub here : get_or (set m.world.activations advanced.frame.activation (advances p b advanced m at fresh advance).last)
       advanced.frame.activation nobody ≡ (advances p b advanced m at fresh advance).last
   here = get_or-set_same m.world.activations advanced.frame.activation (advances p b advanced m at fresh advance).last nobody
@@ -67,6 +68,7 @@ module _ (p : List Filter) (b : Situation) (advanced : Advanced) (grant : Bool) 
   stands_there = subst (λ (f : ℕ). StandsFor (callbacks_at p f) advanced.after (activation_at middle.world advanced.frame.activation))
       filter_is kept.stands
 
+  -- the standing after the local steps counts what the trace says
   pub counted_there : IsCounted middle.trace advanced.frame.activation advanced.after
   counted_there = kept.counted
 

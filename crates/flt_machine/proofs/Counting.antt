@@ -41,8 +41,8 @@ dropped n s x most = one_set n s x (record (context_at s x) { references = (cont
 
 added : (n : ℕ) (s : Store) (x : ℕ) → AreAtMost n s → AreAtMost (n + 1) (add_reference s x)
 added n s x most = one_set (n + 1) s x
-  (record (context_at s x) { references = if is_freed (context_at s x) then 0 else (context_at s x).references + 1 }) (more n s most)
-  (by (is_freed (context_at s x)))
+    (record (context_at s x) { references = if is_freed (context_at s x) then 0 else (context_at s x).references + 1 }) (more n s most)
+    (by (is_freed (context_at s x)))
   where
     by : (b : Bool) → (if b then 0 else (context_at s x).references + 1) ≤ n + 1
     by true = omega arith

@@ -40,6 +40,7 @@ enabled_there p w (Some d) (Some step) decides = refl
 abbrev pub DecidesNow : Loaded → Situation → Move → Option Decision → Type 0
 DecidesNow l b move o = Now l b (λ p m. Decides p m.world o (make p m.world move))
 
+-- what is decided of a move for one board holds for the board that it is
 pub decided_now : (l : Loaded) (b now : Situation) (move : Move) (active : Bool) (o : Option Decision) → b ≡ now →
     Now l now (λ p m. IsActive p move active m.world.actors m.world.activations) →
     ((p : List Filter) (actors : List Actor) (activations : List Activation) →

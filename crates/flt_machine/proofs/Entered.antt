@@ -191,6 +191,7 @@ module _ (s : Store) (f v : ℕ) (x : Option ℕ) (attached : is_attached (prese
       by_altitude_one (entries_of s later) altitudes f a is (λ g b differs. other_filters g b differs) ∙ own_filter a ∙
       ap (λ (b : Bool). if b then subject.Entry a o ∷ [] else []) new
 
+  -- an operation that waits at a filter that isn't there makes no entry
   pub inserted_past : (altitudes : List ℕ) → slice_get altitudes f ≡ None → by_altitude (entries_of s later) 0 altitudes ≡ []
   inserted_past altitudes is = by_altitude_past (entries_of s later) altitudes f is (λ g b differs. other_filters g b differs)
 
@@ -205,10 +206,12 @@ module _ (s : Store) (f v : ℕ) (x : Option ℕ) (attached : is_attached (prese
   abbrev pub new_of : ℕ → Bool
   new_of n = nat_lt n (length s.arrivals) && ((route_at s n).cancelled && not (list_any (is_entry_of s n) (queue_at s f)))
 
+  -- an operation that doesn't come to wait makes no entry
   pub inserted_not : (altitudes : List ℕ) (n : ℕ) (b : Bool) →
       n ≡ o → b ≡ new_of n → b ≡ false → by_altitude (entries_of s later) 0 altitudes ≡ []
   inserted_not altitudes n b same is old = inserted_none altitudes (ap new_of (sym same) ∙ sym is ∙ old)
 
+  -- an operation that comes to wait makes an entry of its filter
   pub inserted_entry : (altitudes : List ℕ) (n a : ℕ) (b : Bool) → n ≡ o → slice_get altitudes f ≡ Some a → b ≡ new_of n → b ≡ true →
       by_altitude (entries_of s later) 0 altitudes ≡ subject.Entry a n ∷ []
   inserted_entry altitudes n a b same at is new =
@@ -272,6 +275,7 @@ module _ (s : Store) (f : ℕ) (attached : is_attached (presence_at s f) ≡ tru
       (λ k less. torn_waits k ∙ ap (λ (b : Bool). b && not (route_at s k).cancelled) (sym (marked k less))) ∙
       ap (passing (λ k. get_or marks k false && not (route_at s k).cancelled)) (sym same))
 
+  -- a filter that isn't there makes no entries where it is detached
   pub detached_past : (altitudes : List ℕ) → slice_get altitudes f ≡ None → by_altitude (entries_of s torn) 0 altitudes ≡ []
   detached_past altitudes is = by_altitude_past (entries_of s torn) altitudes f is (λ g b differs. other_queues g b differs)
 
@@ -285,6 +289,7 @@ module _ (s : Store) (f : ℕ) (attached : is_attached (presence_at s f) ≡ tru
   pub no_torn : (altitudes : List ℕ) → slice_get altitudes f ≡ None → by_altitude (teardown_of s torn) 0 altitudes ≡ []
   no_torn altitudes is = by_altitude_past (teardown_of s torn) altitudes f is (λ g b differs. other_teardowns g b differs)
 
+  -- a filter whose detachment begins has a teardown
   pub torn_down : (altitudes : List ℕ) (a : ℕ) → slice_get altitudes f ≡ Some a →
       by_altitude (teardown_of s torn) 0 altitudes ≡ subject.Detach a ∷ []
   torn_down altitudes a is =

@@ -107,6 +107,7 @@ down_of n Up f is = absurd (cc)
 next_filter : (f : ℕ) → goes_on (Down f) (Down (f + 1)) ≡ true
 next_filter f = ap not (ne_eqb f (f + 1) (λ it. absurd (omega (arith, it))))
 
+-- an operation that passes a filter is the one that is moved
 pub passed_on : (s : Store) (o f : ℕ) → filter_in (length s.presences) (route_at s o).position ≡ Some f →
     operations s (past_filter o f s) ≡ subject.Operation o ∷ []
 passed_on s o f is =
@@ -119,11 +120,13 @@ up_from n Visiting is = refl
 up_from n Up is = absurd (cc)
 
 module _ (s : Store) (o : ℕ) (is : is_below (length s.presences) (route_at s o).position ≡ true) where
+  -- an operation that goes back through the stack is moved where it isn't over
   pub lowered_left : (is_empty (route_at s o).frames && are_settled o s.visits s.settled) ≡ false →
       operations s (lowered o s) ≡ subject.Operation o ∷ []
   lowered_left more = one_left s (lowered o s) o (carried_out (route_at s o)) refl refl
       (up_from (length s.presences) (route_at s o).position is) more
 
+  -- an operation that goes back through the stack and is over isn't moved
   pub lowered_over : (is_empty (route_at s o).frames && are_settled o s.visits s.settled) ≡ true → operations s (lowered o s) ≡ []
   lowered_over none = one_over s (lowered o s) o (carried_out (route_at s o)) refl refl none
 

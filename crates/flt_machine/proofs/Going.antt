@@ -186,12 +186,14 @@ module _ (l : Loaded) (b : Situation) (advanced : Advanced) (grant : Bool) (c : 
       (blocked own.filters own.loaded own.board.moment own.board.at)
 
   module _ (plan : Plan) (of : IsPlanOf l b.store c i grant plan) where
+    -- an instruction whose plan doesn't end the activation leads on
     pub goes_on : is_end plan.write ≡ false → leads_on i ≡ true
     goes_on goes =
         subst (λ (k : Instruction). leads_on k ≡ true) (sym at_point)
         (leads_there own.filters b advanced grant own.board.moment own.board.at fresh
         (is.advance own.filters own.loaded) l law own.loaded plan (plan_of l b advanced c i grant plan who at_point of) goes)
 
+    -- a plan takes no lock that the caller's standing holds
     pub takes_free : TakesNone c.standing.locks plan.write
     takes_free = of.takes
 
@@ -251,9 +253,11 @@ module _ (l : Loaded) (b : Situation) (advanced : Advanced) (grant : Bool) (c : 
   pub points_there : i ≡ instruction_for l advanced
   points_there = at_point ∙ ap (λ (d : Caller). instruction_in l d.filter d.standing.callback d.standing.point) who
 
+  -- a lock that is refused blocks the step
   pub is_blocked_so : true ≡ is_refused_lock b.store c i → IsBlocked l b advanced grant
   is_blocked_so refused = blocked_is l b advanced grant c i law own is fresh who points_there (sym refused)
 
+  -- a lock that isn't refused doesn't block the step
   pub not_blocked : false ≡ is_refused_lock b.store c i → IsBlocked l b advanced grant → ⊥
   not_blocked free blocked = let refused : is_refused_lock b.store c i ≡ true =
       blocked_from l b advanced grant c i law own is fresh who points_there blocked in absurd (cc)

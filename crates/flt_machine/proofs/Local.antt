@@ -89,6 +89,7 @@ there acts a e =
           let same = ap (λ (n : Activation). n.ended) past in cc)
     ]
 
+-- what is set twice is set as it was the second time
 pub set_twice : {A : Type 0} (xs : List A) (i : ℕ) (x y : A) → set (set xs i x) i y ≡ set xs i y
 set_twice [] i x y = refl
 set_twice (z ∷ xs) zero x y = refl
@@ -97,7 +98,7 @@ set_twice (z ∷ xs) (suc i) x y = ap (λ l. z ∷ l) (set_twice xs i x y)
 chain : (draining : Bool) (n : ℕ) (act : Activation) (last : Activation) → locally draining n act ≡ Some last → Stays act last
 chain draining zero act last e = let same : act ≡ last = cc in subst (Stays act) same (stays act)
 chain draining (suc n) act last e =
-  by (local_step draining act act.rest) (step_stays draining act act.rest) e (λ b. chain draining n b last)
+    by (local_step draining act act.rest) (step_stays draining act act.rest) e (λ b. chain draining n b last)
   where
     by : (o : Option Activation) → StaysIn act o → option_and_then (locally draining n) o ≡ Some last →
         ((b : Activation) → locally draining n b ≡ Some last → Stays b last) → Stays act last
@@ -155,6 +156,7 @@ pub record IsReached (p : List Filter) (b : Situation) (advanced : Advanced) (m 
   pub locks : last.locks ≡ (activation_at m.world advanced.frame.activation).locks
   pub at : IsAt p (furthered b advanced.frame.activation (Some advanced.after)) (moved m advanced.frame.activation last)
 
+-- the standing that a board keeps of an activation says what remains of it and what it holds
 pub kept_there : (p : List Filter) (b : Situation) (m : Moment) (a : ℕ) (s : Standing) → IsAt p b m → standing_of b a ≡ Some s →
     IsKept (callbacks_at p (actor_at m.world a).filter) m.trace a (activation_at m.world a) s
 kept_there p b m a s at is = subst (KeptFor (callbacks_at p (actor_at m.world a).filter) m.trace a (activation_at m.world a)) is (at.kept a)

@@ -27,6 +27,7 @@ at_set P xs o k r d here there = elim (cases_eq k o) [
 
 -- ---- truth
 
+-- where one thing implies another, it doesn't hold without it
 pub implied : (a b : Bool) → (a ≡ true → b ≡ true) → (a && not b) ≡ false
 implied true true h = refl
 implied true false h = absurd (let is = h refl in cc)
@@ -36,6 +37,7 @@ all_or : (b : Bool) → (b || true) ≡ true
 all_or true = refl
 all_or false = refl
 
+-- false and anything is false
 pub none_and : (b : Bool) → (b && false) ≡ false
 none_and true = refl
 none_and false = refl
@@ -99,6 +101,7 @@ module _ (s t : Store) where
 
   -- ---- teardowns
 
+  -- where no more filters are being detached than before, no teardown comes
   pub no_teardown : (altitudes : List ℕ) → ((f : ℕ) → is_detaching (presence_at t f) ≡ true → is_detaching (presence_at s f) ≡ true) →
       by_altitude (teardown_of s t) 0 altitudes ≡ []
   no_teardown altitudes misses = by_altitude_none (teardown_of s t) altitudes

@@ -60,22 +60,26 @@ lose_other a b o (event.Free c) differs is = refl
 lose_other a b o (event.Settle c) differs is = refl
 lose_other a b o (event.End c) differs is = refl
 
+-- another activation gains nothing by one's events
 pub gains_other : (a b : ℕ) (o : Object) (es : List Event) → b ≢ a → AreOf a es → gains es b o ≡ 0
 unfolding gains
 gains_other a b o [] differs own = refl
 gains_other a b o (e ∷ es) differs own =
     omega (arith, sum_by-cons (gain b o) e es, gain_other a b o e differs own.0, gains_other a b o es differs own.1)
 
+-- another activation loses nothing by one's events
 pub loses_other : (a b : ℕ) (o : Object) (es : List Event) → b ≢ a → AreOf a es → loses es b o ≡ 0
 unfolding loses
 loses_other a b o [] differs own = refl
 loses_other a b o (e ∷ es) differs own =
     omega (arith, sum_by-cons (lose b o) e es, lose_other a b o e differs own.0, loses_other a b o es differs own.1)
 
+-- gains of a trace and of further events add up
 pub gains-append : (t es : List Event) (a : ℕ) (o : Object) → gains (t ++ es) a o ≡ gains t a o + gains es a o
 unfolding gains
 gains-append t es a o = sum_by-append (gain a o) t es
 
+-- losses of a trace and of further events add up
 pub loses-append : (t es : List Event) (a : ℕ) (o : Object) → loses (t ++ es) a o ≡ loses t a o + loses es a o
 unfolding loses
 loses-append t es a o = sum_by-append (lose a o) t es
@@ -106,12 +110,13 @@ pub record IsStepped (p : List Filter) (m : Moment) (a : ℕ) (s : Option Standi
 abbrev pub stepped : Situation → ℕ → Option Standing → Store → List JournalEntry → Situation
 stepped b a s store entries = record b { standings = set b.standings a s; store = store; entries = entries }
 
+-- after a step that others see the board stands at the later moment, with the standing and the store that were put
 pub steps_on : (p : List Filter) (b : Situation) (m : Moment) (a : ℕ) (s : Option Standing) (store : Store)
     (entries : List JournalEntry) (step : Step) →
     IsAt p b m → a < length m.world.activations → IsStepped p m a s store step → IsAt p (stepped b a s store entries) (after m step)
 steps_on p b m a s store entries step at within is =
     subst (λ (w : World). IsAt p (stepped b a s store entries) (record { world = w; trace = m.trace ++ step.events }))
-        (sym is.world) (record {
+    (sym is.world) (record {
       actors = at.actors;
       count = length-set b.standings a s ∙ at.count ∙ sym (length-set m.world.activations a is.act);
       both = at.both ∙ sym (length-set m.world.activations a is.act);

@@ -8,7 +8,7 @@ returns-then-is_blocked-clause-blocked c = (
   λ same. (
     (c.is_fresh.ensures.0 c.if-not-is_fresh.false),
     (is_blocked_so c.args.loaded.now c.args.self.now c.args.advanced.now c.args.grant c.caller-caller.result
-    c.instruction-instruction.result c.standings_have_points.ensures.told c.requires.own c.requires.advance
+        c.instruction-instruction.result c.standings_have_points.ensures.told c.requires.own c.requires.advance
         (c.is_fresh.ensures.0 c.if-not-is_fresh.false) c.caller-caller.ensures c.instruction-instruction.ensures c.if-is_blocked.ensures),
   ),
   λ h. refl,
@@ -38,7 +38,7 @@ returns-then-len-ge-MAX_ENTRIES-clause-full c = (
     (c.is_fresh.ensures.0 c.if-not-is_fresh.false),
     (
       (not_blocked c.args.loaded.now c.args.self.now c.args.advanced.now c.args.grant c.caller-caller.result
-      c.instruction-instruction.result c.standings_have_points.ensures.told c.requires.own c.requires.advance
+          c.instruction-instruction.result c.standings_have_points.ensures.told c.requires.own c.requires.advance
           (c.is_fresh.ensures.0 c.if-not-is_fresh.false) c.caller-caller.ensures c.instruction-instruction.ensures c.if-is_blocked.ensures),
       all_entries c.args.self.now _ c.len.result c.self.view_is c.self.invariant.bounded c.len.ensures c.if-len-ge-MAX_ENTRIES.true,
     ),
