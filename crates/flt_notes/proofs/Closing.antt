@@ -53,6 +53,7 @@ plain_refusal f =
     (record { goes_on = λ rest. refl })) (plain_decimal f.point)) (record { goes_on = λ rest. refl })) (plain_decimal f.line))
     (record { goes_on = λ rest. refl })) (plain_name f.rule)) (record { goes_on = λ rest. refl })) (plain_rule f.rule)
 
+-- the line that ends the reports of findings is quiet
 pub quiet_findings : (found : List Finding) → is_quiet (findings_closing found) ≡ true
 quiet_findings [] = refl
 quiet_findings (f ∷ found) = (plain_refusal f).goes_on (10 ∷ [])
@@ -74,6 +75,7 @@ plain_syntax f =
     (record { goes_on = λ rest. refl })) (plain_decimal f.column)) (record { goes_on = λ rest. refl }))
     (plain_fault f.kind)
 
+-- the line that ends the report of a syntax fault is quiet
 pub quiet_fault : (f : SyntaxFault) → is_quiet (syntax_line f ++ 10 ∷ []) ≡ true
 quiet_fault f = (plain_syntax f).goes_on (10 ∷ [])
 
@@ -81,6 +83,7 @@ plain_malformed : (name : List ℕ) (line : ℕ) → Plain name → Plain (name 
 plain_malformed name line plain =
     plain_both _ (decimal line) (plain_both name (codes " line ") plain (record { goes_on = λ rest. refl })) (plain_decimal line)
 
+-- the line that ends a notice is quiet
 pub quiet_notice : (n : Notice) → is_quiet (notices.closing n) ≡ true
 quiet_notice (Whole kind count) = refl
 quiet_notice (Malformed Certificate reason) =

@@ -146,6 +146,7 @@ within_at count (x ∷ reports) zero r all h is = rw is (All-head (λ (r : Repor
 within_at count (x ∷ reports) (suc i) r all h is =
     within_at count reports i r (All-tail (λ (r : Report). r.finding < count) x reports all) (omega (arith, h)) is
 
+-- one more report has its suspect
 pub suspects_more : (found : List Finding) (reports : List Report) (i : ℕ) (r : Report) (old new : List Suspect) (s : Suspect) →
     i < length reports → r ≡ get_or reports i r → AllZip (IsSuspectOf found) (take i reports) old → IsSuspectOf found r s →
     new ≡ old ++ s ∷ [] → AllZip (IsSuspectOf found) (take (i + 1) reports) new
@@ -166,6 +167,7 @@ goes_more text whole new more on added = record {
   is = added ∙ ap (λ z. z ++ more) on.is ∙ append_assoc text on.more more;
 }
 
+-- a setter that is found where the text goes on with what is added, at the line after its end, is one of this text
 pub setter_is : (text whole : Text) (added : List ℕ) (line : ℕ) (judged : Judged) (s : Option Setter) → GoesOn text whole →
     whole ≡ ended text ++ added → line ≡ line_ends (ended text) + 1 → IsJudged whole judged → IfSome s (IsOfJudged judged) →
     IfSome s (λ s. (string_bytes s.added ≡ added) × (s.line ≡ line)) → IfSome s (IsSetter text)
@@ -189,6 +191,7 @@ some_left trees k reports i [] h are none =
     let left = length-drop i reports in omega (arith, h, long, left)
 some_left trees k reports i (o ∷ all) h are none = cc
 
+-- the last outcome that is left is that of the next report
 pub next_outcome : (trees : List Tree) (k : Known) (reports : List Report) (i : ℕ) (r : Report) (old rest : List Outcome) (o : Outcome) →
     i < length reports → r ≡ get_or reports i r → AllZip (IsOutcomeOf trees k) (drop i reports) (reverse old) → old ≡ rest ++ o ∷ [] →
     IsOutcomeOf trees k r o × AllZip (IsOutcomeOf trees k) (drop (i + 1) reports) (reverse rest)
@@ -208,6 +211,7 @@ within_all count (r ∷ reports) all =
     (All-head (λ n. n < count) r.finding (map (λ (r : Report). r.finding) reports) all)
     (within_all count reports (All-tail (λ n. n < count) r.finding (map (λ (r : Report). r.finding) reports) all))
 
+-- one more report has its finding's number last
 pub numbers_taken : (reports : List Report) (i : ℕ) (r : Report) → i < length reports → r ≡ get_or reports i r →
     map (λ (r : Report). r.finding) (take (i + 1) reports) ≡ map (λ (r : Report). r.finding) (take i reports) ++ r.finding ∷ []
 numbers_taken reports i r h is =

@@ -302,6 +302,7 @@ pub empty_notes : (trees : List Tree) (each : List Studied) (notes : List Noted)
 empty_notes trees [] notes few none = rw none notes_none
 empty_notes trees (s ∷ each) notes few none = absurd (omega (arith, few))
 
+-- where there is one text, what was noted of it are the notes of all
 pub only_noted : (look : Look) (trees : List Tree) (each : List Studied) (d : Studied) (p : Printed) → 1 ≤ length each → length each < 2 →
     AreStudied trees 0 each → IsPart look trees (get_or each 0 d) (part_of p) →
     AreNotesIn trees (known_in each) (texts_read each) p.output.noted
@@ -309,6 +310,7 @@ only_noted look trees [] d p some few are part = absurd (omega (arith, some))
 only_noted look trees (s ∷ []) d p some few are part = only_notes trees s p.output.noted are.0 are.1 part.notes
 only_noted look trees (s ∷ (t ∷ each)) d p some few are part = absurd (omega (arith, few))
 
+-- where there is one text, and nothing was sent early, it is put out as a whole
 pub only_sent : (options : WarningOptions) (trees : List Tree) (states : ℕ) (held : Bool) (a : Option (List ℕ)) (each : List Studied)
     (p : Printed) → 1 ≤ length each → length each < 2 → AreParsed (texts_read each) (filters_of trees) → p.sent ≡ 0 →
     IsPutOut options (texts_read each) states held a a p
@@ -317,6 +319,7 @@ only_sent options trees states held a (s ∷ []) p some few parsed sent =
     put_out_only options trees s.source.text.now states held a p parsed sent
 only_sent options trees states held a (s ∷ (t ∷ each)) p some few parsed sent = absurd (omega (arith, few))
 
+-- where there is no text, nothing printed is what is printed of all
 pub printed_empty : (look : Look) (trees : List Tree) (each : List Studied) (p : Printed) → length each < 1 → p.output.bytes.items ≡ [] →
     p.output.noted ≡ [] → p.total.status ≡ 0 → p.total.findings ≡ 0 → p.total.files ≡ 0 → ArePrinted look trees each p
 printed_empty look trees [] p few bytes noted status findings files = printed_none look trees p bytes noted status findings files
@@ -324,6 +327,7 @@ printed_empty look trees (s ∷ each) p few bytes noted status findings files = 
 
 -- with the last one, all of them
 module _ (look : Look) (trees : List Tree) (each : List Studied) (i : ℕ) (d : Studied) (old new : Printed) where
+  -- where all texts but the last are printed, the last one's report completes what is printed of all
   pub whole_printed : 1 ≤ length each → AreStudied trees 0 each → length (take (length each - 1) each) ≤ i →
       ArePrinted look trees (take i (take (length each - 1) each)) old → IsMore look trees (get_or each (length each - 1) d) old new →
       ArePrinted look trees each new
@@ -337,6 +341,7 @@ module _ (look : Look) (trees : List Tree) (each : List Studied) (i : ℕ) (d : 
       (last_studied trees each (get_or each (length each - 1) d) are some last)
       (last_placed trees each (get_or each (length each - 1) d) are some last) more)
 
+  -- where all texts but the last were put out, the last one's report completes what is put out
   pub whole_sent : (held : Bool) (a b : Option (List ℕ)) → 1 ≤ length each → AreParsed (texts_read each) (filters_of trees) →
       length (take (length each - 1) each) ≤ i → ArePrinted look trees (take i (take (length each - 1) each)) old →
       IsMore look trees (get_or each (length each - 1) d) old new → new.sent ≡ old.sent → HoldsBack held old → (held ≡ true → b ≡ a) →
@@ -374,6 +379,7 @@ print_of_only look trees s (Known place) p placed none is = record {
   is = inl (subst (λ n. IsKnownPrint look trees n s p.output.noted p.output.bytes.items p.total.status p.total.findings) placed is);
 }
 
+-- where there is one text, its report is what is printed of all
 pub only_print : (look : Look) (trees : List Tree) (each : List Studied) (d : Studied) (p : Printed) → 1 ≤ length each → length each < 2 →
     AreStudied trees 0 each → IsPart look trees (get_or each 0 d) (part_of p) →
     IsPrintOfAll look trees (sources_read each) p.output.noted p.output.bytes.items p.total.status
@@ -382,6 +388,7 @@ only_print look trees (s ∷ []) d p some few are part =
     print_of_only look trees s.source s.reading p are.1 (unnoted trees s.source.text.now s.reading p.output.noted part.notes) part.print
 only_print look trees (s ∷ (t ∷ each)) d p some few are part = absurd (omega (arith, few))
 
+-- where there is no text, nothing is printed of all
 pub empty_print : (look : Look) (trees : List Tree) (each : List Studied) (p : Printed) → length each < 1 → p.output.noted ≡ [] →
     p.output.bytes.items ≡ [] → p.total.status ≡ 0 →
     IsPrintOfAll look trees (sources_read each) p.output.noted p.output.bytes.items p.total.status
@@ -410,6 +417,7 @@ some_print look trees [] notes printed status some are = absurd (omega (arith, s
 some_print look trees (s ∷ []) notes printed status some are = absurd (omega (arith, some))
 some_print look trees (s ∷ (t ∷ each)) notes printed status some are = are
 
+-- where there are two texts or more, what is printed of several is what is printed of all
 pub some_printed : (look : Look) (trees : List Tree) (each : List Studied) (result : Result Printed ExplainFault) → 2 ≤ length each →
     IfOk result (λ p. AreSeveralPrinted look trees (sources_read each) p.output.noted p.output.bytes.items p.total.status) →
     IfOk result (λ p. IsPrintOfAll look trees (sources_read each) p.output.noted p.output.bytes.items p.total.status)

@@ -78,6 +78,7 @@ adds_block trees states text found setting r n old mid new number behind is none
   noted = note.noted ∙ ap (λ ns. ns ++ n ∷ []) same;
 }
 
+-- without blocks nothing is added
 pub blocks_none : (trees : List Tree) (states : ℕ) (text : Text) (o : Output) → AddBlocks trees states text [] o o
 blocks_none trees states text o = record {
   notes = [];
@@ -120,6 +121,7 @@ body_of_reports look trees k reports old new some are blocks = record {
   noted = blocks.noted;
 }
 
+-- where a list isn't found to have anything, it has nothing
 pub empty_of : (found : List Finding) (b : Bool) → b ≡ (length found == 0) → (b ≡ false → ⊥) → found ≡ []
 empty_of [] b is some = refl
 empty_of (f ∷ found) b is some = absurd (some (is ∙ ne_eqb (length (f ∷ found)) 0 (λ h. omega arith)))
@@ -139,6 +141,7 @@ body_of_none look trees k lines old new none are added same = record {
 
 -- ---- the whole of one text
 
+-- what was printed of a known filter, up to the lines that end it, is its part
 pub known_print : TextsWithoutCirclesAreOrderly → (look : Look) (trees : List Tree) (k : Known) (first before : Output) (p : Part) →
     IsKnownIn look trees k →
     first.bytes.items ≡ [] → first.noted ≡ [] → AddsBody look trees k first before → HasNotes trees k before.noted →
@@ -167,6 +170,7 @@ known_print law look trees k first before p known none unnoted body notes added 
       many = count;
     }
 
+-- what was printed of a text that doesn't parse, with the line that ends it, is its part
 pub unread_print : (look : Look) (s : Source) (f : SyntaxFault) (lines before : List ℕ) (p : Part) → IsUnread s.text.now f →
     IsFaultReport look.coloured s.name.now s.text.now lines → before ≡ quieted lines →
     p.output.bytes.items ≡ before ++ quieted (syntax_line f ++ 10 ∷ []) → p.tally.status ≡ 2 →
@@ -183,6 +187,7 @@ unread_print look s f lines before p unread are first added status count =
       many = count;
     }
 
+-- what was printed of a notice, with the line that ends it, is the notice's print
 pub prints_notice : (look : Look) (trees : List Tree) (s : Source) (alone : Bool) (n : Notice) (lines before : List ℕ) (p : Part) →
     alone ≡ is_alone trees s.text.now → AreNoticeLines look.coloured alone s.name.now n lines → before ≡ quieted lines →
     p.output.bytes.items ≡ before ++ quieted (notices.closing n) → PrintsNotice look trees s n p
