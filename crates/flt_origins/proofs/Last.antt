@@ -108,6 +108,7 @@ module _ (g : Graph) (k : ℕ) (f : Fact) where
       subst (λ (x : Cause). IsLast g k f steps x later) (sym e)
       (subst (λ (x : List Step). IsLast g k f steps (last_cause g k f cause.Entry steps) x) (sym h) (is_last steps))
 
+  -- where the last step that made a fact isn't an origin at a point, the steps have none there
   pub none_at : (steps later : List Step) (p : ℕ) (c : Cause) (b : Bool) → c ≡ last_cause g k f cause.Entry steps →
       later ≡ since g k f steps steps → b ≡ is_origin g k f p c later → b ≡ false → HasNone g k f steps p
   none_at steps later p c b e h same wrong =

@@ -64,7 +64,7 @@ acted_whole (action.ClearContext c) t h =
     record { contexts = length-set t.contexts (context_place c) Null ∙ h.contexts; operations = h.operations; locks = h.locks }
 acted_whole (action.ClearOperation o) t h =
     record
-        { contexts = h.contexts; operations = length-set t.operations (operation_place (Removed o)) Null ∙ h.operations; locks = h.locks }
+    { contexts = h.contexts; operations = length-set t.operations (operation_place (Removed o)) Null ∙ h.operations; locks = h.locks }
 acted_whole (action.SetNumber n a) t h = h
 acted_whole (action.ReadValue n c) t h = h
 acted_whole (action.ReadFile n d) t h = h

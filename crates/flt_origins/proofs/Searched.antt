@@ -244,9 +244,11 @@ module _ (g : Graph) (k : ℕ) (f : Fact) where
           absurd (no_origin steps c later path last parts.0 (is_there (leads g k f (behind g k c) later) p parts.1))
       by false is = refl
 
+  -- where all that was reached has been followed, no path has an origin at the point
   pub all_followed : (p : ℕ) (x : Search) (n : ℕ) → IsSearched g k f p x n → length x.found ≤ n → HasNoneAt g k f p
   all_followed p x n h all = none_at p x n h all
 
+  -- where nothing is left to follow, no path has an origin at the point
   pub nothing_left : (p : ℕ) (x : Search) (n : ℕ) → IsSearched g k f p x n → slice_get x.found n ≡ None → HasNoneAt g k f p
   nothing_left p x n h end = none_at p x n h (none_past x.found n end)
 

@@ -95,6 +95,7 @@ pub record IsMore (x y : Search) : Type 0 where
 pub more_same : (x : Search) → IsMore x x
 more_same x = record { more = λ n r h. h; marks = λ h. h; long = refl; sum = refl }
 
+-- a search that has more than one with more than a third has more than the third
 pub more_then : (x y z : Search) → IsMore x y → IsMore y z → IsMore x z
 more_then x y z a b = record {
   more = λ n r h. b.more n r (a.more n r h);
@@ -103,6 +104,7 @@ more_then x y z a b = record {
   sum = b.sum ∙ a.sum;
 }
 
+-- what a search has reached, one with more has reached
 pub still_reached : (x y : Search) (p : ℕ) (so : Bool) → IsMore x y → IsReached x.found p so → IsReached y.found p so
 still_reached x y p so a h =
     record { number = h.number; one = h.one; there = a.more h.number h.one h.there; point = h.point; same = h.same }
@@ -141,6 +143,7 @@ arrived_by_more : (x : Search) (r : Reached) (o : Option Mark) → slice_get x.s
 arrived_by_more x r None e = more_same x
 arrived_by_more x r (Some m) e = marked_more x r m e (is_marked m r.is_so) refl
 
+-- an arrival leaves all that was reached
 pub arrived_more : (x : Search) (r : Reached) → IsMore x (arrived x r)
 arrived_more x r = arrived_by_more x r (slice_get x.seen r.point) refl
 
@@ -325,9 +328,11 @@ module _ (g : Graph) (k : ℕ) (f : Fact) where
     from_one : IsMore one four
     from_one = more_then one two four (taken_more n r (step r.point true false) one) from_two
 
+    -- what is reached after a point leaves all that was reached
     pub gone_more : IsMore x (gone_on g k f n r x)
     gone_more = more_then x three four to_three from_three
 
+    -- the arrivals after a point has been followed come from points that were reached
     pub gone_arrivals : slice_get x.found n ≡ Some r → AreArrivals g k f x.found → AreArrivals g k f (gone_on g k f n r x).found
     gone_arrivals there all =
         taken_arrivals n r (step r.point false false) three (to_three.more n r there) refl
@@ -353,6 +358,7 @@ module _ (g : Graph) (k : ℕ) (f : Fact) where
         let e = from_three.long in
         taken_reached n r (step r.point false false) three p outcome leads (to_three.marks all) (omega (arith, e, less))
 
+  -- what was followed in a search is followed in one with more
   pub still_followed : (x y : Search) (r : Reached) → IsMore x y → IsFollowed g k f x r → IsFollowed g k f y r
   still_followed x y r a h granted gives p outcome leads less =
       let e = a.long in

@@ -131,6 +131,7 @@ is_operation_place : (n : Option OperationVariable) (v : OperationVariable) →
 is_operation_place (Some d) v = refl
 is_operation_place None v = refl
 
+-- a context variable's status after a call is what the call makes of it, or what it was
 pub context_at : (n : Option ContextVariable) (change : Change) (gives : Bool) (xs : List Status) (v : ContextVariable) → length xs ≡ 9 →
     slice_index_or (set_named (context_named n) (left change gives) xs) (context_place v) Null
     ≡ status_from (left (change_of (is_context n v) change) gives) (slice_index_or xs (context_place v) Null)
@@ -138,6 +139,7 @@ context_at n change gives xs v h =
     now_at (context_named n) change gives xs (context_place v) (context_within n xs h)
     ∙ ap (λ b. status_from (left (change_of b change) gives) (slice_index_or xs (context_place v) Null)) (is_context_place n v)
 
+-- an operation variable's status after a call is what the call makes of it, or what it was
 pub operation_at : (n : Option OperationVariable) (change : Change) (gives : Bool) (xs : List Status) (v : OperationVariable) →
     length xs ≡ 5 →
     slice_index_or (set_named (operation_named n) (left change gives) xs) (operation_place v) Null
@@ -196,6 +198,7 @@ after_call c e gives t = situation
     (set_named (context_named c.output) (left e.output gives) (set_named (context_named c.context) (left e.context gives) t.contexts))
     (set_named (operation_named c.operation) (left e.operation gives) t.operations) t.mode t.draining (locks_named c.lock e.lock t.locks)
 
+-- what a call leaves of a situation is what its effects say
 pub call_leaves : (c : Invocation) (e : Effects) (gives : Bool) (t : Situation) → called c e gives t ≡ after_call c e gives t
 call_leaves c e gives t =
     let one = context_put c.context (left e.context gives) t in

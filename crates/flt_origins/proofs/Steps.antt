@@ -189,6 +189,7 @@ lock_made (list.Taken a) false x e = cc
 lock_made list.Released true x e = cc
 lock_made list.Released false x e = refl
 
+-- an instruction that makes a fact leaves it so, whatever was so before
 pub made : Made
 made i outcome gives (fact.Context v s) t h e =
     ap (same_status s) (context_behind i outcome gives t v h) ∙ status_made (context_change i outcome v) gives s (context_now t v) e
@@ -224,6 +225,7 @@ alone_kept i outcome gives (fact.Draining b) t h e = ap (λ x. agrees x b) (drai
 alone_kept i outcome gives (fact.Lock l b) t h e =
     ap (λ x. agrees x b) (lock_behind i outcome gives t l h ∙ lock_kept (lock_change i outcome l) (holds_lock l t.locks) e)
 
+-- an instruction that keeps a fact leaves it as it was
 pub kept : Kept
 kept i outcome gives f t h e = alone_kept i outcome gives f t h (and_parts (leaves_alone i outcome f) (lets_pass i outcome f) e).0
 
@@ -343,6 +345,7 @@ lock_split (list.Taken a) false x p e q = cc
 lock_split list.Released true x p e q = cc
 lock_split list.Released false x p e q = refl
 
+-- what is so after an instruction was made there, or was so before and is kept
 pub made_or_kept : MadeOrKept
 made_or_kept i outcome gives (fact.Context v s) t h come e =
     status_split (context_change i outcome v) gives s (context_now t v) (lets_pass i outcome (fact.Context v s))
