@@ -47,6 +47,7 @@ along line start o (suc k) (b ∷ z) h few =
         let same : o + suc k ≡ o + 1 + k = omega arith in
         rw (e, same) (others line start (omega (arith, h)) ∙ ap (λ c. behind (record { line = line; column = c }) (take k z)) further)
 
+-- the place of a byte by the starts of lines is its place in the text
 pub by_lines : (text : Text) (at : ℕ) → counted 1 0 (starts_from 0 text) (min at (length text)) ≡ place_in text at
 by_lines text at =
     let here : 0 + min at (length text) ≡ min at (length text) = omega arith in
@@ -66,6 +67,7 @@ capped m n = grind (arith, common_steps)
 capped_before : (m n : ℕ) → min (min m (n + 1) - 1) n ≡ min (m - 1) n
 capped_before m n = grind (arith, common_steps)
 
+-- a part of a text is where its first byte and its last one are
 pub part_at : (text : Text) (s : Span) (from to : ℕ) →
     record {
       first = place_in text (min (s.start + from) (length text + 1));
@@ -97,6 +99,7 @@ along_point line start (x ∷ xs) at (suc k) few point =
       λ i d low high. point.1 (suc i) d (omega (arith, low)) (omega (arith, high)),
     ))
 
+-- the place of a byte is in the last line that begins no later
 pub by_point : (xs : List ℕ) (at k : ℕ) → k ≤ length xs →
     IsPartitionPoint (λ (n : ℕ). nat_le n at ≡ true) (λ (n : ℕ). nat_le n at ≡ false) xs k →
     record { line = k + 1; column = at - get_or (0 ∷ xs) k 0 + 1 } ≡ counted 1 0 xs at
@@ -106,6 +109,7 @@ by_point xs at k few point = let same : 1 + k ≡ k + 1 = omega arith in sym (rw
 pub first_or : (xs : List ℕ) (lines : ℕ) → lines ≡ 0 → 0 ≡ get_or (0 ∷ xs) lines 0
 first_or xs lines none = rw none refl
 
+-- the start of a line, or 0 for the first, is read from the list with 0 before it
 pub later_or : (xs : List ℕ) (lines : ℕ) → 1 ≤ lines → unwrap_or (slice_get xs (lines - 1)) 0 ≡ get_or (0 ∷ xs) lines 0
 later_or xs lines some =
     let one : lines ≡ suc (lines - 1) = omega (arith, some) in
@@ -136,6 +140,7 @@ ascending_from o (b ∷ z) = go (b == 10) refl (ascending_from (o + 1) z)
     go true e later (suc i) (suc j) d le h = rw e (later i j d (omega (arith, le)) (let l = rw e at h in omega (arith, l)))
     go false e later i j d le h = rw e (later i j d le (rw e at h))
 
+-- the starts of lines ascend
 pub ascending : (starts : List ℕ) (z : Text) → starts ≡ starts_from 0 z → IsNonDecreasingBy (λ (n : ℕ). n) starts
 ascending starts z same = rw same (ascending_from 0 z)
 
