@@ -336,6 +336,7 @@ taken_span taken z =
     let all : length (taken ++ z) - length z ≡ length taken = omega (arith, length-append taken z) in
     rw (all, take-append_seam taken z) refl
 
+-- a part that is read before other tokens has the same place in the text
 pub same_span : {A : Type 0} {R : Input → A → Input → Type 0} {i o : Input} {x : A} (d : Detached R i x o) (z : Input) →
     span (d.taken ++ z) z ≡ span i o
 same_span {o = o} d z = taken_span d.taken z ∙ sym (ap (λ j. span j o) d.parts ∙ taken_span d.taken o)

@@ -67,6 +67,7 @@ placed text zero false last at offset front (b ∷ z) r =
         subst (All (IsPlacedIn text)) (sym same)
         (All-cons (IsPlacedIn text) _ rest (λ h. here text front (b ∷ z) last offset at r) (others ((token (b ∷ z)).1 - 1) false))
 
+-- the parser's place for each token is the one that is counted
 pub tokens_are_placed : TokensArePlaced
 unfolding tokens
 tokens_are_placed text =
