@@ -23,6 +23,7 @@ module _ {X : Type 0} (z : X) where
       ap (λ (ys : List X). get_or ys n z) (is ∙ ap (λ (ys : List X). ys ++ replicate (size - length xs) z) (take_all size xs (omega arith)))
       ∙ same_with_more xs (size - length xs) n
 
+-- numbers read the same where there is room for more of them
 pub filled_up : (xs new : List (Option ℕ)) (size : ℕ) → length xs < size →
     new ≡ take size xs ++ replicate (size - length xs) None → (n : ℕ) → get_or new n None ≡ get_or xs n None
 filled_up xs new size l is n = filled None xs new size l is n
