@@ -156,6 +156,7 @@ module _ (w : World) (s : Step) where
     paired = h.paired;
   }
 
+-- what any transition does with activations and visits, if local steps are quiet
 pub onward : AreQuiet → (p : List Filter) (m : Moment) (x : Transition) (s : Step) → next p m x ≡ Some s → Onward m.world s
 onward quiet p m (Make x) s e = move_onward m.world s (gains_and_frees p m.world x s e) (moved p m.world x s e)
 onward quiet p m (Local a) s e = quiet_onward m.world a s (quiet.alone p m a s e) (quiet.events p m a s e)

@@ -30,7 +30,7 @@ returns-else-owns_each c = λ p m x s agrees f.
     } in
     let each = c.owns_each.ensures ∙ ap (list_all (owns_any c.follow_new.new.self c.args.world.now)) c.as_slice.ensures.value in (
       refuted quiet p m x s c.args.world.now c.args.events.now c.args.self.now c.take_events.new.self
-      c.follow_any_ends.new.self c.follow_new.new.self
+          c.follow_any_ends.new.self c.follow_new.new.self
           c.take_events.new.touched.items c.follow_any_ends.new.touched.items agrees f
           c.in_ok-first.first (sym c.is_some.ensures ∙ c.if-is_some.false) (c.in_ok-first.ensures.first m.trace agrees.tells agrees.counted)
           c.clear.new.self.items c.clear.ensures.items (λ e. c.in_ok-first.ensures.taken e m.trace agrees.tells agrees.counted)
