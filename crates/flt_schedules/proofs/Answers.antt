@@ -42,6 +42,7 @@ zipped_at R (a ∷ xs) [] k x all e = absurd all
 zipped_at R (a ∷ xs) (b ∷ ys) zero x all e = let same : a ≡ x = cc in subst (λ z. R z b) same all.0
 zipped_at R (a ∷ xs) (b ∷ ys) (suc k) x all e = zipped_at R xs ys k x all.1 e
 
+-- answers for the goals of findings are answers for the findings
 pub found_by : {V : Type 0} (items : V → List Answer) (p : List Filter) (found : List Suspect) (goals seen : List Goal)
     (r : Result V AllocError) →
     seen ≡ goals → AllZip IsGoalFor found goals → IfOk r (λ a. AreAnswers p seen (items a)) → IfOk r (λ a. AreFound p found (items a))
@@ -63,6 +64,7 @@ each_together : (trees : List Tree) (n : ℕ) (s : Suspect) (o : Option Answer) 
 each_together trees n s (Some b) may has = together_for trees n s b may has
 each_together trees n s None may has = tt
 
+-- answers for findings of filters that may meet are answers for them together
 pub together_by : {V : Type 0} (items : V → List Answer) (trees : List Tree) (n : ℕ) (found : List Suspect) (r : Result V AllocError) →
     MayMeet trees n →
     IfOk r (λ a. AreFound (filters_of trees) found (items a)) → IfOk r (λ a. AreTogether trees n found (items a))
@@ -103,6 +105,7 @@ step R (z ∷ xs) (w ∷ ys) zero x y less is all new = absurd all
 step R (z ∷ xs) [] (suc i) x y less is all new = absurd all
 step R (z ∷ xs) (w ∷ ys) (suc i) x y less is all new = (all.0, step R xs ys i x y (omega (arith, less)) is all.1 new)
 
+-- one more pair is in a relation with those before it
 pub one_more : {A B : Type 0} (R : A → B → Type 0) (xs : List A) (ys more : List B) (i : ℕ) (x : A) (y : B) →
     i < length xs → x ≡ get_or xs i x →
     AllZip R (take i xs) ys → R x y → more ≡ ys ++ y ∷ [] → AllZip R (take (i + 1) xs) more
