@@ -166,10 +166,12 @@ begins h p m (Make x) s e = make_begins p m.world x s e
 begins h p m (Local a) s e = as_many m.world a s.world.activations (h.hidden p m.trace m.world a s e)
 begins h p m (Board a grant) s e = as_many m.world a s.world.activations (h.seen p m.trace m.world a grant s e)
 
+-- a transition that is said to start a callback starts that one
 pub one : Spending → (p : List Filter) (m : Moment) (x : Transition) (s : Step) (c : Callee) → next p m x ≡ Some s →
     starts_callback p m.world x ≡ Some c → Starts p c m.world s.world
 one h p m x s c e is = subst (λ (o : Option Callee). Begins p o m.world s.world) is (begins h p m x s e)
 
+-- a transition that is said to start no callback starts no activation
 pub none : Spending → (p : List Filter) (m : Moment) (x : Transition) (s : Step) → next p m x ≡ Some s →
     starts_callback p m.world x ≡ None → length s.world.activations ≡ length m.world.activations
 none h p m x s e is = subst (λ (o : Option Callee). Begins p o m.world s.world) is (begins h p m x s e)

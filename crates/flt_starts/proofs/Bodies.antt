@@ -25,6 +25,7 @@ module _ (cs : List Callback) (may_start : ℕ → Bool) (at : Place) where
   pub first_within : (s : Statement) (rest : List Statement) → Within (s ∷ rest) → one s ≡ true
   first_within s rest h = (and_parts (one s) (body_within cs may_start at rest) h).0
 
+  -- where statements ask for nothing but what may start, those after the first one do so, too
   pub rest_within : (s : Statement) (rest : List Statement) → Within (s ∷ rest) → Within rest
   rest_within s rest h = (and_parts (one s) (body_within cs may_start at rest) h).1
 

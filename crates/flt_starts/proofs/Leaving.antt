@@ -199,6 +199,7 @@ module _ (q : Setting) (w : World) (k : Kept q w) (a : ℕ) where
 
     -- ---- reads
 
+    -- to read a context's value keeps the world as it has to stay
     pub value_read : (m : NumberVariable) (x : Option ℕ) → To (read_value_of w a m rest x)
     value_read m None = goes _ _ same (on rest h)
     value_read m (Some x) = goes _ _ same (on rest h)
@@ -211,10 +212,12 @@ module _ (q : Setting) (w : World) (k : Kept q w) (a : ℕ) where
         by true = same
         by false = same
 
+    -- to write a context's value keeps the world as it has to stay
     pub value_written : (value : Atom) (x : Option ℕ) → To (write_value_of w a value rest x)
     value_written value None = goes _ _ same (on rest h)
     value_written value (Some x) = goes _ _ (put_same x (atom_value here value)) (on rest h)
 
+    -- to read an operation's file keeps the world as it has to stay
     pub file_read : (m : NumberVariable) (v : Option ℕ) → To (read_file_of w a m rest v)
     file_read m None = goes _ _ same (on rest h)
     file_read m (Some v) = goes _ _ same (on rest h)
@@ -226,6 +229,7 @@ module _ (q : Setting) (w : World) (k : Kept q w) (a : ℕ) where
     tested_by true = g
     tested_by false = r
 
+    -- to test an operation's mode keeps the world as it has to stay
     pub irp_tested : (v : Option ℕ) → To (test_irp_of w a granted refused v)
     irp_tested None = goes _ _ same (on refused r)
     irp_tested (Some v) = goes _ _ same (on _ (tested_by (is_irp (arrival_of w.store v).mode)))

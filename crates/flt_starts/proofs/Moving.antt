@@ -371,6 +371,7 @@ module _ (q : Setting) (w : World) (k : Kept q w) where
   present : (presences : List Presence) → Kept q (record w { store = record w.store { presences = presences } })
   present presences = shared _ (stays no_arrival w.store.arrivals) (stays no_visit w.store.visits) k.store
 
+  -- each move keeps a world as it has to stay
   pub make_stays : (x : Move) (s : Step) → make q.filters w x ≡ Some s → Stays s
   make_stays (Arrive kind mode file) s e =
       let arrival : Arrival = record { kind = kind; mode = mode; file = file } in
