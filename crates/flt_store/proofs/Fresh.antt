@@ -30,6 +30,7 @@ none_queued zero f = refl
 none_queued (suc n) zero = refl
 none_queued (suc n) (suc f) = none_queued n f
 
+-- before the first move all filters are attached, and there is nothing else
 pub fresh_parts : (presences : List Presence) (queues : cbdq.Queueing) (greatest : ℕ) (contexts : ctx.ContextTable) (operations : Operating)
     (holders : List (List (List Holder))) (n : ℕ) → presences ≡ replicate n Attached →
     queues ≡ record { queues = replicate n []; disabled = replicate n false } →

@@ -242,9 +242,11 @@ module _ (xs : List (Option Holder)) (n m : List (ℕ × ℕ)) (c k a p : ℕ) (
   pub others_stand : filter (is_other a) (standing xs) ≡ standing (set xs p None)
   others_stand = one_of a xs p only
 
+  -- a holder that leaves its place leaves one holder fewer
   pub count_less : c ≡ suc (length (standing (set xs p None)))
   count_less = h.all ∙ one_less xs p x holds
 
+  -- a holder that leaves its place leaves as many alone as there were, less itself if it was one
   pub alone_less : k ≡ weight x.access + length (filter is_alone (standing (set xs p None)))
   alone_less = h.lone ∙ lone_less xs p x holds
 
@@ -284,6 +286,7 @@ module _ (xs : List (Option Holder)) (n m : List (ℕ × ℕ)) (c k a p : ℕ) (
           lone = let l = less.lone in omega (arith, l, few, empty);
         }
 
+    -- where the count falls to 0, no holder stands
     pub none_stand : (d : ℕ) → d ≡ c - 1 → d ≡ 0 → standing (set xs p None) ≡ []
     none_stand d d_is zero_is = let l = count_less in empty_of (standing (set xs p None)) (omega (arith, l, d_is, zero_is))
       where
@@ -298,6 +301,7 @@ module _ (xs : List (Option Holder)) (n m : List (ℕ × ℕ)) (c k a p : ℕ) (
       ap (λ (i : ℕ). i == 1) l ∙ eqb_suc (length (standing (set xs p None))) 0 ∙ sym (free_split a Exclusive (standing xs) ∙
       ap (list_all (λ (y : Holder). are_compatible Exclusive y.access)) others_stand ∙ free_alone (standing (set xs p None)))
 
+  -- an activation that is the only one alone may share the lock
   pub free_own_shared : (k == weight x.access) ≡ is_free_for a Shared (standing xs)
   free_own_shared =
       ap (λ (i : ℕ). i == weight x.access) alone_less ∙ plus_same (weight x.access) _ ∙ sym (free_split a Shared (standing xs) ∙
@@ -309,14 +313,17 @@ module _ (xs : List (Option Holder)) (n m : List (ℕ × ℕ)) (c k a p : ℕ) (
 -- ---- an activation that doesn't hold the lock
 
 module _ (xs : List (Option Holder)) (n : List (ℕ × ℕ)) (c k a : ℕ) (h : AreNoted xs n c k) (old : None ≡ place_in n a) where
+  -- an activation that has no place leaves all holders others
   pub others_all : filter (is_other a) (standing xs) ≡ standing xs
   others_all = none_of a xs (λ q. h.there a q ∙ ap (is_place q) (sym old))
 
+  -- an activation without a place may hold the lock alone just where nobody holds it
   pub free_new_alone : (c == 0) ≡ is_free_for a Exclusive (standing xs)
   free_new_alone =
       ap (λ (i : ℕ). i == 0) h.all ∙ sym (free_split a Exclusive (standing xs) ∙
       ap (list_all (λ (y : Holder). are_compatible Exclusive y.access)) others_all ∙ free_alone (standing xs))
 
+  -- an activation without a place may share the lock just where nobody holds it alone
   pub free_new_shared : (k == 0) ≡ is_free_for a Shared (standing xs)
   free_new_shared =
       ap (λ (i : ℕ). i == 0) h.lone ∙ sym (free_split a Shared (standing xs) ∙
@@ -324,6 +331,7 @@ module _ (xs : List (Option Holder)) (n : List (ℕ × ℕ)) (c k a : ℕ) (h : 
 
 -- ---- where the holders are walked
 
+-- the holders of the places without an activation's are the other holders
 pub walk_others : (a : ℕ) (xs : List (Option Holder)) →
     standing (filter (λ (o : Option Holder). not (is_of a o)) xs) ≡ filter (is_other a) (standing xs)
 walk_others a [] = refl
@@ -336,6 +344,7 @@ walk_others a (Some x ∷ xs) = by_test (x.activation == a) refl (walk_others a 
     by_test true is rest = rw is rest
     by_test false is rest = rw is (ap (λ (ys : List Holder). x ∷ ys) rest)
 
+-- where each place is free to an activation, the lock is free to it
 pub walk_free : (a : ℕ) (access : Access) (xs : List (Option Holder)) → list_all (is_free a access) xs ≡ is_free_for a access (standing xs)
 walk_free a access [] = refl
 walk_free a access (None ∷ xs) = walk_free a access xs
