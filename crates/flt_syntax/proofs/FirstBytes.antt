@@ -40,6 +40,7 @@ short_run (a ∷ (b ∷ (c ∷ z))) kind some v last =
     let p = and_parts (is_word a) (is_word b) v.1 in
     rw (p.0, p.1, last, v.0, v.2) refl
 
+-- a word of two bytes that names a variable is a word where no more of it follows
 pub short_variable : (z : Text) (found : Option Kind) → 3 ≤ length z → IfSome found (IsVariable (slice_index z 0) (slice_index z 1)) →
     is_word (slice_index z 2) ≡ false → IfSome found (λ kind. (run z ≡ (word kind, 2)) × (2 ≤ length z))
 short_variable z None some v last = tt
