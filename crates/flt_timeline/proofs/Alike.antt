@@ -128,6 +128,7 @@ pub fold_here : (told : List ℕ) (rows : List Row) (number left block : ℕ) �
 fold_here told rows number left block e some h =
     ap (fold_by told rows number) (sym (shortest_here told rows left block some h) ∙ e)
 
+-- a row that is like no later one is a fold of its own
 pub fold_alone : (told : List ℕ) (rows : List Row) (number : ℕ) → shortest told rows 24 1 ≡ None →
     record { first = number; block = 1; repeated = 0 } ≡ first_fold told number rows
 fold_alone told rows number e = sym (ap (fold_by told rows number) e)

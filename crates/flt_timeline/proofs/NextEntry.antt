@@ -54,6 +54,7 @@ module _ (p : List Filter) (v : Verdict) (number : ℕ) where
       ∙ ap (λ (x : Entered). followed e old.alive es (ends_at v number) x (λ bits w. told_from p v (number + 1) bits w es)) (sym is)
       ∙ sym (told_going old s e es going)
 
+  -- where an entry can be made, the first refusal is looked for after it
   pub refused_goes : (old new : Progress) (s after : Scene) (e : JournalEntry) (es : List JournalEntry) (here : Told) →
       old.is_over ≡ false → entry_of p s e ≡ Goes here after →
       new ≡ record { is_over = ends_at v number; alive = here.telling.alive; refusal = None } →
@@ -74,6 +75,7 @@ module _ (p : List Filter) (v : Verdict) (number : ℕ) where
       ∙ ap (λ (x : Entered). followed e old.alive es (ends_at v number) x (λ bits w. told_from p v (number + 1) bits w es)) (sym is)
       ∙ sym (told_going old s e es going)
 
+  -- the first entry that can't be made is the first refusal
   pub refused_stops : (old new : Progress) (s after : Scene) (e : JournalEntry) (es : List JournalEntry) (why : Refusal) →
       old.is_over ≡ false → entry_of p s e ≡ Stops why → new ≡ record { is_over = true; alive = old.alive; refusal = Some why } →
       next_refused p v new (number + 1) after es ≡ next_refused p v old number s (e ∷ es)
@@ -145,6 +147,7 @@ told_on_lent f g so_far all here lent es number place d same within at step so =
     (so_far ++ here ∷ []) ++ f (place + 1) (drop (place + 1) es) ≡ all in
     subst P (sym same) (λ w s. told_on f g so_far all here es number place d w at s so) within step
 
+-- one more entry of a borrowed list is looked at
 pub refused_on_lent : (f g : ℕ → List JournalEntry → Option Refusal) (all : Option Refusal) (lent es : List JournalEntry) (number place : ℕ)
     (d : JournalEntry) → lent ≡ es → place < length lent → number ≡ place →
     ((ws : List JournalEntry) → f (number + 1) ws ≡ g number (get_or lent place d ∷ ws)) → g place (drop place es) ≡ all →
@@ -176,6 +179,7 @@ module _ (p : List Filter) (v : Verdict) where
       ∙ ap (λ z. so_far ++ z) (sym (none_told progress.is_over progress number s refl))
       ∙ ap (λ (rest : List JournalEntry). so_far ++ next_told p v progress number s rest) (sym (drop_all place es past)) ∙ so
 
+  -- after all entries the first refusal is the one that was found
   pub refused_all : (all : Option Refusal) (progress : Progress) (number place : ℕ) (s : Scene) (es : List JournalEntry) →
       length es ≤ place →
       (progress.is_over ≡ false → progress.refusal ≡ None) →
