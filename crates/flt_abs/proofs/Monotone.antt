@@ -491,6 +491,7 @@ outcome_below None (Some r) m n f h = tt
 outcome_below (Some q) (Some r) m n f h = tt
 outcome_below (Some q) None m n f h = absurd (none-some q (sym (f refl)))
 
+-- a transfer from a state leads below the transfer from each state above it
 pub transfer_below : (g : Graph) (callback point : ℕ) (x y : State) → is_proper x ≡ true → is_below x y ≡ true →
     IsOutcomeBelow (transfer g callback point x) (transfer g callback point y)
 transfer_below g callback point x y p h =

@@ -16,6 +16,7 @@ use Rattle.flt_abs.specs.Locks.{are_locks}
 
 -- ---- one set
 
+-- where not one or the other, the one implies the other
 pub implies : (a b : Bool) → (not a || b) ≡ true → a ≡ true → b ≡ true
 implies true b h e = h
 implies false b h e = cc
@@ -24,6 +25,7 @@ implies_from : (a b : Bool) → (a ≡ true → b ≡ true) → (not a || b) ≡
 implies_from true b h = h refl
 implies_from false b h = refl
 
+-- what a status set has, each set that it is within has
 pub status_within : (a b : StatusSet) (x : Status) → statuses_within a b ≡ true → has_status a x ≡ true → has_status b x ≡ true
 status_within a b x h =
     let parts = and_parts _ _ h in
@@ -126,6 +128,7 @@ lengths_differ (x ∷ xs) (y ∷ ys) h =
 
 -- ---- states
 
+-- a state that is computed as below another one is below it by its meaning
 pub below_means : (a b : State) → is_below a b ≡ true → IsBelow a b
 below_means a b h =
     let locks = and_parts (same_locks a.locks b.locks) _ h in
@@ -154,6 +157,7 @@ pub record Proper (s : State) : Type 0 where
   pub draining : is_draining_possible s.draining ≡ true
   pub locks : are_locks s.locks ≡ true
 
+-- a proper state has nine sets of contexts and five of operations, and none of its sets is empty
 pub proper_parts : (s : State) → is_proper s ≡ true → Proper s
 proper_parts s h =
     let nine = and_parts _ _ h in
@@ -172,6 +176,7 @@ proper_parts s h =
       locks = draining.1;
     }
 
+-- a proper state that is below another one by its meaning is computed as below it
 pub below_from : (a b : State) → is_proper a ≡ true → IsBelow a b → is_below a b ≡ true
 below_from a b p h =
     let parts = proper_parts a p in
@@ -191,6 +196,7 @@ below_from a b p h =
     (all_within_from _ _ parts.operations (λ ts e. (h.situations (at (map some_status a.contexts) ts mode.0 draining.0)
     (record { contexts = contexts; operations = e; mode = mode.1; draining = draining.1; locks = refl })).operations)))))
 
+-- for a proper state, to be below is computed as it is meant
 pub below_meaning : (a b : State) → is_proper a ≡ true → (is_below a b ≡ true) ↔ IsBelow a b
 below_meaning a b p = (below_means a b, below_from a b p)
 
@@ -263,6 +269,7 @@ join_right a b p q same =
     (and_from _ _ (all_within_right a.contexts b.contexts (p.nine ∙ sym q.nine))
     (all_within_right a.operations b.operations (p.five ∙ sym q.five)))))
 
+-- a join is below every state that both are below
 pub join_within : (a b d : State) → is_below a d ≡ true → is_below b d ≡ true → is_below (join_of a b) d ≡ true
 join_within a b d h e =
     let locks = and_parts (same_locks a.locks d.locks) _ h in
@@ -285,6 +292,7 @@ join_within a b d h e =
     (and_from _ _ (all_union_within a.contexts b.contexts d.contexts lists.0 lists-2.0)
     (all_union_within a.operations b.operations d.operations lists.1 lists-2.1))))
 
+-- the join of proper states with the same locks is the join by its meaning
 pub join_means : (a b : State) → is_proper a ≡ true → is_proper b ≡ true → a.locks ≡ b.locks → IsJoin a b (join_of a b)
 join_means a b p q same =
     record {
@@ -335,6 +343,7 @@ or_wider false true true d h = refl
 or_wider false true false d h = refl
 or_wider false false c d h = cc
 
+-- a join with a proper state is proper
 pub join_proper : (a b : State) → is_proper a ≡ true → is_proper (join_of a b) ≡ true
 join_proper a b h =
     let p = proper_parts a h in
@@ -390,6 +399,7 @@ state_with contexts operations irp fast unset set locks =
       locks = locks;
     }
 
+-- states that are below each other are one
 pub below_same : (a b : State) → is_below a b ≡ true → is_below b a ≡ true → a ≡ b
 below_same a b h e =
     let locks = and_parts (same_locks a.locks b.locks) _ h in
@@ -445,6 +455,7 @@ sets_chain (a ∷ xs) (b ∷ ys) (c ∷ zs) h e =
     let right = and_parts (statuses_within b c) (all_within ys zs) e in
     and_from _ _ (set_chain a b c left.0 right.0) (sets_chain xs ys zs left.1 right.1)
 
+-- a status set is within itself
 pub set_itself : (a : StatusSet) → statuses_within a a ≡ true
 set_itself a = and_from _ _ (implies_itself a.null) (and_from _ _ (implies_itself a.held) (implies_itself a.stale))
 
@@ -452,6 +463,7 @@ sets_themselves : (xs : List StatusSet) → all_within xs xs ≡ true
 sets_themselves [] = refl
 sets_themselves (a ∷ xs) = and_from _ _ (set_itself a) (sets_themselves xs)
 
+-- a state is below itself
 pub below_itself : (a : State) → is_below a a ≡ true
 below_itself a =
     and_from _ _ (locks_same a.locks a.locks refl)
@@ -459,6 +471,7 @@ below_itself a =
     (and_from _ _ (and_from _ _ (implies_itself a.draining.no) (implies_itself a.draining.yes))
     (and_from _ _ (sets_themselves a.contexts) (sets_themselves a.operations))))
 
+-- a state below one that is below a third is below the third
 pub below_chain : (a b c : State) → is_below a b ≡ true → is_below b c ≡ true → is_below a c ≡ true
 below_chain a b c h e =
     let locks = and_parts (same_locks a.locks b.locks) _ h in
@@ -483,8 +496,10 @@ below_chain a b c h e =
     (and_from _ _ (sets_chain a.contexts b.contexts c.contexts lists.0 lists-2.0)
     (sets_chain a.operations b.operations c.operations lists.1 lists-2.1))))
 
+-- a proper state is below its join with another one
 pub joined_left : (a b : State) → is_proper a ≡ true → is_proper b ≡ true → is_below a (join_of a b) ≡ true
 joined_left a b p q = join_left a b (proper_parts a p) (proper_parts b q)
 
+-- a proper state is below the join of another one with it, where both have the same locks
 pub joined_right : (a b : State) → is_proper a ≡ true → is_proper b ≡ true → a.locks ≡ b.locks → is_below b (join_of a b) ≡ true
 joined_right a b p q same = join_right a b (proper_parts a p) (proper_parts b q) same

@@ -315,6 +315,7 @@ unless_same : (b : Option Rule) (n m : Successors) → unless_broken b n ≡ Ok 
 unless_same (Some r) n m h = cc
 unless_same None n m h = cc
 
+-- a situation that a state means, and that an instruction leaves, is meant by the state to which the transfer leads
 pub situations_followed : (g : Graph) (k p : ℕ) (x : State) (t : Situation) (next : Successors) (outcome gives : Bool) →
     transfer g k p x ≡ Ok next → Means x t → may_come_out (instruction_at g k p) t outcome ≡ true →
     Reaches (side next outcome) (successor (instruction_at g k p) outcome) (leaves (instruction_at g k p) outcome gives t)

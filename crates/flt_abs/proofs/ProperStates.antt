@@ -116,7 +116,8 @@ taken : (hs : List HeldLock) (l : LockNumber) (a : Access) (b : Bool) → holds_
 taken hs l a true e h = h
 taken hs l a false e h = are_locks_more hs l a h e
 
-still_locks : (hs : List HeldLock) (l : LockNumber) (change : LockChange) → are_locks hs ≡ true → are_locks (changed_locks hs l change) ≡ true
+still_locks : (hs : List HeldLock) (l : LockNumber) (change : LockChange) →
+    are_locks hs ≡ true → are_locks (changed_locks hs l change) ≡ true
 still_locks hs l list.Stays h = h
 still_locks hs l (list.Taken a) h = taken hs l a (holds_lock l hs) refl h
 still_locks hs l list.Released h = are_locks_without l hs h
@@ -181,6 +182,7 @@ unbroken : (o : Option Rule) (m next : Successors) → unless_broken o m ≡ Ok 
 unbroken None m next e = cc
 unbroken (Some r) m next e = cc
 
+-- where a transfer from a proper state breaks no rule, the states to which it leads are proper
 pub transfer_proper : (g : Graph) (callback point : ℕ) (x : State) (next : Successors) → is_proper x ≡ true →
     transfer g callback point x ≡ Ok next → AreProper next
 transfer_proper g callback point x next h e =

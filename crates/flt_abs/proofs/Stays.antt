@@ -13,6 +13,7 @@ all_set [] i s h e = h
 all_set (x ∷ xs) zero s h e = and_from _ _ e (and_parts _ _ h).1
 all_set (x ∷ xs) (suc i) s h e = let parts = and_parts _ _ h in and_from _ _ parts.0 (all_set xs i s parts.1 e)
 
+-- a state stays proper where a context's set is replaced by one that isn't empty
 pub proper_contexts : (x : State) (i : ℕ) (s : StatusSet) → is_proper x ≡ true → is_possible s ≡ true →
     is_proper (record x { contexts = set x.contexts i s }) ≡ true
 proper_contexts x i s h e =
@@ -22,6 +23,7 @@ proper_contexts x i s h e =
     let long : (length (set x.contexts i s) == 9) ≡ true = ap (λ n. n == 9) (length-set x.contexts i s) ∙ a.0 in
     and_from _ _ long (and_from _ _ b.0 (and_from _ _ (all_set x.contexts i s c.0 e) c.1))
 
+-- a state stays proper where an operation's set is replaced by one that isn't empty
 pub proper_operations : (x : State) (i : ℕ) (s : StatusSet) → is_proper x ≡ true → is_possible s ≡ true →
     is_proper (record x { operations = set x.operations i s }) ≡ true
 proper_operations x i s h e =

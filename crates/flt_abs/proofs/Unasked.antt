@@ -40,6 +40,7 @@ same_found p q [] f = refl
 same_found p q (r ∷ rs) f =
     ap (λ b. cond b (Some r) (find p rs)) (f r) ∙ ap (λ o. cond (q r) (Some r) o) (same_found p q rs f)
 
+-- a call that hands over no status breaks the same rule first, whichever callbacks are registered
 pub same_least : (r : Row) (s : Setting) (x : State) (c : Invocation) → r.needs.status ≡ false →
     find (row_breaks r (unregistered s) x c) rules ≡ find (row_breaks r s x c) rules
 same_least r s x c e = same_found (row_breaks r (unregistered s) x c) (row_breaks r s x c) rules (λ rule. same_breaks r s x c rule e)

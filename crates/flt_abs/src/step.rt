@@ -235,7 +235,8 @@ fn follow_call(
 /// Where a test leads.
 #[inline(always)]
 fn follow_test(leads: &mut Leads, state: &Abs, test: Test, yes: usize, no: usize)
-    ensures { leads.new ≡ record { first = spec.at yes (spec.where_true state.now test); second = spec.at no (spec.where_false state.now test) } }
+    ensures { leads.new ≡
+        record { first = spec.at yes (spec.where_true state.now test); second = spec.at no (spec.where_false state.now test) } }
 {
     leads.first.reach(yes, state);
     if !hold(&mut leads.first.state, test) {
@@ -287,8 +288,10 @@ fn transfer_call(
     granted: usize,
     failed: usize,
 ) -> Option<Rule>
-    ensures leads { IfNone result (spec.outcome (setting_of graph.now callback state.now) state.now (variant.Call call.now granted failed) ≡ Ok leads.new) }
-    ensures rule { IfSome result (λ rule. spec.outcome (setting_of graph.now callback state.now) state.now (variant.Call call.now granted failed) ≡ Err rule) }
+    ensures leads { IfNone result
+        (spec.outcome (setting_of graph.now callback state.now) state.now (variant.Call call.now granted failed) ≡ Ok leads.new) }
+    ensures rule { IfSome result
+        (λ rule. spec.outcome (setting_of graph.now callback state.now) state.now (variant.Call call.now granted failed) ≡ Err rule) }
     ensures stays { IfSome result (λ _. leads.new ≡ leads.old) }
 {
     let row = row(call.call);
@@ -310,8 +313,10 @@ fn transfer_test(
     yes: usize,
     no: usize,
 ) -> Option<Rule>
-    ensures leads { IfNone result (spec.outcome (setting_of graph.now callback state.now) state.now (variant.Test test yes no) ≡ Ok leads.new) }
-    ensures rule { IfSome result (λ rule. spec.outcome (setting_of graph.now callback state.now) state.now (variant.Test test yes no) ≡ Err rule) }
+    ensures leads { IfNone result
+        (spec.outcome (setting_of graph.now callback state.now) state.now (variant.Test test yes no) ≡ Ok leads.new) }
+    ensures rule { IfSome result
+        (λ rule. spec.outcome (setting_of graph.now callback state.now) state.now (variant.Test test yes no) ≡ Err rule) }
     ensures stays { IfSome result (λ _. leads.new ≡ leads.old) }
 {
     let rule = first_of_test(graph, callback, state, test);
@@ -330,8 +335,10 @@ fn transfer_return(
     leads: &mut Leads,
     status: Option<Status>,
 ) -> Option<Rule>
-    ensures leads { IfNone result (spec.outcome (setting_of graph.now callback state.now) state.now (variant.Return status) ≡ Ok leads.new) }
-    ensures rule { IfSome result (λ rule. spec.outcome (setting_of graph.now callback state.now) state.now (variant.Return status) ≡ Err rule) }
+    ensures leads { IfNone result
+        (spec.outcome (setting_of graph.now callback state.now) state.now (variant.Return status) ≡ Ok leads.new) }
+    ensures rule { IfSome result
+        (λ rule. spec.outcome (setting_of graph.now callback state.now) state.now (variant.Return status) ≡ Err rule) }
     ensures stays { IfSome result (λ _. leads.new ≡ leads.old) }
 {
     let rule = first_of_return(graph, callback, state, status);

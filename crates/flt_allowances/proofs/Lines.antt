@@ -28,6 +28,7 @@ found_line [] zero = refl
 found_line [] (suc n) = refl
 found_line (b ∷ z) n = one_byte_more b z (found_line z) n (b == 10) refl
 
+-- a line is the same cut from the text and found by its number
 pub line_at : (text : Text) (n : ℕ) → line_of text (n + 1) ≡ get_or (cut text) n []
 line_at text n =
     let same : n + 1 - 1 ≡ n = omega arith in

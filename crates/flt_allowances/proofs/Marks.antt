@@ -22,7 +22,8 @@ short : (z : Text) → length (after_blanks z) ≤ length z
 short [] = omega arith
 short (b ∷ z) = short_more b z (short z) (is_blank b) refl
 
-first_more : (b : ℕ) (z : Text) → get_or z (length z - length (after_blanks z)) 0 ≡ get_or (after_blanks z) 0 0 → (t : Bool) → is_blank b ≡ t →
+first_more : (b : ℕ) (z : Text) → get_or z (length z - length (after_blanks z)) 0 ≡ get_or (after_blanks z) 0 0 → (t : Bool) →
+    is_blank b ≡ t →
     get_or (b ∷ z) (length (b ∷ z) - length (after_blanks (b ∷ z))) 0 ≡ get_or (after_blanks (b ∷ z)) 0 0
 first_more b z is true e =
     let less = short z in
@@ -97,9 +98,11 @@ all_begin text (line ∷ rest) k is =
     let more : suc k ≡ k + 1 = omega arith in
     let one = one_begins text k line (cut_here k (cut text) line rest [] is) (statement_from (k + 1 + 1) rest) (comment_of line) refl in
     let others = all_begin text rest (k + 1) (rw more at (cut_next k (cut text) line rest is)) in
-    list_all-append (begins_with_mark text) (allowed_by (k + 1) line (statement_from (k + 1 + 1) rest) (comment_of line)) (allowances_in (k + 1 + 1) rest)
+    list_all-append (begins_with_mark text) (allowed_by (k + 1) line (statement_from (k + 1 + 1) rest) (comment_of line))
+    (allowances_in (k + 1 + 1) rest)
     ∙ rw (one, others) refl
 
+-- each comment begins with its `#`
 pub begin : CommentsBeginWithMarks
 unfolding allowances_of
 begin text = all_begin text (cut text) 0 refl

@@ -38,7 +38,8 @@ after word text = if pointwise (λ a b. a == b) (take (length word) text) word t
 -- what follows `# allow` and the blanks after it
 abbrev pub after_allow : Text → Option Text
 after_allow line =
-    option_and_then (λ z. option_and_then after_some_blanks (after (codes "allow") (after_blanks z))) (after (codes "#") (after_blanks line))
+    option_and_then (λ z. option_and_then after_some_blanks (after (codes "allow") (after_blanks z)))
+    (after (codes "#") (after_blanks line))
 
 -- how many bytes the name of a kind has at the front of a text: a W and digits; 0 where there is none
 abbrev pub name_length : Text → ℕ

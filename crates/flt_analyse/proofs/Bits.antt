@@ -120,9 +120,11 @@ none_in [] s z = refl
 none_in (w ∷ words) s z = none_in_word w s 0 64 (flags words) (zero_bits w (z 0 (omega arith)))
     ∙ none_in words (s + 64) (λ k l. z (suc k) (omega arith))
 
+-- where all words are 0, no flag is up
 pub least_none : (words : List ℕ) → ((k : ℕ) → k < length words → get_or words k 0 ≡ 0) → least (flags words) ≡ None
 least_none words z = none_in words 0 z
 
+-- the least flag is the first bit of the first word that isn't 0
 pub first_is : (words : List ℕ) (i j : ℕ) → i < length words → j < 64 → ((k : ℕ) → k < i → get_or words k 0 ≡ 0) →
     bit_at (get_or words i 0) j ≡ 1 →
     ((k : ℕ) → k < j → bit_at (get_or words i 0) k ≡ 0) → Some (i * 64 + j) ≡ least (flags words)
@@ -130,6 +132,7 @@ first_is words i j l m z e h = ap (λ k. Some k) (let a : i * 64 + j ≡ 64 * i 
 
 -- ---- a point goes in or out
 
+-- a bit that is set in its word is a flag that goes up
 pub inserted : (words : List ℕ) (p : ℕ) → length words ≡ 8 → p < 512 →
     flags (set words (p / 64) (bit_or (get_or words (p / 64) 0) (1 * 2 ^ (p % 64) % 18446744073709551616))) ≡ set (flags words) p true
 inserted words p long below =
@@ -140,6 +143,7 @@ inserted words p long below =
     (ap (λ b. b == 1) (bit_at_set_same w64 (get_or words (p / 64) 0) (p % 64) low))
     (λ k within other. bit_at_set_other w64 (get_or words (p / 64) 0) (p % 64) low k other) ∙ ap (λ i. set (flags words) i true) place
 
+-- a bit that is cleared in its word is a flag that goes down
 pub removed : (words : List ℕ) (p : ℕ) → length words ≡ 8 → p < 512 →
     flags (set words (p / 64) (bit_and (get_or words (p / 64) 0) (bit_not w64 (1 * 2 ^ (p % 64) % 18446744073709551616)))) ≡ set
     (flags words) p false

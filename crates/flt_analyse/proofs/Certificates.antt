@@ -18,6 +18,7 @@ pub record Columns (g : Graph) (n : ℕ) (k : Certificate) : Type 0 where
   pub count : length k ≡ n
   pub each : (c : ℕ) → c < n → Column g c (get_or k c [])
 
+-- one more callback's points extend the columns of those before it
 pub one_more : (g : Graph) (n : ℕ) (k : Certificate) (points : List Point) → Columns g n k → Column g n points →
     Columns g (n + 1) (k ++ points ∷ [])
 one_more g n k points h one = record {
@@ -62,6 +63,7 @@ least_of_all g k h other c callback point = by_place (cases_lt callback (length 
     by_place (inl l) = (h.each callback l).least (get_or other callback []) (column_of g other callback c l) point
     by_place (inr l) = none_below (get_or k callback []) (get_or-eq_default k [] (let b = h.count in omega arith))
 
+-- a callback that no points cover lets no certificate cover the graph
 pub none_covers : (g : Graph) (callback : ℕ) → callback < length g.callbacks → ((ys : List Point) → IsCovered g callback ys → ⊥) →
     NoneCovers g
 none_covers g callback below h k good c = h (get_or k callback []) (column_of g k callback c below)
@@ -95,6 +97,7 @@ room_of g k good c =
           (omega arith, omega arith);
     }
 
+-- where a callback has more points than a certificate can have, none covers the graph
 pub none_without_room : (g : Graph) → (HasRoom g → ⊥) → NoneCovers g
 none_without_room g h k good c = h (room_of g k good c)
 
@@ -103,6 +106,7 @@ all_callbacks : (g : Graph) (i : ℕ) (k : Certificate) → ((c : ℕ) → c < l
 all_callbacks g i [] h = refl
 all_callbacks g i (points ∷ k) h = and_from _ _ (h 0 (omega arith)) (all_callbacks g (suc i) k (λ c below. h (suc c) (omega arith)))
 
+-- columns for all callbacks are a certificate, where there is room
 pub is_made : (g : Graph) (k : Certificate) → HasRoom g → Columns g (length g.callbacks) k → is_certificate k ≡ true
 is_made g k room h =
     let count = h.count in
@@ -126,10 +130,12 @@ made_same : (o : Option Certificate) (k made : Certificate) → IfSome o (λ i. 
 made_same (Some i) k made h e = let same : i ≡ made = cc in sym same ∙ h
 made_same None k made h e = cc
 
+-- what is made of columns for all callbacks covers the graph
 pub made_covers : (g : Graph) (k made : Certificate) (o : Option Certificate) → IfSome o (λ i. i ≡ k) → o ≡ Some made →
     Columns g (length g.callbacks) k → Covers g made
 made_covers g k made o h e c = subst (λ i. Covers g i) (sym (made_same o k made h e)) (covers_all g k c)
 
+-- what is made of columns for all callbacks is below every certificate that covers
 pub made_least : (g : Graph) (k made : Certificate) (o : Option Certificate) → IfSome o (λ i. i ≡ k) → o ≡ Some made →
     Columns g (length g.callbacks) k → IsLeast g made
 made_least g k made o h e c = subst (λ i. IsLeast g i) (sym (made_same o k made h e)) (least_of_all g k c)

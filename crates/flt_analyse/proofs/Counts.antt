@@ -21,6 +21,7 @@ one_if false = omega arith
 one_most : (watched_callback watched callback point : ℕ) → one_at watched_callback watched callback point ≤ 1
 one_most d q callback point = one_if (callback == d && point == q)
 
+-- at another callback than the one that is watched nothing is counted
 pub other_callback : (watched_callback watched callback point : ℕ) → watched_callback ≢ callback →
     one_at watched_callback watched callback point ≡ 0
 other_callback d q callback point h =
@@ -29,6 +30,7 @@ other_callback d q callback point h =
 other_point : (watched_callback watched callback point : ℕ) → (watched ≡ point → ⊥) → one_at watched_callback watched callback point ≡ 0
 other_point d q callback point h = ap (λ b. if b then 1 else 0) (and_right (callback == d) (point == q) (ne_eqb point q (λ e. h (sym e))))
 
+-- after one more look the count of a point's transfers and what is still due to it are within 31
 pub counted : Laws → (g : Graph) (callback : ℕ) (w v : Walk) (p : ℕ) → Stage g callback w → least w.pending ≡ Some p →
     ProperSteps (outcome_at g callback p (found w p)) → look g callback p (taken w p) ≡ Ok v →
     (d q before now start : ℕ) → now ≤ before + one_at d q callback p → before + due w q ≤ start + 31 → now + due v q ≤ start + 31
@@ -42,6 +44,7 @@ counted laws g callback w v p s e ok h d q before now start n m = by_place (case
         let a = (falls_due laws g callback w v p s e ok h).0 q in
         let b = other_point d q callback p k in omega arith
 
+-- where a walk stops, the count of a point's transfers is within 31
 pub stopped : (g : Graph) (callback : ℕ) (w : Walk) (p : ℕ) → Stage g callback w → least w.pending ≡ Some p →
     (d q before now start : ℕ) → now ≤ before + one_at d q callback p → before + due w q ≤ start + 31 → now ≤ start + 31
 stopped g callback w p s e d q before now start n m = by_place (cases_eq q p)

@@ -126,6 +126,7 @@ first_once g f h a b = by_order (cases_order f.callback h.callback)
 lacks_once : (g : Graph) (f h : Refusal) → LacksRoom g f → LacksRoom g h → f ≡ h
 lacks_once g f h a b = same_fault f h (a.callback ∙ sym b.callback) (a.point ∙ sym b.point) (a.line ∙ sym b.line) (a.rule ∙ sym b.rule)
 
+-- two faults that the order of the walk names are one
 pub named_once : (g : Graph) (f h : Refusal) → IsNamed g f → IsNamed g h → f ≡ h
 named_once g f h (inl a) (inl b) = lacks_once g f h a b
 named_once g f h (inl a) (inr b) = absurd (a.room b.0)

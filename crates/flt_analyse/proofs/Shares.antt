@@ -51,6 +51,7 @@ get_set_other (y ∷ xs) (suc i) (suc k) x other = get_set_other xs i k x (λ e.
 pub answers_none : (graphs : List Graph) (workers worker : ℕ) → AreAnswers graphs workers worker []
 answers_none graphs workers worker turn g a at there = absurd (omega (arith, slice_get_within [] turn a at))
 
+-- one more answer of a worker is that of its next graph
 pub answers_more : (graphs : List Graph) (workers worker : ℕ) (answers : List Answer) (g : Graph) (a : Answer) →
     AreAnswers graphs workers worker answers
     → slice_get graphs (worker + workers * length answers) ≡ Some g → IsAnswer g a → AreAnswers graphs workers worker (answers ++ a ∷ [])
@@ -125,11 +126,13 @@ share_kept graphs workers place worker answers few other own = record {
 
 -- ---- places in lists
 
+-- an element of a list that is mapped is mapped where it is
 pub get_map : {X Y : Type 0} (f : X → Y) (xs : List X) (x : X) (i : ℕ) → slice_get xs i ≡ Some x → slice_get (map f xs) i ≡ Some (f x)
 get_map f [] x i at = absurd (omega (arith, slice_get_within [] i x at))
 get_map f (y ∷ xs) x zero at = ap Some (ap f (same_Some y x at))
 get_map f (y ∷ xs) x (suc i) at = get_map f xs x i at
 
+-- a worker's next graph is as many places on as there are workers
 pub next_turn : (workers worker turns : ℕ) → worker + workers * turns + workers ≡ worker + workers * suc turns
 next_turn workers worker turns =
     let more : workers * suc turns ≡ workers * turns + workers = grind arith in

@@ -11,14 +11,17 @@ use Rattle.flt_abs.specs.State.{State, is_below, is_proper, all_within, either_a
 
 -- ---- one set
 
+-- a flag as a number
 pub bit : Bool → ℕ
 bit true = 1
 bit false = 0
 
+-- a flag that is up counts 1
 pub bit_one : bit true ≡ 1
 unfolding bit
 bit_one = refl
 
+-- a flag that is down counts nothing
 pub bit_none : bit false ≡ 0
 unfolding bit
 bit_none = refl
@@ -136,6 +139,7 @@ mode_size x = bit x.modes.irp + bit x.modes.fast
 abbrev draining_size : State → ℕ
 draining_size x = bit x.draining.no + bit x.draining.yes
 
+-- how many statuses, modes and answers are in a state's sets, all counted
 pub size : State → ℕ
 size x = sizes x.contexts + (sizes x.operations + (mode_size x + draining_size x))
 
@@ -176,6 +180,7 @@ size_least x h =
     let e = p.nine in
     let f = p.five in omega arith
 
+-- a proper state has at most 46 of them
 pub size_most : (x : State) → is_proper x ≡ true → size x ≤ 46
 unfolding size
 size_most x h =
@@ -249,6 +254,7 @@ grows_modes x y p q h = by_side (and_cases (modes_within y.modes x.modes) _ h)
     by_side (inl e) = grows_by x y (inr (inr (inl (two_more x.modes.irp x.modes.fast y.modes.irp y.modes.fast e))))
     by_side (inr e) = grows_draining x y p q e
 
+-- a join with a state that isn't below grows by one at least
 pub join_grows : (x y : State) → is_proper x ≡ true → is_proper y ≡ true → same_locks x.locks y.locks ≡ true →
     is_below y x ≡ false → size x + 1 ≤ size (join_of x y)
 join_grows x y p q e h =

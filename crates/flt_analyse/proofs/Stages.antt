@@ -182,10 +182,12 @@ less_first : (x : State) → is_proper x ≡ true → left (Some x) + 1 ≤ left
 unfolding left
 less_first x p = let a = size_least x p in let b = size_most x p in omega arith
 
+-- at a point without a state 31 transfers are left
 pub left_none : left None ≡ 31
 unfolding left
 left_none = refl
 
+-- at a point with a proper state at most 30 are left
 pub left_some : (x : State) → is_proper x ≡ true → left (Some x) ≤ 30
 unfolding left
 left_some x p = let a = size_least x p in omega arith
@@ -277,6 +279,7 @@ led_below laws ys None b h e = tt
 led_below laws ys (Some a) None h e = elim h [ ]
 led_below laws ys (Some a) (Some b) h e = (e.0, ap (λ i. get_or ys i None) h.0 ∙ e.1, laws.transitive a.state b.state e.0 h.1 e.2)
 
+-- where a successor's state has been led to, it is so still in a later walk
 pub led_later : Laws → (w v : Walk) (s : Option Successor) → Kept w v → IsLedIn w.points s → IsLedIn v.points s
 led_later laws w v None k h = tt
 led_later laws w v (Some next) k h =
@@ -323,6 +326,7 @@ second_look laws g callback point x w next (Ok v) e good at within count k all p
         l ys (sym c.count ∙ (sym count ∙ sym h.kept.count)) (h.below ys b (led_below laws ys next.first o.0.first o.1.first o.2))
         (led_below laws ys next.second o.0.second o.1.second o.3)
 
+-- a look that spreads a point's successors leads to all of them and stays below what covers, or says that nothing does
 pub spread_looking : Laws → (g : Graph) (callback point : ℕ) (x : State) (w : Walk) (r : Result Successors Rule) →
     transfer g callback point x ≡ r →
     is_proper x ≡ true → found w point ≡ Some x → point < points_at g callback → length w.points ≡ points_at g callback →

@@ -36,6 +36,7 @@ least_from_is i (false ∷ set) p e =
     let one = least_from_is (suc i) set p e in
     let s = one.1 in let l = one.3 in (suc one.0, omega arith, one.2, omega arith)
 
+-- the least flag is up, and is there
 pub least_is : (set : List Bool) (p : ℕ) → least set ≡ Some p → (get_or set p false ≡ true) × (p < length set)
 least_is set p e =
     let one = least_from_is 0 set p e in
@@ -71,6 +72,7 @@ one_none_more : (n : ℕ) → nones n ++ None ∷ [] ≡ nones (suc n)
 one_none_more zero = refl
 one_none_more (suc n) = ap (λ xs. None ∷ xs) (one_none_more n)
 
+-- one point more without a state makes the list of such points longer by one
 pub nones_more : (n : ℕ) → nones n ++ None ∷ [] ≡ nones (n + 1)
 nones_more n = one_none_more n ∙ ap nones (let a : suc n ≡ n + 1 = omega arith in a)
 
@@ -112,6 +114,7 @@ opening_flag g callback = get_or-set_same (no_flags 512) 0 true false (let a = l
 opening_flags : (g : Graph) (callback q : ℕ) → (q ≡ 0 → ⊥) → flagged (opening g callback) q ≡ false
 opening_flags g callback q h = get_or-set_other (no_flags 512) 0 q true false h ∙ no_flag_at 512 q
 
+-- a walk begins at a stage where all that is kept holds
 pub begins : Laws → (g : Graph) (callback : ℕ) → 0 < points_at g callback → points_at g callback ≤ 512 →
     Stage g callback (opening g callback)
 begins laws g callback some few = record {
@@ -162,6 +165,7 @@ pub taken_found : (g : Graph) (callback : ℕ) (w : Walk) (p : ℕ) → Stage g 
     × (found w p ≡ Some x)
 taken_found g callback w p s e = s.awake p (least_is w.pending p e).0
 
+-- the point that is looked at next is one of the callback's
 pub taken_within : (g : Graph) (callback : ℕ) (w : Walk) (p : ℕ) → Stage g callback w → least w.pending ≡ Some p → p < points_at g callback
 taken_within g callback w p s e = by_length (cases_lt p (length w.points))
   where
@@ -228,6 +232,7 @@ looked : (g : Graph) (callback p : ℕ) (x : State) (w v : Walk) (m : Result Wal
     Looked g callback p x w v
 looked g callback p x w v m e l = subst (λ i. Looking g callback p x w i) e l
 
+-- where a look succeeds, it leads to a stage again
 pub goes_on : Laws → (g : Graph) (callback : ℕ) (w v : Walk) (p : ℕ) → Stage g callback w → least w.pending ≡ Some p →
     ProperSteps (outcome_at g callback p (found w p)) →
     look g callback p (taken w p) ≡ Ok v → Stage g callback v
@@ -285,6 +290,7 @@ below_all g callback w s ys c q = by_state (found w q) refl
     by_state (Some x) e = by_other x (get_or ys q None) (s.below ys c q x e)
     by_state None e = tt
 
+-- points whose states are proper are points of a certificate
 pub all_points : (xs : List Point) → ((q : ℕ) (x : State) → get_or xs q None ≡ Some x → is_proper x ≡ true) → list_all is_point xs ≡ true
 all_points [] h = refl
 all_points (None ∷ xs) h = all_points xs (λ q. h (suc q))
@@ -317,6 +323,7 @@ total_less f h (suc n) p l k m = by_place (cases_lt p n) (λ d. total_less f h n
 pub room : Graph → ℕ → Walk → ℕ
 room g callback w = total (due w) (points_at g callback)
 
+-- each look leaves less room, so a walk ends
 pub room_falls : Laws → (g : Graph) (callback : ℕ) (w v : Walk) (p : ℕ) → Stage g callback w → least w.pending ≡ Some p →
     ProperSteps (outcome_at g callback p (found w p)) →
     look g callback p (taken w p) ≡ Ok v → room g callback v < room g callback w

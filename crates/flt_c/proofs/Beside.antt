@@ -104,14 +104,17 @@ module _ (file : List ℕ) (s : Scanner) (b : ℕ) (next : Scanner) (ps : List P
 
       by : (y : Bool) → (b == 10) ≡ y → Chain file (beside s.at) y ps
       by true e = st.on (beside s.at) true (inl (refl, rw plain (omega (arith, to))))
-      by false e = let same : past s.at b ≡ beside s.at = rw e refl in st.on (beside s.at) false (inr (text e, (refl, sym (plain ∙ (st.at ∙ same)))))
+      by false e = let same : past s.at b ≡ beside s.at = rw e refl in
+          st.on (beside s.at) false (inr (text e, (refl, sym (plain ∙ (st.at ∙ same)))))
 
-  put_here : (at : Place) (fresh x : Bool) → Awaits at fresh s.at x → is_star next.mode ≡ false → ((b == 10) ≡ false → is_text next.mode ≡ true) →
+  put_here : (at : Place) (fresh x : Bool) → Awaits at fresh s.at x → is_star next.mode ≡ false →
+      ((b == 10) ≡ false → is_text next.mode ≡ true) →
       Chain file at fresh (record { byte = b; place = s.at } ∷ ps)
   put_here at fresh x h star text = (follows at fresh s.at x h, ((st.here, inl st.byte), put_on star text))
 
   -- a `*` that waits
-  star_waits : (at : Place) (fresh : Bool) → Awaits at fresh s.at true → is_star next.mode ≡ true → is_text next.mode ≡ true → Chain file at fresh ps
+  star_waits : (at : Place) (fresh : Bool) → Awaits at fresh s.at true → is_star next.mode ≡ true →
+      is_text next.mode ≡ true → Chain file at fresh ps
   star_waits at fresh h star text =
       let there : waiting_in next.mode next ≡ s.at = rw star st.last in
       elim h [ inl h ↦ st.on at fresh (inl (h.0, later at.start h.1)) | inr h ↦ st.on at fresh (inr (text, (h.1.0, h.1.1 ∙ sym there))) ]
@@ -121,7 +124,8 @@ module _ (file : List ℕ) (s : Scanner) (b : ℕ) (next : Scanner) (ps : List P
       (x ≡ false → y ≡ true → is_star next.mode ≡ true) → (x ≡ false → y ≡ true → is_text next.mode ≡ true) →
       (x ≡ false → y ≡ false → is_star next.mode ≡ false) → (x ≡ false → y ≡ false → is_text next.mode ≡ true) →
       Chain file at fresh ((if x then record { byte = 10; place = s.last } ∷ [] else
-      (if y then record { byte = 42; place = s.last } ∷ [] else (record { byte = 42; place = s.last } ∷ []) ++ (record { byte = b; place = s.at } ∷ []))) ++ ps)
+      (if y then record { byte = 42; place = s.last } ∷ [] else (record { byte = 42; place = s.last } ∷ []) ++
+      (record { byte = b; place = s.at } ∷ []))) ++ ps)
   after_star star at fresh h true y e f a c d g =
       let to : s.at.start ≡ s.last.start + 1 = ap (λ (p : Place). p.start) star.next in
       let closes : slice_index file (s.last.start + 1) ≡ 47 = ap (slice_index file) (sym to) ∙ (st.byte ∙ eqb-true b 47 e) in (
@@ -172,7 +176,8 @@ module _ (file : List ℕ) (s : Scanner) (b : ℕ) (next : Scanner) (ps : List P
   in_block l x e at fresh h true c = star_waits at fresh h (ap star_of (sym e) ∙ rw c refl) (ap text_of (sym e) ∙ rw c refl)
   in_block l x e at fresh h false c = put_here at fresh true h (ap star_of (sym e) ∙ rw c refl) (λ n. ap text_of (sym e) ∙ rw c refl)
 
-  by_mode : (l x : Bool) (mode : Mode) → turn l x mode b ≡ Ok next.mode → (is_star mode ≡ true → Star file s) → (at : Place) (fresh : Bool) →
+  by_mode : (l x : Bool) (mode : Mode) → turn l x mode b ≡ Ok next.mode → (is_star mode ≡ true → Star file s) →
+      (at : Place) (fresh : Bool) →
       Awaits at fresh (waiting_in mode s) (is_text mode) → Chain file at fresh (added_in mode s b ++ ps)
   by_mode l x m.LineText e star at fresh h =
       put_here at fresh true h (ap star_of (sym e) ∙ no_mode (b == 10) _ _ refl refl) (λ n. ap text_of (sym e) ∙ rw n refl)
@@ -212,7 +217,8 @@ at_the_end file s i e at fresh h = by (is_note s.mode) refl
     ends = let counted = i.counted in omega (arith, counted)
 
     by : (x : Bool) → is_note s.mode ≡ x → Chain file at fresh (if x then record { byte = 10; place = s.at } ∷ [] else [])
-    by true c = (subst (Follows at fresh) there (follows at fresh (waiting_in s.mode s) (is_text s.mode) h), ((i.at, inr (refl, inr ends)), refl))
+    by true c =
+        (subst (Follows at fresh) there (follows at fresh (waiting_in s.mode s) (is_text s.mode) h), ((i.at, inr (refl, inr ends)), refl))
     by false c = elim h [ inl h ↦ h.0 | inr h ↦ elim (differ (sym (text_is_note s.mode c) ∙ h.0)) [ ] ]
 
 expects_on : (s next : Scanner) (n : ℕ) → join s n ≡ Ok next → (at : Place) (fresh : Bool) → Expects s at fresh → Expects next at fresh

@@ -43,30 +43,36 @@ no_turn : (kind : FaultKind) (new : Mode) → Err kind ≡ okay new → ⊥
 no_turn kind new e = cc
 
 -- the front and the depth after a byte of a line that isn't code
-front_in_line : (mode : Mode) (front : Front) (b : ℕ) → is_block mode ≡ false → front_within mode front b ≡ front → (y : Bool) → (b == 10) ≡ y →
+front_in_line : (mode : Mode) (front : Front) (b : ℕ) →
+    is_block mode ≡ false → front_within mode front b ≡ front → (y : Bool) → (b == 10) ≡ y →
     next_front mode front b ≡ (if y then f.Nothing else front)
 front_in_line _ front b apart same true e = rw (e, apart) refl
 front_in_line _ front b apart same false e = rw (e, same) refl
 
-depth_in_line : (mode : Mode) (front : Front) (depth b : ℕ) → is_block mode ≡ false → is_code mode ≡ false → settled mode front ≡ front → (y : Bool) →
+depth_in_line : (mode : Mode) (front : Front) (depth b : ℕ) →
+    is_block mode ≡ false → is_code mode ≡ false → settled mode front ≡ front → (y : Bool) →
     (b == 10) ≡ y → next_depth mode front depth b ≡ (if y then depth_after depth front 10 else depth)
 depth_in_line _ front depth b apart plain same true e =
     let is : b ≡ 10 = eqb-true b 10 e in rw (apart, plain, same, is) refl
 depth_in_line _ front depth b apart plain same false e = rw (apart, plain, e) refl
 
-front_in_block : (mode : Mode) (front : Front) (b : ℕ) → is_block mode ≡ true → front_within mode front b ≡ front → (y : Bool) → (b == 10) ≡ y →
+front_in_block : (mode : Mode) (front : Front) (b : ℕ) →
+    is_block mode ≡ true → front_within mode front b ≡ front → (y : Bool) → (b == 10) ≡ y →
     next_front mode front b ≡ front
 front_in_block _ front b is same true e = rw (e, is) refl
 front_in_block _ front b is same false e = rw (e, same) refl
 
 module _ (l skipped : Bool) (front : Front) (depth b : ℕ) (z text : List ℕ) (new : Mode) where
   -- after a byte of a line
-  in_a_line : (mode other : Mode) → is_block mode ≡ false → is_code mode ≡ false → settled mode front ≡ front → front_within mode front b ≡ front →
+  in_a_line : (mode other : Mode) → is_block mode ≡ false → is_code mode ≡ false → settled mode front ≡ front →
+      front_within mode front b ≡ front →
       okay other ≡ okay new → Rest new (next_front mode front b) (next_depth mode front depth b) z text →
       Rest other (if b == 10 then f.Nothing else front) (if b == 10 then depth_after depth front 10 else depth) z text
   in_a_line mode other apart plain still same e r =
-      subst (λ n. Rest n (if b == 10 then f.Nothing else front) (if b == 10 then depth_after depth front 10 else depth) z text) (sym (same_mode other new e))
-      (subst (λ g. Rest new g (if b == 10 then depth_after depth front 10 else depth) z text) (front_in_line mode front b apart same (b == 10) refl)
+      subst (λ n. Rest n (if b == 10 then f.Nothing else front) (if b == 10 then depth_after depth front 10 else depth) z text)
+      (sym (same_mode other new e))
+      (subst (λ g. Rest new g (if b == 10 then depth_after depth front 10 else depth) z text)
+      (front_in_line mode front b apart same (b == 10) refl)
       (subst (λ d. Rest new (next_front mode front b) d z text) (depth_in_line mode front depth b apart plain still (b == 10) refl) r))
 
   -- after a byte of a block comment
@@ -92,7 +98,8 @@ no_blank_no_feed b c true h = let is : b ≡ 10 = eqb-true b 10 h in elim (diffe
 no_blank_no_feed b c false h = refl
 
 module _ (s : Scanner) (front : Front) (depth b : ℕ) (z text : List ℕ) (new : Mode) where
-  within : (mode : Mode) (other : Mode) → is_block mode ≡ false → is_code mode ≡ false → settled mode front ≡ front → front_within mode front b ≡ front →
+  within : (mode : Mode) (other : Mode) → is_block mode ≡ false → is_code mode ≡ false → settled mode front ≡ front →
+      front_within mode front b ≡ front →
       okay other ≡ okay new → Rest new (next_front mode front b) (next_depth mode front depth b) z text → (y : Bool) → (b == 10) ≡ y →
       Rest other (if y then f.Nothing else front) (if y then depth_after depth front 10 else depth) z text
   within mode other apart plain still same e r y h =
@@ -126,7 +133,8 @@ module _ (s : Scanner) (front : Front) (depth b : ℕ) (z text : List ℕ) (new 
   block_marked_by true true u ex ey eu e r = elim (differ (sym (blank_no_star b ex true ey))) [ ]
   block_marked_by true false u ex ey eu e r =
       block_blank front depth b z text ey (blank_no_dash b ex (b == 45) refl) (inside m.BlockMarked m.BlockText refl refl refl e r)
-  block_marked_by false true u ex ey eu e r = block_marked_star front depth b z text ey (inside m.BlockMarked m.BlockTextStar refl refl refl e r)
+  block_marked_by false true u ex ey eu e r =
+      block_marked_star front depth b z text ey (inside m.BlockMarked m.BlockTextStar refl refl refl e r)
   block_marked_by false false true ex ey eu e r = block_dash front depth b z text ey eu (inside m.BlockMarked m.Block refl refl refl e r)
   block_marked_by false false false ex ey eu e r = elim (no_turn k.Marker new e) [ ]
 
@@ -138,7 +146,8 @@ module _ (s : Scanner) (front : Front) (depth b : ℕ) (z text : List ℕ) (new 
   block_text_star_by : (x y : Bool) → (b == 47) ≡ x → (b == 42) ≡ y →
       Rest (if x then m.Code else (if y then m.BlockTextStar else m.BlockText)) front depth z text →
       InBlock front depth whole (42 ∷ b ∷ z) (bytes (if x then record { byte = 10; place = s.last } ∷ [] else
-      (if y then record { byte = 42; place = s.last } ∷ [] else (record { byte = 42; place = s.last } ∷ []) ++ (record { byte = b; place = s.at } ∷ []))) ++ text)
+      (if y then record { byte = 42; place = s.last } ∷ [] else (record { byte = 42; place = s.last } ∷ []) ++
+      (record { byte = b; place = s.at } ∷ []))) ++ text)
   block_text_star_by true y ex ey r = star_closes front depth whole b z text (10 ∷ []) (eqb-true b 47 ex) refl r
   block_text_star_by false true ex ey r = star_stays front depth whole whole b z text (42 ∷ []) (eqb-true b 42 ey) (λ body. refl) r
   block_text_star_by false false ex ey r = star_passes front depth whole whole b z text (42 ∷ b ∷ []) ex ey (λ body. refl) r
@@ -160,17 +169,21 @@ module _ (s : Scanner) (front : Front) (depth b : ℕ) (z text : List ℕ) (new 
 
   module _ (mode back : Mode) (quote : ℕ) (unended : FaultKind) (apart : is_block mode ≡ false) (plain : is_code mode ≡ false)
       (still : settled mode front ≡ front) (same : front_within mode front b ≡ front) where
-    escaped_by : (within_quotes : (g : Front) (d : ℕ) → Rest back g d z text → InQuotes quote false g d z text) → (l u : Bool) → (b == 10) ≡ u →
-        (if u then line_end l unended else okay back) ≡ okay new → Rest new (next_front mode front b) (next_depth mode front depth b) z text →
+    escaped_by : (within_quotes : (g : Front) (d : ℕ) → Rest back g d z text → InQuotes quote false g d z text) → (l u : Bool) →
+        (b == 10) ≡ u →
+        (if u then line_end l unended else okay back) ≡ okay new →
+        Rest new (next_front mode front b) (next_depth mode front depth b) z text →
         AfterEscaped front depth b z text quote l u
     escaped_by q true true eu t r = (refl, within mode m.Code apart plain still same t r true eu)
     escaped_by q false true eu t r = elim (no_turn unended new t) [ ]
     escaped_by q l false eu t r = q _ _ (within mode back apart plain still same t r false eu)
 
   step_rest : (mode : Mode) → turn (is_lenient front depth) (nat_lt 0 depth) mode b ≡ okay new →
-      Rest new (next_front mode front b) (next_depth mode front depth b) z text → Rest mode front depth (b ∷ z) (bytes (added_in mode s b) ++ text)
+      Rest new (next_front mode front b) (next_depth mode front depth b) z text →
+      Rest mode front depth (b ∷ z) (bytes (added_in mode s b) ++ text)
   step_rest m.Code e r =
-      in_code_step front depth b z text (subst (λ n. Rest n (next_front m.Code front b) (depth_after depth front b) z text) (sym (same_mode _ new e)) r)
+      in_code_step front depth b z text
+      (subst (λ n. Rest n (next_front m.Code front b) (depth_after depth front b) z text) (sym (same_mode _ new e)) r)
   step_rest m.LetterR e r =
       in_code_step front depth b z text
       (subst (λ n. Rest n (next_front m.Code front b) (depth_after depth front b) z text) (sym (after_letter (b == 34) _ e)) r)
@@ -200,8 +213,8 @@ module _ (s : Scanner) (front : Front) (depth b : ℕ) (z text : List ℕ) (new 
       (escaped_by m.StringEscape m.String 34 k.String refl refl refl refl (λ g d p. p) (is_lenient front depth) (b == 10) refl e r)
   step_rest m.Character e r =
       quoted_step front depth b z text 39 refl (b == 39) (b == 92) (b == 10) refl refl refl
-      (quoted_by m.Character m.CharacterEscape 39 k.Character refl refl refl refl (λ g d p. p) (λ g d p. p) (λ g d p. p) (is_lenient front depth)
-      (b == 39) (b == 92) (b == 10) refl e r)
+      (quoted_by m.Character m.CharacterEscape 39 k.Character refl refl refl refl (λ g d p. p) (λ g d p. p) (λ g d p. p)
+      (is_lenient front depth) (b == 39) (b == 92) (b == 10) refl e r)
   step_rest m.CharacterEscape e r =
       escaped_step front depth b z text 39 (b == 10) refl
       (escaped_by m.CharacterEscape m.Character 39 k.Character refl refl refl refl (λ g d p. p) (is_lenient front depth) (b == 10) refl e r)
@@ -220,7 +233,8 @@ module _ (s : Scanner) where
   nothing_left e = subst (λ d. ArePieces s.front d [] []) (sym (no_group (nat_lt 0 s.depth) refl e)) none
 
   line_left : (add : List ℕ → List ℕ) (text : List ℕ) → text ≡ add [] ++ [] → or_group s None ≡ None → InLine s.front s.depth add [] text
-  line_left add text is e = record { body = []; rest = []; more = []; split = refl; plain = tt; ends = tt; pieces = nothing_left e; is = is }
+  line_left add text is e =
+      record { body = []; rest = []; more = []; split = refl; plain = tt; ends = tt; pieces = nothing_left e; is = is }
 
   quote_left : (quote : ℕ) (old : Bool) (l : Bool) (kind : FaultKind) → is_lenient s.front s.depth ≡ l →
       or_group s (if l then None else Some kind) ≡ None → InQuotes quote old s.front s.depth [] []
@@ -234,14 +248,16 @@ module _ (s : Scanner) where
   at_end m.LetterR e = nothing_left e
   at_end m.Slash e =
       let is = no_group (nat_lt 0 s.depth) refl e in
-      subst (λ d. ArePieces s.front d (47 ∷ []) []) (sym is) (code refl refl refl (subst (λ d. ArePieces (front_after s.front 47) d [] []) (zero_stays s.front) none))
+      subst (λ d. ArePieces s.front d (47 ∷ []) []) (sym is)
+      (code refl refl refl (subst (λ d. ArePieces (front_after s.front 47) d [] []) (zero_stays s.front) none))
     where
       zero_stays : (front : Front) → 0 ≡ depth_after 0 front 47
       zero_stays f.LetterI = refl
       zero_stays f.LetterE = refl
       zero_stays f.Zero = refl
       zero_stays _ = refl
-  at_end (m.LineMark w) e = λ v. line_left (marking s.depth (marker_from w)) [] (marker_ends s.depth w v ∙ sym (end_of (marking s.depth (marker_from w) []))) e
+  at_end (m.LineMark w) e =
+      λ v. line_left (marking s.depth (marker_from w)) [] (marker_ends s.depth w v ∙ sym (end_of (marking s.depth (marker_from w) []))) e
     where
       end_of : (l : List ℕ) → l ++ [] ≡ l
       end_of [] = refl
@@ -305,5 +321,6 @@ rests (joined {s = s} {next = next} {z = z} {ps = ps} p h r) =
     (subst (λ g. Rest next.mode g s.depth rest (bytes ps)) on.front
     (subst (λ d. Rest next.mode next.front d rest (bytes ps)) on.depth (rests r))))
 
+-- a file that is read is a sequence of pieces, and its text is that of their comments
 pub files_are_pieces : FilesArePieces
 files_are_pieces file text e = rests (reads file zero start text e)

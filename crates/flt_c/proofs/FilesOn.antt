@@ -21,6 +21,7 @@ at_file files number text file bytes lt is e =
     ∙ (ap (λ f. from number text (f ∷ drop (number + 1) files)) (sym is)
     ∙ ap (λ z. with_file number text z >>= (λ more. from (number + 1) more (drop (number + 1) files))) (sym e))
 
+-- one more file that is read leads to the text of all files as before
 pub file_on : (files : List (Vec ℕ Global)) (number : ℕ) (text : Text) (file : Vec ℕ Global) (bytes : List ℕ) (r : Result Text FileFlaw) →
     number < length files → file ≡ get_or files number file → bytes ≡ file.items → with_file number text bytes ≡ r →
     from number text (drop number files) ≡ (r >>= (λ more. from (number + 1) more (drop (number + 1) files)))

@@ -14,6 +14,7 @@ use Rattle.flt_c.specs.Modes.{is_note, turn}
 use Rattle.flt_c.specs.Places.{past, past_continuation}
 use Rattle.flt_c.specs.Scan.{added, begins, blamed, continuation, end_by, join, join_by, last_line, open_at_end, read, step, step_by, with_front, ◌>>=◌}
 
+-- false isn't true
 pub differ : false ≡ true → ⊥
 differ e = cc
 
@@ -67,7 +68,8 @@ at_end : (s : Scanner) (o : Option FaultKind) (text : List Placed) → open_at_e
 at_end s (Some kind) text c e = elim (not_ok (blamed s kind) text e) [ ]
 at_end s None text c e = subst (Reads s []) (same_ok (last_line s) text e) (ended c)
 
-by_byte : (s : Scanner) (b : ℕ) (z : List ℕ) → continuation (b ∷ z) ≡ 0 → ReadsOn z → (r : Result Scanner Fault) → step s b ≡ r → (text : List Placed) →
+by_byte : (s : Scanner) (b : ℕ) (z : List ℕ) → continuation (b ∷ z) ≡ 0 → ReadsOn z → (r : Result Scanner Fault) →
+    step s b ≡ r → (text : List Placed) →
     (r >>= (λ next. with_front (added s b) (read zero next z))) ≡ Ok text → Reads s (b ∷ z) text
 by_byte s b z c on (Err f) h text e = elim (not_ok f text e) [ ]
 by_byte s b z c on (Ok next) h text e =

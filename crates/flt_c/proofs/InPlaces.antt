@@ -86,17 +86,20 @@ put_lines number (p ∷ ps) text = put_lines number ps (put number text p) ∙ b
 abbrev Goes : List ℕ → List ℕ → ℕ → ℕ → Type 0
 Goes file z line column = (there : Place) → there.line ≡ line → there.column ≡ column → AreInC file there z
 
-feeds_on : (file : List ℕ) (k : ℕ) (here : Place) (z : List ℕ) → here.column ≡ 1 → Goes file z (here.line + k) 1 → AreInC file here (replicate k 10 ++ z)
+feeds_on : (file : List ℕ) (k : ℕ) (here : Place) (z : List ℕ) →
+    here.column ≡ 1 → Goes file z (here.line + k) 1 → AreInC file here (replicate k 10 ++ z)
 feeds_on file zero here z c f = let same : here.line ≡ here.line + 0 = omega arith in f here same c
 feeds_on file (suc k) here z c f =
     (inl (inr refl), feeds_on file k (past here 10) z refl (λ there l d. let same : there.line ≡ here.line + suc k = omega (arith, l) in f there same d))
 
-blanks_on : (file : List ℕ) (k : ℕ) (here : Place) (z : List ℕ) → Goes file z here.line (here.column + k) → AreInC file here (replicate k 32 ++ z)
+blanks_on : (file : List ℕ) (k : ℕ) (here : Place) (z : List ℕ) →
+    Goes file z here.line (here.column + k) → AreInC file here (replicate k 32 ++ z)
 blanks_on file zero here z f = let same : here.column ≡ here.column + 0 = omega arith in f here refl same
 blanks_on file (suc k) here z f =
     (inl (inl refl), blanks_on file k (past here 32) z (λ there l d. let same : there.column ≡ here.column + suc k = omega (arith, d) in f there l same))
 
-gap_on : (file : List ℕ) (last : ℕ) (at here : Place) (z : List ℕ) → here.line ≡ last + 1 → here.column ≡ 1 → last < at.line → 1 ≤ at.column →
+gap_on : (file : List ℕ) (last : ℕ) (at here : Place) (z : List ℕ) →
+    here.line ≡ last + 1 → here.column ≡ 1 → last < at.line → 1 ≤ at.column →
     Goes file z at.line at.column → AreInC file here (gap last at ++ z)
 gap_on file last at here z l c less one f =
     subst (AreInC file here) (sym (append_assoc (replicate (at.line - last - 1) 10) (replicate (at.column - 1) 32) z))
@@ -246,21 +249,25 @@ abbrev laid_after : Result Text FileFlaw → Result (List ℕ) PlaceFlaw
 laid_after r = laid_of (without_expressions (r >>= (λ more. with_files 1 more [])))
 
 grown_laid : (file text : List ℕ) (ps : List Placed) → annotations file ≡ Ok ps → (x y : Bool) →
-    laid_after (if x then flawed 0 Bare else (if y then flawed 0 Long else Ok (put_all 0 empty ps))) ≡ Ok text → AreInC file first_place text
+    laid_after (if x then flawed 0 Bare else (if y then flawed 0 Long else Ok (put_all 0 empty ps))) ≡ Ok text →
+    AreInC file first_place text
 grown_laid file text ps a true y e = elim (differ (ap is_ok e)) [ ]
 grown_laid file text ps a false true e = elim (differ (ap is_ok e)) [ ]
 grown_laid file text ps a false false e = text_laid file text ps a (crowded 0 (put_all 0 empty ps).lines) refl e
 
-read_laid : (file text : List ℕ) (r : Result (List Placed) Fault) → annotations file ≡ r → laid_after (grown 0 empty (after 0 empty r)) ≡ Ok text →
+read_laid : (file text : List ℕ) (r : Result (List Placed) Fault) →
+    annotations file ≡ r → laid_after (grown 0 empty (after 0 empty r)) ≡ Ok text →
     AreInC file first_place text
 read_laid file text (Err f) a e = elim (differ (ap is_ok e)) [ ]
 read_laid file text (Ok ps) a e =
     grown_laid file text ps a (length (put_all 0 empty ps).bytes == length empty.bytes) (nat_lt 65536 (length (put_all 0 empty ps).bytes)) e
 
-size_laid : (file text : List ℕ) (x : Bool) → laid_after (if x then flawed 0 Large else grown 0 empty (after 0 empty (annotations file))) ≡ Ok text →
+size_laid : (file text : List ℕ) (x : Bool) →
+    laid_after (if x then flawed 0 Large else grown 0 empty (after 0 empty (annotations file))) ≡ Ok text →
     AreInC file first_place text
 size_laid file text true e = elim (differ (ap is_ok e)) [ ]
 size_laid file text false e = read_laid file text (annotations file) refl e
 
+-- each byte of the annotations of a file, where they stand in it, is in the file at the same line and column
 pub each_byte_is_in_its_place : EachByteIsInItsPlace
 each_byte_is_in_its_place file text e = size_laid file text (nat_lt 16777216 (length file)) e

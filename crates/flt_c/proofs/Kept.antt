@@ -26,6 +26,7 @@ abbrev pub star_of : Result Mode FaultKind → Bool
 star_of (Ok mode) = is_star mode
 star_of (Err kind) = false
 
+-- neither of two modes that don't wait at a `*` waits, whichever it is
 pub no_mode : (x : Bool) (p q : Mode) → is_star p ≡ false → is_star q ≡ false → is_star (if x then p else q) ≡ false
 no_mode true p q h g = h
 no_mode false p q h g = g

@@ -1,4 +1,5 @@
--- What the loop over a file's letters keeps: the letters so far and those of the rest are the file's; and that letters are the file's bytes.
+-- What the loop over a file's letters keeps: the letters so far and those of the rest are the file's;
+-- and that letters are the file's bytes.
 use Rattle.std.proofs.Common.{◌≡◌, ℕ, zero, suc, ◌+◌, ◌-◌, ◌≤◌, ◌<◌, Bool, true, false, List, [], ◌∷◌, ◌++◌, length, drop, take, map, refl, sym, ap, ◌∙◌, arith, length-drop, get_or, append_assoc, subst}
 use Rattle.std.specs.Prelude.{◌==◌, if◌then◌else◌, nat_lt, Option, Some, None, Result, Ok, Err}
 use Rattle.flt_c.proofs.Follow.{differ}
@@ -70,7 +71,8 @@ stepped_on file out s next before aside (b ∷ z) letter i e l h a t p d =
     let deep = i.depth in
     let on = past_start s.at b (b == 10) refl in
     record {
-      same = rw (t, a) (sym (fronts out (letter_of s b (is_aside s b before next) next ∷ []) (letters_from zero next (is_aside s b before next) z))
+      same = rw (t, a)
+          (sym (fronts out (letter_of s b (is_aside s b before next) next ∷ []) (letters_from zero next (is_aside s b before next) z))
           ∙ (ap (with_letters out) (sym (one s next before b z (sym e) h)) ∙ i.same));
       counted = rw (p, on) (omega (arith, there));
       line = rw (p, on) (past_line s.at b (b == 10) refl line);
@@ -141,7 +143,8 @@ abbrev KeptFrom : List ℕ → Type 0
 KeptFrom z = (left : ℕ) (s : Scanner) (aside : Bool) (found : List Letter) → letters_from left s aside z ≡ Ok found → bytes found ≡ z
 
 step_kept : (s : Scanner) (aside : Bool) (b : ℕ) (z : List ℕ) (found : List Letter) → KeptFrom z → (r : Result Scanner Fault) →
-    (r >>= (λ next. with_letters (letter_of s b (is_aside s b aside next) next ∷ []) (letters_from zero next (is_aside s b aside next) z))) ≡ Ok found →
+    (r >>= (λ next. with_letters (letter_of s b (is_aside s b aside next) next ∷ [])
+    (letters_from zero next (is_aside s b aside next) z))) ≡ Ok found →
     bytes found ≡ b ∷ z
 step_kept s aside b z found ih (Ok next) e =
     let on = is_aside s b aside next in
@@ -167,19 +170,23 @@ kept (b ∷ z) (suc left) s aside found e =
 kept (b ∷ z) zero s aside found e =
     let n = continuation (b ∷ z) in
     choose (n == 0)
-    (step s b >>= (λ next. with_letters (letter_of s b (is_aside s b aside next) next ∷ []) (letters_from zero next (is_aside s b aside next) z)))
+    (step s b >>= (λ next. with_letters (letter_of s b (is_aside s b aside next) next ∷ [])
+    (letters_from zero next (is_aside s b aside next) z)))
     (join s n >>= (λ next. with_letters (other b ∷ []) (letters_from (n - 1) next aside z))) found (b ∷ z)
     (step_kept s aside b z found (kept z) (step s b)) (join_kept n aside b z found (kept z) (join s n)) e
 
-flaw_kept : (file : List ℕ) (found : List Letter) (r : Result (List Letter) Fault) → letters_of file ≡ r → flawed r ≡ Ok found → bytes found ≡ file
+flaw_kept : (file : List ℕ) (found : List Letter) (r : Result (List Letter) Fault) →
+    letters_of file ≡ r → flawed r ≡ Ok found → bytes found ≡ file
 flaw_kept file found (Ok ls) a e =
     let same : ls ≡ found = ap or_nothing e in
     kept file zero start false found (a ∙ ap okay same)
 flaw_kept file found (Err f) a e = elim (differ (ap is_fine e)) [ ]
 
-size_kept : (file : List ℕ) (found : List Letter) (x : Bool) → (if x then Err Large else flawed (letters_of file)) ≡ Ok found → bytes found ≡ file
+size_kept : (file : List ℕ) (found : List Letter) (x : Bool) →
+    (if x then Err Large else flawed (letters_of file)) ≡ Ok found → bytes found ≡ file
 size_kept file found true e = elim (differ (ap is_fine e)) [ ]
 size_kept file found false e = flaw_kept file found (letters_of file) refl e
 
+-- the letters of a file are its bytes, one after the other
 pub letters_are_the_file : LettersAreTheFile
 letters_are_the_file file found e = size_kept file found (nat_lt 16777216 (length file)) e

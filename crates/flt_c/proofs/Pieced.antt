@@ -94,8 +94,10 @@ module _ (front : Front) (depth : ℕ) where
     is = ap (λ l. l ++ text) h;
   }
 
+  -- a byte of a block that isn't a `*` goes on with the block, and is added where the text has it
   pub block_on : (add next : List ℕ → List ℕ) (b : ℕ) (z text pre : List ℕ) → (b == 42) ≡ false →
-      ((body : List ℕ) → pre ++ next body ≡ add (b ∷ body)) → InBlock front depth next z text → InBlock front depth add (b ∷ z) (pre ++ text)
+      ((body : List ℕ) → pre ++ next body ≡ add (b ∷ body)) → InBlock front depth next z text →
+      InBlock front depth add (b ∷ z) (pre ++ text)
   block_on add next b z text pre e h i = record {
     body = b ∷ i.body;
     rest = i.rest;
@@ -134,7 +136,8 @@ module _ (front : Front) (depth : ℕ) where
   }
 
   -- after a `*` another one, which may end it
-  pub star_stays : (add next : List ℕ → List ℕ) (b : ℕ) (z text pre : List ℕ) → b ≡ 42 → ((body : List ℕ) → pre ++ next body ≡ add (42 ∷ body)) →
+  pub star_stays : (add next : List ℕ → List ℕ) (b : ℕ) (z text pre : List ℕ) →
+      b ≡ 42 → ((body : List ℕ) → pre ++ next body ≡ add (42 ∷ body)) →
       InBlock front depth next (42 ∷ z) text → InBlock front depth add (42 ∷ b ∷ z) (pre ++ text)
   star_stays add next b z text pre e h i = subst (λ c. InBlock front depth add (42 ∷ c ∷ z) (pre ++ text)) (sym e) (record {
     body = 42 ∷ i.body;
@@ -180,12 +183,14 @@ first_of_marker w v = elim v [
   | inr v ↦ elim v [ inl e ↦ rw e refl | inr v ↦ elim v [ inl e ↦ rw e refl | inr e ↦ rw e refl ] ]
 ]
 
+-- after a byte of the marker that isn't its last, what follows is of the marker
 pub next_of_marker : (w : ℕ) → IsOfMarker w → (w == 116) ≡ false → IsOfMarker (following w)
 next_of_marker w v other = elim v [
   | inl e ↦ rw e (inr (inl refl))
   | inr v ↦ elim v [
     | inl e ↦ rw e (inr (inr (inl refl)))
-    | inr v ↦ elim v [ inl e ↦ rw e (inr (inr (inr refl))) | inr e ↦ let no : (w == 116) ≡ true = rw e refl in elim (differ (sym other ∙ no)) [ ] ]
+    | inr v ↦ elim
+        v [ inl e ↦ rw e (inr (inr (inr refl))) | inr e ↦ let no : (w == 116) ≡ true = rw e refl in elim (differ (sym other ∙ no)) [ ] ]
   ]
 ]
 
@@ -206,13 +211,15 @@ module _ (depth w : ℕ) (v : IsOfMarker w) where
   marker_fails b body e = rw (first_of_marker w v, e) (read_nothing depth)
 
   -- the next byte of the marker
-  pub marker_goes_on : (b : ℕ) (body : List ℕ) → (b == w) ≡ true → marking depth (marker_after w) body ≡ marking depth (marker_from w) (b ∷ body)
+  pub marker_goes_on : (b : ℕ) (body : List ℕ) → (b == w) ≡ true →
+      marking depth (marker_after w) body ≡ marking depth (marker_from w) (b ∷ body)
   marker_goes_on b body e = rw (first_of_marker w v, e) refl
 
 -- in code that compilers read, and in code that they skip
 pub read_whole : (depth : ℕ) (text : List ℕ) → nat_lt 0 depth ≡ false → text ≡ read_at depth text
 read_whole depth text e = rw e refl
 
+-- a comment of a group that is skipped has no text
 pub read_none : (depth : ℕ) (text : List ℕ) → nat_lt 0 depth ≡ true → [] ≡ read_at depth text
 read_none depth text e = rw e refl
 
@@ -240,10 +247,12 @@ InQuotes quote escaped front depth z text = IsClosed quote escaped front depth z
 
 module _ (quote : ℕ) (front : Front) (depth b : ℕ) (z text : List ℕ) where
   -- a byte more: where this says of each rest that it may stand before it
-  pub quote_on : (old new : Bool) → ((closed : Bool) (body : List ℕ) → is_quoted quote closed new body ≡ true → is_quoted quote closed old (b ∷ body) ≡ true) →
+  pub quote_on : (old new : Bool) → ((closed : Bool) (body : List ℕ) →
+      is_quoted quote closed new body ≡ true → is_quoted quote closed old (b ∷ body) ≡ true) →
       InQuotes quote new front depth z text → InQuotes quote old front depth (b ∷ z) text
   quote_on old new h i = elim i [
-    | inl i ↦ inl (record { body = b ∷ i.body; rest = i.rest; split = ap (λ l. b ∷ l) i.split; plain = h true i.body i.plain; pieces = i.pieces })
+    | inl i ↦
+        inl (record { body = b ∷ i.body; rest = i.rest; split = ap (λ l. b ∷ l) i.split; plain = h true i.body i.plain; pieces = i.pieces })
     | inr i ↦ inr (record {
       body = b ∷ i.body;
       rest = i.rest;

@@ -57,7 +57,8 @@ record Continued (z : List ℕ) : Type 0 where
   after : List ℕ
   bytes : ((z ≡ 92 ∷ 10 ∷ after) × (continuation z ≡ 2)) ⊎ ((z ≡ 92 ∷ 13 ∷ 10 ∷ after) × (continuation z ≡ 3))
 
-three : (a b c : ℕ) (z : List ℕ) (p q r : Bool) → (a == 92) ≡ p → (b == 10) ≡ q → (b == 13 && c == 10) ≡ r → 0 < continuation (a ∷ b ∷ c ∷ z) →
+three : (a b c : ℕ) (z : List ℕ) (p q r : Bool) → (a == 92) ≡ p → (b == 10) ≡ q → (b == 13 && c == 10) ≡ r →
+    0 < continuation (a ∷ b ∷ c ∷ z) →
     Continued (a ∷ b ∷ c ∷ z)
 three a b c z false q r ea eb ec h = let n : continuation (a ∷ b ∷ c ∷ z) ≡ 0 = rw ea refl in absurd (omega (arith, n, h))
 three a b c z true true r ea eb ec h =
@@ -97,7 +98,8 @@ two_on file n y e =
     ap (place_of file) q ∙ (second ∙ (ap (λ (p : Place). past p 10) first
     ∙ ap (λ (k : ℕ). record { line = (place_of file n).line + 1; column = 1; start = k }) more))
 
-three_on : (file : List ℕ) (n : ℕ) (y : List ℕ) → drop n file ≡ 92 ∷ 13 ∷ 10 ∷ y → place_of file (n + 3) ≡ past_continuation (place_of file n) 3
+three_on : (file : List ℕ) (n : ℕ) (y : List ℕ) → drop n file ≡ 92 ∷ 13 ∷ 10 ∷ y →
+    place_of file (n + 3) ≡ past_continuation (place_of file n) 3
 three_on file n y e =
     let q : n + 3 ≡ suc (suc (suc n)) = omega arith in
     let first = place_next first_place file n 92 (13 ∷ 10 ∷ y) e in

@@ -37,6 +37,7 @@ pub past_start : (at : Place) (b : ℕ) (x : Bool) → (b == 10) ≡ x → (past
 past_start at b true e = rw e refl
 past_start at b false e = rw e refl
 
+-- a number above 0 isn't 0
 pub not_zero : (n : ℕ) → 0 < n → (n == 0) ≡ false
 not_zero n h = by (n == 0) refl
   where
@@ -53,10 +54,12 @@ read_over (b ∷ z) (suc m) s next p l e h =
     let f : (suc m == 0) ≡ false = not_zero (suc m) p in
     rw (sym e, h, q, f) (read_skip m next z)
 
+-- the line after a byte is within what the place after it allows
 pub past_line : (at : Place) (b : ℕ) (x : Bool) → (b == 10) ≡ x → at.line ≤ at.start + 1 → (past at b).line ≤ at.start + 1 + 1
 past_line at b true e h = rw e (omega (arith, h))
 past_line at b false e h = rw e (omega (arith, h))
 
+-- the column after a byte is within what the place after it allows
 pub past_column : (at : Place) (b : ℕ) (x : Bool) → (b == 10) ≡ x → at.column ≤ at.start + 1 → (past at b).column ≤ at.start + 1 + 1
 past_column at b true e h = rw e (omega arith)
 past_column at b false e h = rw e (omega (arith, h))

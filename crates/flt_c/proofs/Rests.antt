@@ -46,11 +46,13 @@ module _ (front : Front) (depth b : ℕ) (z text : List ℕ) where
   abbrev depth_past : Bool → ℕ
   depth_past y = if y then depth_after depth front 10 else depth
 
+  -- one more byte of a line comment that isn't an annotation
   pub line_step : (y : Bool) → (b == 10) ≡ y → Rest (if y then m.Code else m.Line) (front_past y) (depth_past y) z text →
       InLine front depth nothing (b ∷ z) text
   line_step true e r = line_ends front depth nothing b z text [] (eqb-true b 10 e) refl r
   line_step false e r = line_on front depth nothing nothing b z text [] e (λ body. refl) r
 
+  -- one more byte of an annotation in a line comment
   pub line_text_step : (y : Bool) → (b == 10) ≡ y → Rest (if y then m.Code else m.LineText) (front_past y) (depth_past y) z text →
       InLine front depth whole (b ∷ z) (b ∷ text)
   line_text_step true e r =
@@ -58,7 +60,8 @@ module _ (front : Front) (depth b : ℕ) (z text : List ℕ) where
   line_text_step false e r = line_on front depth whole whole b z text (b ∷ []) e (λ body. refl) r
 
   -- after the marker a blank
-  pub line_blank : (y : Bool) → (b == 10) ≡ y → (b == 45) ≡ false → Rest (if y then m.Code else m.LineText) (front_past y) (depth_past y) z text →
+  pub line_blank : (y : Bool) → (b == 10) ≡ y → (b == 45) ≡ false →
+      Rest (if y then m.Code else m.LineText) (front_past y) (depth_past y) z text →
       InLine front depth marked (b ∷ z) (b ∷ text)
   line_blank true e dash r =
       let is : b ≡ 10 = eqb-true b 10 e in line_ends front depth marked b z text (b ∷ []) is (ap (λ c. c ∷ []) is) r
@@ -96,7 +99,8 @@ module _ (front : Front) (depth b : ℕ) (z text : List ℕ) where
     goes_on : (e : (b == w) ≡ true) → (b == 116) ≡ false → marker_after w ≡ marker_from (following b)
     goes_on e h =
         let other = before_last e h in
-        let first : marker_after w ≡ marker_from (following w) = rw other refl in first ∙ ap (λ c. marker_from (following c)) (sym (eqb-true b w e))
+        let first : marker_after w ≡ marker_from (following w) = rw other refl in
+        first ∙ ap (λ c. marker_from (following c)) (sym (eqb-true b w e))
 
     -- what the last byte of the marker leads to
     last_adds : (e : (b == w) ≡ true) → (b == 116) ≡ true → nat_lt 0 depth ≡ false → (body : List ℕ) →
@@ -111,8 +115,10 @@ module _ (front : Front) (depth b : ℕ) (z text : List ℕ) where
     next_valid : (b == w) ≡ true → (b == 116) ≡ false → IsOfMarker (following b)
     next_valid e h = subst (λ c. IsOfMarker (following c)) (sym (eqb-true b w e)) (next_of_marker w v (before_last e h))
 
+    -- one more byte of a line comment that may be marked as an annotation
     pub line_mark_step : (x y u s : Bool) → (b == w) ≡ x → (b == 10) ≡ y → (b == 116) ≡ u → nat_lt 0 depth ≡ s →
-        Rest (if not x then (if y then m.Code else m.Line) else (if u then (if s then m.Line else m.LineMarked) else m.LineMark (following b)))
+        Rest (if not x then (if y then m.Code else m.Line)
+        else (if u then (if s then m.Line else m.LineMarked) else m.LineMark (following b)))
         (front_past y) (depth_past y) z text → InLine front depth (marking depth (marker_from w)) (b ∷ z) text
     line_mark_step false true u s ex ey eu es r =
         line_ends front depth (marking depth (marker_from w)) b z text [] (eqb-true b 10 ey) (marker_ends depth w v) r
@@ -130,10 +136,13 @@ module _ (front : Front) (depth b : ℕ) (z text : List ℕ) where
     star_fails : (b == w) ≡ false → (b == 42) ≡ true → (body : List ℕ) → is_star_first body ≡ true → [] ≡ marking depth (marker_from w) body
     star_fails e h [] first = marker_ends depth w v
     star_fails e h (c ∷ body) first =
-        let is : c ≡ b = eqb-true c 42 first ∙ sym (eqb-true b 42 h) in marker_fails depth w v c body (subst (λ x. (x == w) ≡ false) (sym is) e)
+        let is : c ≡ b = eqb-true c 42 first ∙ sym (eqb-true b 42 h) in
+        marker_fails depth w v c body (subst (λ x. (x == w) ≡ false) (sym is) e)
 
+    -- one more byte of a block comment that may be marked as an annotation
     pub block_mark_step : (x y u s : Bool) → (b == w) ≡ x → (b == 42) ≡ y → (b == 116) ≡ u → nat_lt 0 depth ≡ s →
-        Rest (if not x then (if y then m.BlockStar else m.Block) else (if u then (if s then m.Block else m.BlockMarked) else m.BlockMark (following b)))
+        Rest (if not x then (if y then m.BlockStar else m.Block)
+        else (if u then (if s then m.Block else m.BlockMarked) else m.BlockMark (following b)))
         front depth z text → InBlock front depth (marking depth (marker_from w)) (b ∷ z) text
     block_mark_step false true u s ex ey eu es r =
         block_at front depth (marking depth (marker_from w)) nothing b z text (eqb-true b 42 ey) (star_fails ex ey) r
@@ -150,7 +159,9 @@ module _ (front : Front) (depth b : ℕ) (z text : List ℕ) where
 
   -- ---- block comments
 
-  pub block_step : (y : Bool) → (b == 42) ≡ y → Rest (if y then m.BlockStar else m.Block) front depth z text → InBlock front depth nothing (b ∷ z) text
+  -- one more byte of a block comment that isn't an annotation
+  pub block_step : (y : Bool) → (b == 42) ≡ y → Rest (if y then m.BlockStar else m.Block) front depth z text →
+      InBlock front depth nothing (b ∷ z) text
   block_step true e r = block_at front depth nothing nothing b z text (eqb-true b 42 e) (λ body first. refl) r
   block_step false e r = block_on front depth nothing nothing b z text [] e (λ body. refl) r
 
@@ -162,13 +173,17 @@ module _ (front : Front) (depth b : ℕ) (z text : List ℕ) where
   pub block_marked_star : (b == 42) ≡ true → InBlock front depth whole (42 ∷ z) text → InBlock front depth marked (b ∷ z) text
   block_marked_star e r = block_at front depth marked whole b z text (eqb-true b 42 e) star_marked r
 
+  -- the byte after a block's marker, where it is neither a `*` nor a `-`, begins the annotation
   pub block_blank : (b == 42) ≡ false → (b == 45) ≡ false → InBlock front depth whole z text → InBlock front depth marked (b ∷ z) (b ∷ text)
   block_blank e dash r = block_on front depth marked whole b z text (b ∷ []) e (λ body. rw dash refl) r
 
+  -- a `-` after a block's marker makes the block no annotation
   pub block_dash : (b == 42) ≡ false → (b == 45) ≡ true → InBlock front depth nothing z text → InBlock front depth marked (b ∷ z) text
   block_dash e dash r = block_on front depth marked nothing b z text [] e (λ body. rw dash refl) r
 
-  pub block_star_step : (x y : Bool) → (b == 47) ≡ x → (b == 42) ≡ y → Rest (if x then m.Code else (if y then m.BlockStar else m.Block)) front depth z text →
+  -- the byte after a `*` in a block comment ends the block or goes on with it
+  pub block_star_step : (x y : Bool) → (b == 47) ≡ x → (b == 42) ≡ y →
+      Rest (if x then m.Code else (if y then m.BlockStar else m.Block)) front depth z text →
       InBlock front depth nothing (42 ∷ b ∷ z) text
   block_star_step true y ex ey r = star_closes front depth nothing b z text [] (eqb-true b 47 ex) refl r
   block_star_step false true ex ey r = star_stays front depth nothing nothing b z text [] (eqb-true b 42 ey) (λ body. refl) r
@@ -183,6 +198,7 @@ module _ (front : Front) (depth b : ℕ) (z text : List ℕ) where
   AfterQuoted quote l false false true = (l ≡ true) × ArePieces f.Nothing (depth_after depth front 10) z text
   AfterQuoted quote l false false false = InQuotes quote false front depth z text
 
+  -- one more byte between quotes ends them, escapes the next or goes on
   pub quoted_step : (quote : ℕ) → (quote == 10) ≡ false → (x y u : Bool) → (b == quote) ≡ x → (b == 92) ≡ y → (b == 10) ≡ u →
       AfterQuoted quote (is_lenient front depth) x y u → InQuotes quote false front depth (b ∷ z) text
   quoted_step quote apart true y true ex ey eu r = elim (two_bytes b quote 10 ex eu apart) [ ]
@@ -199,7 +215,9 @@ module _ (front : Front) (depth b : ℕ) (z text : List ℕ) where
   AfterEscaped quote l true = (l ≡ true) × ArePieces f.Nothing (depth_after depth front 10) z text
   AfterEscaped quote l false = InQuotes quote false front depth z text
 
-  pub escaped_step : (quote : ℕ) (u : Bool) → (b == 10) ≡ u → AfterEscaped quote (is_lenient front depth) u → InQuotes quote true front depth (b ∷ z) text
+  -- the byte after a backslash goes on between the quotes
+  pub escaped_step : (quote : ℕ) (u : Bool) → (b == 10) ≡ u → AfterEscaped quote (is_lenient front depth) u →
+      InQuotes quote true front depth (b ∷ z) text
   escaped_step quote true eu r = quote_ends quote front depth b z text true (eqb-true b 10 eu) r.0 r.1
   escaped_step quote false eu r = quote_on quote front depth b z text true false (λ closed body h. rw eu h) r
 
@@ -247,7 +265,8 @@ module _ (front : Front) (depth b : ℕ) (z text : List ℕ) where
       ArePieces (front_of_code y false) (depth_after depth front b) z text → ArePieces front depth (b ∷ z) text
   plain_code q c s true e r =
       let is : b ≡ 10 = eqb-true b 10 e in
-      subst (λ x. ArePieces front depth (x ∷ z) text) (sym is) (line_feed (subst (λ x. ArePieces f.Nothing (depth_after depth front x) z text) is r))
+      subst (λ x. ArePieces front depth (x ∷ z) text) (sym is)
+      (line_feed (subst (λ x. ArePieces f.Nothing (depth_after depth front x) z text) is r))
   plain_code q c s false e r = code (not_quote q c) e (not_comment z s) r
 
   code_step : (s q c r y : Bool) → (b == 47) ≡ s → (b == 34) ≡ q → (b == 39) ≡ c → (b == 10) ≡ y →
@@ -263,13 +282,15 @@ module _ (front : Front) (depth b : ℕ) (z text : List ℕ) where
       let is : b ≡ 34 = eqb-true b 34 eq in
       let same : depth_after depth front b ≡ depth = ap (depth_after depth front) is ∙ depth_same front depth 34 refl refl refl refl in
       subst (λ x. ArePieces front depth (x ∷ z) text) (sym is) (quote_pieces 34 refl front depth z text
-      (subst (λ x. InQuotes 34 false (front_after front x) depth z text) is (subst (λ d. InQuotes 34 false (front_after front b) d z text) same p)))
+      (subst (λ x. InQuotes 34 false (front_after front x) depth z text) is
+      (subst (λ d. InQuotes 34 false (front_after front b) d z text) same p)))
   code_step false false true r true es eq ec ey p = elim (two_bytes b 39 10 ec ey refl) [ ]
   code_step false false true r false es eq ec ey p =
       let is : b ≡ 39 = eqb-true b 39 ec in
       let same : depth_after depth front b ≡ depth = ap (depth_after depth front) is ∙ depth_same front depth 39 refl refl refl refl in
       subst (λ x. ArePieces front depth (x ∷ z) text) (sym is) (quote_pieces 39 refl front depth z text
-      (subst (λ x. InQuotes 39 false (front_after front x) depth z text) is (subst (λ d. InQuotes 39 false (front_after front b) d z text) same p)))
+      (subst (λ x. InQuotes 39 false (front_after front x) depth z text) is
+      (subst (λ d. InQuotes 39 false (front_after front b) d z text) same p)))
   code_step false false false true y es eq ec ey p = plain_code eq ec es y ey p
   code_step false false false false y es eq ec ey p = plain_code eq ec es y ey p
 
@@ -285,24 +306,29 @@ module _ (front : Front) (depth b : ℕ) (z text : List ℕ) where
 
 -- after a `/`
 slash_line : (front : Front) (depth : ℕ) (z text : List ℕ) →
-    Rest (after_slash 47) (next_front m.Slash front 47) (depth_after depth (front_after front 47) 47) z text → ArePieces front depth (47 ∷ 47 ∷ z) text
+    Rest (after_slash 47) (next_front m.Slash front 47) (depth_after depth (front_after front 47) 47) z text →
+    ArePieces front depth (47 ∷ 47 ∷ z) text
 slash_line front depth z text p =
     let same = depth_same (front_after front 47) depth 47 refl refl refl refl in
     line_pieces front depth z text (subst (λ d. Rest (m.LineMark 64) (front_after front 32) d z text) same p (inl refl))
 
 slash_block : (front : Front) (depth : ℕ) (z text : List ℕ) →
-    Rest (after_slash 42) (next_front m.Slash front 42) (depth_after depth (front_after front 47) 42) z text → ArePieces front depth (47 ∷ 42 ∷ z) text
+    Rest (after_slash 42) (next_front m.Slash front 42) (depth_after depth (front_after front 47) 42) z text →
+    ArePieces front depth (47 ∷ 42 ∷ z) text
 slash_block front depth z text p =
     let same = depth_same (front_after front 47) depth 42 refl refl refl refl in
     block_pieces front depth z text (subst (λ d. Rest (m.BlockMark 64) (front_after front 32) d z text) same p (inl refl))
 
 module _ (front : Front) (depth b : ℕ) (z text : List ℕ) where
-  front_slash : (b == 47) ≡ false → (b == 42) ≡ false → (y : Bool) → (b == 10) ≡ y → next_front m.Slash front b ≡ next_front m.Code (front_after front 47) b
+  front_slash : (b == 47) ≡ false → (b == 42) ≡ false → (y : Bool) →
+      (b == 10) ≡ y → next_front m.Slash front b ≡ next_front m.Code (front_after front 47) b
   front_slash s t true e = rw e refl
   front_slash s t false e = rw (e, s, t) refl
 
+  -- the byte after a `/` begins a comment or goes on with code
   pub slash_step : (s t : Bool) → (b == 47) ≡ s → (b == 42) ≡ t →
-      Rest (after_slash b) (next_front m.Slash front b) (depth_after depth (front_after front 47) b) z text → ArePieces front depth (47 ∷ b ∷ z) text
+      Rest (after_slash b) (next_front m.Slash front b) (depth_after depth (front_after front 47) b) z text →
+      ArePieces front depth (47 ∷ b ∷ z) text
   slash_step true t es et p =
       let is : b ≡ 47 = eqb-true b 47 es in
       subst (λ x. ArePieces front depth (47 ∷ x ∷ z) text) (sym is) (slash_line front depth z text

@@ -41,7 +41,8 @@ same_ok x y e = ap (or_else x) e
 -- whatever stands from there on stands after the text
 abbrev IsFront : List (List ℕ) → Text → Line → Type 0
 IsFront files text at =
-    (bytes : List ℕ) (lines : List Line) → Stands files at text.fresh bytes lines → Stands files first_line true (text.bytes ++ bytes) (text.lines ++ lines)
+    (bytes : List ℕ) (lines : List Line) → Stands files at text.fresh bytes lines →
+    Stands files first_line true (text.bytes ++ bytes) (text.lines ++ lines)
 
 abbrev line_at : ℕ → Place → Line
 line_at number place = record { file = number; place = place }
@@ -62,7 +63,8 @@ put_front : (files : List (List ℕ)) (number : ℕ) (text : Text) (at : Place) 
     Follows at text.fresh p.place → IsAt (get_or files number []) p.place p.byte →
     IsFront files (put number text p) (line_at number (beside p.place))
 put_front files number text at p front f i bytes lines r =
-    subst (λ l. Stands files first_line true ((text.bytes ++ (p.byte ∷ [])) ++ bytes) l) (lines_with text.fresh text.lines lines (line_at number p.place))
+    subst (λ l. Stands files first_line true ((text.bytes ++ (p.byte ∷ [])) ++ bytes) l)
+    (lines_with text.fresh text.lines lines (line_at number p.place))
     (subst (λ z. Stands files first_line true z (text.lines ++ ((if text.fresh then line_at number p.place ∷ [] else []) ++ lines)))
     (sym (append_assoc text.bytes (p.byte ∷ []) bytes))
     (front (p.byte ∷ bytes) ((if text.fresh then line_at number p.place ∷ [] else []) ++ lines)
@@ -73,20 +75,23 @@ record IsGrown (files : List (List ℕ)) (number : ℕ) (text : Text) : Type 0 w
   front : IsFront files text (line_at number at)
   fresh : text.fresh ≡ true
 
-put_all_front : (files : List (List ℕ)) (number : ℕ) (ps : List Placed) (text : Text) (at : Place) → IsFront files text (line_at number at) →
+put_all_front : (files : List (List ℕ)) (number : ℕ) (ps : List Placed) (text : Text) (at : Place) →
+    IsFront files text (line_at number at) →
     Chain (get_or files number []) at text.fresh ps → IsGrown files number (put_all number text ps)
 put_all_front files number [] text at front c = record { at = at; front = front; fresh = c }
 put_all_front files number (p ∷ ps) text at front c =
     put_all_front files number ps (put number text p) (beside p.place) (put_front files number text at p front c.0 c.1.0) c.1.1
 
 -- the next file stands further on
-next_file : (files : List (List ℕ)) (number : ℕ) (text : Text) → IsGrown files number text → IsFront files text (line_at (number + 1) first_place)
+next_file : (files : List (List ℕ)) (number : ℕ) (text : Text) →
+    IsGrown files number text → IsFront files text (line_at (number + 1) first_place)
 next_file files number text g bytes lines r = g.front bytes lines (by text.fresh bytes lines g.fresh r)
   where
     further : (line : Line) → IsFurther (line_at (number + 1) first_place) line → IsFurther (line_at number g.at) line
     further line h = elim h [ inl h ↦ inl (omega (arith, h)) | inr h ↦ let e = h.0 in inl (omega (arith, e)) ]
 
-    by : (fresh : Bool) (bytes : List ℕ) (lines : List Line) → fresh ≡ true → Stands files (line_at (number + 1) first_place) fresh bytes lines →
+    by : (fresh : Bool) (bytes : List ℕ) (lines : List Line) →
+        fresh ≡ true → Stands files (line_at (number + 1) first_place) fresh bytes lines →
         Stands files (line_at number g.at) fresh bytes lines
     by true [] [] e r = tt
     by true [] (line ∷ lines) e r = r
@@ -121,22 +126,28 @@ with_front_of files number text file there fresh front false more e =
 
 abbrev StandFrom : List (List ℕ) → List (List ℕ) → Type 0
 StandFrom files rest =
-    (number : ℕ) (text : Text) → drop number files ≡ rest → text.fresh ≡ true → IsFront files text (line_at number first_place) → (all : Text) →
+    (number : ℕ) (text : Text) → drop number files ≡ rest → text.fresh ≡ true →
+    IsFront files text (line_at number first_place) → (all : Text) →
     with_files number text rest ≡ Ok all → Stands files first_line true all.bytes all.lines
 
 one_more : (files : List (List ℕ)) (file : List ℕ) (rest : List (List ℕ)) → StandFrom files rest → (number : ℕ) (text : Text) →
-    drop number files ≡ file ∷ rest → text.fresh ≡ true → IsFront files text (line_at number first_place) → (all : Text) → (r : Result Text FileFlaw) →
-    with_file number text file ≡ r → (r >>= (λ more. with_files (number + 1) more rest)) ≡ Ok all → Stands files first_line true all.bytes all.lines
+    drop number files ≡ file ∷ rest → text.fresh ≡ true → IsFront files text (line_at number first_place) → (all : Text) →
+    (r : Result Text FileFlaw) →
+    with_file number text file ≡ r → (r >>= (λ more. with_files (number + 1) more rest)) ≡ Ok all →
+    Stands files first_line true all.bytes all.lines
 one_more files file rest on number text d fresh front all (Err f) c e = elim (not_ok f all e) [ ]
 one_more files file rest on number text d fresh front all (Ok more) c e =
-    let g = with_front_of files number text file (get_there files number [] file rest d) fresh front (nat_lt 16777216 (length file)) more c in
+    let g = with_front_of files number text file (get_there files number [] file rest d) fresh front
+    (nat_lt 16777216 (length file)) more c in
     let next : suc number ≡ number + 1 = omega arith in
-    on (number + 1) more (ap (λ n. drop n files) (sym next) ∙ drop_next files number file rest d) g.fresh (next_file files number more g) all e
+    on (number + 1) more (ap (λ n. drop n files) (sym next) ∙ drop_next files number file rest d) g.fresh
+    (next_file files number more g) all e
 
 files_stand : (files rest : List (List ℕ)) → StandFrom files rest
 files_stand files [] number text d fresh front all e =
     let same = same_ok text all e in
-    let ends : Stands files (line_at number first_place) text.fresh [] [] = subst (λ x. Stands files (line_at number first_place) x [] []) (sym fresh) tt in
+    let ends : Stands files (line_at number first_place) text.fresh [] [] =
+    subst (λ x. Stands files (line_at number first_place) x [] []) (sym fresh) tt in
     subst (λ (t : Text). Stands files first_line true t.bytes t.lines) same
     (subst (λ l. Stands files first_line true text.bytes l) (append-nil text.lines)
     (subst (λ z. Stands files first_line true z (text.lines ++ [])) (append-nil text.bytes) (front [] [] ends)))
@@ -146,6 +157,7 @@ files_stand files (file ∷ rest) number text d fresh front all e =
 gathered_stand : (files : List (List ℕ)) (raw : Text) → gathered files ≡ Ok raw → Stands files first_line true raw.bytes raw.lines
 gathered_stand files raw e = files_stand files files 0 empty refl refl (λ bytes lines r. r) raw e
 
+-- each byte of the text of some files stands in C at its line's place plus its column
 pub each_byte_stands : EachByteStands
 each_byte_stands files text e = by (gathered files) refl e
   where

@@ -76,7 +76,8 @@ record IsTakenFrom (file : List ℕ) (s : Scanner) (z : List ℕ) (text : List P
 not_marker : (new : Mode) → Err k.Marker ≡ Ok new → ⊥
 not_marker new e = cc
 
-module _ (file : List ℕ) (s : Scanner) (b : ℕ) (next : Scanner) (ps : List Placed) (last : next.last ≡ s.at) (there : slice_index file s.at.start ≡ b)
+module _ (file : List ℕ) (s : Scanner) (b : ℕ) (next : Scanner) (ps : List Placed) (last : next.last ≡ s.at)
+    (there : slice_index file s.at.start ≡ b)
     (waits : is_star next.mode ≡ true → IsTaken file ps (one 42 next.last)) where
   star_waits : b ≡ 42 → is_star next.mode ≡ true → IsTaken file ps (one b s.at)
   star_waits is star = rw is (subst (λ p. IsTaken file ps (one 42 p)) last (waits star))
@@ -85,9 +86,11 @@ module _ (file : List ℕ) (s : Scanner) (b : ℕ) (next : Scanner) (ps : List P
       AllByRecursion (IsTaken file ((if z then one b s.at ∷ [] else []) ++ ps)) (if true && not y then one b s.at ∷ [] else [])
   after_line_marker l x e true z c d = tt
   after_line_marker l x e false true c d = (inl (inl refl), tt)
-  after_line_marker l x e false false c d = let is : line_marked b ≡ Err k.Marker = rw (c, d) refl in elim (not_marker next.mode (sym is ∙ e)) [ ]
+  after_line_marker l x e false false c d = let is : line_marked b ≡ Err k.Marker = rw (c, d) refl in
+      elim (not_marker next.mode (sym is ∙ e)) [ ]
 
-  after_block_marker : (l x : Bool) → turn l x m.BlockMarked b ≡ Ok next.mode → (y z w : Bool) → (b == 45) ≡ y → is_blank b ≡ z → (b == 42) ≡ w →
+  after_block_marker : (l x : Bool) → turn l x m.BlockMarked b ≡ Ok next.mode → (y z w : Bool) →
+      (b == 45) ≡ y → is_blank b ≡ z → (b == 42) ≡ w →
       AllByRecursion (IsTaken file ((if z then one b s.at ∷ [] else []) ++ ps)) (if true && not y then one b s.at ∷ [] else [])
   after_block_marker l x e true z w c d f = tt
   after_block_marker l x e false true w c d f = (inl (inl refl), tt)
@@ -102,7 +105,8 @@ module _ (file : List ℕ) (s : Scanner) (b : ℕ) (next : Scanner) (ps : List P
   in_block l x e false c = (inl (inl refl), tt)
 
   after_star : (l x : Bool) → turn l x m.BlockTextStar b ≡ Ok next.mode → Star file s → (y z : Bool) → (b == 47) ≡ y → (b == 42) ≡ z →
-      AllByRecursion (IsTaken file ((if y then one 10 s.last ∷ [] else (if z then one 42 s.last ∷ [] else (one 42 s.last ∷ []) ++ (one b s.at ∷ []))) ++ ps))
+      AllByRecursion (IsTaken file
+      ((if y then one 10 s.last ∷ [] else (if z then one 42 s.last ∷ [] else (one 42 s.last ∷ []) ++ (one b s.at ∷ []))) ++ ps))
       (one b s.at ∷ [])
   after_star l x e star true z c d =
       let to : s.at.start ≡ s.last.start + 1 = ap (λ (p : Place). p.start) star.next in
@@ -122,7 +126,8 @@ module _ (file : List ℕ) (s : Scanner) (b : ℕ) (next : Scanner) (ps : List P
 
   -- a `*` that waited is taken, or closes the annotation
   star_by : Star file s → (y z : Bool) → (b == 47) ≡ y →
-      IsTaken file ((if y then one 10 s.last ∷ [] else (if z then one 42 s.last ∷ [] else (one 42 s.last ∷ []) ++ (one b s.at ∷ []))) ++ ps) (one 42 s.last)
+      IsTaken file ((if y then one 10 s.last ∷ [] else (if z then one 42 s.last ∷ [] else (one 42 s.last ∷ []) ++ (one b s.at ∷ []))) ++ ps)
+      (one 42 s.last)
   star_by star true z c =
       let to : s.at.start ≡ s.last.start + 1 = ap (λ (p : Place). p.start) star.next in
       inr (inl (refl, ap (slice_index file) (sym to) ∙ (there ∙ eqb-true b 47 c)))
@@ -144,7 +149,8 @@ taken file (byte {s = s} {next = next} {b = b} {z = z} {ps = ps} c h r) i =
     let there = get_there file s.at.start 0 b z i.rest in
     record {
       bytes = subst (AllByRecursion (IsTaken file (added s b ++ ps))) (sym (noted_on s next b z c h))
-          (both file (added s b ++ ps) (noted_by s b) (noted zero next z) (taken_by file s b next ps on.last there rest.star _ _ s.mode on.mode i.star)
+          (both file (added s b ++ ps) (noted_by s b) (noted zero next z)
+          (taken_by file s b next ps on.last there rest.star _ _ s.mode on.mode i.star)
           (all_more file (added s b) ps (noted zero next z) rest.bytes));
       star = λ w. star_in file s b next ps on.last there rest.star s.mode w (i.star w);
     }
@@ -156,6 +162,7 @@ taken file (joined {s = s} {next = next} {z = z} {ps = ps} p h r) i =
       star = λ w. elim (differ (sym (star_is_note s.mode on.outside) ∙ w)) [ ];
     }
 
+-- no byte of an annotation is left out of the text, but a `*/` that closes it
 pub no_byte_is_left_out : NoByteIsLeftOut
 no_byte_is_left_out file text e =
     (taken file (reads file zero start text e)

@@ -15,7 +15,8 @@ flawed file flaw = Err (record { file = file; flaw = flaw })
 abbrev pub grown : ℕ → Text → Result Text Fault → Result Text FileFlaw
 grown file before (Err f) = flawed file (Faulty f)
 grown file before (Ok text) =
-    if length text.bytes == length before.bytes then flawed file Bare else (if nat_lt 65536 (length text.bytes) then flawed file Long else Ok text)
+    if length text.bytes == length before.bytes then flawed file Bare
+    else (if nat_lt 65536 (length text.bytes) then flawed file Long else Ok text)
 
 -- one file more, which is no larger than 16 MB
 abbrev pub with_file : ℕ → Text → List ℕ → Result Text FileFlaw

@@ -45,7 +45,8 @@ in_place file = laid_of (extracted (file ∷ []))
 -- the byte of a file at this line and column, or the line feed where an annotation ends there
 abbrev pub IsInC : List ℕ → Place → ℕ → Type 0
 IsInC file at b =
-    (n : ℕ) × (((place_of file n).line ≡ at.line) × (((place_of file n).column ≡ at.column) × ((slice_index file n ≡ b) ⊎ ((b ≡ 10) × IsEnd file n))))
+    (n : ℕ) × (((place_of file n).line ≡ at.line) ×
+    (((place_of file n).column ≡ at.column) × ((slice_index file n ≡ b) ⊎ ((b ≡ 10) × IsEnd file n))))
 
 -- a blank or a line feed before a line of the text, or a blank for an expression of a lock
 abbrev pub IsGap : ℕ → Type 0

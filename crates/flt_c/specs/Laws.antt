@@ -100,4 +100,5 @@ IsTaken file text p = Has text p ⊎ IsClosing file p
 
 -- each byte that is read of an annotation is in the text, but a `*/`
 abbrev pub NoByteIsLeftOut : Type 0
-NoByteIsLeftOut = (file : List ℕ) (text : List Placed) → annotations file ≡ Ok text → AllByRecursion (IsTaken file text) (noted zero start file)
+NoByteIsLeftOut = (file : List ℕ) (text : List Placed) →
+    annotations file ≡ Ok text → AllByRecursion (IsTaken file text) (noted zero start file)

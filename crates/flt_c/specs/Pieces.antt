@@ -65,7 +65,8 @@ read_at depth text = if nat_lt 0 depth then [] else text
 abbrev pub is_quote : ℕ → Bool
 is_quote b = b == 34 || b == 39
 
--- what stands between quotes: a backslash takes the next byte with it, which `escaped` says of the first; it stays in its line, and is closed or not
+-- what stands between quotes: a backslash takes the next byte with it, which `escaped` says of the first;
+-- it stays in its line, and is closed or not
 abbrev pub is_quoted : ℕ → Bool → Bool → List ℕ → Bool
 is_quoted quote closed escaped [] = not (closed && escaped)
 is_quoted quote closed true (b ∷ z) = not (b == 10) && is_quoted quote closed false z
@@ -93,12 +94,15 @@ pub data ArePieces : Front → ℕ → List ℕ → List ℕ → Type 0 where
       ArePieces (front_after front 32) depth z text → ArePieces front depth (47 ∷ 47 ∷ (body ++ z)) (read_at depth (note_of body) ++ text)
   -- a block comment
   block_comment : {front : Front} {depth : ℕ} {z text : List ℕ} (body : List ℕ) → IsBlockBody body →
-      ArePieces (front_after front 32) depth z text → ArePieces front depth (47 ∷ 42 ∷ (body ++ 42 ∷ 47 ∷ z)) (read_at depth (note_of body) ++ text)
+      ArePieces (front_after front 32) depth z text →
+      ArePieces front depth (47 ∷ 42 ∷ (body ++ 42 ∷ 47 ∷ z)) (read_at depth (note_of body) ++ text)
   -- a string or a character constant
-  quoted : {front : Front} {depth quote : ℕ} {z text : List ℕ} (body : List ℕ) → is_quote quote ≡ true → is_quoted quote true false body ≡ true →
+  quoted : {front : Front} {depth quote : ℕ} {z text : List ℕ} (body : List ℕ) →
+      is_quote quote ≡ true → is_quoted quote true false body ≡ true →
       ArePieces (front_after front quote) depth z text → ArePieces front depth (quote ∷ (body ++ quote ∷ z)) text
   -- one that ends with its line, in a directive or in a group that is skipped
-  unclosed : {front : Front} {depth quote : ℕ} {z text : List ℕ} (body : List ℕ) → is_quote quote ≡ true → is_quoted quote false false body ≡ true →
+  unclosed : {front : Front} {depth quote : ℕ} {z text : List ℕ} (body : List ℕ) →
+      is_quote quote ≡ true → is_quoted quote false false body ≡ true →
       EndsLine z → is_lenient (front_after front quote) depth ≡ true →
       ArePieces (front_after front quote) depth z text → ArePieces front depth (quote ∷ (body ++ z)) text
 

@@ -20,10 +20,12 @@ use Rattle.flt_calls.specs.declared.plans.Plan.{Plan}
 use Rattle.flt_calls.proofs.Called.{plans_call, of_events}
 
 -- what an atom stands for doesn't depend on what remains
-pub atom_same : (s : Standing) (rest : List Statement) (value : Atom) → atom_value (activation_with s rest) value ≡ atom_value (activation_with s []) value
+pub atom_same : (s : Standing) (rest : List Statement) (value : Atom) →
+    atom_value (activation_with s rest) value ≡ atom_value (activation_with s []) value
 atom_same s rest (atom.Number k) = refl
 atom_same s rest (atom.Variable n) = refl
 
+-- pairs are the same where both their parts are
 pub pair_same : {A B : Type 0} {x y : A} {u v : B} → x ≡ y → u ≡ v → ◌≡◌ {A = A × B} (x, u) (y, v)
 pair_same e h = λ i. (e i, h i)
 
@@ -38,7 +40,8 @@ answers_own store c r step planned own =
 -- after these events the plan is the effect, in each world in which the filter is the caller's
 abbrev pub IsEffect : Store → Caller → List Event → (World → List Statement → List Statement → Step) → Plan → Type 0
 IsEffect store c es effect plan =
-    (actors : List Actor) (activations : List Activation) (granted refused : List Statement) → (get_or actors c.activation no_actor).filter ≡ c.filter →
+    (actors : List Actor) (activations : List Activation) (granted refused : List Statement) →
+    (get_or actors c.activation no_actor).filter ≡ c.filter →
     IsPlanned (world_of store actors activations) c.activation plan es granted refused
     (effect (world_of store actors activations) granted refused)
 
@@ -50,13 +53,16 @@ IsEffectOf store c es effect plan =
     (effect (world_of store actors activations) granted refused)
 
 -- a call without events of its own, by what it reads of the activation
-abbrev pub whole : {X : Type 0} → Caller → Call → (Activation → X) → (X → List (Option Object)) → (World → X → List Statement → List Statement → Step) →
+abbrev pub whole : {X : Type 0} → Caller → Call → (Activation → X) → (X → List (Option Object)) →
+    (World → X → List Statement → List Statement → Step) →
     World → List Statement → List Statement → Step
 whole c k read needs effect w granted refused =
     calling w c.activation k [] (needs (read (activation_at w c.activation)))
     (effect w (read (activation_at w c.activation)) granted refused)
 
-module _ {X : Type 0} (store : Store) (c : Caller) (k : Call) (es : List Event) (x : X) (read : Activation → X) (needs : X → List (Option Object)) where
+module _ {X : Type 0} (store : Store) (c : Caller) (k : Call) (es : List Event) (x : X) (read : Activation → X)
+    (needs : X → List (Option Object)) where
+  -- a call is planned where its effect on what it names is, behind the events of the call itself
   pub answers : {E : Type 0} (effect : World → X → List Statement → List Statement → Step) (r : Result Plan E) →
       ((rest : List Statement) → read (activation_with c.standing rest) ≡ x) →
       es ≡ event.Call c.activation k ∷ (uses c.activation (needs x) ++ empties c.activation (needs x)) →
@@ -67,6 +73,7 @@ module _ {X : Type 0} (store : Store) (c : Caller) (k : Call) (es : List Event) 
       (λ plan. Plans store c plan (whole c k read needs effect))
       (λ plan p. plans_call store c plan k es x read (λ _. []) needs effect reads told p) planned
 
+  -- the same where the effect doesn't ask of which filter the caller is
   pub answers_plainly : {E : Type 0} (effect : World → X → List Statement → List Statement → Step) (r : Result Plan E) →
       ((rest : List Statement) → read (activation_with c.standing rest) ≡ x) →
       es ≡ event.Call c.activation k ∷ (uses c.activation (needs x) ++ empties c.activation (needs x)) →
@@ -79,7 +86,8 @@ module _ {X : Type 0} (store : Store) (c : Caller) (k : Call) (es : List Event) 
       (λ plan p. λ actors activations granted refused filter. p actors activations granted refused) planned)
 
   -- a call that works on a link of the filter
-  pub answers_at : {E : Type 0} (effect : World → X → Option Link → List Statement → List Statement → Step) (link : ℕ → X → Option Link) (l : Option Link) (r : Result Plan E) →
+  pub answers_at : {E : Type 0} (effect : World → X → Option Link → List Statement → List Statement → Step) (link : ℕ → X → Option Link)
+      (l : Option Link) (r : Result Plan E) →
       ((rest : List Statement) → read (activation_with c.standing rest) ≡ x) →
       es ≡ event.Call c.activation k ∷ (uses c.activation (needs x) ++ empties c.activation (needs x)) → l ≡ link c.filter x →
       IfOk r (λ plan. IsEffect store c es (λ w granted refused. effect w x l granted refused) plan) →

@@ -27,6 +27,7 @@ use Rattle.flt_calls.specs.Decoding.{plain_by, asked_by, asked_of, asked_step, c
 
 -- ---- by the operands
 
+-- a plain call is found again by its operands
 pub plain_of : (call : PlainCall) → plain_by (invocation.plain call) ≡ Some call
 plain_of (plain.DeleteContext c) = refl
 plain_of (plain.ReferenceContext c d) = refl
@@ -47,6 +48,7 @@ not_plain cs (fallible.RemoveNextIo o d) = refl
 not_plain cs (fallible.QueueDeferredIoWorkItem r c) = refl
 not_plain cs (fallible.QueueGenericWorkItem r c) = refl
 
+-- a call that can fail is found again by its operands, with its routine as the callback's number
 pub asked_is : (cs : List Callback) (call : FallibleCall) → asked_by (invocation.fallible cs call) (length cs) ≡ Some (asked_of cs call)
 asked_is cs (fallible.AllocateContext d) = refl
 asked_is cs (fallible.GetContext on d) = refl
@@ -54,11 +56,15 @@ asked_is cs (fallible.SetContext on existing c old) = refl
 asked_is cs (fallible.DeleteContextOf on old) = refl
 asked_is cs (fallible.InsertIo c) = refl
 asked_is cs (fallible.RemoveNextIo o d) = refl
-asked_is cs (fallible.QueueDeferredIoWorkItem r c) = ap (λ (n : ℕ). Some (asked.Defer n c)) (first_or_end (λ (x : Callback). is_named r.name x.head) cs)
-asked_is cs (fallible.QueueGenericWorkItem r c) = ap (λ (n : ℕ). Some (asked.Queue n c)) (first_or_end (λ (x : Callback). is_named r.name x.head) cs)
+asked_is cs (fallible.QueueDeferredIoWorkItem r c) =
+    ap (λ (n : ℕ). Some (asked.Defer n c)) (first_or_end (λ (x : Callback). is_named r.name x.head) cs)
+asked_is cs (fallible.QueueGenericWorkItem r c) =
+    ap (λ (n : ℕ). Some (asked.Queue n c)) (first_or_end (λ (x : Callback). is_named r.name x.head) cs)
 
-pub step_is : (p : List Filter) (t : List Event) (w : World) (a : ℕ) (grant : Bool) (granted refused : List Statement) (call : FallibleCall) →
-    fallible_step p t w a (choice_of call grant) granted refused call ≡ asked_step w a grant granted refused (asked_of (callbacks_at p (actor_at w a).filter) call)
+pub step_is : (p : List Filter) (t : List Event) (w : World) (a : ℕ) (grant : Bool)
+    (granted refused : List Statement) (call : FallibleCall) →
+    fallible_step p t w a (choice_of call grant) granted refused call ≡
+    asked_step w a grant granted refused (asked_of (callbacks_at p (actor_at w a).filter) call)
 step_is p t w a grant granted refused (fallible.AllocateContext d) = refl
 step_is p t w a grant granted refused (fallible.GetContext on d) = refl
 step_is p t w a grant granted refused (fallible.SetContext on existing c old) = refl
@@ -69,9 +75,11 @@ step_is p t w a grant granted refused (fallible.QueueDeferredIoWorkItem r c) = r
 step_is p t w a grant granted refused (fallible.QueueGenericWorkItem r c) = refl
 
 -- a plan of a call by its operands is a plan of the call
-pub asked_planned : (p : List Filter) (t : List Event) (s : Store) (c : Caller) (plan : Plan) (x : Asked) (call : FallibleCall) (grant : Bool) → x ≡ asked_of (callbacks_at p c.filter) call →
+pub asked_planned : (p : List Filter) (t : List Event) (s : Store) (c : Caller) (plan : Plan) (x : Asked) (call : FallibleCall)
+    (grant : Bool) → x ≡ asked_of (callbacks_at p c.filter) call →
     Plans s c plan (λ (w : World) (granted refused : List Statement). asked_step w c.activation grant granted refused x) →
-    Plans s c plan (λ (w : World) (granted refused : List Statement). fallible_step p t w c.activation (choice_of call grant) granted refused call)
+    Plans s c plan (λ (w : World) (granted refused : List Statement). fallible_step p t w c.activation
+    (choice_of call grant) granted refused call)
 asked_planned p t s c plan x call grant is planned = λ actors acts granted refused h.
     let w = world_of s actors acts in
     subst (IsPlanned w c.activation plan [] granted refused)
@@ -88,7 +96,9 @@ as_many_graphs all (c ∷ cs) (g ∷ gs) made = ap suc (as_many_graphs all cs gs
 as_many_graphs all [] (g ∷ gs) made = absurd made
 as_many_graphs all (c ∷ cs) [] made = absurd made
 
-pub callbacks_are : (p : List Filter) (gs : List Graph) (n : ℕ) → AreGraphsOfFilters p gs → length (graph_at gs n).callbacks ≡ length (callbacks_at p n)
+-- a graph has as many callbacks as its filter
+pub callbacks_are : (p : List Filter) (gs : List Graph) (n : ℕ) →
+    AreGraphsOfFilters p gs → length (graph_at gs n).callbacks ≡ length (callbacks_at p n)
 callbacks_are [] [] n made = refl
 callbacks_are (f ∷ p) (h ∷ gs) zero made = as_many_graphs f.callbacks f.callbacks h.callbacks made.0.lowered.callbacks
 callbacks_are (f ∷ p) (h ∷ gs) (suc n) made = callbacks_are p gs n made.1

@@ -22,13 +22,15 @@ use Rattle.flt_calls.proofs.Owned.{AreUpTo, own_call, gains_up_to, loses_up_to}
 pub owned_call : (store : Store) (c : Caller) (plan : Plan) (k : Call) (own es : List Event) (needs : List (Option Object))
     (effect : World → List Statement → List Statement → Step) →
     es ≡ event.Call c.activation k ∷ (own ++ (uses c.activation needs ++ empties c.activation needs)) → Follows store c es plan effect →
-    AreUpTo c.activation 1 own → length needs ≤ 4 → ((w : World) → AreUpTo c.activation 8 (effect w [] []).events) → AreOwn c.activation plan.events
+    AreUpTo c.activation 1 own → length needs ≤ 4 → ((w : World) → AreUpTo c.activation 8 (effect w [] []).events) →
+    AreOwn c.activation plan.events
 owned_call store c plan k own es needs effect is planned mine small done =
     of_events (AreOwn c.activation) store c plan (λ w granted refused. calling w c.activation k own needs (effect w granted refused))
     (λ actors activations granted refused h.
     called _ c.activation plan k own es needs granted refused (effect _ granted refused) is (planned actors activations granted refused h))
     (λ w. own_call w c.activation k own needs (effect w [] []) mine small (done w))
 
+-- a context that may be named is one object at most
 pub one_optional : (x : Option (Option ℕ)) → length (optional x) ≤ 1
 one_optional None = omega arith
 one_optional (Some x) = omega arith
@@ -49,12 +51,15 @@ module _ (w : World) (a : ℕ) where
       chosen true = one_more a (event.Lose a (Visit v)) (loses_context a x) (refl, tt) (loses_up_to a x)
       chosen false = (tt, omega arith)
 
-  pub insert_up_to : (granted refused : List Statement) (v : Option ℕ) (c : Option (Option ℕ)) → AreUpTo a 8 (insert_by w a granted refused v c).events
+  -- to insert an operation into a queue makes at most eight events
+  pub insert_up_to : (granted refused : List Statement) (v : Option ℕ) (c : Option (Option ℕ)) →
+      AreUpTo a 8 (insert_by w a granted refused v c).events
   insert_up_to granted refused None c = (tt, omega arith)
   insert_up_to granted refused (Some v) (Some None) = (tt, omega arith)
   insert_up_to granted refused (Some v) (Some (Some x)) = enqueued_up_to granted refused v (Some x)
   insert_up_to granted refused (Some v) None = enqueued_up_to granted refused v None
 
+  -- to remove an operation from a queue makes at most eight events
   pub removed_up_to : (o : RemovedVariable) (d : ContextVariable) (granted refused : List Statement) (queue : List Entry) →
       AreUpTo a 8 (removed w a o d granted refused queue).events
   removed_up_to o d granted refused [] = (tt, omega arith)
@@ -66,6 +71,7 @@ module _ (w : World) (a : ℕ) where
   deferred_up_to routine true granted refused v x = one_more a (event.Lose a (Visit v)) (loses_context a x) (refl, tt) (loses_up_to a x)
   deferred_up_to routine false granted refused v x = (tt, omega arith)
 
+  -- to queue an operation's work item makes at most eight events
   pub defer_up_to : (routine : ℕ) (grant : Bool) (granted refused : List Statement) (v : Option ℕ) (c : Option (Option ℕ)) →
       AreUpTo a 8 (defer_by w a routine grant granted refused v c).events
   defer_up_to routine grant granted refused None c = (tt, omega arith)
@@ -78,6 +84,7 @@ module _ (w : World) (a : ℕ) where
   queued_up_to routine true granted refused x = ((loses_up_to a x).0, omega (arith, (loses_up_to a x).1))
   queued_up_to routine false granted refused x = (tt, omega arith)
 
+  -- to queue a work item of its own makes at most eight events
   pub queue_up_to : (routine : ℕ) (grant : Bool) (granted refused : List Statement) (c : Option (Option ℕ)) →
       AreUpTo a 8 (queue_by w a routine grant granted refused c).events
   queue_up_to routine grant granted refused (Some None) = (tt, omega arith)

@@ -11,6 +11,7 @@ use Rattle.flt_calls.specs.Own.{AreOf, IsOf}
 same : (n : ℕ) → (n == n) ≡ true
 same n = nat_eq_equiv.refl n
 
+-- what an activation has is counted for itself
 pub own_count : (a b n : ℕ) → b ≡ a → n ≡ of_actor b a n
 unfolding of_actor
 own_count a b n is = ap (λ (c : Bool). if c then n else 0) (sym (ap (λ (d : ℕ). d == a) is ∙ same a))
@@ -21,6 +22,7 @@ unfolding gains
 none_gained a o [] is = refl
 none_gained a o (e ∷ es) is = absurd (omega (arith, is))
 
+-- no events lose nothing
 pub none_lost : (a : ℕ) (o : Object) (es : List Event) → length es < 1 → 0 ≡ loses es a o
 unfolding loses
 none_lost a o [] is = refl
@@ -44,6 +46,7 @@ more_gained a o (e ∷ es) no_event m n is own first others =
     let rest : n ≡ gains es a o = subst (λ (l : List Event). AreOf a l → n ≡ gains l a o) (behind_is e es) others own.1 in
     ap (λ (k : ℕ). k + n) here ∙ ap (λ (k : ℕ). gain a o e + k) rest ∙ sym (sum_by-cons (gain a o) e es)
 
+-- what the first event loses, and what the others lose, is what all lose
 pub more_lost : (a : ℕ) (o : Object) (es : List Event) (no_event : Event) (m n : ℕ) → 1 ≤ length es → AreOf a es →
     (IsOf a (slice_index_or es 0 no_event) → m ≡ lose a o (slice_index_or es 0 no_event)) →
     (AreOf a (take (length es - 1) (drop 1 es)) → n ≡ loses (take (length es - 1) (drop 1 es)) a o) → m + n ≡ loses es a o

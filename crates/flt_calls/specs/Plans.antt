@@ -66,7 +66,8 @@ pub record IsCounted (t : List Event) (a : ℕ) (s : Standing) : Type 0 where
 
 -- a plan is a step: its events, after earlier ones, are the step's, and its write and its change lead to the step's world. The
 -- activation goes on by the first list or by the second
-pub record IsPlanned (w : World) (a : ℕ) (plan : Plan) (earlier : List Event) (granted refused : List Statement) (step : Step) : Type 0 where
+pub record IsPlanned (w : World) (a : ℕ) (plan : Plan) (earlier : List Event) (granted refused : List Statement)
+    (step : Step) : Type 0 where
   pub events : plan.events ≡ earlier ++ step.events
   pub world : step.world ≡ record w {
     activations = set w.activations a (written plan.write (onward w a (if plan.granted then granted else refused)));
@@ -77,7 +78,8 @@ pub record IsPlanned (w : World) (a : ℕ) (plan : Plan) (earlier : List Event) 
 abbrev pub Plans : Store → Caller → Plan → (World → List Statement → List Statement → Step) → Type 0
 Plans store c plan step =
     (actors : List Actor) (activations : List Activation) (granted refused : List Statement) → IsCaller actors activations c →
-    IsPlanned (world_of store actors activations) c.activation plan [] granted refused (step (world_of store actors activations) granted refused)
+    IsPlanned (world_of store actors activations) c.activation plan [] granted refused
+    (step (world_of store actors activations) granted refused)
 
 -- the same where the step is made by the filters and the trace too
 abbrev pub PlansBy : Store → Caller → Plan → (List Event → World → List Statement → List Statement → Step) → Type 0

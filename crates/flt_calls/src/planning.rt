@@ -50,7 +50,8 @@ fn plan_action(
 ) -> Result<Plan, AllocError>
     ensures planned { (p : List Filter) (t : List Event) (actors : List machine.Actor) (acts : List machine.Activation)
         (granted refused : List Statement) (step : Step) →
-        IsCaller actors acts caller.now → steps.act_step p t (world_of store.now actors acts) caller.now.activation granted action ≡ Some step →
+        IsCaller actors acts caller.now →
+        steps.act_step p t (world_of store.now actors acts) caller.now.activation granted action ≡ Some step →
         IfOk result (λ plan. IsPlanned (world_of store.now actors acts) caller.now.activation plan [] granted refused step) }
     ensures lasts { IfOk result (λ plan. is_end plan.write ≡ false) }
     ensures takes { IfOk result (λ plan. TakesNone caller.now.standing.locks plan.write) }
@@ -83,7 +84,8 @@ fn plan_test(
 ) -> Result<Plan, AllocError>
     ensures planned { (p : List Filter) (t : List Event) (actors : List machine.Actor) (acts : List machine.Activation)
         (granted refused : List Statement) (step : Step) →
-        IsCaller actors acts caller.now → steps.test_step p t (world_of store.now actors acts) caller.now.activation granted refused test ≡ Some step →
+        IsCaller actors acts caller.now →
+        steps.test_step p t (world_of store.now actors acts) caller.now.activation granted refused test ≡ Some step →
         IfOk result (λ plan. IsPlanned (world_of store.now actors acts) caller.now.activation plan [] granted refused step) }
     ensures lasts { IfOk result (λ plan. is_end plan.write ≡ false) }
     ensures takes { IfOk result (λ plan. TakesNone caller.now.standing.locks plan.write) }
@@ -108,7 +110,8 @@ fn plan_plain(
     call: PlainCall,
 ) -> Result<Plan, AllocError>
     ensures planned { (p : List Filter) (t : List Event) → AreLoaded p loaded.now →
-        IfOk result (λ plan. Plans store.now caller.now plan (λ w granted refused. steps.plain_step p t w caller.now.activation granted call)) }
+        IfOk result (λ plan. Plans store.now caller.now plan
+        (λ w granted refused. steps.plain_step p t w caller.now.activation granted call)) }
     ensures takes { IfOk result (λ plan. TakesNone caller.now.standing.locks plan.write) }
     ensures own { IfOk result (λ plan. AreOwn caller.now.activation plan.events) }
     ensures possible { IfOk result (λ plan. AreCounted store.now → IsPossible store.now plan.change) }
@@ -146,7 +149,8 @@ fn plan_asked(
     asked: Asked,
     grant: bool,
 ) -> Result<Plan, AllocError>
-    ensures planned { IfOk result (λ plan. Plans store.now caller.now plan (λ w granted refused. spec.asked_step w caller.now.activation grant granted refused asked)) }
+    ensures planned { IfOk result (λ plan. Plans store.now caller.now plan
+        (λ w granted refused. spec.asked_step w caller.now.activation grant granted refused asked)) }
     ensures own { IfOk result (λ plan. AreOwn caller.now.activation plan.events) }
     ensures possible { IfOk result (λ plan. AreCounted store.now → IsPossible store.now plan.change) }
     ensures few { IfOk result (λ plan. cancels_entries plan.change ≡ false) }
@@ -183,10 +187,12 @@ fn plan_call(
     grant: bool,
 ) -> Result<Plan, AllocError>
     ensures plain { (p : List Filter) (t : List Event) (call : PlainCall) → AreLoaded p loaded.now → made ≡ invocation.plain call →
-        IfOk result (λ plan. Plans store.now caller.now plan (λ w granted refused. steps.plain_step p t w caller.now.activation granted call)) }
+        IfOk result (λ plan. Plans store.now caller.now plan
+        (λ w granted refused. steps.plain_step p t w caller.now.activation granted call)) }
     ensures fallible { (p : List Filter) (t : List Event) (call : FallibleCall) → AreLoaded p loaded.now →
         made ≡ invocation.fallible (callbacks_at p caller.now.filter) call →
-        IfOk result (λ plan. Plans store.now caller.now plan (λ w granted refused. steps.fallible_step p t w caller.now.activation (spec.choice_of call grant) granted refused call)) }
+        IfOk result (λ plan. Plans store.now caller.now plan
+        (λ w granted refused. steps.fallible_step p t w caller.now.activation (spec.choice_of call grant) granted refused call)) }
     ensures lasts { IfOk result (λ plan. (p : List Filter) → AreLoaded p loaded.now → is_end plan.write ≡ false) }
     ensures takes { IfOk result (λ plan. TakesNone caller.now.standing.locks plan.write) }
     ensures own { IfOk result (λ plan. AreOwn caller.now.activation plan.events) }
@@ -222,7 +228,8 @@ pub fn plan_step(
         (remaining_by (get_or acts caller.now.activation machine.nobody).rest true)
         (remaining_by (get_or acts caller.now.activation machine.nobody).rest false) step) }
     ensures ends { IfOk result (λ plan. (p : List Filter) → AreLoaded p loaded.now →
-        is_end plan.write ≡ spec.is_ending (instruction_in loaded.now caller.now.filter caller.now.standing.callback caller.now.standing.point)) }
+        is_end plan.write ≡ spec.is_ending
+        (instruction_in loaded.now caller.now.filter caller.now.standing.callback caller.now.standing.point)) }
     ensures takes { IfOk result (λ plan. TakesNone caller.now.standing.locks plan.write) }
     ensures own { IfOk result (λ plan. AreOwn caller.now.activation plan.events) }
     ensures possible { IfOk result (λ plan. AreCounted store.now → IsPossible store.now plan.change) }

@@ -124,7 +124,8 @@ fn plan_completion(
 ) -> Result<Plan, AllocError>
     ensures planned { IfOk result (λ plan. (actors : List machine.Actor) (acts : List machine.Activation)
         (granted refused : List Statement) →
-        IsPlanned (world_of store.now actors acts) a plan [] granted refused (completes (world_of store.now actors acts) a completion granted)) }
+        IsPlanned (world_of store.now actors acts) a plan [] granted refused
+        (completes (world_of store.now actors acts) a completion granted)) }
     ensures takes { IfOk result (λ plan. (locks : List HeldLock) → TakesNone locks plan.write) }
     ensures possible { IfOk result (λ plan. IsPossible store.now plan.change) }
     ensures few { IfOk result (λ plan. cancels_entries plan.change ≡ false) }

@@ -103,6 +103,7 @@ balanced (Collect by word found ∷ earlier) x h =
           omega (arith, c, t, p, got, least),
     ))
 
+-- no serial is collected that wasn't asked
 pub none_invented : NoneIsInvented
 none_invented pads kept serial =
     subst (λ (words : List ℕ). IsBalanced serial words pads.views) (sym kept.2)

@@ -18,6 +18,7 @@ use Rattle.flt_cancel.specs.declared.seat.View.{View}
 use Rattle.flt_cancel.specs.declared.step.Step.{Step}
 use Rattle.flt_cancel.specs.declared.step.Step.TheVariants.{Split, Ask, Collect}
 
+-- there are 1024 words after any history
 pub word_count : (steps : List Step) → length (words_after steps) ≡ 1024
 word_count [] = length-replicate {A = ℕ} 1024 0
 word_count (Split ∷ earlier) = word_count earlier
@@ -57,6 +58,7 @@ nothing_after (step ∷ steps) = ap (λ (l : List Step). step ∷ l) (nothing_af
 fresh : (steps : List Step) (by : ℕ) (v : View) → newcomer ≡ v → All (λ step. IsBy by step → ⊥) steps → HasSeen steps by v
 fresh steps by v e none = (steps, sym (ap (λ (l : List Step). steps ++ l) (sym (ap (λ (u : View). u.seen) e)) ∙ nothing_after steps), none)
 
+-- what a seat has seen is what its view says
 pub seen : (steps : List Step) (by : ℕ) (v : View) → IsHistory steps → get_elem? (views_after steps) by ≡ some v → HasSeen steps by v
 seen [] by v h at = ⊎_elim
     (λ (was : get_elem? [] by ≡ some v). absurd (some-ne-none v (sym was)))
@@ -76,6 +78,7 @@ seen (Collect seat word found ∷ earlier) by v h at = ⊎_elim
     (λ t. let ne = t.0 in one_more (Collect seat word found) earlier by v (λ (e : seat ≡ by). ne (sym e)) (seen earlier by v h.1 t.1))
     (at_set (views_after earlier) seat by _ v at)
 
+-- between any two steps there is one list of steps, and what each seat has seen is where it begins
 pub one_history : OneHistory
 one_history pads kept = (
   kept.0,
@@ -135,6 +138,7 @@ collected_was_asked by word found earlier h = each 64 (omega arith)
 collected_before : (step : Step) (steps : List Step) (serial : ℕ) → IsCollected serial steps → IsCollected serial (step ∷ steps)
 collected_before step steps serial t = (t.0, t.1, (suc t.2.0, (let lt = t.2.1 in omega (arith, lt)), t.2.2), t.3)
 
+-- what was asked is collected later or present still
 pub answered : (later earlier : List Step) (by serial : ℕ) → IsHistory (later ++ Ask by serial ∷ earlier) →
     IsCollected serial later ⊎ IsPresent (words_after (later ++ Ask by serial ∷ earlier)) serial
 answered [] earlier by serial h = let lt = h.0.1 in inr (after_ask (words_after earlier) serial (omega (arith, word_count earlier, lt)))

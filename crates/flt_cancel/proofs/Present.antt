@@ -16,6 +16,7 @@ same_serial x y w m = dite
     (λ ne. let z : 1 ≡ 0 = sym (bit_at-pow_same (x % 64)) ∙ ap (λ (n : ℕ). bit_at n (x % 64)) m
     ∙ bit_at-pow_other (y % 64) (x % 64) ne in absurd (omega (arith, z)))
 
+-- at the start no serial is present
 pub at_start : (serial : ℕ) → present (replicate 1024 0) serial ≡ 0
 at_start serial = ap (λ (n : ℕ). bit_at n (serial % 64)) (zero_at 1024 (serial / 64)) ∙ bit_at-zero (serial % 64)
   where
@@ -29,15 +30,18 @@ here : (words : List ℕ) (word bits serial : ℕ) → word < length words → w
 here words word bits serial lt e = ap (λ (n : ℕ). bit_at n (serial % 64))
     (ap (λ (j : ℕ). slice_index (set words word bits) j) e ∙ get_or-set_same words word bits 0 lt)
 
+-- what changes in another word doesn't change whether a serial is present
 pub elsewhere : (words : List ℕ) (word bits serial : ℕ) → word_of serial ≢ word →
     present (set words word bits) serial ≡ present words serial
 elsewhere words word bits serial ne = ap (λ (n : ℕ). bit_at n (serial % 64)) (get_or-set_other words word (serial / 64) bits 0 ne)
 
+-- a serial that was asked is present
 pub after_ask : (words : List ℕ) (x : ℕ) → word_of x < length words →
     present (set words (word_of x) (bit_or (slice_index words (word_of x)) (mask_of x))) x ≡ 1
 after_ask words x lt = here words (word_of x) _ x lt refl ∙ bit_at_or (slice_index words (word_of x)) (mask_of x) (x % 64)
     ∙ omega (arith, bit_at-pow_same (x % 64), bit_at-lt (slice_index words (word_of x)) (x % 64))
 
+-- to ask for another serial doesn't change whether this one is present
 pub after_another_ask : (words : List ℕ) (x serial : ℕ) → word_of x < length words → serial ≢ x →
     present (set words (word_of x) (bit_or (slice_index words (word_of x)) (mask_of x))) serial ≡ present words serial
 after_another_ask words x serial lt ne = dite
@@ -50,6 +54,7 @@ after_another_ask words x serial lt ne = dite
     ∙ ap (λ (j : ℕ). bit_at (slice_index words j) (serial % 64)) (sym one_word))
     (λ apart. elsewhere words (word_of x) _ serial apart)
 
+-- after its word was collected, a serial isn't present
 pub after_collection : (words : List ℕ) (word serial : ℕ) → word < length words → word_of serial ≡ word →
     present (set words word 0) serial ≡ 0
 after_collection words word serial lt e = here words word 0 serial lt e ∙ bit_at-zero (serial % 64)

@@ -8,13 +8,16 @@ use native.Mathlib.Decide.{ℕ_discrete}
 use Rattle.flt_cancel.specs.Laws.{times}
 use Rattle.flt_cancel.specs.Serials.{word_of, serials_below, serials}
 
+-- a serial is as often among two lists as in both
 pub times-append : (x : ℕ) (xs ys : List ℕ) → times x (xs ++ ys) ≡ times x xs + times x ys
 times-append x [] ys = omega arith
 times-append x (y ∷ xs) ys = omega (arith, times-append x xs ys)
 
+-- a serial is once among itself alone
 pub times_one_same : (x y : ℕ) → x ≡ y → times x (y ∷ []) ≡ 1
 times_one_same x y e = ap (λ (b : Bool). (if b then 1 else 0) + 0) (eq-eqb y x (sym e))
 
+-- another serial isn't among one alone
 pub times_one_other : (x y : ℕ) → x ≢ y → times x (y ∷ []) ≡ 0
 times_one_other x y ne = ap (λ (b : Bool). (if b then 1 else 0) + 0) (ne_eqb y x (λ e. ne (sym e)))
 
@@ -57,5 +60,6 @@ by_bit (suc k) i n x le e lt = dite
 pub times_here : (word bits serial : ℕ) → word_of serial ≡ word → times serial (serials word bits) ≡ bit_at bits (serial % 64)
 times_here word bits serial e = by_bit 64 word bits serial (omega arith) e (omega arith)
 
+-- a serial isn't among those of another word
 pub times_elsewhere : (word bits serial : ℕ) → word_of serial ≢ word → times serial (serials word bits) ≡ 0
 times_elsewhere word bits serial ne = absent 64 word bits serial (omega arith) (inl ne)

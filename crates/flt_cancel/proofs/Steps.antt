@@ -20,6 +20,7 @@ use Rattle.flt_cancel.specs.declared.step.Step.TheVariants.{Split, Ask, Collect}
 pub begins : (words : List ℕ) → words ≡ replicate 1024 0 → Kept (record { words = words; homes = []; views = newcomer ∷ [] })
 begins words e = ([], tt, e, refl)
 
+-- a seat may ask for a serial, and then has asked for it
 pub asks : (slots id x : ℕ) (me : Me ℕ View) → x < 65536 →
     Allows Kept slots id me (word_of x) (λ n. bit_or n (mask_of x)) (Asked (step slots (word_of x) (mask_of x) 0 none) me)
 asks slots id x me lt s kept size at fits =
@@ -44,6 +45,7 @@ asks slots id x me lt s kept size at fits =
           (refl, refl, (id, (history, past.0, ap (λ (l : List Step). Ask id x ∷ l) past.1, past.2))),
     )
 
+-- a seat may collect a word, and then has collected it
 pub collects : (slots id i : ℕ) (me : Me ℕ View) → i < 1024 → Allows Kept slots id me i (λ _. 0) (Collected (step slots i 0 0 none) me)
 collects slots id i me lt s kept size at fits =
     let steps : List Step = kept.0 in
@@ -68,6 +70,7 @@ collects slots id i me lt s kept size at fits =
       (refl, refl, (id, (history, past.0, ap (λ (l : List Step). Collect id i found ∷ l) past.1, past.2))),
     )
 
+-- a newcomer's seat may be split off
 pub splits : (id : ℕ) (v : View) → Splits Kept id v v newcomer
 splits id v s kept at = (
   Split ∷ kept.0,
@@ -78,6 +81,7 @@ splits id v s kept at = (
 
 -- ---- what a seat knows after its step
 
+-- a serial is present after it was asked
 pub asked_is_present : (by serial : ℕ) (before after : List Step) → IsNext by (Ask by serial) before after →
     IsPresent (words_after after) serial
 asked_is_present by serial before after next =
@@ -87,6 +91,7 @@ asked_is_present by serial before after next =
     subst (λ (l : List Step). IsPresent (words_after l) serial) (sym next.2)
     (after_ask (words_after earlier) serial (omega (arith, word_count earlier, lt)))
 
+-- the serials that were collected were asked before
 pub collected_were_asked : (by word found : ℕ) (before after : List Step) → IsNext by (Collect by word found) before after →
     All (λ serial. WasAsked serial after) (serials word found)
 collected_were_asked by word found before after next =

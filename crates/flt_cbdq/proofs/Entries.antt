@@ -60,6 +60,7 @@ module _ {X : Type 0} (p : X → Bool) where
   pub cut_here : (y : X) (ys : List X) → p y ≡ true → before_first p (y ∷ ys) ++ after_first p (y ∷ ys) ≡ ys
   cut_here y ys here = rw here refl
 
+  -- where the first element fails, the list is cut later
   pub cut_later : (y : X) (ys : List X) → p y ≡ false →
       before_first p (y ∷ ys) ++ after_first p (y ∷ ys) ≡ y ∷ (before_first p ys ++ after_first p ys)
   cut_later y ys here = later_cut y ys [] (position_or_len p ys) (position_or_len p (y ∷ ys)) (later_place y ys here)
@@ -116,6 +117,7 @@ module _ (new old : List Entry) where
       let rest = nodes_kept xs (λ node found. same node (suc found.0, omega (arith, found.1), found.2)) in
       λ i. here i ∷ rest i
 
+  -- lists whose nodes keep their entries keep their entries
   pub entries_kept : (lists : List (List ℕ)) →
       ((list node : ℕ) → Contains (nodes_of lists list) node → entry_at new node ≡ entry_at old node) →
       entries_of new lists ≡ entries_of old lists
@@ -189,6 +191,7 @@ module _ (entries : List Entry) (s : Sequences) (filter : ℕ) where
   pub no_entries : length s.lists ≤ filter → get_or (entries_of entries s.lists) filter [] ≡ []
   no_entries past = entries_in entries s.lists filter ∙ ap (map (entry_at entries)) (get_or_past s.lists filter [] past)
 
+  -- a node that is taken from the front of a list takes the front entry of its queue
   pub popped_seen : (list : ℕ) (later last : Sequences) → list ≡ filter →
       later ≡ record s { lists = set s.lists list (drop 1 (nodes_of s.lists list)) } → last.lists ≡ later.lists →
       entries_of entries last.lists ≡ set (entries_of entries s.lists) filter (drop 1 (get_or (entries_of entries s.lists) filter []))
@@ -204,16 +207,19 @@ module _ (entries : List Entry) (s : Sequences) (filter : ℕ) where
       ∙ sym (front_seen entries (nodes_of s.lists filter)) ∙ ap front_of (sym (entries_in entries s.lists filter))
 
   module _ (list visit : ℕ) (here : list ≡ filter) where
+    -- the node that is found for a visit has the entry that is found for it
     pub found_at : (found : Option ℕ) → found ≡ find (test entries s.lists list visit) (nodes_of s.lists list) →
         option_map (entry_at entries) found ≡ find (has_visit visit) (get_or (entries_of entries s.lists) filter [])
     found_at found is = sym (found_seen entries s.lists filter visit found
         (is ∙ (λ i. find (test entries s.lists list visit) (nodes_of s.lists (here i)))))
 
+    -- where no node is found for a visit, the queue has no entry of it to lose
     pub all_at : None ≡ find (test entries s.lists list visit) (nodes_of s.lists list) →
         entries_of entries s.lists ≡ set (entries_of entries s.lists) filter
         (without_first (has_visit visit) (get_or (entries_of entries s.lists) filter []))
     all_at is = entries_all entries s.lists filter visit (is ∙ (λ i. find (test entries s.lists list visit) (nodes_of s.lists (here i))))
 
+    -- a node that is taken out for a visit takes the first entry of this visit out of the queue
     pub without_at : (node : ℕ) (later last : Sequences) →
         Some node ≡ find (test entries s.lists list visit) (nodes_of s.lists list) →
         ((l : ℕ) (before after : List ℕ) → nodes_of s.lists l ≡ before ++ node ∷ after →

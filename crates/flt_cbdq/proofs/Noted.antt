@@ -168,6 +168,7 @@ module _ (queues : List Queue) (entries : List Entry) (s : Sequences) (kept : Is
   module _ (visit : ℕ) (new : Sequences) (noted : List (ℕ × List ℕ))
       (here : nodes_with noted visit ≡ drop 1 (nodes_with q.nodes visit))
       (apart : (v : ℕ) → v ≢ visit → nodes_with noted v ≡ nodes_with q.nodes v) where
+    -- what is noted stays right where the first node of a visit is taken out
     pub removed_kept : new.lists ≡ set s.lists list
         (before_first (is_with entries visit) (nodes_of s.lists list)
         ++ after_first (is_with entries visit) (nodes_of s.lists list)) →

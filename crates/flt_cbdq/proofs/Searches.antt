@@ -60,6 +60,7 @@ pub first_is : (entries : List Entry) (nodes : List ℕ) (visit : ℕ) (noted : 
 first_is entries nodes visit noted first are is = is ∙ ap (λ (ns : List ℕ). first_of ns None) are
     ∙ first_filter (is_with entries visit) nodes
 
+-- where nothing is found, it is `None`
 pub none_is : (found : Option ℕ) → is_some found ≡ false → None ≡ found
 none_is None is = refl
 none_is (Some n) is = absurd (true≢false is)

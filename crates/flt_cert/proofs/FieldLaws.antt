@@ -27,12 +27,14 @@ some_bind : {A B : Type 0} {y : B} (o : Option A) (f : A → Option B) → (o >>
 some_bind None f h = cc
 some_bind (Some x) f h = (x, refl, h)
 
+-- what two equal options have inside is equal
 pub some_inside : {A : Type 0} {x y : A} → Some x ≡ Some y → x ≡ y
 some_inside h = cc
 
 bind_again : {A B : Type 0} {r : Option B} (o : Option A) (f : A → Option B) (x : A) → o ≡ Some x → f x ≡ r → (o >>= f) ≡ r
 bind_again o f x e h = rw e h
 
+-- what is chosen by a test is what the test passed for
 pub chosen : {A : Type 0} {x y : A} (b : Bool) → (if b then Some x else None) ≡ Some y → (b ≡ true) × (x ≡ y)
 chosen true h = (refl, cc)
 chosen false h = cc
@@ -43,6 +45,7 @@ taken false h = cc
 
 -- ---- the front of a text
 
+-- a text from which a front is taken begins with this front
 pub after_takes : (front text rest : Text) → after front text ≡ Some rest → text ≡ front ++ rest
 after_takes [] text rest h = cc
 after_takes (a ∷ front) [] rest h = cc
@@ -52,6 +55,7 @@ after_takes (a ∷ front) (b ∷ text) rest h =
     let others = after_takes front text rest both.1 in
     cc
 
+-- a front is taken from a text that begins with it
 pub after_again : (front rest : Text) → after front (front ++ rest) ≡ Some rest
 after_again [] rest = refl
 after_again (a ∷ front) rest = rw (eq-eqb a a refl) (after_again front rest)
@@ -60,6 +64,7 @@ otherwise : {A : Type 0} {x y : A} (b : Bool) → (if b then None else Some x) �
 otherwise true h = cc
 otherwise false h = cc
 
+-- so many bytes that are taken are the front of the text
 pub front_takes : (n : ℕ) (text front rest : Text) → front_of n text ≡ Some (front, rest) → text ≡ front ++ rest
 front_takes n text front rest h =
     let pair = otherwise (nat_lt (length text) n) h in
@@ -117,6 +122,7 @@ set_again false false false h = cc
 status_again : (s : StatusSet) → is_possible s ≡ true → status_of (48 + status_bits s) ≡ Some s
 status_again s h = set_again s.null s.held s.stale h
 
+-- sets that are read from digits are spelled by these digits
 pub sets_take : (text : Text) (found sets : List StatusSet) → sets_from found text ≡ Some sets → (more : List StatusSet)
     × (sets ≡ found ++ more) × (text ≡ digits more)
 sets_take [] found sets h = ([], (let same : found ≡ sets = cc in sym same ∙ sym (append-nil found)), refl)
@@ -134,6 +140,7 @@ sets_again found (s ∷ more) h =
     bind_again (status_of (48 + status_bits s)) (λ t. sets_from (found ++ t ∷ []) (digits more)) s (status_again s both.0)
     (sets_again (found ++ s ∷ []) more both.1 ∙ ap (λ z. Some z) (append_assoc found (s ∷ []) more))
 
+-- a mode set that is read from a byte is spelled by this byte
 pub modes_take : (b : ℕ) (s : ModeSet) → modes_of b ≡ Some s → b ≡ 48 + mode_bits s
 modes_take b s h =
     let both = chosen _ h in
@@ -153,6 +160,7 @@ modes_again s h = go s.irp s.fast h
     go false true h = refl
     go false false h = cc
 
+-- a draining set that is read from a byte is spelled by this byte
 pub draining_takes : (b : ℕ) (s : DrainingSet) → draining_of b ≡ Some s → b ≡ 48 + draining_bits s
 draining_takes b s h =
     let both = chosen _ h in
@@ -499,6 +507,7 @@ count_again n h k =
     go false e None t = cc
     go false e (Some m) t = ap (λ z. Some z) (eqb-true m n t)
 
+-- the head of a callback that is read is spelled by its line, with 1 to 512 points
 pub head_takes : (k : ℕ) (text : Text) (n : ℕ) → head_of k text ≡ Some n → (text ≡ callback_line k n) × (0 < n) × (n < 513)
 unfolding head_of Counted
 head_takes k text n h =
@@ -512,6 +521,7 @@ head_takes k text n h =
     let w : c.0 ≡ decimal n ++ 10 ∷ [] = d.0 in
     (x ∙ ap (λ t. codes "callback " ++ t) (y ∙ ap (λ t. decimal k ++ t) (z ∙ ap (λ t. 32 ∷ t) w)), d.1, d.2)
 
+-- the line of a callback's head is read as this head
 pub head_again : (k n : ℕ) → 0 < n → n < 513 → head_of k (callback_line k n) ≡ Some n
 unfolding head_of
 head_again k n h l =
@@ -522,6 +532,7 @@ head_again k n h l =
     (32 ∷ (decimal n ++ 10 ∷ [])) (after_again (decimal k) (32 ∷ (decimal n ++ 10 ∷ [])))
     (count_again n h l))
 
+-- a point that is read is spelled by its line, and is one
 pub point_takes : (p : ℕ) (text : Text) (point : Point) → point_of p text ≡ Some point → (text ≡ point_line p point)
     × (is_point point ≡ true)
 unfolding point_of
@@ -576,6 +587,7 @@ state_again s h =
     length_digits [] = refl
     length_digits (t ∷ sets) = ap (λ n. suc n) (length_digits sets)
 
+-- the line of a point is read as this point
 pub point_again : (p : ℕ) (point : Point) → is_point point ≡ true → point_of p (point_line p point) ≡ Some point
 unfolding point_of
 point_again p point h =

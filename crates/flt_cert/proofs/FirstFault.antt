@@ -247,9 +247,11 @@ first_fault text n h =
 
 -- ---- what `read` ensures
 
+-- a certificate that is read is spelled by the text
 pub is_spelled : (text : Text) (cs : Certificate) (o : Place) → certificate (start text) ≡ Ok (cs, o) → text ≡ full_spelling cs
 is_spelled text cs o h = sym (joined_lines text) ∙ ap joined (read_lines text cs o h).0
 
+-- what is read is a certificate
 pub is_certified : (text : Text) (cs : Certificate) (o : Place) → certificate (start text) ≡ Ok (cs, o) → is_certificate cs ≡ true
 is_certified text cs o h = (read_lines text cs o h).1
 
@@ -257,6 +259,7 @@ spelled_read : (text : Text) (cs : Certificate) → is_certificate cs ≡ true �
     × (certificate (start text) ≡ Ok (cs, o))
 spelled_read text cs good spelled = lines_read text cs good (ap lines_of spelled ∙ lines_spelled cs)
 
+-- the spelling of a certificate is read as this certificate
 pub is_read : (text : Text) (found : Certificate) (o : Place) → certificate (start text) ≡ Ok (found, o) → (cs : Certificate) →
     is_certificate cs ≡ true → text ≡ full_spelling cs → found ≡ cs
 is_read text found o h cs good spelled = let read = spelled_read text cs good spelled in
@@ -265,10 +268,12 @@ is_read text found o h cs good spelled = let read = spelled_read text cs good sp
     same_value : (r : Outcome Certificate) (found cs : Certificate) (o p : Place) → r ≡ Ok (found, o) → r ≡ Ok (cs, p) → found ≡ cs
     same_value r found cs o p h k = let pair : (found, o) ≡ (cs, p) = cc in ap (λ (q : Certificate × Place). q.0) pair
 
+-- where reading fails, it fails with a fault of the text
 pub is_fault : (text : Text) (e : CertFault) → Fails (certificate (start text)) e → IsFullFaultOf text e
 is_fault text OutOfMemory h = tt
 is_fault text (Line n) h = first_fault text n h
 
+-- the spelling of a certificate fails for want of memory alone
 pub only_memory : (text : Text) (e : CertFault) → Fails (certificate (start text)) e → (cs : Certificate) →
     is_certificate cs ≡ true → text ≡ full_spelling cs → e ≡ OutOfMemory
 only_memory text OutOfMemory h cs good spelled = refl

@@ -201,6 +201,7 @@ module _ (text : Text) (long : length text ≡ 23) (bounds : InBounds text) wher
       let here = one_to_three 17 (omega arith) refl refl in
       rw (lt-ltb 48 (get_or text 17 0) here.0, lt-ltb (get_or text 17 0) 52 here.1) refl
 
+  -- the digit of draining can be read at its place in the line
   pub draining_read : IsSome (draining_of (get_or text 19 0))
   draining_read =
       let here = one_to_three 19 (omega arith) refl refl in
@@ -226,7 +227,8 @@ module _ (text : Text) (long : length text ≡ 23) (bounds : InBounds text) wher
         let behind_one : length (drop 1 text) ≡ length text - 1 = length-drop 1 text in
         let nine : length contexts ≡ 9 = contexts_spelled.count ∙ length-take-le 9 (drop 1 text) (omega (arith, behind_one, long)) in
         let behind_eleven : length (drop 11 text) ≡ length text - 11 = length-drop 11 text in
-        let five : length operations ≡ 5 = operations_spelled.count ∙ length-take-le 5 (drop 11 text) (omega (arith, behind_eleven, long)) in
+        let five : length operations ≡ 5 =
+        operations_spelled.count ∙ length-take-le 5 (drop 11 text) (omega (arith, behind_eleven, long)) in
         and_from _ _ (eq-eqb (length contexts) 9 nine) (and_from _ _ (eq-eqb (length operations) 5 five)
         (and_from _ _ contexts_spelled.possible (and_from _ _ operations_spelled.possible
         (and_from _ _ (mode_possible (get_or text 17 0) some modes_known)
@@ -235,8 +237,8 @@ module _ (text : Text) (long : length text ≡ 23) (bounds : InBounds text) wher
     -- whose text they are
     pub fixed_spelled : text ≡ 32 ∷ (state_text (state_of contexts operations some answers []) ++ 10 ∷ [])
     fixed_spelled =
-        in_one contexts operations some answers text (drop 1 text) (drop 10 text) (drop 11 text) (drop 16 text) (drop 17 text) (drop 18 text)
-        (drop 19 text) (drop 20 text) (drop 21 text) (drop 22 text) (drop 23 text)
+        in_one contexts operations some answers text (drop 1 text) (drop 10 text) (drop 11 text) (drop 16 text)
+        (drop 17 text) (drop 18 text) (drop 19 text) (drop 20 text) (drop 21 text) (drop 22 text) (drop 23 text)
         (only_byte text 0 32 (omega arith) long refl refl bounds)
         (field text (digits contexts) 1 9 contexts_spelled.spells)
         (only_byte text 10 32 (omega arith) long refl refl bounds)

@@ -104,6 +104,7 @@ pub thin_fault_of : (text : Text) (e : CertFault) → begins_thin text ≡ true 
 thin_fault_of text OutOfMemory h f = tt
 thin_fault_of text (Line n) h f = thin_fault text n h f
 
+-- a fault of a text in format 1 is a fault of a text in either format
 pub full_fault_of : (text : Text) (e : CertFault) → begins_thin text ≡ false → IsFullFaultOf text e → IsFaultOf text e
 full_fault_of text OutOfMemory h f = tt
 full_fault_of text (Line n) h f = full_fault text n h f

@@ -64,5 +64,6 @@ some_line (b ∷ text) h = by_byte (b == 10) (lines_of text)
     by_byte false [] = (_, _, refl)
     by_byte false (line ∷ lines) = (_, _, refl)
 
+-- a text that goes on after its last line is refused at the next line
 pub closed_more : (text : Text) (i : Place) → 0 < length text → closed_by (lines_of text) i ≡ Err (i.number + 1)
 closed_more text i h = let some = some_line text h in rw some.2 refl

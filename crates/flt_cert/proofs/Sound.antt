@@ -174,6 +174,7 @@ pub said_by : {A : Type 0} (F : ℕ → Type 0) (what : Option A) (i : Place) (R
 said_by F None i R fault h = fails i.number fault
 said_by F (Some x) i R fault h = gives x i (h x refl)
 
+-- a place after one front of lines is a place after an equal front
 pub same_front : {all : List Text} {front other : List Text} {i : Place} → front ≡ other → At all front i → At all other i
 same_front {all} {front} {other} {i} h here = let P : List Text → Type 0 = λ z. At all z i in subst P h here
 

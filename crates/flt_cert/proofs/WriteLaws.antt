@@ -2,6 +2,7 @@
 use Rattle.std.proofs.Common.{◌≡◌, ℕ, [], ◌∷◌, ◌++◌, append_assoc}
 use Rattle.flt_cert.specs.Text.{Text}
 
+-- five fields of a line, with blanks between them, are written one after the other
 pub five_fields : (out a b e : Text) (c d : ℕ) (one two three four five : Text) →
     one ≡ out ++ (a ++ 32 ∷ []) → two ≡ one ++ (b ++ 32 ∷ []) → three ≡ two ++ c ∷ 32 ∷ [] → four ≡ three ++ d ∷ 32 ∷ [] →
     five ≡ four ++ e →

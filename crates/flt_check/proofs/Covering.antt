@@ -166,6 +166,7 @@ callbacks_of k h = (and_parts _ _ (and_parts _ _ h).1).1
 
 -- ---- the two are the same
 
+-- a certificate without a fault covers
 pub covers_of : (g : Graph) (k : Certificate) → is_certificate k ≡ true → IsFaultless g k → Covers g k
 covers_of g k good h =
     let each = λ (c : ℕ) (below : c < length g.callbacks). counted g k c (h.counts.points c below) in
@@ -178,6 +179,7 @@ covers_of g k good h =
       steps = λ c p x below within is. own_steps g k c p x (state_at k c p) (own_of g k c p (h.points c below p within)) is;
     }
 
+-- a certificate that covers has no fault
 pub faultless_of : (g : Graph) (k : Certificate) → Covers g k → IsFaultless g k
 faultless_of g k h = record {
   counts = record {
@@ -189,6 +191,7 @@ faultless_of g k h = record {
       (let e = h.entries c below in from_entered g c e.0 (state_at k c 0) e.1 e.2);
 }
 
+-- a fault in a count isn't there where the counts agree
 pub count_fault_not : (g : Graph) (k : Certificate) (callback : ℕ) → IsCountFault g k callback → AgreeOnCounts g k → ⊥
 count_fault_not g k callback (inl first) h = true≢false (sym first.here ∙ h.points callback first.within)
 count_fault_not g k callback (inr more) h = let e = more.more in let l = h.callbacks in absurd (omega arith)
@@ -198,6 +201,7 @@ pub least_not : (g : Graph) (k : Certificate) (f : Refusal) → IsLeastFault g k
 least_not g k f (inl count) h = count_fault_not g k f.callback count.callback h.counts
 least_not g k f (inr point) h = none-some f.rule (sym (h.points f.callback point.callback f.point point.point.within) ∙ point.point.broken)
 
+-- a check accepts just where the certificate covers
 pub accepted_iff : (g : Graph) (k : Certificate) (r : Result (Unit {0}) Refusal) → is_certificate k ≡ true →
     OnOk r (IsFaultless g k) → IfErr r (IsLeastFault g k) → IsOk r ↔ Covers g k
 accepted_iff g k (Ok u) good h e = (λ _. covers_of g k good h, λ _. refl)

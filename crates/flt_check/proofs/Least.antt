@@ -62,6 +62,7 @@ points_once g k f h a b = by_order (cases_order f.callback h.callback)
 
 -- ---- both
 
+-- two least faults are one
 pub least_once : (g : Graph) (k : Certificate) (f h : Refusal) → IsLeastFault g k f → IsLeastFault g k h → f ≡ h
 least_once g k f h (inl a) (inl b) = counts_once g k f h a b
 least_once g k f h (inl a) (inr b) = absurd (count_fault_not g k f.callback a.callback b.counts)

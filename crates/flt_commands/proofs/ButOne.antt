@@ -6,6 +6,7 @@ use Rattle.std.specs.Str.{bytes_eq}
 use Rattle.flt_commands.specs.Inputs.{Giving, Text, gives_but, gives_if}
 
 module _ (gives : Giving) (name : Text) where
+  -- where a name is read whole by a test of its bytes, and another one only as a text, each is given as it is read
   pub but_of : (whole : Option (Bor Text)) (is : Bool) → is ≡ option_map_or (λ (w : Bor Text). bytes_eq name w.now) whole false →
       (found : Option Text) → gives_if is gives name found → gives_but (option_map (λ w. w.now) whole) gives name found
   but_of None is same found has = subst (λ b. gives_if b gives name found) same has

@@ -68,6 +68,7 @@ Law = (text : Text) (graph : Graph) (cert : Cert) → HasPoints text graph → C
 abbrev pub LawOfRuns : Type 0
 LawOfRuns = (script : Text) (texts : List Text) (ran : Ran) → IsRun script texts ran → BreakNothing texts
 
+-- by the laws of the grammar, of covering and of the machine, what is covered breaks nothing
 pub covered_is_clean : SpellsAtMostOne → SpelledIsWellFormed → ((g : Graph) (c : Cert) → CertCovers g c → Covers g (full_of g c)) →
     AcceptedRunsBreakNothing → Law
 covered_is_clean one fine fills theorem text graph cert points covers f transitions spelled = theorem (f ∷ []) transitions all
@@ -96,7 +97,8 @@ driven_is_clean one script texts ran is filters transitions spelled =
 
 module _ (law : Law) (runs : LawOfRuns) (nowhere : SpelledFailsNowhere) where
   -- what is said of a text and its certificate with the status 0 is that it is accepted
-  judged : (text certificate : Text) (answer : Answer) → IsAnswer Decides text certificate answer → status_of answer ≡ 0 → BreaksNothing text
+  judged : (text certificate : Text) (answer : Answer) →
+      IsAnswer Decides text certificate answer → status_of answer ≡ 0 → BreaksNothing text
   judged text certificate Accepted said good = law text said.graph said.cert said.points said.decided
   judged text certificate (Refused f) said good = absurd (omega (arith, good))
   judged text certificate (Written bytes) said good = absurd said.decided
@@ -121,7 +123,8 @@ module _ (law : Law) (runs : LawOfRuns) (nowhere : SpelledFailsNowhere) where
   checked (text ∷ certificate ∷ more ∷ texts) answer file cert said good = said
 
   -- what is said so by `thin` is that it is covered
-  left : (text certificate : Text) (answer : Answer) → IsAnswer DecidesThin text certificate answer → status_of answer ≡ 0 → BreaksNothing text
+  left : (text certificate : Text) (answer : Answer) →
+      IsAnswer DecidesThin text certificate answer → status_of answer ≡ 0 → BreaksNothing text
   left text certificate (Written bytes) said good = law text said.graph said.cert said.points said.decided.0
   left text certificate (Refused f) said good = absurd (omega (arith, good))
   left text certificate Accepted said good = absurd said.decided
@@ -228,7 +231,8 @@ module _ (law : Law) (runs : LawOfRuns) (nowhere : SpelledFailsNowhere) where
   reported : (options : WarningOptions) (filters : List Filter) (texts : List Text) (printed : List ℕ) (status findings files : ℕ) →
       AreParts options filters texts printed status findings files → status ≡ 0 → EachBreaksNothing texts
   reported options filters _ _ _ _ _ reports.none good = tt
-  reported options filters _ _ _ _ _ (reports.one_more {texts = texts} {printed = printed} {greatest = greatest} {findings = findings} {files = files}
+  reported options filters _ _ _ _ _
+      (reports.one_more {texts = texts} {printed = printed} {greatest = greatest} {findings = findings} {files = files}
       {text = text} {report = report} {status = status} {count = count} are is) good =
       let zeros = both_zero greatest status good in
       one_more_breaks_nothing texts text (reported options filters texts printed greatest findings files are zeros.0)
@@ -260,7 +264,8 @@ module _ (law : Law) (runs : LawOfRuns) (nowhere : SpelledFailsNowhere) where
       status ≡ 0 → EachBreaksNothing texts
   all_reported options filters [] printed status said good = tt
   all_reported options filters (t ∷ []) printed status is good = (report_well options filters t printed status is.count is.is.is good, tt)
-  all_reported options filters (t ∷ u ∷ ts) printed status is good = reported options filters (t ∷ u ∷ ts) is.reports status is.findings is.files is.are good
+  all_reported options filters (t ∷ u ∷ ts) printed status is good =
+      reported options filters (t ∷ u ∷ ts) is.reports status is.findings is.files is.are good
 
   in_document : (options : WarningOptions) (sources : List Source) (missed : List UnreadFile) (runs : List FindingRun) (printed : List ℕ)
       (status : ℕ) → IsSarif options sources missed runs printed status → status ≡ 0 → EachBreaksNothing (texts_of sources)
@@ -292,7 +297,8 @@ module _ (law : Law) (runs : LawOfRuns) (nowhere : SpelledFailsNowhere) where
 
   explained : (gives : Giving) (form : Form) (colour : Colour) (states : ℕ) (look : Look) (journal : Option Text) (warnings : Choice)
       (files texts : List Text) (answer : Answer) →
-      IsExplained gives form look journal files texts (Ok answer) → status_of answer ≡ 0 → IsClean (Explain form colour states journal warnings files) texts
+      IsExplained gives form look journal files texts (Ok answer) → status_of answer ≡ 0 →
+      IsClean (Explain form colour states journal warnings files) texts
   explained gives form colour states look journal warnings files texts (Explained e missed) said good =
       subst EachBreaksNothing said.told.given
       (told_well form look.options said.told.sources missed.items e said.told.told (own_zero e.explained.status missed.items good))
@@ -343,7 +349,8 @@ module _ (law : Law) (runs : LawOfRuns) (nowhere : SpelledFailsNowhere) where
       holds answer said (sym reported.1 ∙ good)
 
   explains_clean : (gives : Giving) (form : Form) (colour : Colour) (states : ℕ) (look : Look) (journal : Option Text) (warnings : Choice)
-      (files texts : List Text) (said : Result Answer Failure) (bytes : List ℕ) (status : ℕ) → IsExplained gives form look journal files texts said → IsReported said bytes status →
+      (files texts : List Text) (said : Result Answer Failure) (bytes : List ℕ) (status : ℕ) →
+      IsExplained gives form look journal files texts said → IsReported said bytes status →
       status ≡ 0 → IsClean (Explain form colour states journal warnings files) texts
   explains_clean gives form colour states look journal warnings files texts (Ok answer) bytes status said reported good =
       explained gives form colour states look journal warnings files texts answer said (sym reported.1 ∙ good)
@@ -351,7 +358,8 @@ module _ (law : Law) (runs : LawOfRuns) (nowhere : SpelledFailsNowhere) where
       absurd (omega (arith, reported.1.1, good))
 
   -- where this is said of what is asked for, and reported with the status 0, the text breaks nothing
-  pub clean_of : (shown : Bool) (gives : Giving) (request : Asked) (texts : List Text) (said : Result Answer Failure) (bytes : List ℕ) (status : ℕ) →
+  pub clean_of : (shown : Bool) (gives : Giving) (request : Asked) (texts : List Text) (said : Result Answer Failure)
+      (bytes : List ℕ) (status : ℕ) →
       IsSaid shown gives request texts said → IsReported said bytes status → status ≡ 0 → IsClean request texts
   clean_of shown gives (Check file cert) texts said bytes status is reported good =
       says_clean gives _ texts IsChecked _ said bytes status (λ answer is well. checked texts answer file cert is well) is reported good
@@ -360,17 +368,20 @@ module _ (law : Law) (runs : LawOfRuns) (nowhere : SpelledFailsNowhere) where
   clean_of shown gives (Thin file cert) texts said bytes status is reported good =
       says_clean gives _ texts IsThinned _ said bytes status (λ answer is well. thinned texts answer file cert is well) is reported good
   clean_of shown gives (Run workers quiet script files) texts said bytes status is reported good =
-      says_clean gives _ texts IsRan _ said bytes status (λ answer is well. driven texts answer workers quiet script files is well) is reported good
+      says_clean gives _ texts IsRan _ said bytes status
+      (λ answer is well. driven texts answer workers quiet script files is well) is reported good
   clean_of shown gives (Replay journal files) texts said bytes status is reported good = tt
   clean_of shown gives (Show timeline picture journal files) texts said bytes status is reported good = tt
   clean_of shown gives (Explain form colour states journal warnings files) texts said bytes status is reported good =
-      explains_clean gives form colour states (look_in colour shown states warnings) journal warnings files texts said bytes status is reported good
+      explains_clean gives form colour states (look_in colour shown states warnings) journal warnings files texts said
+      bytes status is reported good
   clean_of shown gives (Extract of_map files) texts said bytes status is reported good = tt
   clean_of shown gives (Format mode files) texts said bytes status is reported good = tt
   clean_of shown gives (Pages names) texts said bytes status is reported good = tt
   clean_of shown gives (Compare files) texts said bytes status is reported good = tt
   clean_of shown gives (Emit part file cert) texts said bytes status is reported good =
-      says_clean gives _ texts (IsEmitted part) _ said bytes status (λ answer is well. emitted texts answer part file cert is well) is reported good
+      says_clean gives _ texts (IsEmitted part) _ said bytes status
+      (λ answer is well. emitted texts answer part file cert is well) is reported good
   clean_of shown gives (EmitInto folder file cert) texts said bytes status is reported good =
       says_clean gives _ texts (IsEmittedInto folder) _ said bytes status
       (λ answer is well. emitted_into texts answer folder file cert is well) is reported good

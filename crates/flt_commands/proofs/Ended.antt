@@ -20,16 +20,19 @@ read_too_long (Some xs) (Some ys) bytes taken many = omega (arith, ap length tak
 -- what was read of a reader that was opened under a name is given for it, as it is or as the bytes of another value
 module _ (holds : Holding) (lacks : Text → Type 0) (fails X : Type 0) (name : Text) (known : Option Text) (may : X → fails)
     (opened : holds name known) where
-  given_found : (found : Option Text) → IfSome found (AreAll known) → IfNone found (X ⊎ IsTooLong known) → IsGiven holds lacks fails name found
+  given_found : (found : Option Text) → IfSome found (AreAll known) → IfNone found (X ⊎ IsTooLong known) →
+      IsGiven holds lacks fails name found
   given_found (Some bytes) all none = record { known = known; opened = opened; all = all }
   given_found None all (inl x) = failed (may x)
   given_found None all (inr long) = too_long known opened long
 
+  -- a text that was read to its end is given by its name, and one that was too long is told as such
   pub given_as : {E : Type 0} (result : Result (Option Text) E) → IfOk result (λ found. IfSome found (λ bytes. AreAll known bytes)) →
       IfOk result (λ found. IfNone found (X ⊎ IsTooLong known)) → IfOk result (λ found. IsGiven holds lacks fails name found)
   given_as (Ok found) all none = given_found found all none
   given_as (Err e) all none = tt
 
+  -- the same of what holds a text's bytes
   pub given_of : {E V : Type 0} (bytes_of : V → Text) (result : Result (Option V) E) →
       IfOk result (λ found. IfSome found (λ v. AreAll known (bytes_of v))) → IfOk result (λ found. IfNone found (X ⊎ IsTooLong known)) →
       IfOk result (λ found. IsGiven holds lacks fails name (option_map bytes_of found))

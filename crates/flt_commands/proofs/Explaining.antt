@@ -41,7 +41,9 @@ holds_some form journal name same = rw same tt
 
 -- ---- of names and what they give
 
-pub told_under : (form : Form) (look : Look) (journal : Option Text) (names texts : List Text) (unread : List UnreadFile) (sources : List Source)
+-- what was said of the texts that were read is what `explain` says of these names under its look
+pub told_under : (form : Form) (look : Look) (journal : Option Text) (names texts : List Text)
+    (unread : List UnreadFile) (sources : List Source)
     (result : Result Told CommandFault) → names_in sources ≡ map (told_name form) names → texts_of sources ≡ texts →
     IfOk result (IsTold form look.options sources unread) → IfOk result (λ t. AreNotedFor form journal (texts_of sources) t.noted) →
     IfOk result (IsNoteTold form (texts_of sources) look.states) → IfOk result (IsPrintTold form look sources) →
@@ -68,7 +70,9 @@ reported asked asking sources t notes coloured states options print same = recor
   print = rw same (rw (coloured, states, options) at print);
 }
 
-pub cut_some : (form : Form) (options : WarningOptions) (states : ℕ) (names texts : List Text) (sources : List Source) (result : Result Told CommandFault)
+-- what went out before memory ran out is cut short under these names
+pub cut_some : (form : Form) (options : WarningOptions) (states : ℕ) (names texts : List Text) (sources : List Source)
+    (result : Result Told CommandFault)
     (old new : Option Text) → names_in sources ≡ map (told_name form) names → texts_of sources ≡ texts →
     IfErr result (λ e. e ≡ OutOfMemory → IsCutIn form options states sources old new) →
     IfErr result (λ e. e ≡ OutOfMemory → IsCutUnder form options states names texts old new)
@@ -86,13 +90,15 @@ module _ (gives : Giving) (form : Form) (options : WarningOptions) (states : ℕ
 
   -- nothing went out where a file is named for a journal
   pub cut_named : {O : Type 0} (taken : O → Option Text) (old new : O) (journal : Option (Bor Text)) → journal ≢ None →
-      (HoldsBack form (option_map (λ name. name.now) journal) → new ≡ old) → IsCutShort gives form options states files (taken old) (taken new)
+      (HoldsBack form (option_map (λ name. name.now) journal) → new ≡ old) →
+      IsCutShort gives form options states files (taken old) (taken new)
   cut_named taken old new journal named held =
       rw (held (holds_named form journal named)) (cut_short gives form options states files (taken old))
 
   -- nor where its journal isn't written
   pub cut_unwritten : {O : Type 0} (taken : O → Option Text) (old new : O) (look : Look) (journal : Option Text) (texts : List Text)
-      (said : Explanation) → IsErr (said_of said) → IsExplained gives form look journal files texts (said_of said) → (HoldsBack form journal → new ≡ old) →
+      (said : Explanation) → IsErr (said_of said) → IsExplained gives form look journal files texts (said_of said) →
+      (HoldsBack form journal → new ≡ old) →
       IsCutShort gives form options states files (taken old) (taken new)
   cut_unwritten taken old new look journal texts (Said t unread) err is held =
       let e : false ≡ true = err in let no : ⊥ = cc in absurd no

@@ -20,9 +20,11 @@ use Rattle.flt_commands.specs.declared.failure.Failure.TheVariants.{CannotRead}
 -- ---- the parts of a list at a place
 
 module _ {X Y : Type 0} (f : X → Y) (xs : List X) (i : ℕ) (x d : X) (h : i < length xs) (at : x ≡ get_or xs i d) where
+  -- what is read of one name more is read of the names before it and of that one
   pub one_more : map f (take (i + 1) xs) ≡ map f (take i xs) ++ f x ∷ []
   one_more = rw at (map_more f xs i d h)
 
+  -- what is read of all is read of those before a place, of the one there and of those after it
   pub parted : map f xs ≡ map f (take i xs) ++ f x ∷ map f (drop (i + 1) xs)
   parted =
       let rest : map f (drop i xs) ≡ f (get_or xs i d) ∷ map f (drop (i + 1) xs) = ap (map f) (drop_more xs i d h) in
@@ -42,6 +44,7 @@ mapped_twice f g (x ∷ xs) = ap (λ ys. g (f x) ∷ ys) (mapped_twice f g xs)
 
 -- ---- the names
 
+-- anything and false is false
 pub and_false : (b : Bool) → b && false ≡ false
 and_false true = refl
 and_false false = refl
@@ -65,6 +68,7 @@ module _ {X : Type 0} (p : X → Bool) where
   once_more xs x once other = rw (sum_by_push (λ y. cond (p y) 1 0) xs x)
       (still_once (p x) (list_any p xs) (count_by p xs) once other (count_none xs))
 
+  -- one of some and one more passes where one of some does, or the last
   pub any_more : (xs : List X) (x : X) → list_any p (xs ++ x ∷ []) ≡ (list_any p xs || p x)
   any_more xs x = list_any-append p xs (x ∷ []) ∙ ap (λ b. list_any p xs || b) (or_none (p x))
     where
@@ -90,6 +94,7 @@ module _ (gives : Giving) (is_used : Bool) (names : List (Bor Text)) (i : ℕ) (
       let ns = map (λ (n : Bor Text). n.now) (take i names) in
       is ∙ sym (list_any-append is_standard before ns ∙ ap (λ b. b || list_any is_standard ns) same)
 
+  -- one more text is given for its name, where the standard input isn't used twice
   pub given_more : (texts more : List (Vec ℕ Global)) (text : Vec ℕ Global) →
       AreGivenBehind gives is_used (map (λ n. n.now) (take i names)) (map (λ t. t.items) texts) →
       gives name.now (Some text.items) → is_standard name.now && used ≡ false →
@@ -123,6 +128,7 @@ module _ (gives : Giving) (is_used : Bool) (names : List (Bor Text)) (i : ℕ) (
     told = refl;
   }
 
+  -- the standard input is used where one of the names up to here is its name
   pub used_more : (more : Bool) → more ≡ (used || is_standard name.now) →
       more ≡ (is_used || list_any is_standard (map (λ n. n.now) (take (i + 1) names)))
   used_more more now =
@@ -144,6 +150,7 @@ module _ (gives : Giving) where
   pub given_behind_none : (names texts : List Text) → AreGivenBehind gives false names texts → AreGiven gives names texts
   given_behind_none names texts behind = behind [] [] none_given refl
 
+  -- a failure of names before which nothing is used is a failure of these names
   pub fail_behind_none : (names : List Text) (f : Failure) → NamesFailBehind gives false names f → NamesFail gives names f
   fail_behind_none names f behind = behind [] [] none_given refl
 
@@ -159,6 +166,7 @@ module _ (gives : Giving) where
         AreGiven gives (first ∷ names) (text ∷ texts)
     given_behind_one names texts behind = behind (first ∷ []) (text ∷ []) one_given one_used
 
+    -- a failure of names behind a first one is a failure of all of them
     pub fail_behind_one : (names : List Text) (f : Failure) → NamesFailBehind gives used names f → NamesFail gives (first ∷ names) f
     fail_behind_one names f behind = behind (first ∷ []) (text ∷ []) one_given one_used
 
@@ -179,6 +187,7 @@ module _ (gives : Giving) where
 -- ---- the texts
 
 module _ (texts : List (Vec ℕ Global)) (i : ℕ) (text d : Vec ℕ Global) (h : i < length texts) (at : text ≡ get_or texts i d) where
+  -- one more tree is what one more text spells
   pub spelled_more : (trees more : List Tree) (tree : Tree) → AreSpelled (map (λ t. t.items) (take i texts)) (filters_of trees) →
       Spells text.items tree.filter →
       more ≡ trees ++ tree ∷ [] → AreSpelled (map (λ t. t.items) (take (i + 1) texts)) (filters_of more)
@@ -189,6 +198,7 @@ module _ (texts : List (Vec ℕ Global)) (i : ℕ) (text d : Vec ℕ Global) (h 
       let parsed : filters_of more ≡ filters_of trees ++ tree.filter ∷ [] = ap filters_of pushed ∙ map_push (λ t. t.filter) trees tree in
       rw (read, parsed) (all_zipped_more _ _ _ text.items tree.filter spelled one)
 
+  -- the first text that fails to parse is the syntax fault of all
   pub first_fault : (filters : List Filter) (f : SyntaxFault) → AreSpelled (map (λ t. t.items) (take i texts)) filters →
       Fails text.items f →
       IsSyntaxFault (map (λ t. t.items) texts) i f

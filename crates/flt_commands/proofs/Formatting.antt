@@ -27,6 +27,7 @@ use Rattle.flt_words.specs.declared.request.FormatMode.TheVariants as modes
 module _ (mode : FormatMode) (names : List (Bor Text)) (texts : List (Vec ℕ Global)) (i : ℕ) (name other : Bor Text)
     (text another : Vec ℕ Global) (few : i < length names) (within : i < length texts) (first : name ≡ get_or names i other)
     (second : text ≡ get_or texts i another) where
+  -- one more file has the outcome of its text
   pub outcome_more : (files more : List FileOutcome) (file : FileOutcome) →
       AreOutcomes mode (map (λ n. n.now) (take i names)) (map (λ t. t.items) (take i texts)) files → string_bytes file.name ≡ name.now →
       IsOutcome mode text.items file → more ≡ files ++ file ∷ [] →
@@ -45,6 +46,7 @@ module _ (old new : Text → Text → Type 0) (kept : (other held : Text) → ol
   done_still modes.Write name (Other bytes) is = kept name bytes.items is
   done_still mode name outcome is = tt
 
+  -- one more file is done in its mode, and those before it stay so
   pub done_more : (mode : FormatMode) (files more : List FileOutcome) (file : FileOutcome) → All (IsFileDone old mode) files →
       IsFileDone new mode file → more ≡ files ++ file ∷ [] → All (IsFileDone new mode) more
   done_more mode files more file done one pushed =
@@ -78,6 +80,7 @@ none_checked : (files : List FileOutcome) → list_any (λ (f : FileOutcome). is
 none_checked [] = refl
 none_checked (f ∷ fs) = none_checked fs
 
+-- where each file is done in its mode, the files are as `format` must leave them
 pub kept_formatted : (written : Text → Text → Type 0) (does : List Attempt → Type 0) (mode : FormatMode) (files texts : List Text)
     (found : Outcomes) →
     All (IsFileDone written mode) found.files.items →
@@ -87,6 +90,7 @@ kept_formatted written does modes.Print files texts found done still = still (no
 kept_formatted written does modes.Check files texts found done still = still (none_checked found.files.items)
 kept_formatted written does modes.Write files texts found done still = (done, still)
 
+-- outcomes of the files that were read are the layouts of the files that were named
 pub formatted_of : (gives : Giving) (mode : FormatMode) (files : List Text) (r : ReadFiles) (outcomes : Vec FileOutcome Global) →
     AreReadIn gives files r →
     AreOutcomes mode (map (λ n. n.now) r.names.items) (map (λ t. t.items) r.texts.items) outcomes.items →
@@ -122,6 +126,7 @@ none_remarked : (mode : FormatMode) (files : List FileOutcome) (unread : List Un
 none_remarked mode files [] good = no_remarks mode files (none_fails mode files (list_any fails files) refl good)
 none_remarked mode files (file ∷ others) good = absurd (good refl)
 
+-- where a report on layouts doesn't end with status 2, nothing is remarked
 pub quiet_formatted : (mode : FormatMode) (found : Outcomes) (before : List ℕ) (result : Result Report CommandFault) →
     before ≡ all_remarks mode found → IfOk result (λ report. IsReported (Ok (Formatted mode found)) report.output.items report.status) →
     IfOk result (λ report. report.status ≢ 2 → report.remark.items ≡ before) →

@@ -13,7 +13,8 @@ use Rattle.flt_commands.specs.Inputs.{Text}
 use Rattle.flt_commands.specs.InTurn.{AreFirstLines, IsTextMore}
 
 -- what is told of a text by itself is one text more behind others
-pub text_more : (style : Style) (options : WarningOptions) (s : Source) (before after : Explained) (old new : Option Text) (printed : List ℕ) (status : ℕ) →
+pub text_more : (style : Style) (options : WarningOptions) (s : Source) (before after : Explained) (old new : Option Text)
+    (printed : List ℕ) (status : ℕ) →
     AreLines style options (s ∷ []) None printed status → after.output.items ≡ before.output.items ++ printed →
     after.status ≡ max before.status status → Appends old new printed → IsTextMore style options s before after old new
 text_more style options s before after old new printed status (part, own, others, is, (same, none), greatest) output most sent = record {
@@ -70,7 +71,8 @@ more_sent style options s before after old between new first more =
     rw more.output (Appends-trans old between new before.output.items more.part first more.sent)
 
 -- what went out is what is told of the first texts
-pub first_lines : (style : Style) (options : WarningOptions) (sources : List Source) (count : ℕ) (told : Explained) (old new : Option Text) →
+pub first_lines : (style : Style) (options : WarningOptions) (sources : List Source) (count : ℕ) (told : Explained)
+    (old new : Option Text) →
     AreLines style options (take count sources) None told.output.items told.status → Appends old new told.output.items →
     AreFirstLines style options sources old new
 first_lines style options sources count told old new are sent = record {
@@ -82,14 +84,16 @@ first_lines style options sources count told old new are sent = record {
 }
 
 -- the same where nothing went out since
-pub lines_cut : {O : Type 0} (taken : O → Option Text) (style : Style) (options : WarningOptions) (sources : List Source) (count : ℕ) (told : Explained)
+pub lines_cut : {O : Type 0} (taken : O → Option Text) (style : Style) (options : WarningOptions) (sources : List Source)
+    (count : ℕ) (told : Explained)
     (old between new : O) → AreLines style options (take count sources) None told.output.items told.status →
     Appends (taken old) (taken between) told.output.items → new ≡ between → AreFirstLines style options sources (taken old) (taken new)
 lines_cut taken style options sources count told old between new are sent same =
     rw same (first_lines style options sources count told (taken old) (taken between) are sent)
 
 -- nothing went out
-pub no_lines : (style : Style) (options : WarningOptions) (sources : List Source) (old : Option Text) → AreFirstLines style options sources old old
+pub no_lines : (style : Style) (options : WarningOptions) (sources : List Source) (old : Option Text) →
+    AreFirstLines style options sources old old
 no_lines style options sources old = record {
   count = 0;
   printed = [];

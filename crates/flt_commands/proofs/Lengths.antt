@@ -73,6 +73,7 @@ module _ (holds : Holding) (lacks : Text → Type 0) (fails X : Type 0) (name : 
   kept_found known opened None all (inl x) = failed (may x)
   kept_found known opened None all (inr long) = has_more known opened long
 
+  -- what is kept of a text that was read to its end, or was too long, is given by its name
   pub kept_of : {E V : Type 0} (bytes_of : V → Text) (known : Option Text) → holds name known → (result : Result (Option V) E) →
       IfOk result (λ found. IfSome found (λ v. AreKept known (bytes_of v))) → IfOk result (λ found. IfNone found (X ⊎ IsTooLong known)) →
       IfOk result (λ found. gives_text (IsGiven holds lacks fails) name (option_map bytes_of found))
@@ -93,6 +94,7 @@ kept_or_long text =
     ]
 
 module _ (nowhere : SpelledFailsNowhere) (once : FailsAtMostOnce) where
+  -- a filter that a kept text spells is spelled by the whole text
   pub spelled_as_whole : (text : Text) (filter : Filter) → Spells (kept text) filter → Spells text filter
   spelled_as_whole text filter spelled =
       elim (kept_or_long text) [
@@ -100,6 +102,7 @@ module _ (nowhere : SpelledFailsNowhere) (once : FailsAtMostOnce) where
         | inr long ↦ absurd (nowhere (kept text) filter _ spelled (too_long long.1))
       ]
 
+  -- a kept text that fails fails as the whole text does
   pub fails_as_whole : (text : Text) (f : SyntaxFault) → Fails (kept text) f → Fails text f
   fails_as_whole text f fails =
       elim (kept_or_long text) [

@@ -19,7 +19,8 @@ one_parsed (parses s rest) is = parses s (one_parsed rest is)
 one_parsed (fails e rest) is = fails e (one_parsed rest is)
 
 -- the same, with its tree
-pub tree_parsed : {texts : List Text} {t : Text} (trees : List Tree) (tree : Tree) → AreParsed texts (filters_of trees) → Spells t tree.filter →
+pub tree_parsed : {texts : List Text} {t : Text} (trees : List Tree) (tree : Tree) →
+    AreParsed texts (filters_of trees) → Spells t tree.filter →
     AreParsed (texts ++ t ∷ []) (filters_of (trees ++ tree ∷ []))
 tree_parsed {texts} {t} trees tree are is =
     subst (λ fs. AreParsed (texts ++ t ∷ []) fs) (sym (map-append (λ (u : Tree). u.filter) trees (tree ∷ []))) (one_parsed are is)

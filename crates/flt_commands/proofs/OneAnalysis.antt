@@ -28,7 +28,8 @@ module _ (graph : (text : Text) (g h : Graph) → HasPoints text g → HasPoints
       let points : y.graph ≡ x.graph = graph text y.graph x.graph y.points x.points in
       let cert = least x.graph x.cert y.cert x.covers x.least (subst (λ g. Covers g y.cert) points y.covers)
       (subst (λ g. IsLeast g y.cert) points y.least) in
-      x.written ∙ ap (λ k. spelling (thinned x.graph (Full k))) cert ∙ ap (λ g. spelling (thinned g (Full y.cert))) (sym points) ∙ sym y.written
+      x.written ∙ ap (λ k. spelling (thinned x.graph (Full k))) cert ∙
+      ap (λ g. spelling (thinned g (Full y.cert))) (sym points) ∙ sym y.written
 
   not_refused : (text bytes : Text) (f : Refusal) → IsCertified text bytes → IsRefused text f → ⊥
   not_refused text bytes f x y =

@@ -35,5 +35,6 @@ module _ (gives : Giving) (one : GivesOne gives) where
   once_if true = c_once
   once_if false = one
 
+  -- of the C files' annotations one text is given at most
   pub annotations_once : GivesOne (gives_annotations gives)
   annotations_once = λ name. once_if (is_c_file name) name

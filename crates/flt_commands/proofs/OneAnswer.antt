@@ -104,7 +104,8 @@ unserved_once (Err f) (Err g) first second = λ _ _. ap Err (told_unread (codes 
 module _ (checked : SaysOne IsChecked) (analysed : SaysOne IsAnalysed) (thinned : SaysOne IsThinned) (replayed : SaysOne IsReplayed)
     (nowhere : SpelledFailsNowhere) where
   -- of what is asked for one thing is said at most
-  pub said_once : (gives : Giving) (shown showing : Bool) (request : Asked) (texts more : List Text) (a b : Result Answer Failure) → HasOneAnswer request →
+  pub said_once : (gives : Giving) (shown showing : Bool) (request : Asked) (texts more : List Text) (a b : Result Answer Failure) →
+      HasOneAnswer request →
       GivesOne gives → IsSaid shown gives request texts a → IsSaid showing gives request more b → AreSame a b
   said_once gives shown showing (Check file cert) texts more a b has one x y =
       says_once gives one (names_of (Check file cert)) IsChecked checked texts more a b x y

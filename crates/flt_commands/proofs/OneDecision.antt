@@ -1,5 +1,5 @@
--- A text has one graph at most, and where of a graph and a certificate one answer is decided at most, one thing is said at most of the bytes
--- of both.
+-- A text has one graph at most, and where of a graph and a certificate one answer is decided at most,
+-- one thing is said at most of the bytes of both.
 use Rattle.std.proofs.Common.{◌≡◌, ◌≢◌, ◌<◌, ℕ, true, [], ◌∷◌, Result, Ok, Err, length, take, drop, refl, sym, ap, ◌∙◌, subst, arith, inl, inr, IsTrue}
 use Rattle.std.specs.Prelude.{◌⊎◌}
 use Rattle.std.proofs.lemmas.Bool.{cases_order, true≢false}
@@ -39,6 +39,7 @@ module _ (bytes : Text) where
       by (inl last) = let within = b.within in absurd (omega arith)
       by (inr header) = true≢false (sym header ∙ b.earlier m below)
 
+  -- a certificate's start is that of one format at most
   pub start_once : (m n : ℕ) → IsCertificateStart bytes m → IsCertificateStart bytes n → m ≡ n
   start_once m n a b = by_order (cases_order m n)
     where
@@ -95,7 +96,8 @@ module _ (decides : Deciding) (decided_once : DecidesOne decides)
   judged_once text certificate (Err f) (Err h) x y p q =
       ap Err (failures_once text certificate f h x y (λ e. p (ap Err e)) (λ e. q (ap Err e)))
 
-  together_once : (bytes : Text) (a b : Result Answer Failure) → JudgesTogether decides bytes a → JudgesTogether decides bytes b → AreSame a b
+  together_once : (bytes : Text) (a b : Result Answer Failure) →
+      JudgesTogether decides bytes a → JudgesTogether decides bytes b → AreSame a b
   together_once bytes a b x y =
       let start : y.0 ≡ x.0 = start_once bytes y.0 x.0 y.1 x.1 in
       judged_once (take x.0 bytes) (drop x.0 bytes) a b x.2 (subst (λ n. Judges decides (take n bytes) (drop n bytes) b) start y.2)

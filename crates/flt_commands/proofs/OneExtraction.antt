@@ -23,7 +23,8 @@ seen_of of_map names (Err f) = flaw_of (slice_index_or names f.file []) f.flaw
 abbrev seen_bytes : List ℕ → Result (List ℕ × ℕ) Failure
 seen_bytes bytes = Ok (bytes, 0)
 
-is_seen : (of_map : Bool) (names : List Text) (found : Result c.Text FileFlaw) (result : Result Answer Failure) → ComesTo of_map names found result →
+is_seen : (of_map : Bool) (names : List Text) (found : Result c.Text FileFlaw) (result : Result Answer Failure) →
+    ComesTo of_map names found result →
     result ≢ Err OutOfMemory → seen result ≡ seen_of of_map names found
 is_seen of_map names (Ok text) (Ok (Extracted bytes)) is other = ap seen_bytes is
 is_seen of_map names (Err f) (Err (Flawed name flaw)) is other =

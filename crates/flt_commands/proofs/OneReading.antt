@@ -45,6 +45,7 @@ module _ {X : Type 0} (p : X → Bool) where
 abbrev pub unread_name : Text → Failure
 unread_name name = CannotRead (record { ref_ptr = (0, 0); now = name })
 
+-- a name that can't be read is told by its failure
 pub told_unread : (name : Text) (f : Failure) → IsUnread name f → told f ≡ unread_name name
 told_unread name (CannotRead given_name) h = ap unread_name h
 told_unread name f h = absurd h

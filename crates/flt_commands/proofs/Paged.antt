@@ -10,6 +10,7 @@ use Rattle.flt_commands.specs.Explain.{IsUnpaged}
 use Rattle.flt_commands.specs.Inputs.{Text}
 
 module _ (names : List (Bor Text)) (i : ℕ) (name d : Bor Text) (h : i < length names) (at : name ≡ get_or names i d) where
+  -- one more page is that of its name
   pub paged_more : (pages more : List (Bor Text)) (page : Bor Text) →
       AllZip (λ n p. StartsWith p.now (title n)) (map (λ n. n.now) (take i names)) pages → StartsWith page.now (title name.now) →
       more ≡ pages ++ page ∷ [] →
@@ -19,6 +20,7 @@ module _ (names : List (Bor Text)) (i : ℕ) (name d : Bor Text) (h : i < length
       one_more (λ n. n.now) names i name d h at in
       rw (named, pushed) (all_zipped_more _ _ _ name.now page paged one)
 
+  -- one more name that has a page leaves all with pages
   pub found_more : list_all has_page (map (λ n. n.now) (take i names)) ≡ true → has_page name.now ≡ true →
       list_all has_page (map (λ n. n.now) (take (i + 1) names)) ≡ true
   found_more found one =
@@ -26,6 +28,7 @@ module _ (names : List (Bor Text)) (i : ℕ) (name d : Bor Text) (h : i < length
       one_more (λ n. n.now) names i name d h at in
       rw (named, list_all-append has_page (map (λ n. n.now) (take i names)) (name.now ∷ []), found, one) refl
 
+  -- the first name without a page is the one that is told
   pub unpaged : list_all has_page (map (λ n. n.now) (take i names)) ≡ true → has_page name.now ≡ false →
       IsUnpaged (map (λ n. n.now) names) name.now
   unpaged found none = record {

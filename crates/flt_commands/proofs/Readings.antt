@@ -38,7 +38,8 @@ module _ (gives : Giving) (IsSaidOf : List Text → Result Answer Failure → Ty
   says_of_both name other x y two first second read said = given result read (rw (both texts x y two first second) said)
 
 -- what is said of a first input and of those behind it
-pub says_of_first : (gives : Giving) (IsSaidOf : List Text → Result Answer Failure → Type 0) (texts : List (Vec ℕ Global)) (result : Result Answer Failure) (first_name : Text)
+pub says_of_first : (gives : Giving) (IsSaidOf : List Text → Result Answer Failure → Type 0) (texts : List (Vec ℕ Global))
+    (result : Result Answer Failure) (first_name : Text)
     (names : List Text) (x : Vec ℕ Global) (others : List (Vec ℕ Global)) →
     x ≡ slice_index_or texts 0 x → others ≡ drop 1 texts → AreGiven gives (first_name ∷ names) (map (λ t. t.items) texts) →
     IsSaidOf (x.items ∷ map (λ t. t.items) others) result → Says gives (first_name ∷ names) IsSaidOf (map (λ t. t.items) texts) result

@@ -38,7 +38,8 @@ those_of texts (Err f) same = tt
 
 -- of a journal and texts
 pub those_after : (bytes : Text) (texts : Vec (Vec ℕ Global) Global) (journal : Option Entries) (said : Result Answer Failure)
-    (result : Result Report CommandFault) → IfOk result (λ report. report.texts ≡ texts) → IfOk result (λ report. report.journal ≡ journal) →
+    (result : Result Report CommandFault) → IfOk result (λ report. report.texts ≡ texts) →
+    IfOk result (λ report. report.journal ≡ journal) →
     IsKeptAs journal bytes said →
     IfOk result (λ report. (first : Text) × (bytes ∷ map (λ text. text.items) texts.items ≡ first ∷ texts_in report)
     × IsKeptAs report.journal first said)
@@ -56,6 +57,7 @@ pub says_of_pages : (gives : Giving) (names texts : List Text) (said : Result An
     Says gives [] (λ texts. ArePaged names) texts said
 says_of_pages gives names texts said none is = given said (rw none (record { each = tt; once = omega arith })) is
 
+-- what was remarked after a request is what is remarked on it
 pub remarked_after : (request : Asked) (before : List ℕ) (said : Result Answer Failure) (result : Result Report CommandFault) →
     IsBefore request said before → IfOk result (λ report. IsRemarkedAfter before said report.remark.items) →
     IfOk result (λ report. IsRemarked request said report.remark.items)
@@ -104,11 +106,13 @@ unread_none (EmittedInto driver) good = refl
 unread_none (Compared why) good = refl
 
 -- of what `explain` says, where no file is named for a journal
-pub quiet_for : (form : Form) (colour : Colour) (states : ℕ) (journal : Option Text) (warnings : Choice) (files : List Text) (before : List ℕ)
+pub quiet_for : (form : Form) (colour : Colour) (states : ℕ) (journal : Option Text) (warnings : Choice)
+    (files : List Text) (before : List ℕ)
     (said : Result Answer Failure) (result : Result Report CommandFault) → IsFound journal said before →
     IfOk result (λ report. IsReported said report.output.items report.status) →
     IfOk result (λ report. report.status ≢ 2 → report.remark.items ≡ before) →
-    IfOk result (λ report. report.status ≢ 2 → NamesNoJournal (Some (Explain form colour states journal warnings files)) → report.remark.items ≡ [])
+    IfOk result (λ report. report.status ≢ 2 → NamesNoJournal (Some (Explain form colour states journal warnings files)) →
+    report.remark.items ≡ [])
 quiet_for form colour states (Some name) warnings files before said (Ok report) found reported same = λ good names. absurd names
 quiet_for form colour states None warnings files before (Ok answer) (Ok report) found reported same =
     λ good names. same good ∙ found ∙ ap (λ lines. lines ++ []) (unread_none answer (λ two. good (reported.1 ∙ two)))
@@ -118,22 +122,26 @@ quiet_for form colour states journal warnings files before said (Err e) found re
 -- ---- of a request, and of the words that ask for it
 
 module _ (words : List (List ℕ)) (request : Asked) (asks : Some request ≡ asked words) where
+  -- what is answered to the request that words ask for is answered to the words
   pub answers_asked : (shown : Bool) (gives : Giving) (written : Text → Text → Type 0) (does : List Attempt → Type 0)
       (result : Result Report CommandFault) → IfOk result (IsAnswered shown gives written does request) →
       IfOk result (λ report. Answers shown gives written does words report)
   answers_asked shown gives written does (Ok report) is = rw (← asks) is
   answers_asked shown gives written does (Err e) is = tt
 
+  -- where the request that words ask for is quiet, so are the words
   pub quiet_asked : (result : Result Report CommandFault) →
       IfOk result (λ report. report.status ≢ 2 → NamesNoJournal (Some request) → report.remark.items ≡ []) →
       IfOk result (λ report. report.status ≢ 2 → NamesNoJournal (asked words) → report.remark.items ≡ [])
   quiet_asked result quiet = rw (← asks) quiet
 
+  -- what is cut short of the request that words ask for is cut short of the words
   pub cut_asked : (gives : Giving) (old new : Option Text) (result : Result Report CommandFault) →
       IfErr result (λ e. e ≡ OutOfMemory → IsCutShort gives (Some request) old new) →
       IfErr result (λ e. e ≡ OutOfMemory → IsCutShort gives (asked words) old new)
   cut_asked gives old new result cut = rw (← asks) cut
 
+  -- where the request that words ask for holds its output back, so do the words
   pub held_asked : {O : Type 0} (old new : O) → (HoldsBack (Some request) → new ≡ old) → HoldsBack (asked words) → new ≡ old
   held_asked old new held = rw (← asks) held
 
@@ -203,6 +211,7 @@ answered_anyway shown gives written does (Some request) report is = record {
   kept = kept_anyway written does request is.texts is.said is.kept;
 }
 
+-- what answers words answers them whether or not a terminal shows colours
 pub answers_anyway : (shown : Bool) (gives : Giving) (written : Text → Text → Type 0) (does : List Attempt → Type 0) (words : List (List ℕ))
     (result : Result Report CommandFault) → IfOk result (Answers shown gives written does words) →
     IfOk result (AnswersSomehow gives written words)
@@ -227,7 +236,8 @@ module _ (law : Law) (runs : LawOfRuns) (nowhere : SpelledFailsNowhere) (shown :
     is = is;
     reported = reported;
     remarked = remarked;
-    clean = λ good. clean_of law runs nowhere shown (giving_for request gives) request texts said report.output.items report.status is reported good;
+    clean = λ good. clean_of law runs nowhere shown (giving_for request gives) request texts said report.output.items
+        report.status is reported good;
     kept = kept;
   }
   answered_of request texts said (Err f) is kept those reported remarked = tt

@@ -29,7 +29,8 @@ rest_sent old between new sent bytes first rest =
     (Appends-trans old between new (take sent bytes) (drop sent bytes) first rest)
 
 -- where nothing went out, no text is told of
-pub cut_nowhere : (form : Form) (options : WarningOptions) (states : ℕ) (sources : List Source) (old : Option Text) → IsCutIn form options states sources old old
+pub cut_nowhere : (form : Form) (options : WarningOptions) (states : ℕ) (sources : List Source) (old : Option Text) →
+    IsCutIn form options states sources old old
 cut_nowhere Human options states sources old = record { printed = []; added = Appends-nil old; are = inl refl }
 cut_nowhere Short options states sources old = no_lines Sentence options sources old
 cut_nowhere Lines options states sources old = no_lines Object options sources old
@@ -39,9 +40,11 @@ cut_nowhere LinesWithRuns options states sources old = Appends-nil old
 cut_nowhere SarifWithRuns options states sources old = Appends-nil old
 
 -- where nothing went out, nothing is cut short
-pub cut_under : (form : Form) (options : WarningOptions) (states : ℕ) (names texts : List Text) (old : Option Text) → IsCutUnder form options states names texts old old
+pub cut_under : (form : Form) (options : WarningOptions) (states : ℕ) (names texts : List Text) (old : Option Text) →
+    IsCutUnder form options states names texts old old
 cut_under form options states names texts old = explain.none_out (Appends-nil old)
 
+-- where nothing went out, what `explain` says of files is cut short at once
 pub cut_short : (gives : Giving) (form : Form) (options : WarningOptions) (states : ℕ) (files : List Text) (old : Option Text) →
     IsCutShort gives form options states files old old
 cut_short gives form options states files old = explain.none_read (Appends-nil old)

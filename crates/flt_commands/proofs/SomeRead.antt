@@ -7,7 +7,8 @@ use Rattle.flt_forms.specs.declared.unread.UnreadFile.{UnreadFile}
 use Rattle.flt_commands.specs.declared.inputs.ReadFiles.{ReadFiles}
 use Rattle.flt_commands.specs.Inputs.{AreRead, AreReadIn, Giving, IsMissing, Text, is_standard, missing, none, read, unread_names}
 
-module _ (gives : Giving) (before : List Text) (name : Bor Text) (names : List (Bor Text)) (texts : List (Vec ℕ Global)) (unread : List UnreadFile)
+module _ (gives : Giving) (before : List Text) (name : Bor Text) (names : List (Bor Text)) (texts : List (Vec ℕ Global))
+    (unread : List UnreadFile)
     (are : AreRead gives before (map (λ n. n.now) names) (map (λ t. t.items) texts) (unread_names unread)) where
   -- a name more that is read
   pub read_more : (text : Vec ℕ Global) (more : List (Bor Text)) (found : List (Vec ℕ Global)) → gives name.now (Some text.items) →
@@ -37,6 +38,7 @@ read_lengths gives _ _ _ _ (read {names = names} {read = got} {texts = texts} {u
 read_lengths gives _ _ _ _ (missing {names = names} {read = got} {texts = texts} {unread = others} name are lost) =
     read_lengths gives names got texts others are
 
+-- as many texts as names were read
 pub read_many : (gives : Giving) (names : List Text) (r : ReadFiles) → AreReadIn gives names r → length r.texts.items ≡ length r.names.items
 read_many gives names r are =
     sym (length-map r.texts.items (λ t. t.items)) ∙ read_lengths gives names _ _ _ are ∙ length-map r.names.items (λ n. n.now)

@@ -115,8 +115,8 @@ abbrev pub told_status : ℕ → List UnreadFile → ℕ
 told_status status [] = status
 told_status status (file ∷ files) = 2
 
--- the exit status: 0 where the certificate covers or is found, or nothing is broken, of a page, and of a part of a driver; of a journal, by how its run ended; of
--- reports and of layouts, their own, where each file is read; 1 for any other answer
+-- the exit status: 0 where the certificate covers or is found, or nothing is broken, of a page, and of a part of a driver;
+-- of a journal, by how its run ended; of reports and of layouts, their own, where each file is read; 1 for any other answer
 abbrev pub status_of : Answer → ℕ
 status_of Accepted = 0
 status_of (Refused f) = 1

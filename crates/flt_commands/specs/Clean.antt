@@ -25,7 +25,8 @@ EachBreaksNothing [] = Unit {0}
 EachBreaksNothing (text ∷ texts) = BreaksNothing text × EachBreaksNothing texts
 
 -- so does the text in what was read: the bytes of FILE up to its certificate, or FILE with CERT beside it, or FILE that was analysed or is
--- emitted; or each FILE behind a script, all in one stack; or each FILE that was explained. Of a journal nothing is said: its own verdict says it;
+-- emitted; or each FILE behind a script, all in one stack; or each FILE that was explained.
+-- Of a journal nothing is said: its own verdict says it;
 -- nor is there of a page, of C files, or of a text that is laid out
 abbrev pub IsClean : Asked → List Text → Type 0
 IsClean (Check file cert) (bytes ∷ []) = (start : ℕ) × IsCertificateStart bytes start × BreaksNothing (take start bytes)

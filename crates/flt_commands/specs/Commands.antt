@@ -1,5 +1,5 @@
--- What a command line comes to: what is read, what is said of it, how that is printed, what it is worth and what is kept. This project's own
--- program.
+-- What a command line comes to: what is read, what is said of it, how that is printed,
+-- what it is worth and what is kept. This project's own program.
 use Rattle.std.specs.Io.KnownBytes.{Appends}
 use Rattle.std.specs.Prelude.{◌≡◌, ◌≢◌, ℕ, Bool, List, [], ◌∷◌, ◌++◌, Option, Some, None, Result, Ok, Err, IfOk, OnOk, codes, drop, map, unwrap_or, ⊤}
 use Rattle.flt_commands.specs.Allowed.{options_of}
@@ -64,7 +64,8 @@ IsSaid shown gives (Run workers quiet script files) = Says gives (names_of (Run 
 IsSaid shown gives (Replay journal files) = Says gives (names_of (Replay journal files)) IsReplayed
 IsSaid shown gives (Show timeline picture journal files) =
     Says gives (names_of (Show timeline picture journal files)) (IsShown timeline picture)
-IsSaid shown gives (Explain form colour states journal warnings files) = IsExplained gives form (look_in colour shown states warnings) journal files
+IsSaid shown gives (Explain form colour states journal warnings files) =
+    IsExplained gives form (look_in colour shown states warnings) journal files
 IsSaid shown gives (Extract of_map files) = Says gives (names_of (Extract of_map files)) (IsExtracted of_map files)
 IsSaid shown gives (Format mode files) = IsFormatSaid gives mode files
 IsSaid shown gives (Pages names) = Says gives (names_of (Pages names)) (λ texts. ArePaged names)
@@ -153,8 +154,9 @@ IsKept written does (Format Write files) texts said = IfOk said (AreChanged writ
 IsKept written does (EmitInto folder file cert) texts said = ArePut written does folder texts said
 IsKept written does request texts said = does []
 
--- the report on what is asked for. All of it speaks of the same texts, which are the report's: they are what the names give; this is said of
--- them; that is what the report has for the standard output, for the exit status and for the standard error; with the status 0 the filters
+-- the report on what is asked for. All of it speaks of the same texts, which are the report's:
+-- they are what the names give; this is said of them; that is what the report has for the standard output,
+-- for the exit status and for the standard error; with the status 0 the filters
 -- that they spell break nothing; and what is written for it into a file, or that all that is written stays as it was
 pub record IsAnswered (shown : Bool) (gives : Giving) (written : Text → Text → Type 0) (does : List Attempt → Type 0) (request : Asked)
     (report : Report) : Type 0 where

@@ -118,7 +118,8 @@ pub record IsToldUnder (form : Form) (look : Look) (journal : Option Text) (name
   pub print : IsPrintTold form look sources e
 
 -- the same of those of these files that are read: they give these texts, and these others aren't read
-pub record IsToldOf (gives : Giving) (form : Form) (look : Look) (journal : Option Text) (files texts : List Text) (unread : List UnreadFile)
+pub record IsToldOf (gives : Giving) (form : Form) (look : Look) (journal : Option Text) (files texts : List Text)
+    (unread : List UnreadFile)
     (e : Told) : Type 0 where
   pub names : List Text
   pub read : AreRead gives files names texts (unread_names unread)
@@ -216,7 +217,8 @@ pub data IsCutUnder (form : Form) (options : WarningOptions) (states : ℕ) (nam
 pub data IsCutShort (gives : Giving) (form : Form) (options : WarningOptions) (states : ℕ) (files : List Text) (old new : Option Text) :
     Type 0 where
   none_read : Appends old new [] → IsCutShort gives form options states files old new
-  some_read : (names texts missing : List Text) → AreRead gives files names texts missing → IsCutUnder form options states names texts old new →
+  some_read : (names texts missing : List Text) → AreRead gives files names texts missing →
+      IsCutUnder form options states names texts old new →
       IsCutShort gives form options states files old new
 
 -- ---- pages

@@ -23,7 +23,8 @@ map_line name line number = name ++ (codes ":" ++ (spot line.place ++ (codes ": 
 -- where each line begins, from this number on
 abbrev pub map_from : List Text → ℕ → List Line → List ℕ
 map_from names number [] = []
-map_from names number (line ∷ lines) = map_line (visible (slice_index_or names line.file [])) line number ++ map_from names (number + 1) lines
+map_from names number (line ∷ lines) =
+    map_line (visible (slice_index_or names line.file [])) line number ++ map_from names (number + 1) lines
 
 -- ---- what is said
 

@@ -86,7 +86,8 @@ abbrev pub NamesFail : Giving → List Text → Failure → Type 0
 NamesFail gives names OutOfMemory = Unit {0}
 NamesFail gives names f = IsUnreadable gives names f
 
--- whatever names are given before these, each of these is given too, and the standard input once; `is_used` says whether it is one of those before
+-- whatever names are given before these, each of these is given too, and the standard input once;
+-- `is_used` says whether it is one of those before
 abbrev pub AreGivenBehind : Giving → Bool → List Text → List Text → Type 0
 AreGivenBehind gives is_used names texts = (before found : List Text) → AreGiven gives before found →
     list_any is_standard before ≡ is_used → AreGiven gives (before ++ names) (found ++ texts)

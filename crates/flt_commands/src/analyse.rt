@@ -51,7 +51,8 @@ pub fn analyse_file<'a, I: Inputs>(
     file: &'a str,
     contents: &mut Contents,
 ) -> Result<Answer, Failure<'a>>
-    ensures { Says (I.gives inputs.now) (names_of (Analyse file.entry.now)) IsAnalysed (map (λ text. text.items) contents.new.texts.items) result }
+    ensures { Says (I.gives inputs.now) (names_of (Analyse file.entry.now)) IsAnalysed
+        (map (λ text. text.items) contents.new.texts.items) result }
 {
     contents.texts = read_all(alloc, inputs, &[file])?;
     analyse_text::<Brand>(alloc, contents.texts[0].as_slice(), Blank::new(1))

@@ -273,7 +273,8 @@ fn write_report<O: Sink, E: Sink>(
 /// Runs the command of a program's words, without its own name, and returns the report on it once it is written. The answer goes to `out`;
 /// the line that says why there is no answer, `full`, `detached already`, `receipts differ`, or that no run is found for a journal goes to
 /// `err`; a picture, a journal, a layout or a driver for files goes to `pictures`. The output of `explain` for a file is written as soon as
-/// it is made, unless it is one document or a file is named for a journal. Reports of `explain` have the colours of a terminal if `coloured`,
+/// it is made, unless it is one document or a file is named for a journal.
+/// Reports of `explain` have the colours of a terminal if `coloured`,
 /// unless the words say when. A command that drives filters reports each line of the script to `watch`, unless the words ask for quiet, and
 /// one that searches for runs how far it has come, if the words allow more states than the default. Threads are started by `run` alone, if
 /// it has more than one worker. `serve` has no answer here: the report says that `-` can't be read. The server is

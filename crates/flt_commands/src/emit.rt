@@ -218,7 +218,8 @@ pub fn emit_files<'a, I: Inputs>(
     cert: Option<&'a str>,
     contents: &mut Contents,
 ) -> Result<Answer, Failure<'a>>
-    ensures { Says (I.gives inputs.now) (names_of (Emit part file.entry.now (option_map (λ name. name.now) cert.entry))) (spec.IsEmitted part)
+    ensures { Says (I.gives inputs.now) (names_of (Emit part file.entry.now (option_map (λ name. name.now) cert.entry)))
+        (spec.IsEmitted part)
         (map (λ text. text.items) contents.new.texts.items) result }
 {
     match cert {

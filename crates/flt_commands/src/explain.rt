@@ -331,14 +331,16 @@ fn explain_read<O: Sink, W: SearchWatch>(
     watch: &mut W,
 ) -> Result<Told, CommandFault>
     requires { length texts.now ≡ length names.now }
-    ensures told { IfOk result (spec.IsToldUnder asked.entry.form (spec.look_of asked.entry) (option_map (λ name. name.now) asked.entry.journal)
+    ensures told { IfOk result
+        (spec.IsToldUnder asked.entry.form (spec.look_of asked.entry) (option_map (λ name. name.now) asked.entry.journal)
         (map (λ name. name.now) names.now) (map (λ text. text.items) texts.now) unread.now) }
     ensures sent { IfOk result (λ t. Appends (O.taken out.old) (O.taken out.new) (take t.sent t.explained.output.items)) }
     ensures held { spec.HoldsBack asked.entry.form (option_map (λ name. name.now) asked.entry.journal) → out.new ≡ out.old }
     ensures fine { OnOk result (O.failures out.new ≡ O.failures out.old) }
     ensures write { IfErr result (λ e. e ≡ CommandFault.Write → O.failures out.new ≢ O.failures out.old) }
     ensures memory { IfErr result (λ e. e ≡ CommandFault.OutOfMemory →
-        spec.IsCutUnder asked.entry.form asked.entry.options asked.entry.states (map (λ name. name.now) names.now) (map (λ text. text.items) texts.now)
+        spec.IsCutUnder asked.entry.form asked.entry.options asked.entry.states (map (λ name. name.now) names.now)
+        (map (λ text. text.items) texts.now)
         (O.taken out.old) (O.taken out.new)) }
 {
     let names = told_names(alloc, asked.form, names)?;

@@ -175,7 +175,8 @@ pub fn extract_files<'a, I: Inputs>(
     contents: &mut Contents,
 ) -> Result<Answer, Failure<'a>>
     ensures { Says (I.gives inputs.now) (names_of (Extract map (Prelude.map (λ name. name.now) files.now)))
-        (spec.IsExtracted map (Prelude.map (λ name. name.now) files.now)) (Prelude.map (λ text. text.items) contents.new.texts.items) result }
+        (spec.IsExtracted map (Prelude.map (λ name. name.now) files.now))
+        (Prelude.map (λ text. text.items) contents.new.texts.items) result }
 {
     contents.texts = read_all(alloc, inputs, files)?;
     extract_texts(alloc, map, files, contents.texts.as_slice())

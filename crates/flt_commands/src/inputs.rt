@@ -302,7 +302,8 @@ impl<'a> ReadFiles<'a> {
         is_used: bool,
         name: &'a str,
     ) -> Result<(), AllocError>
-        ensures { (before : List (List ℕ)) → spec.AreReadIn (I.gives inputs.now) before self.old → is_used ≡ list_any spec.is_standard before →
+        ensures { (before : List (List ℕ)) → spec.AreReadIn (I.gives inputs.now) before self.old →
+            is_used ≡ list_any spec.is_standard before →
             OnOk result (spec.AreReadIn (I.gives inputs.now) (before ++ name.entry.now ∷ []) self.new) }
     {
         match read_one(alloc, inputs, is_used, name)? {

@@ -121,7 +121,8 @@ pub fn replay_files<'a, I: Inputs>(
     files: &[&'a str],
     contents: &mut Contents,
 ) -> Result<Answer, Failure<'a>>
-    ensures { (bytes : List ℕ) × Says (I.gives inputs.now) (names_of (Replay journal.entry.now (map (λ name. name.now) files.now))) spec.IsReplayed
+    ensures { (bytes : List ℕ) ×
+        Says (I.gives inputs.now) (names_of (Replay journal.entry.now (map (λ name. name.now) files.now))) spec.IsReplayed
         (bytes ∷ map (λ text. text.items) contents.new.texts.items) result × IsKeptAs contents.new.journal bytes result }
 {
     contents.journal = None;

@@ -113,7 +113,8 @@ pub fn show_files<'a, I: Inputs, P: Pictures>(
     contents: &mut Contents,
 ) -> Result<Answer, Failure<'a>>
     ensures said { (bytes : List ℕ) × Says (I.gives inputs.now) (journal.entry.now ∷ map (λ name. name.now) files.now)
-        (spec.IsShown is_asked (option_map (λ name. name.now) name.entry)) (bytes ∷ map (λ text. text.items) contents.new.texts.items) result
+        (spec.IsShown is_asked (option_map (λ name. name.now) name.entry))
+        (bytes ∷ map (λ text. text.items) contents.new.texts.items) result
         × IsKeptAs contents.new.journal bytes result }
     ensures drawn { IsDrawnFor (P.written pictures.new) (option_map (λ name. name.now) name.entry)
         (map (λ text. text.items) contents.new.texts.items) result }

@@ -81,12 +81,14 @@ fn one_verdict_at_most()
 /// reports, no page, no layout that is written and no part of a driver. It has one output and one exit status at most, and one reason why
 /// there is no answer, unless memory ran out. It does nothing at run time: its clauses are the law.
 pub fn one_answer_at_most<I: Inputs, P: Pictures>()
-    ensures one { (inputs : I) (before pictures past others : P) (shown showing : Bool) (words : List (List ℕ)) (a b : Report) → spec.AskForOne (asked words) →
+    ensures one { (inputs : I) (before pictures past others : P) (shown showing : Bool) (words : List (List ℕ)) (a b : Report) →
+        spec.AskForOne (asked words) →
         spec.GivesOne (I.gives inputs) → Answers shown (I.gives inputs) (P.written pictures)
         (Does (pictures ≡ before) (P.tried before) (P.tried pictures)) words a →
         Answers showing (I.gives inputs) (P.written others)
         (Does (others ≡ past) (P.tried past) (P.tried others)) words b → (a.output.items ≡ b.output.items) × (a.status ≡ b.status) }
-    ensures said { (inputs : I) (shown showing : Bool) (request : Asked) (texts others : List Text) (a b : Result Answer Failure) → spec.HasOneAnswer request →
+    ensures said { (inputs : I) (shown showing : Bool) (request : Asked) (texts others : List Text) (a b : Result Answer Failure) →
+        spec.HasOneAnswer request →
         spec.GivesOne (I.gives inputs) → IsSaid shown (I.gives inputs) request texts a → IsSaid showing (I.gives inputs) request others b →
         spec.AreSame a b }
 {

@@ -18,7 +18,8 @@ use Rattle.flt_model.specs.declared.moves.Move.{Move}
 use Rattle.flt_tree.specs.declared.filter.Filter.{Filter}
 
 -- one entry more counts where a caller made it
-pub callers_in_more : (es : List JournalEntry) (e : JournalEntry) → callers_in (es ++ e ∷ []) ≡ callers_in es + (if is_callers e then 1 else 0)
+pub callers_in_more : (es : List JournalEntry) (e : JournalEntry) →
+    callers_in (es ++ e ∷ []) ≡ callers_in es + (if is_callers e then 1 else 0)
 callers_in_more [] e = omega arith
 callers_in_more (x ∷ es) e = omega (arith, callers_in_more es e)
 

@@ -75,21 +75,25 @@ both_pass is false Off says same pass = absurd (let e : true ≡ false = sym pas
 abbrev pub first : Bool → Bool → Bool → Option DetachFault
 first has on full = if not has then Some NoSuch else (if not on then Some Already else (if full then Some Full else None))
 
+-- a filter that isn't there is the first refusal
 pub no_such : (has on full : Bool) → has ≡ false → Some NoSuch ≡ first has on full
 no_such true on full is = absurd (cc)
 no_such false on full is = refl
 
+-- a filter that is there and not attached is the second refusal
 pub already : (has on full : Bool) → has ≡ true → on ≡ false → Some Already ≡ first has on full
 already false on full is off = absurd (cc)
 already true true full is off = absurd (cc)
 already true false full is off = refl
 
+-- a full journal is the last refusal
 pub is_full : (has on full : Bool) → has ≡ true → on ≡ true → full ≡ true → Some Full ≡ first has on full
 is_full false on full is on' full' = absurd (cc)
 is_full true false full is on' full' = absurd (cc)
 is_full true true false is on' full' = absurd (cc)
 is_full true true true is on' full' = refl
 
+-- a filter that is there and attached isn't refused where there is room
 pub none_is : (has on full : Bool) → has ≡ true → on ≡ true → full ≡ false → None ≡ first has on full
 none_is false on full is on' full' = absurd (cc)
 none_is true false full is on' full' = absurd (cc)

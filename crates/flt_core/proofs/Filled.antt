@@ -118,6 +118,7 @@ pub commit_full : (p : List Filter) (l : Loaded) (b later : Situation) (advanced
 commit_full p l b later advanced grant list r events F B made stale blocked full loaded own commits before =
     let committed = commits p loaded own.moment own.at in
     let not_fresh : length b.entries ≡ 1000000 → F → ⊥ = λ long fresh.
-    let refused : r ≡ answer.Full = full.1 (fresh, ((λ waits. let that : r ≡ answer.Blocked = blocked.1 (fresh, waits) in cc), long)) in cc in
+    let refused : r ≡ answer.Full =
+    full.1 (fresh, ((λ waits. let that : r ≡ answer.Blocked = blocked.1 (fresh, waits) in cc), long)) in cc in
     let room : length b.entries ≡ 1000000 → ⊥ = λ long. let that : r ≡ answer.Stale = stale.1 (not_fresh long) in cc in
     subst IsFull (sym committed.written) (stays_full b.entries _ room (λ is many. cc) before)

@@ -27,15 +27,18 @@ module _ (l : Loaded) (b : Situation) (c : Choices) (advanced : Advanced) where
       (subst (λ s. Had later c false s []) (sym keeps)
       (subst (λ x. Had x c false stays []) (sym same) had)))
 
+  -- a turn of a frame that isn't fresh changes nothing
   pub stale_is : (stays made : Bool) (later : Situation) (named : List Subject) → (IsFresh b advanced → ⊥) → later ≡ b →
       stays ≡ false → made ≡ false → named ≡ [] → Had later c made stays named
   stale_is stays made later named old = unmade_is false stays made later named (stale old refl refl)
 
+  -- a turn that is blocked changes nothing and is taken again
   pub waits_is : (stays made grant : Bool) (later : Situation) (named : List Subject) → grant ≡ is_granted c → IsFresh b advanced →
       IsBlocked l b advanced grant → later ≡ b → stays ≡ true → made ≡ false → named ≡ [] → Had later c made stays named
   waits_is stays made grant later named same fresh blocked =
       unmade_is true stays made later named (waits fresh (subst (IsBlocked l b advanced) same blocked) refl refl)
 
+  -- a turn that commits a step leads to the board after it
   pub went_is : (grant : Bool) (later : Situation) (d : Choices) (events : List Event) (named : List Subject) → grant ≡ is_granted c →
       Now l b (λ p m. Commits p b later advanced grant events m) → d ≡ counted c (leaves_choice_at (instruction_for l advanced)) →
       named ≡ after_go l.altitudes b.store later.store advanced.frame.activation
@@ -45,10 +48,12 @@ module _ (l : Loaded) (b : Situation) (c : Choices) (advanced : Advanced) where
       (went (events, subst (λ (g : Bool). Now l b (λ p m. Commits p b later advanced g events m)) same commits) counts)
 
 module _ (l : Loaded) (b : Situation) (serial : ℕ) where
+  -- a cancellation that is made is one move
   pub cancelled_is : (later : Situation) (named : List Subject) → HasMade l b later (Some (Cancel serial)) →
       named ≡ named_by l b later (Some (Cancel serial)) → IsCancel l b later serial true false named
   cancelled_is later named made names = subst (λ n. IsCancel l b later serial true false n) (sym names) (cancelled made)
 
+  -- a cancellation that isn't enabled changes nothing
   pub disabled_is_cancel : (stays made : Bool) (later : Situation) (named : List Subject) → IsDisabled l b (Cancel serial) → later ≡ b →
       stays ≡ false → made ≡ false → named ≡ [] → IsCancel l b later serial made stays named
   disabled_is_cancel stays made later named off same goes unmade none =

@@ -122,14 +122,17 @@ module _ (w : World) (a n : ℕ) where
 
     -- ---- reads
 
+    -- to read a context's value leaves what it goes on with to be done
     pub value_read : (m : NumberVariable) (x : Option ℕ) → To (read_value_of w a m rest x)
     value_read m None = goes _ h
     value_read m (Some x) = goes _ h
 
+    -- to write a context's value leaves what it goes on with to be done
     pub value_written : (value : Atom) (x : Option ℕ) → To (write_value_of w a value rest x)
     value_written value None = goes _ h
     value_written value (Some x) = goes _ h
 
+    -- to read an operation's file leaves what it goes on with to be done
     pub file_read : (m : NumberVariable) (v : Option ℕ) → To (read_file_of w a m rest v)
     file_read m None = goes _ h
     file_read m (Some v) = goes _ h
@@ -141,6 +144,7 @@ module _ (w : World) (a n : ℕ) where
     tested_by true = g
     tested_by false = r
 
+    -- to test an operation's mode leaves one of its two sides to be done
     pub irp_tested : (v : Option ℕ) → To (test_irp_of w a granted refused v)
     irp_tested None = goes _ r
     irp_tested (Some v) = goes _ (tested_by (is_irp (arrival_of w.store v).mode))

@@ -66,7 +66,8 @@ module _ (p : List Filter) (t u : List Event) (w : World) (a : ℕ) where
   where_alike true one other is = is
   where_alike false one other is = refl
 
-  end_alike : (grant : Bool) → world_of (if grant then Some (returns p t w a None) else None) ≡ world_of (if grant then Some (returns p u w a None) else None)
+  end_alike : (grant : Bool) →
+      world_of (if grant then Some (returns p t w a None) else None) ≡ world_of (if grant then Some (returns p u w a None) else None)
   end_alike grant = where_alike grant _ _ (returns_alike None)
 
   list_alike : (list : List Statement) (grant : Bool) → world_of (list_step p t w a list grant) ≡ world_of (list_step p u w a list grant)
@@ -86,7 +87,9 @@ seen : (p : List Filter) (t : List Event) (w : World) (a : ℕ) (grant made : Bo
     ComesOf (board p [] w a grant) made u earlier events → LeadsTo (after_step p w t (Board a grant)) made u
 seen p t w a grant made u earlier events comes = board_alike p t [] w a grant ∙ led (board p [] w a grant) made u earlier events comes
 
-pub seen_ok : {E : Type 0} (r : Result Bool E) (p : List Filter) (w : World) (a : ℕ) (grant : Bool) (u : World) (earlier events : List Event) →
+-- a step that others see leads where the machine's step does
+pub seen_ok : {E : Type 0} (r : Result Bool E) (p : List Filter) (w : World) (a : ℕ) (grant : Bool) (u : World)
+    (earlier events : List Event) →
     IfOk r (λ enabled. (t : List Event) → false ≡ holds_given t w a → ComesOf (board p t w a grant) enabled u earlier events) →
     IfOk r (λ made. (t : List Event) → LeadsTo (after_step p w t (Board a grant)) made u)
 seen_ok (Ok made) p w a grant u earlier events comes = λ t. seen p t w a grant made u earlier events (comes [] (given_none w a))
@@ -104,7 +107,8 @@ then_one k a None on v comes is = let no : true ≡ false = sym is ∙ comes in 
 then_one k a (Some s) on v comes is = rw comes.1.0 refl
 
 -- one more
-pub one_more : (n : ℕ) (w v u : World) (a : ℕ) (on : Bool) → Made n w a v → ComesOf (local [] [] v a) on u [] [] → on ≡ true → Made (n + 1) w a u
+pub one_more : (n : ℕ) (w v u : World) (a : ℕ) (on : Bool) →
+    Made n w a v → ComesOf (local [] [] v a) on u [] [] → on ≡ true → Made (n + 1) w a u
 one_more n w v u a on made comes is k =
     let next : n + 1 + k ≡ n + suc k = omega arith in
     rw next (made (suc k) ∙ then_one k a (local [] [] v a) on u comes is)
@@ -115,7 +119,8 @@ none_then a None on v comes is = refl
 none_then a (Some s) on v comes is = let no : true ≡ false = sym comes.0 ∙ is in absurd (cc)
 
 -- the next one isn't enabled
-pub stopped : (steps n : ℕ) (w v u : World) (a : ℕ) (on : Bool) → n < steps → Made n w a v → ComesOf (local [] [] v a) on u [] [] → on ≡ false →
+pub stopped : (steps n : ℕ) (w v u : World) (a : ℕ) (on : Bool) →
+    n < steps → Made n w a v → ComesOf (local [] [] v a) on u [] [] → on ≡ false →
     GoesLocally steps w a n u
 stopped steps n w v u a on within made comes is =
     let same : n + 0 ≡ n = omega arith in
@@ -153,9 +158,11 @@ goes_first p t xs a (suc n) w =
   where
     by : ((v : World) → then_from p t (replicate n (Local a) ++ xs) v ≡ option_and_then (then_from p t xs) (unseen n v a)) →
         (b : Bool) (next : Option Activation) →
-        option_map (λ m. m.world) (option_and_then (λ s. run_from p (record { world = s.world; trace = t ++ s.events }) (replicate n (Local a) ++ xs))
+        option_map (λ m. m.world)
+        (option_and_then (λ s. run_from p (record { world = s.world; trace = t ++ s.events }) (replicate n (Local a) ++ xs))
         (if b then None else option_map (moved_on p t w a) next))
-        ≡ option_and_then (then_from p t xs) (option_and_then (λ s. unseen n s.world a) (if b then None else option_map (moved_on [] [] w a) next))
+        ≡ option_and_then (then_from p t xs)
+        (option_and_then (λ s. unseen n s.world a) (if b then None else option_map (moved_on [] [] w a) next))
     by more true next = refl
     by more false None = refl
     by more false (Some act) = rw (append-nil t) (more (moved_on p t w a act).world)
@@ -169,6 +176,7 @@ moves_on : (p : List Filter) (t : List Event) (m : Move) (made : Bool) (w u : Wo
     LeadsTo (after_step p w t (Make m)) made u → LeadsTo (after_steps p w t (Some (Make m ∷ []))) made u
 moves_on p t m made w u leads = then_seen (record { world = w; trace = t }) (make p w m) ∙ leads
 
+-- a move leads where the machine's move does
 pub moves_ok : {E : Type 0} (r : Result Bool E) (p : List Filter) (m : Move) (w u : World) →
     IfOk r (λ made. (t : List Event) → LeadsTo (after_step p w t (Make m)) made u) →
     IfOk r (λ made. (t : List Event) → LeadsTo (after_steps p w t (Some (Make m ∷ []))) made u)
@@ -185,6 +193,7 @@ goes_on p t a (suc k) n grant made w v u is went leads =
     goes_first p t (Board a grant ∷ []) a k w ∙ ap (option_and_then (then_from p t (Board a grant ∷ []))) here
     ∙ then_seen (record { world = v; trace = t }) (board p t v a grant) ∙ leads
 
+-- local steps, and then one that others see, lead where the entry's steps do
 pub goes_ok : {E : Type 0} (r : Result Bool E) (p : List Filter) (a steps n : ℕ) (grant : Bool) (w v u : World) → n + 1 ≡ steps →
     unseen n w a ≡ Some v → IfOk r (λ made. (t : List Event) → LeadsTo (after_step p v t (Board a grant)) made u) →
     IfOk r (λ made. (t : List Event) → LeadsTo (after_steps p w t (go_on a steps grant)) made u)

@@ -78,7 +78,8 @@ fn go<'a>(
     steps: u32,
     grant: bool,
 ) -> Result<bool, AllocError>
-    ensures { IfOk result (λ made. (t : List Event) → spec.LeadsTo (spec.after_steps stack.now world.old t (go_on a steps grant)) made world.new) }
+    ensures { IfOk result
+        (λ made. (t : List Event) → spec.LeadsTo (spec.after_steps stack.now world.old t (go_on a steps grant)) made world.new) }
 {
     if steps == 0 {
         return Ok(false);
@@ -101,7 +102,8 @@ pub fn make_entry<'a>(
     stack: &Stack<'a>,
     entry: JournalEntry,
 ) -> Result<bool, AllocError>
-    ensures { IfOk result (λ made. (t : List Event) → spec.LeadsTo (spec.after_steps stack.now world.old t (expansion entry)) made world.new) }
+    ensures { IfOk result
+        (λ made. (t : List Event) → spec.LeadsTo (spec.after_steps stack.now world.old t (expansion entry)) made world.new) }
 {
     match entry {
         JournalEntry::Move(step) => make_move(world, alloc, stack, step),

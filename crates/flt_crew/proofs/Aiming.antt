@@ -40,11 +40,13 @@ put_has f (g ∷ filters) altitude e = by (nat_lt g.altitude f.altitude) (put_ha
         put (swap (f.altitude == altitude) (g.altitude == altitude) (has_altitude filters altitude) e)
 
 -- an altitude that is loaded is one of the filters by altitude
-loaded_has : (filters : List Filter) (altitude : ℕ) → is_loaded (Some filters) altitude ≡ true → has_altitude (by_altitude filters) altitude ≡ true
+loaded_has : (filters : List Filter) (altitude : ℕ) →
+    is_loaded (Some filters) altitude ≡ true → has_altitude (by_altitude filters) altitude ≡ true
 loaded_has [] altitude e = e
 loaded_has (f ∷ filters) altitude e =
     put_has f (by_altitude filters) altitude
-    (further (f.altitude == altitude) (is_loaded (Some filters) altitude) (has_altitude (by_altitude filters) altitude) (loaded_has filters altitude) e)
+    (further (f.altitude == altitude) (is_loaded (Some filters) altitude) (has_altitude (by_altitude filters) altitude)
+    (loaded_has filters altitude) e)
 
 -- a command that may follow others is aimed at a filter of the stack
 aimed : (filters : List Filter) (before : Commands) (command : Command) → may_follow (Some filters) before command ≡ true →

@@ -36,7 +36,8 @@ module _ (commands : Commands) (entries : List JournalEntry) (receipts : List Re
     (followed : IsFollowed commands receipts asked callers others made fulls is_full is_refused) (these : callers_in entries ≡ callers)
     (those : others_in entries ≡ others) where
   -- what was followed to its end, and agrees, is whole
-  pub ends_whole : is_full ≡ false → is_refused ≡ false → length entries < 2 ^ 64 → IsPermutation (receipts_in entries) receipts → IsEnded commands entries made Whole
+  pub ends_whole : is_full ≡ false → is_refused ≡ false → length entries < 2 ^ 64 → IsPermutation (receipts_in entries) receipts →
+      IsEnded commands entries made Whole
   ends_whole all none few same =
       let whole = followed.whole all none in
       record {

@@ -46,7 +46,8 @@ pub record AreGiven (script : Commands) (receipts : List Receipt) (asked : List 
   pub parts : script ≡ given ++ rest
   pub made : AreMade given receipts asked
 
--- the commands of a script before one that detaches a filter were given, and these are the receipts and the serial numbers that were asked to
+-- the commands of a script before one that detaches a filter were given,
+-- and these are the receipts and the serial numbers that were asked to
 -- be cancelled
 pub record StopsAtDetach (script : Commands) (receipts : List Receipt) (asked : List ℕ) : Type 0 where
   pub given : Commands

@@ -220,7 +220,8 @@ pub(crate) fn follow<N: StackName + Send + Sync, R: Threads + Wait + Sync, W: Wa
             ensures count { IfOk result (λ all. length all.items ≡ length workers.items) }
         { work_all(rt, alloc, stack, workers, &progress) },
         || -> Given<N>
-            requires { All (spec.IsAimed N.trees) script.now × IsCallerOf stack.now.exchange caller.place × ((caller.receipts.list.items ≡ [])
+            requires { All (spec.IsAimed N.trees) script.now × IsCallerOf stack.now.exchange caller.place ×
+                ((caller.receipts.list.items ≡ [])
                 × ((asked_by caller.place).asked ≡ [])) × (caller.receipts.share.amount ≡ 0) }
             ensures whole { OnOk result.outcome (spec.AreMade script.entry.now result.seat.receipts.list.items
                 (asked_by result.seat.place).asked) }

@@ -64,6 +64,7 @@ module _ (rows : List Row) (closed : List Bool) (s : Sequences) (contexts : List
 
   -- the filter's list has a first node exactly where a key is of the filter
   module _ (list : ℕ) (here : list ≡ filter) (first : Option ℕ) where
+    -- where a filter's list has a first node, the filter has a link
     pub first_some : AreApart s → filter < length closed → IfSome first (Contains (nodes_of s.lists list)) → is_some first ≡ true →
         (x : ℕ) × (key : Key) × (((context_at h x).link ≡ Some key) × (key.filter ≡ filter))
     first_some apart low within there = by first within there
@@ -73,6 +74,7 @@ module _ (rows : List Row) (closed : List Bool) (s : Sequences) (contexts : List
         by None within there = absurd (true≢false (sym there))
         by (Some node) within there = one_listed apart node low (subst (λ (f : ℕ). Contains (nodes_of s.lists f) node) here within)
 
+    -- where a filter's list has no first node, the filter has no link
     pub first_none : first ≡ first_of (nodes_of s.lists list) None → is_some first ≡ false → (x : ℕ) (key : Key) →
         (context_at h x).link ≡ Some key → key.filter ≢ filter
     first_none is absent =

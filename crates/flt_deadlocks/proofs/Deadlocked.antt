@@ -58,6 +58,7 @@ module _ (filters : List Filter) (number : ℕ) (circle : List Acquisition) (d :
       absurd (none_chosen d.waits.items (subst (λ (w : List Blocked). All (Contains w) d.waits.items) none chosen) some)
   by_moment (Some m) reached (u, (settled, are)) = by_waits m u reached settled are
 
+  -- where those that wait after a journal wait for locks of one another, it leads to a deadlock
   pub deadlock : MatchOption (moment_after p (start p) d.journal) (waits ≡ []) (λ m. (u : World) × AreWaits m.world u waits) →
       IsDeadlockIn filters number circle d
   deadlock are = by_moment (moment_after p (start p) d.journal) refl are

@@ -46,7 +46,8 @@ the_same xs n k x y is at there = let here = subst (λ m. slice_get xs m ≡ Som
 
 -- the next finding, by what shows it
 pub one_detail_more : (lines text : Text) (f : Filter) (g : Graph) (found : List Finding) (shown : List Shown) (n : ℕ) (e : Finding)
-    (s : Shown) (d : Detail) (all more : List Detail) → lines ≡ text → n ≡ length all → slice_get found n ≡ Some e → slice_get shown n ≡ Some s →
+    (s : Shown) (d : Detail) (all more : List Detail) →
+    lines ≡ text → n ≡ length all → slice_get found n ≡ Some e → slice_get shown n ≡ Some s →
     AreDetailsBy text f g found shown all → IsDetail lines f g e s d → more ≡ all ++ d ∷ [] → AreDetailsBy text f g found shown more
 one_detail_more lines text f g found shown n e s d all more same long is_one is_shown kept new after k e' s' d' finding_is shown_is
     detail_is =
@@ -60,6 +61,7 @@ one_detail_more lines text f g found shown n e s d all more same long is_one is_
           (subst (λ (x : Shown). IsDetail lines f g e' x d) (the_same shown n k s s' is_shown at shown_is)
           (subst (λ (x : Finding). IsDetail lines f g x s d) (the_same found n k e e' is_one at finding_is) new)))
 
+-- one more detail is like an earlier one, or like none
 pub one_like_more : (found : List Finding) (all more : List Detail) (d : Detail) (n : ℕ) → n ≡ length all → more ≡ all ++ d ∷ [] →
     IfSome d.route.like (IsLike found n) → AreLike found all → AreLike found more
 one_like_more found all more d n long after own kept k e is =
@@ -72,9 +74,11 @@ one_like_more found all more d n long after own kept k e is =
 
 -- ---- how many there are
 
+-- as many findings are shown as there are
 pub as_many : (g : Graph) (found : List Finding) (t : Traces) → AreTraces g found t → length t.shown ≡ length found
 as_many g found t h = AllZip-long (IsShown g) found t.shown h.each
 
+-- the finding at the next number is the next one
 pub found_at : (found : List Finding) (i n m : ℕ) (e : Finding) → i < length found → e ≡ get_or found i e → n ≡ m →
     m ≡ length (take i found) → slice_get found n ≡ Some e
 found_at found i n m e less is at long =
@@ -82,11 +86,13 @@ found_at found i n m e less is at long =
     let same : i ≡ n = omega (arith, short, at, long) in
     subst (λ k. slice_get found k ≡ Some e) same (slice_get_read found (length found) i e refl less is)
 
+-- the number of a finding is within those that are shown
 pub number_within : (found : List Finding) (shown : ℕ) (i n m : ℕ) → shown ≡ length found → i < length found → n ≡ m →
     m ≡ length (take i found) → n < shown
 number_within found shown i n m many less at long =
     let short = length-take-le i found (omega (arith, less)) in omega (arith, short, many, less, at, long)
 
+-- one more detail is one more of the findings
 pub one_longer : (found : List Finding) (i : ℕ) (all more : List Detail) (d : Detail) → i < length found →
     length all ≡ length (take i found) → more ≡ all ++ d ∷ [] → length more ≡ length (take (i + 1) found)
 one_longer found i all more d less long after =
@@ -96,8 +102,10 @@ one_longer found i all more d less long after =
     let parts = length-append all (d ∷ []) in
     let one : length (d ∷ []) ≡ 1 = refl in omega (arith, short, next, longer, parts, one, long)
 
+-- where all findings have been told, their details are
 pub all_details : (text : Text) (f : Filter) (g : Graph) (found : List Finding) (t : Traces) (i : ℕ) (all : List Detail) →
-    AreTraces g found t → length found ≤ i → length all ≡ length (take i found) → AreDetailsBy text f g found t.shown all → AreLike found all →
+    AreTraces g found t → length found ≤ i → length all ≡ length (take i found) →
+    AreDetailsBy text f g found t.shown all → AreLike found all →
     AreDetails text f g found all
 all_details text f g found t i all traced end long each like =
     record { traces = t; shown = traced; long = long ∙ ap length (take_all i found end); each = each; like = like }

@@ -4,6 +4,7 @@ use Rattle.std.specs.List.{AllZip}
 use Rattle.std.proofs.lemmas.List.{reverse-append}
 use Rattle.std.proofs.lemmas.Option.{slice_get-get_or}
 
+-- what is within a list is there
 pub found_there : {A : Type 0} (found : List A) (n : ℕ) (d : A) → n < length found → slice_get found n ≡ Some (get_or found n d)
 found_there found n d less = slice_get-get_or found n d less
 
@@ -16,6 +17,7 @@ module _ {A B C : Type 0} (P : A → B → Type 0) (Q : A → C → Type 0) wher
     pub answered : AllZip P front answers
     pub done : AllZip Q back (reverse all)
 
+  -- before the first, all is left to be shown
   pub split_first : (found : List A) (answers : List B) (all : List C) → all ≡ [] → AllZip P found answers → IsSplit found answers all
   split_first found answers all none answered = subst (IsSplit found answers) (sym none) first where
     at_end : (xs : List A) → xs ≡ xs ++ []
@@ -45,6 +47,7 @@ module _ {A B C : Type 0} (P : A → B → Type 0) (Q : A → C → Type 0) wher
       let r = last_of front answers answer all.1 in
       (x ∷ r.0, r.1, ap (λ xs. x ∷ xs) r.2, (all.0, r.3), r.4)
 
+  -- the last that is left is the next
   pub split_last : (found : List A) (answers more : List B) (answer : B) (all : List C) → more ≡ answers ++ answer ∷ [] →
       IsSplit found more all → IsNext found answers answer all
   split_last found answers more answer all is h =
@@ -69,6 +72,7 @@ module _ {A B C : Type 0} (P : A → B → Type 0) (Q : A → C → Type 0) wher
   as_long (x ∷ front) [] all = absurd all
   as_long (x ∷ front) (b ∷ answers) all = ap suc (as_long front answers all.1)
 
+  -- the next one is within those that were found
   pub next_within : (found : List A) (answers : List B) (answer : B) (all : List C) → IsNext found answers answer all →
       length answers < length found
   next_within found answers answer all h =
@@ -88,10 +92,12 @@ module _ {A B C : Type 0} (P : A → B → Type 0) (Q : A → C → Type 0) wher
       ∙ at_seam h.front h.back h.one in
       let same : Some h.one ≡ Some x = sym here ∙ there in cc
 
+  -- the next answer is that of the next finding
   pub next_one : (found : List A) (answers : List B) (answer : B) (all : List C) (n : ℕ) (x : A) → n ≡ length answers →
       slice_get found n ≡ Some x → IsNext found answers answer all → P x answer
   next_one found answers answer all n x at there h = subst (λ y. P y answer) (is_next found answers answer all n x at there h) h.is
 
+  -- one more is shown, and one fewer is left
   pub split_more : (found : List A) (answers : List B) (answer : B) (all more : List C) (new : C) (n : ℕ) (x : A) → n ≡ length answers →
       slice_get found n ≡ Some x → IsNext found answers answer all → Q x new → more ≡ all ++ new ∷ [] → IsSplit found answers more
   split_more found answers answer all more new n x at there h is after =
@@ -105,6 +111,7 @@ module _ {A B C : Type 0} (P : A → B → Type 0) (Q : A → C → Type 0) wher
             (subst (λ y. Q y new) (sym (is_next found answers answer all n x at there h)) is, h.done);
       }
 
+  -- where nothing is left, all is shown, the other way round
   pub split_all : (found : List A) (answers : List B) (all : List C) → answers ≡ [] → IsSplit found answers all →
       AllZip Q found (reverse all)
   split_all found answers all none h =

@@ -68,7 +68,8 @@ at_byte (b ∷ z) zero d less = refl
 at_byte (b ∷ z) (suc i) d less = at_byte z i d (omega (arith, less))
 
 -- one printable byte more
-pub one_printed : (z : Text) (i d : ℕ) → i < length z → is_in_range 32 126 (get_or z i d) ≡ true → IsStretch z i true → IsStretch z (i + 1) true
+pub one_printed : (z : Text) (i d : ℕ) → i < length z → is_in_range 32 126 (get_or z i d) ≡ true → IsStretch z i true →
+    IsStretch z (i + 1) true
 one_printed z i d less e before =
     let next : suc i ≡ i + 1 = omega arith in
     let b = get_or z i d in

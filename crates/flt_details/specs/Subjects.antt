@@ -51,7 +51,8 @@ subject_told f u = subject_by (phrase u) (word_of f u)
 -- a set of one status; nothing of another one
 abbrev pub word_of_status : ℕ → Option Text
 word_of_status bits =
-    if bits == 1 then Some (codes "NULL") else (if bits == 2 then Some (codes "held") else (if bits == 4 then Some (codes "stale") else None))
+    if bits == 1 then Some (codes "NULL")
+    else (if bits == 2 then Some (codes "held") else (if bits == 4 then Some (codes "stale") else None))
 
 abbrev pub status_word : Option StatusSet → Option Text
 status_word None = None

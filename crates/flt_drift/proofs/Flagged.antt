@@ -9,7 +9,8 @@ use Rattle.flt_drift.specs.Flags.{flags_below}
 -- there are as many flags as numbers
 pub length_of : (holds : ℕ → Bool) (n : ℕ) → length (flags_below holds n) ≡ n
 length_of holds zero = refl
-length_of holds (suc n) = let before = length_of holds n in let push = length_push (flags_below holds n) (holds n) in omega (before, push, arith)
+length_of holds (suc n) = let before = length_of holds n in let push = length_push (flags_below holds n) (holds n) in
+    omega (before, push, arith)
 
 -- a flag says whether it holds of the number of its place
 pub flag_of : (holds : ℕ → Bool) (n c : ℕ) → c < n → get_or (flags_below holds n) c false ≡ holds c

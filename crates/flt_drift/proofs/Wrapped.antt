@@ -23,6 +23,7 @@ none_of (Some call) none = absurd (true≢false none)
 
 -- an entry more, of a name that has none
 module _ (es new : List (Vec ℕ × ℕ)) (key : Vec ℕ) (call : ℕ) (name : List ℕ) where
+  -- one more function that makes a call, and whose name is new, is found by its name
   pub more_of : new ≡ es ++ (key, call) ∷ [] → key.items ≡ name → wrapped_by (map wrapping_of es) name ≡ None →
       map wrapping_of new ≡ with_wrapping (map wrapping_of es) name call
   more_of more named none =

@@ -39,7 +39,8 @@ message file d = codes "warning[" ++ (code d.kind ++ (codes "]: " ++ (opening d.
 
 -- where it is
 unfoldable pub place_line : Text → Position → Text
-place_line name place = codes "  --> " ++ (shown name ++ (codes ":" ++ (decimal place.line ++ (codes ":" ++ (decimal place.column ++ codes "\n")))))
+place_line name place = codes "  --> " ++
+    (shown name ++ (codes ":" ++ (decimal place.line ++ (codes ":" ++ (decimal place.column ++ codes "\n")))))
 
 -- the first thousand bytes of the line of a place, before whose byte so many are in the file; nothing if its column is greater
 unfoldable pub shown_line : Text → ℕ → Position → Text

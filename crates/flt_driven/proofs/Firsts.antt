@@ -35,6 +35,7 @@ module _ {X Y : Type 0} (f : X → Y) (xs : List X) (i : ℕ) (x d : X) (h : i <
 -- ---- the texts
 
 module _ (texts : List (Vec ℕ Global)) (i : ℕ) (text d : Vec ℕ Global) (h : i < length texts) (at : text ≡ get_or texts i d) where
+  -- one more tree is what one more text spells
   pub spelled_more : (trees more : List Tree) (tree : Tree) → AreSpelled (map (λ t. t.items) (take i texts)) (filters_of trees) →
       Spells text.items tree.filter →
       more ≡ trees ++ tree ∷ [] → AreSpelled (map (λ t. t.items) (take (i + 1) texts)) (filters_of more)
@@ -45,6 +46,7 @@ module _ (texts : List (Vec ℕ Global)) (i : ℕ) (text d : Vec ℕ Global) (h 
       let parsed : filters_of more ≡ filters_of trees ++ tree.filter ∷ [] = ap filters_of pushed ∙ map_push (λ t. t.filter) trees tree in
       rw (read, parsed) (all_zipped_more _ _ _ text.items tree.filter spelled one)
 
+  -- the first text that fails to parse is the syntax fault of all
   pub first_fault : (filters : List Filter) (f : SyntaxFault) → AreSpelled (map (λ t. t.items) (take i texts)) filters →
       Fails text.items f →
       IsSyntaxFault (map (λ t. t.items) texts) i f
@@ -70,6 +72,7 @@ module _ (trees : List Tree) (i : ℕ) (tree d : Tree) (h : i < length trees) (a
       one_more (λ t. t.filter) trees i tree d h at in
       rw (read, pushed) (all_zipped_more _ _ _ tree.filter y all one)
 
+  -- one more filter has the certificate that was found for it
   pub covered_more : (certs more : List (Vec ℕ Global)) (cert : Vec ℕ Global) →
       HaveCertificates (filters_of (take i trees)) (map (λ c. c.items) certs) → HasCertificate tree.filter cert.items →
       more ≡ certs ++ cert ∷ [] → HaveCertificates (filters_of (take (i + 1) trees)) (map (λ c. c.items) more)

@@ -6,6 +6,7 @@ use Rattle.flt_driven.specs.Texts.{AreSpelled, HaveCertificates, files_of}
 use Rattle.flt_stack.specs.Loading.{AreAcceptedFiles, File, file}
 use Rattle.flt_tree.specs.declared.filter.Filter.{Filter}
 
+-- texts whose filters have the certificates beside them are accepted files
 pub all_accepted : (texts : List (List ℕ)) (certs : List (List ℕ)) (filters : List Filter) → AreSpelled texts filters →
     HaveCertificates filters certs → AreAcceptedFiles (files_of texts certs) filters
 all_accepted [] certs [] spelled covered = tt

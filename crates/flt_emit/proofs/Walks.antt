@@ -28,22 +28,26 @@ module _ (scope : Scope) (level point : ℕ) where
       ap (λ x. statement_text scope x level point) (sym e)
       ∙ ap (λ (f : Lines). f level point) (para-roll-Statement Lines (statement_step scope) y)
 
+  -- the lines of an action are those of its layer
   pub acts : (s : Statement) (at : Span) (a : Action) → s ≡ Act at a →
       statement_text scope s level point ≡ statement_step scope (Statement-F.Act at a) level point
   unfolding layer
   acts s at a e = ap (λ x. statement_text scope x level point) e ∙ unrolled (Act at a) (Statement-F.Act at a) (rolls-Act at a)
 
+  -- the lines of a plain call are those of its layer
   pub calls : (s : Statement) (at : Span) (c : PlainCall) → s ≡ Call at c →
       statement_text scope s level point ≡ statement_step scope (Statement-F.Call at c) level point
   unfolding layer
   calls s at c e = ap (λ x. statement_text scope x level point) e ∙ unrolled (Call at c) (Statement-F.Call at c) (rolls-Call at c)
 
+  -- the lines of a return are those of its layer
   pub returning : (s : Statement) (at : Span) (status : Option Status) → s ≡ Return at status →
       statement_text scope s level point ≡ statement_step scope (Statement-F.Return at status) level point
   unfolding layer
   returning s at status e =
       ap (λ x. statement_text scope x level point) e ∙ unrolled (Return at status) (Statement-F.Return at status) (rolls-Return at status)
 
+  -- the lines of an `if` are those of its layer, with the lines of its blocks
   pub chooses : (s : Statement) (at : Span) (asked : Condition) (granted refused : List Statement) → s ≡ If at asked granted refused →
       statement_text scope s level point ≡
       statement_step scope (Statement-F.If at asked (with_lines scope granted) (with_lines scope refused)) level point
@@ -52,6 +56,7 @@ module _ (scope : Scope) (level point : ℕ) where
       ap (λ x. statement_text scope x level point) e
       ∙ unrolled (If at asked granted refused) (Statement-F.If at asked granted refused) (rolls-If at asked granted refused)
 
+  -- the lines of a `repeat` are those of its layer, with the lines of its body
   pub repeats : (s : Statement) (at : Span) (turns : ℕ) (body : List Statement) → s ≡ Repeat at turns body →
       statement_text scope s level point ≡ statement_step scope (Statement-F.Repeat at turns (with_lines scope body)) level point
   unfolding layer
@@ -89,11 +94,13 @@ points_cons : (s : Statement) (rest : List Statement) → points (s ∷ rest) �
 points_cons s rest = sum-map points_of (s ∷ rest)
     ∙ (sum_by-cons points_of s rest ∙ ap (λ n. points_of s + n) (sym (sum-map points_of rest)))
 
+-- the points from a statement on are those of the statement and of the rest
 pub points_next : (block : List Statement) (i : ℕ) (s : Statement) → i < length block → s ≡ get_or block i s →
     points (drop i block) ≡ points_of s + points (drop (i + 1) block)
 points_next block i s below is = ap points (drop_more block i s below ∙ ap (λ (x : Statement). x ∷ drop (i + 1) block) (sym is))
     ∙ points_cons s (drop (i + 1) block)
 
+-- the lines of a block from a statement on are those of the statement and of the rest
 pub body_next : (scope : Scope) (block : List Statement) (i : ℕ) (s : Statement) (level point : ℕ) → i < length block →
     s ≡ get_or block i s →
     body_text scope (drop i block) level point ≡
@@ -104,17 +111,21 @@ body_next scope block i s level point below is =
 
 -- ---- lines that are written one after the other
 
+-- three parts that were written one after the other are one text
 pub acted : (a b c d x y z : List ℕ) → b ≡ a ++ (x ++ []) → c ≡ b ++ y → d ≡ c ++ (z ++ []) → d ≡ a ++ (x ++ (y ++ (z ++ [])))
 acted a b c d x y z e f g =
     g ∙ ap (λ (l : List ℕ). l ++ (z ++ [])) (f ∙ ap (λ (l : List ℕ). l ++ y) e) ∙ simp (append_assoc, append-nil)
 
+-- four parts that were written one after the other are one text
 pub called : (a b c d e w x y z : List ℕ) → b ≡ a ++ w → c ≡ b ++ (x ++ []) → d ≡ c ++ y → e ≡ d ++ (z ++ []) →
     e ≡ a ++ (w ++ (x ++ (y ++ (z ++ []))))
 called a b c d e w x y z p q r s = acted b c d e x y z q r s ∙ ap (λ (l : List ℕ). l ++ (x ++ (y ++ (z ++ [])))) p
     ∙ append_assoc a w (x ++ (y ++ (z ++ [])))
 
+-- two parts that were written one after the other are one text
 pub left : (a b c x z : List ℕ) → b ≡ a ++ x → c ≡ b ++ (z ++ []) → c ≡ a ++ (x ++ (z ++ []))
 left a b c x z e f = f ∙ ap (λ (l : List ℕ). l ++ (z ++ [])) e ∙ append_assoc a x (z ++ [])
 
+-- three parts that were written one after the other are one text
 pub enclosed : (a b c d x y z : List ℕ) → b ≡ a ++ x → c ≡ b ++ y → d ≡ c ++ z → d ≡ a ++ (x ++ (y ++ z))
 enclosed a b c d x y z e f g = g ∙ ap (λ (l : List ℕ). l ++ z) (f ∙ ap (λ (l : List ℕ). l ++ y) e) ∙ simp append_assoc

@@ -172,7 +172,8 @@ scope_in locks instances number c =
 -- a callback up to its hook
 unfoldable pub opening : Scope → Callback → Text
 opening scope c =
-    joined (heading scope.callback c.span.line ∷ prototype c.head ∷ codes "\n{\n" ∷ declarations scope.locks c.head c.body ∷ codes "\n" ∷ [])
+    joined (heading scope.callback c.span.line ∷ prototype c.head ∷ codes "\n{\n" ∷
+    declarations scope.locks c.head c.body ∷ codes "\n" ∷ [])
 
 -- and from there on
 unfoldable pub contents : Scope → Callback → Text

@@ -22,7 +22,8 @@ user_written =
     ++ codes "//  Fields of a context beside the text's value. They are zero at first, and nothing of the text guards them.\n\n"
     ++ codes "#define USER_CONTEXT_FIELDS\n\n//  The pool tag of contexts.\n\n"
     ++ codes "#define USER_CONTEXT_TAG 0x73746c66    // 'flts', as the debugger shows it\n\n"
-    ++ codes "//  The text's `file`: a number that says which file this is. The analysis takes any number as possible, so any function of the\n"
+    ++ codes
+    "//  The text's `file`: a number that says which file this is. The analysis takes any number as possible, so any function of the\n"
     ++ codes "//  file object will do. In a pre callback of create FsContext isn't set yet.\n\n"
     ++ codes "#define USER_FILE_NUMBER( FileObject ) ((ULONG64) (ULONG_PTR) (FileObject)->FsContext)\n\n"
     ++ codes "//  Hooks, one for each callback.\n\n"

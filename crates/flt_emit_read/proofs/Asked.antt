@@ -219,6 +219,7 @@ module _ (scope : Scope) (queue : Bool) (point : ℕ) where
   succeeds_asks true z = refl
   succeeds_asks false z = refl
 
+  -- a condition is read back from its text, but for where its call stands
   pub condition_reads : (turned : Bool) (c : Condition) (r : Text) → IsCondition queue c →
       condition_at scope.place (condition_text scope point turned c ++ r) ≡ Some ((turned, condition_without c), r)
   unfolding succeeds_at

@@ -133,6 +133,7 @@ level_lines body place (l ∷ ls) h =
     (used_lines (needs_level body place l.kind) (declared_level l.name) (one_level l.name both.0))
     (level_lines body (place + 1) ls both.1)
 
+-- what a callback declares consists of lines
 pub declaration_lines : (locks : List Lock) (h : Head) (body : List Statement) → list_all (λ l. is_name l.name) locks ≡ true →
     AreLines (declarations locks h body)
 unfolding declarations

@@ -92,6 +92,7 @@ same_callbacks locks queue (c ∷ cs) ok h =
     ∷ map callback_as_read cs) (same_statements locks queue (head_place c.head) ok.1 both.0)
     ∙ ap (λ l. callback_without c ∷ l) (same_callbacks locks queue cs ok.2 both.1)
 
+-- where a filter is read back, it is read back apart from its places
 pub reads_back_whole : ReadsBack → ReadsBackWhole
 reads_back_whole law instances f ok h =
     law instances f ok
@@ -103,6 +104,7 @@ reads_back_whole law instances f ok h =
       callbacks = cs;
     })) (same_callbacks f.locks _ f.callbacks ok.bodies h)
 
+-- where filters are read back, a source says one filter at most
 pub says_one_filter : ReadsBack → SaysOneFilter
 says_one_filter law here there f g ok also same =
     some_inside (sym (law here f ok) ∙ ap read_back same ∙ law there g also)

@@ -13,17 +13,21 @@ use Rattle.flt_emit_read.specs.Front.{◌>>=◌, or_else, after, front_while, pa
 
 -- ---- steps
 
+-- what is read first is handed to what is read then
 pub then_reads : {A B : Type 0} {o : Option A} {x : A} (f : A → Option B) → o ≡ Some x → (o >>= f) ≡ f x
 then_reads f e = ap (λ o. o >>= f) e
 
+-- what is read first is taken
 pub first_reads : {A B : Type 0} {o : Option A} {x : A} (f : A → Option B) (other : Option B) → o ≡ Some x → or_else o f other ≡ f x
 first_reads f other e = ap (λ o. or_else o f other) e
 
+-- where the first can't be read, the other is
 pub other_reads : {A B : Type 0} {o : Option A} (f : A → Option B) (other : Option B) → o ≡ None → or_else o f other ≡ other
 other_reads f other e = ap (λ o. or_else o f other) e
 
 -- ---- fixed texts
 
+-- a front is taken from a text that begins with it
 pub after_again : (front rest : Text) → after front (front ++ rest) ≡ Some rest
 after_again [] rest = refl
 after_again (a ∷ front) rest = rw (eq-eqb a a refl) (after_again front rest)
@@ -48,6 +52,7 @@ front_all test [] r h s = front_stops test r s
 front_all test (b ∷ x) r h s =
     let both = and_parts (test b) (list_all test x) h in rw both.0 (ap (λ l. b ∷ l) (front_all test x r both.1 s))
 
+-- what passes a test is passed over up to where it stops
 pub past_all : (test : ℕ → Bool) (x r : Text) → list_all test x ≡ true → Stops test r → past_while test (x ++ r) ≡ r
 past_all test [] r h s = past_stops test r s
 past_all test (b ∷ x) r h s =
@@ -70,6 +75,7 @@ onto (suc k) n z h =
     chosen (n / 10 == 0) (digit_glyph false (n % 10) ∷ z) (digits_onto k 10 false (n / 10) (digit_glyph false (n % 10) ∷ z)) more
     (onto k (n / 10) (digit_glyph false (n % 10) ∷ z) more)
 
+-- a number in decimal has digits alone
 pub all_digits : (n : ℕ) → list_all is_ascii_digit (decimal n) ≡ true
 unfolding digits
 all_digits n = onto 64 n [] refl
@@ -97,6 +103,7 @@ number_again [] n some e small = absurd (omega (arith, some))
 number_again (d ∷ ds) n some e small =
     fits 0 (d ∷ ds) (omega (arith, e, small)) ∙ ap (λ m. Some m) e
 
+-- a number below 2^64 is read back where no digit follows
 pub number_reads : (n : ℕ) (r : Text) → n < 2 ^ 64 → Stops is_ascii_digit r → number_at (decimal n ++ r) ≡ Some (n, r)
 unfolding number_at
 number_reads n r small s =
@@ -105,6 +112,7 @@ number_reads n r small s =
 
 -- ---- names
 
+-- all bytes of a name may be in a word
 pub all_words : (w : Text) → is_name w ≡ true → list_all is_word w ≡ true
 all_words [] h = refl
 all_words (b ∷ z) h =
@@ -112,6 +120,7 @@ all_words (b ∷ z) h =
     let second = and_parts (not (is_ascii_digit b)) _ first.1 in
     let third = and_parts (list_all is_word z) (nat_lt (length z) 64) second.1 in rw first.0 third.0
 
+-- a name is read back where no byte of a word follows
 pub name_reads : (w r : Text) → is_name w ≡ true → Stops is_word r → name_at (w ++ r) ≡ Some (w, r)
 unfolding name_at
 name_reads w r h s =
@@ -124,10 +133,12 @@ abbrev pub pieces : List Text → Text → Text
 pieces [] r = r
 pieces (p ∷ ps) r = p ++ pieces ps r
 
+-- pieces that are joined, and what follows, are the pieces one after the other before it
 pub joined_pieces : (ps : List Text) (r : Text) → joined ps ++ r ≡ pieces ps r
 joined_pieces [] r = refl
 joined_pieces (p ∷ ps) r = append_assoc p (joined ps) r ∙ ap (λ l. p ++ l) (joined_pieces ps r)
 
+-- the blanks of an indentation are passed over
 pub past_indentation : (level : ℕ) (r : Text) → past_blanks (indentation level ++ r) ≡ past_blanks r
 past_indentation zero r = refl
 past_indentation (suc level) r = past_indentation level r

@@ -25,6 +25,7 @@ use Rattle.flt_emit_read.specs.Front.{after, past_blanks, number_at}
 use Rattle.flt_emit_read.specs.Lines.{number_name_at, context_at, removed_at, operation_at, final_at, existing_at, optional_at, address_at, atom_at, labelled, ended, ends}
 use Rattle.flt_emit_read.proofs.Fronts.{then_reads, first_reads, other_reads, after_again, all_digits, past_all, number_reads, joined_pieces}
 
+-- a number variable is read back from its name
 pub number_name_reads : (n : NumberVariable) (r : Text) → number_name_at (number_name n ++ r) ≡ Some (n, r)
 unfolding number_name_at
 number_name_reads numbers.N0 r = refl
@@ -36,6 +37,7 @@ number_name_reads numbers.N5 r = refl
 number_name_reads numbers.N6 r = refl
 number_name_reads numbers.N7 r = refl
 
+-- a context variable is read back from its name
 pub context_reads : (c : ContextVariable) (r : Text) → context_at (context_name c ++ r) ≡ Some (c, r)
 unfolding context_at
 context_reads contexts.C0 r = refl
@@ -48,6 +50,7 @@ context_reads contexts.C6 r = refl
 context_reads contexts.C7 r = refl
 context_reads contexts.Arg r = refl
 
+-- a variable for a removed operation is read back from its name
 pub removed_reads : (o : RemovedVariable) (r : Text) → removed_at (removed_name o ++ r) ≡ Some (o, r)
 unfolding removed_at
 removed_reads removed.O0 r = refl
@@ -55,6 +58,7 @@ removed_reads removed.O1 r = refl
 removed_reads removed.O2 r = refl
 removed_reads removed.O3 r = refl
 
+-- an operation variable is read back from its name
 pub operation_reads : (d : OperationVariable) (r : Text) → operation_at (operation_name d ++ r) ≡ Some (d, r)
 unfolding operation_at
 operation_reads operations.Data r = refl
@@ -71,6 +75,7 @@ operation_solid (operations.Removed removed.O1) r = refl
 operation_solid (operations.Removed removed.O2) r = refl
 operation_solid (operations.Removed removed.O3) r = refl
 
+-- a final status is read back from its name
 pub final_reads : (f : FinalStatus) (r : Text) → final_at (final_status_name f ++ r) ≡ Some (f, r)
 unfolding final_at
 final_reads finals.Success r = refl
@@ -80,11 +85,13 @@ final_reads finals.InsufficientResources r = refl
 final_reads finals.InvalidParameter r = refl
 final_reads finals.Pending r = refl
 
+-- what becomes of an existing context is read back from its name
 pub existing_reads : (e : Existing) (r : Text) → existing_at (existing_name e ++ r) ≡ Some (e, r)
 unfolding existing_at
 existing_reads Keep r = refl
 existing_reads Replace r = refl
 
+-- a context variable that may be left out is read back from its name or `NULL`
 pub optional_reads : (c : Option ContextVariable) (r : Text) → optional_at (context_or_null c ++ r) ≡ Some (c, r)
 unfolding optional_at context_at
 optional_reads None r = refl
@@ -98,6 +105,7 @@ optional_reads (Some contexts.C6) r = refl
 optional_reads (Some contexts.C7) r = refl
 optional_reads (Some contexts.Arg) r = refl
 
+-- a context variable that may be left out is read back with the address that is taken of it
 pub address_reads : (c : Option ContextVariable) (r : Text) → address_at (address c ++ (context_or_null c ++ r)) ≡ Some (c, r)
 unfolding address_at
 address_reads None r = refl
@@ -114,6 +122,7 @@ no_number numbers.N5 r = refl
 no_number numbers.N6 r = refl
 no_number numbers.N7 r = refl
 
+-- an atom is read back from its text
 pub atom_reads : (x : Atom) (r : Text) → IsAtom x → atom_at (atom_text x ++ r) ≡ Some (x, r)
 unfolding atom_at
 atom_reads (atoms.Number n) r small =
@@ -132,6 +141,7 @@ label_reads point line r =
 pub ended_reads : (end : Text) (point line : ℕ) (r : Text) → ended end point (end ++ (label point line ++ r)) ≡ Some r
 ended_reads end point line r = then_reads _ (after_again end (label point line ++ r)) ∙ label_reads point line r
 
+-- the end of a line, with its label, is read up to the next line
 pub ends_reads : {A : Type 0} (end : Text) (point line : ℕ) (x : A) (r : Text) →
     ends end point x (end ++ (label point line ++ r)) ≡ Some (x, r)
 ends_reads end point line x r =

@@ -120,6 +120,7 @@ module _ {at : Place} {locks : List Lock} where
       length y < length x → Chain at locks (reading point done outer) x t y
   one_line e f less = by_line e f less stays
 
+  -- a chain of lines that ends with its block is read as the statements of the block
   pub runs : {s t : Reading} {x y : Text} (rest : Text) → Chain at locks s x t y → step at locks t y ≡ None →
       past_end t.open_blocks at y ≡ Some rest → (n : ℕ) → length x < n → lines_at at locks n s x ≡ Some (t.done, rest)
   runs rest c e f zero less = absurd (omega (arith, less))
@@ -156,6 +157,7 @@ else_shorter level r =
 
 -- ---- folds, one layer at a time
 
+-- to fold a statement is to fold what its layer holds, and then to take the layer's step
 pub folded : (X : Type 0) (step : Statement-F X → X) (s : Statement) (y : Statement-F Statement) → roll-Statement y ≡ s →
     fold-Statement X step s ≡ step (map-Statement Statement X (fold-Statement X step) y)
 folded X step s y e = ap (fold-Statement X step) (sym e) ∙ fold-roll-Statement X step y
@@ -374,6 +376,7 @@ module _ (scope : Scope) (queue : Bool) where
     of_block : {d r : ℕ} {ss : List Statement} → IsBlock scope.locks queue d r ss → OfBlock ss
     of_block (w.block ss) = of_statements ss
 
+    -- well-formed statements are those of a block that is read back
     pub of_statements : {d r : ℕ} {ss : List Statement} → AreStatements scope.locks queue d r ss → OfBlock ss
     of_statements w.empty = empty_block
     of_statements (w.go_on {s = s} {ss = ss} one more) = more_block s ss (of_statement one) (of_statements more)

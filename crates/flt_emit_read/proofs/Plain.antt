@@ -80,6 +80,7 @@ module _ (at : Place) (locks : List Lock) (lv point line : ℕ) (r : Text) where
       ∙ then_reads _ (after_again (operation_name d) _)
       ∙ ap (by_form (completed_call point d f ∷ completed_return at point d f)) (past_indentation level z)
 
+  -- the line of a completed operation's final status begins the statements that complete it
   pub completion_starts : (level : ℕ) (d : OperationVariable) (f : FinalStatus) (z : Text) →
       line_at at locks lv point (final_text level (operation_name d) f ++ (indentation level ++ z)) ≡
       by_form (completed_call point d f ∷ completed_return at point d f) (past_blanks z)
@@ -171,6 +172,7 @@ module _ (at : Place) (locks : List Lock) (lv point line : ℕ) (r : Text) where
       line_at at locks lv point (indentation level ++ (plain_text locks c ++ rest)) ≡ Some (Whole (Call no_span c), r)
   alone_reads level c ok h = starts at locks lv point level (plain_text locks c ++ rest) ∙ plain_starts c ok h
 
+  -- a plain call is read back from its lines, but for where it stands
   pub call_reads : (level : ℕ) (c : PlainCall) → IsPlain locks c →
       line_at at locks lv point (before_call level c ++ (indentation level ++ (plain_text locks c ++ (label point line ++ r)))) ≡
       Some (Whole (Call no_span c), r)

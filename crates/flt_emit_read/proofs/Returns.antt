@@ -120,6 +120,7 @@ module _ (locks : List Lock) (lv point : ℕ) where
         ap (line_at at locks lv point) (joined_pieces (indentation level ∷ words ∷ []) (label point line ++ r))
         ∙ starts at locks lv point level _ ∙ e
 
+    -- a return is read back from its line, as its place writes it
     pub return_reads : (at : Place) (s : Option Status) →
         line_at at locks lv point (return_text at level s ++ (label point line ++ r)) ≡ Some (Whole (Return no_span (returned at s)), r)
     unfolding line_start named_line number_name_at context_at removed_at ask_forms plain_line plain_forms lock_line lock_forms settle_line

@@ -60,6 +60,7 @@ module _ (at : Place) (locks : List Lock) (lv point : ℕ) where
   abbrev pub started : Text → Front Line
   started z = line_start at locks lv point (past_blanks z)
 
+  -- a line begins after its indentation
   pub starts : (level : ℕ) (z : Text) → line_at at locks lv point (indentation level ++ z) ≡ started z
   unfolding line_at
   starts level z = ap (line_start at locks lv point) (past_indentation level z)
@@ -76,6 +77,7 @@ module _ (at : Place) (locks : List Lock) (lv point : ℕ) where
   number_starts numbers.N6 z = refl
   number_starts numbers.N7 z = refl
 
+  -- a line that begins with a context variable is one of this context
   pub context_starts : (c : ContextVariable) (z : Text) → started (context_name c ++ z) ≡ context_line point c z
   unfolding line_start named_line number_name_at context_at removed_at ask_forms plain_line plain_forms lock_line lock_forms settle_line
       settle_forms
@@ -97,6 +99,7 @@ module _ (at : Place) (locks : List Lock) (lv point : ℕ) where
   removed_starts removed.O2 z = refl
   removed_starts removed.O3 z = refl
 
+  -- a line that begins with an operation's status completes the operation
   pub completing_starts : (d : OperationVariable) (z : Text) →
       started (operation_name d ++ (codes "->IoStatus.Status = " ++ z)) ≡ completing at point d z
   unfolding removed_line line_start named_line number_name_at context_at removed_at ask_forms plain_line plain_forms lock_line lock_forms
@@ -152,6 +155,7 @@ module _ (at : Place) (locks : List Lock) (lv point : ℕ) where
         ap started (joined_pieces (removed_name o ∷ codes " = NULL;" ∷ []) (label point line ++ r))
         ∙ removed_starts o _ ∙ ends_reads [] point line _ r
 
+    -- an action is read back from its line, but for where it stands
     pub action_reads : (level : ℕ) (a : Action) → IsAction a →
         line_at at locks lv point (indentation level ++ (action_text at a ++ (label point line ++ r))) ≡ Some (Whole (Act no_span a), r)
     action_reads level a ok = starts level (action_text at a ++ (label point line ++ r)) ∙ action_starts a ok

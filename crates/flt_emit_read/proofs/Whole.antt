@@ -348,6 +348,7 @@ title_reads f h small r =
 
 -- ---- all of it
 
+-- each well-formed filter is read back from its source
 pub reads_back : ReadsBack
 unfolding read_back source declared globals
 reads_back instances f ok =

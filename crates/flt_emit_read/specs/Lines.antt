@@ -304,7 +304,8 @@ known_value turned _ = None
 -- the signs of comparisons, each with whether it asks for the opposite
 abbrev pub signs : NumberVariable → List (Text × (Bool × (Atom → Test)))
 signs n =
-    (codes " == ", (false, Equal n)) ∷ (codes " != ", (true, Equal n)) ∷ (codes " < ", (false, Less n)) ∷ (codes " >= ", (true, Less n)) ∷ []
+    (codes " == ", (false, Equal n)) ∷ (codes " != ", (true, Equal n)) ∷ (codes " < ", (false, Less n)) ∷
+    (codes " >= ", (true, Less n)) ∷ []
 
 -- a comparison
 unfoldable pub comparison_at : NumberVariable → Text → Front (Bool × Test)

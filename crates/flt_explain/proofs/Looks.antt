@@ -91,6 +91,7 @@ one_walk g i end found more h e =
     let less : end - i ≡ suc (end - (i + 1)) = omega arith in
     ap (λ fs. walked_from g (i + 1) (end - (i + 1)) fs) e ∙ ap (λ n. walked_from g i n found) (sym less)
 
+-- where all callbacks were walked, nothing more is found
 pub no_more_walks : (g : Graph) (i end : ℕ) (found : List Finding) → end ≤ i → walked_from g i (end - i) found ≡ found
 unfolding walked_from
 no_more_walks g i end found h = let none : end - i ≡ 0 = omega arith in ap (λ n. walked_from g i n found) none

@@ -67,6 +67,7 @@ within_held_by true false true = lit< tt
 within_held_by true true false = lit< tt
 within_held_by true true true = lit< tt
 
+-- the held bit of a set is within a set's bits
 pub within_held : (s : StatusSet) → bit_and (status_bits s) 2 < 8
 within_held s = within_held_by s.null s.held s.stale
 
@@ -80,6 +81,7 @@ within_not_held_by true false true = lit< tt
 within_not_held_by true true false = lit< tt
 within_not_held_by true true true = lit< tt
 
+-- what remains without the held bit is within a set's bits
 pub within_not_held : (s : StatusSet) → bit_and (status_bits s) 5 < 8
 within_not_held s = within_not_held_by s.null s.held s.stale
 
@@ -99,6 +101,7 @@ kept_no_by false true = refl
 kept_no_by true false = refl
 kept_no_by true true = refl
 
+-- the lowest bit of a draining set is what its rule leaves of it
 pub kept_no : (s : DrainingSet) → draining (bit_and (draining_bits s) 1) ≡ mended_draining s
 kept_no s = kept_no_by s.no s.yes
 
@@ -108,14 +111,17 @@ low_by false true = lit< tt
 low_by true false = lit< tt
 low_by true true = lit< tt
 
+-- the lowest bit of a mode set is within its bits
 pub within_irp : (s : ModeSet) → bit_and (mode_bits s) 1 < 4
 within_irp s = low_by s.irp s.fast
 
+-- the lowest bit of a draining set is within its bits
 pub within_no : (s : DrainingSet) → bit_and (draining_bits s) 1 < 4
 within_no s = low_by s.no s.yes
 
 -- ---- the law
 
+-- what a rule leaves of a set is what is fine for the rule
 pub exact : (r : Rule) (s : StatusSet) (t : Status) → has_status (mended r s) t ≡ (has_status s t && is_fine r t)
 exact r s Null = refl
 exact r s Held = refl
@@ -141,6 +147,7 @@ held_by true true true true false e p = p
 held_by true true true true true e p = p
 held_by n h s false z e p = absurd (cc)
 
+-- what is left for a rule that wants a status held is held
 pub held : (r : Rule) (s : StatusSet) → IsTrue (wants_held r) → IsTrue (is_possible (mended r s)) → IsTrue (is_held (mended r s))
 held r s e p = held_by s.null s.held s.stale (wants_held r) (wants_not_held r) e p
 
@@ -149,5 +156,6 @@ not_held_by false true e = refl
 not_held_by true true e = refl
 not_held_by h false e = absurd (cc)
 
+-- what is left for a rule that wants a status not held isn't held
 pub not_held : (r : Rule) (s : StatusSet) → IsTrue (wants_not_held r) → (mended r s).held ≡ false
 not_held r s e = not_held_by s.held (wants_not_held r) e

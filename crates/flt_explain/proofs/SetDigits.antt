@@ -65,6 +65,7 @@ abbrev AreUnitedDrainings : DrainingSet → DrainingSet → Type 0
 AreUnitedDrainings a b =
     (draining (bit_or (draining_bits a) (draining_bits b)) ≡ either_draining a b) × (bit_or (draining_bits a) (draining_bits b) < 4)
 
+-- the digits of two status sets joined are those of either
 pub either_statuses : (s t : StatusSet) → statuses (bit_or (status_bits s) (status_bits t)) ≡ either_status s t
 either_statuses = each_status (λ a. (t : StatusSet) → IsUnited a t)
     (each_status (IsUnited (set_of false false false)) refl refl refl refl refl refl refl refl)
@@ -83,9 +84,11 @@ united_modes = each_mode (λ a. (t : ModeSet) → AreUnitedModes a t)
     (each_mode (AreUnitedModes (modes_of true false)) (refl, lit< tt) (refl, lit< tt) (refl, lit< tt) (refl, lit< tt))
     (each_mode (AreUnitedModes (modes_of true true)) (refl, lit< tt) (refl, lit< tt) (refl, lit< tt) (refl, lit< tt))
 
+-- the digits of two mode sets joined are those of either
 pub either_modes : (s t : ModeSet) → modes (bit_or (mode_bits s) (mode_bits t)) ≡ either_mode s t
 either_modes s t = (united_modes s t).0
 
+-- the digits of two mode sets joined are below 4
 pub either_modes_low : (s t : ModeSet) → bit_or (mode_bits s) (mode_bits t) < 4
 either_modes_low s t = (united_modes s t).1
 
@@ -96,9 +99,11 @@ united_drainings = each_draining (λ a. (t : DrainingSet) → AreUnitedDrainings
     (each_draining (AreUnitedDrainings (draining_of true false)) (refl, lit< tt) (refl, lit< tt) (refl, lit< tt) (refl, lit< tt))
     (each_draining (AreUnitedDrainings (draining_of true true)) (refl, lit< tt) (refl, lit< tt) (refl, lit< tt) (refl, lit< tt))
 
+-- the digits of two draining sets joined are those of either
 pub either_drainings : (s t : DrainingSet) → draining (bit_or (draining_bits s) (draining_bits t)) ≡ either_draining s t
 either_drainings s t = (united_drainings s t).0
 
+-- the digits of two draining sets joined are below 4
 pub either_drainings_low : (s t : DrainingSet) → bit_or (draining_bits s) (draining_bits t) < 4
 either_drainings_low s t = (united_drainings s t).1
 
@@ -106,8 +111,10 @@ either_drainings_low s t = (united_drainings s t).1
 pub some_status : (s : StatusSet) → not (status_bits s == 0) ≡ is_possible s
 some_status = each_status (λ s. not (status_bits s == 0) ≡ is_possible s) refl refl refl refl refl refl refl refl
 
+-- a mode set's digit isn't 0 just where it has a mode
 pub some_mode : (s : ModeSet) → not (mode_bits s == 0) ≡ is_mode_possible s
 some_mode = each_mode (λ s. not (mode_bits s == 0) ≡ is_mode_possible s) refl refl refl refl
 
+-- a draining set's digit isn't 0 just where it has an answer
 pub some_draining : (s : DrainingSet) → not (draining_bits s == 0) ≡ is_draining_possible s
 some_draining = each_draining (λ s. not (draining_bits s == 0) ≡ is_draining_possible s) refl refl refl refl

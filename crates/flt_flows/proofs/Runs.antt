@@ -41,7 +41,8 @@ module _ (p : List Filter) where
   entered_none s = refl
 
   -- the next entry is made
-  made_next : (s after : Course) (all : List Taken) (taken : Taken) (whole : Option Run) (es : List JournalEntry) (place : ℕ) (d : JournalEntry) →
+  made_next : (s after : Course) (all : List Taken) (taken : Taken) (whole : Option Run) (es : List JournalEntry)
+      (place : ℕ) (d : JournalEntry) →
       place < length es → entry_of p s (get_or es place d) ≡ Goes taken after → ran_after all (ran_from p s (drop place es)) ≡ whole →
       ran_after (all ++ taken ∷ []) (ran_from p after (drop (place + 1) es)) ≡ whole
   made_next s after all taken whole es place d within is so =
@@ -70,7 +71,9 @@ module _ (p : List Filter) where
       ap (λ (ts : List Taken). ran_after ts (ran_from p after (drop (place + 1) es))) longer
       ∙ subst P (sym same) (λ w e. made_next s after all taken whole es place d w e so) within is_taken
 
-  pub ran_nowhere : (s after : Course) (all : List Taken) (found : Option Taken) (whole : Option Run) (lent es : List JournalEntry) (place : ℕ)
+  -- where an entry can't be made, there is no run of all
+  pub ran_nowhere : (s after : Course) (all : List Taken) (found : Option Taken) (whole : Option Run)
+      (lent es : List JournalEntry) (place : ℕ)
       (d : JournalEntry) → lent ≡ es → place < length lent → IsEntered found after (entry_of p s (get_or lent place d)) → found ≡ None →
       ran_after all (ran_from p s (drop place es)) ≡ whole → whole ≡ None
   ran_nowhere s after all found whole lent es place d same within entered is so =

@@ -47,7 +47,8 @@ module _ (f : ℕ → List Token) (count : ℕ) where
       let e : 0 + count ≡ count = omega arith in
       let more : flat_map f (range_with_len 0 (count + 1)) ≡ flat_map f (range_with_len 0 count) ++ f count =
       ap (flat_map f) (range_more 0 count ∙ ap (λ n. range_with_len 0 count ++ n ∷ []) e)
-      ∙ flat_map-append f (range_with_len 0 count) (count ∷ []) ∙ ap (λ z. flat_map f (range_with_len 0 count) ++ z) (append-nil (f count)) in
+      ∙ flat_map-append f (range_with_len 0 count) (count ∷ []) ∙
+      ap (λ z. flat_map f (range_with_len 0 count) ++ z) (append-nil (f count)) in
       rw more (both first second)
 
 -- what a writer wrote behind some bytes, and a line feed

@@ -19,6 +19,7 @@ module _ (all : List Source) (i : ℕ) (d : Source) (within : i < length all) wh
       rw (same, next) refl
 
   -- the names of the texts so far and of the next one
-  pub one_name_more : (before after : List (Bor (List ℕ))) → before ≡ names_of (take i all) → after ≡ with_name before (get_or all i d).name →
+  pub one_name_more : (before after : List (Bor (List ℕ))) → before ≡ names_of (take i all) →
+      after ≡ with_name before (get_or all i d).name →
       after ≡ names_of (take (i + 1) all)
   one_name_more before after sofar more = rw (more, sofar, one_source_more, names_push [] (take i all) (get_or all i d)) refl

@@ -6,7 +6,8 @@ use Rattle.flt_forms.specs.Rules.{AreRules, IsRule}
 use Rattle.flt_forms.specs.declared.rules.Reported.{Reported}
 
 -- one rule more
-rules_push : (rs : List Reported) (r : Reported) (tokens part : List Token) → AreRules rs tokens → IsRule r part → AreRules (rs ++ r ∷ []) (tokens ++ part)
+rules_push : (rs : List Reported) (r : Reported) (tokens part : List Token) →
+    AreRules rs tokens → IsRule r part → AreRules (rs ++ r ∷ []) (tokens ++ part)
 rules_push [] r tokens part same is = (part, [], is, refl, ap (λ ts. ts ++ part) same ∙ sym (append-nil part))
 rules_push (t ∷ rs) r tokens part (first, rest, is_first, are, both) is = (
   first,
@@ -24,5 +25,6 @@ module _ (all : List Reported) (i : ℕ) (d : Reported) (within : i < length all
       rw (same, next) refl
 
   -- the rules so far and the next one
-  pub one_more_ruled : (tokens part : List Token) → AreRules (take i all) tokens → IsRule (get_or all i d) part → AreRules (take (i + 1) all) (tokens ++ part)
+  pub one_more_ruled : (tokens part : List Token) → AreRules (take i all) tokens → IsRule (get_or all i d) part →
+      AreRules (take (i + 1) all) (tokens ++ part)
   one_more_ruled tokens part are is = rw one_rule_more (rules_push (take i all) (get_or all i d) tokens part are is)

@@ -60,7 +60,8 @@ choices c =
 -- a fault of a file, with what is said of it and how to fix it
 abbrev pub fault : List ℕ → Text → Trouble → List ℕ → List ℕ → List Token
 fault name text t message help =
-    begin_object ∷ preface (codes "fault") name ++ (place text t.spot.fault t.spot.bytes.now ++ (bytes_member (codes "found") (Some t.spot.bytes)
+    begin_object ∷ preface (codes "fault") name ++
+    (place text t.spot.fault t.spot.bytes.now ++ (bytes_member (codes "found") (Some t.spot.bytes)
     ++ (choices t.choices ++ (bytes_member (codes "meant") t.meant ++ (text_member (codes "message") message
     ++ (filled_member (codes "help") help ++ end_object ∷ []))))))
 

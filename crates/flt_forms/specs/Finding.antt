@@ -42,7 +42,8 @@ state (Some word) = string_member (codes "state") word.now
 abbrev pub path : (ℕ → Region) → Route → List Token
 path region r =
     key (codes "path") ∷ begin_object ∷ string_member (codes "kind") (kind_name r.kind)
-    ++ (like_member r.like ++ (key (codes "steps") ∷ (steps region r.stages ++ (steps_member region (codes "other") r.other ++ end_object ∷ []))))
+    ++ (like_member r.like ++
+    (key (codes "steps") ∷ (steps region r.stages ++ (steps_member region (codes "other") r.other ++ end_object ∷ []))))
 
 -- where it comes from, and how it is reached
 abbrev pub route : (ℕ → Region) → Route → List Token

@@ -33,7 +33,8 @@ pub record AreFindingLines (name : List ℕ) (run : ℕ → List Token) (text : 
   pub lines : printed ≡ finding_lines name text graph run details
 
 -- one sentence for each of these findings, in their order
-pub record AreShortLines (name : List ℕ) (text : Text) (filter : Filter) (graph : Graph) (found : List Finding) (printed : List ℕ) : Type 0 where
+pub record AreShortLines (name : List ℕ) (text : Text) (filter : Filter) (graph : Graph) (found : List Finding)
+    (printed : List ℕ) : Type 0 where
   pub details : List Detail
   pub each : AreDetails text filter graph found details
   pub lines : printed ≡ flat_map (short.finding_line name) details
@@ -50,7 +51,8 @@ abbrev pub warning_lines : Style → List ℕ → List WarningDetail → List �
 warning_lines Object name warned = flat_map (warning_line name) warned
 warning_lines Sentence name warned = flat_map (short.warning_line name) warned
 
--- what is printed of a text with its warnings last, or with the line of one in which there is nothing, and its status, which comes of the same findings and warnings
+-- what is printed of a text with its warnings last, or with the line of one in which there is nothing, and its status,
+-- which comes of the same findings and warnings
 pub record IsPart (style : Style) (options : WarningOptions) (run : ℕ → List Token) (s : Source) (printed : List ℕ) (status : ℕ)
     : Type 0 where
   pub judged : Judged

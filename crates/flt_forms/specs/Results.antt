@@ -42,7 +42,8 @@ reference r = text_member (codes "uri") r.uri ++ base r.is_absolute
 -- a file, by its name and its number
 abbrev pub artifact_location : File → List Token
 artifact_location file =
-    key (codes "artifactLocation") ∷ begin_object ∷ (reference file.reference ++ (number_member (codes "index") file.number ++ end_object ∷ []))
+    key (codes "artifactLocation") ∷ begin_object ∷
+    (reference file.reference ++ (number_member (codes "index") file.number ++ end_object ∷ []))
 
 -- where something in a text begins and ends, from 1; the last column is one behind its last byte
 abbrev pub whole_region : List ℕ → Text → Region → List Token
@@ -68,7 +69,8 @@ marked_regions text statement (Some operand) =
 
 abbrev pub marked_physical : File → Marks → List Token
 marked_physical file m =
-    key (codes "physicalLocation") ∷ begin_object ∷ (artifact_location file ++ (marked_regions file.lines m.statement m.operand ++ end_object ∷ []))
+    key (codes "physicalLocation") ∷ begin_object ∷
+    (artifact_location file ++ (marked_regions file.lines m.statement m.operand ++ end_object ∷ []))
 
 -- the same with words
 abbrev pub marked_location : File → Marks → List ℕ → List Token
@@ -196,7 +198,8 @@ fault_region text at found =
 
 abbrev pub fault_physical : File → SyntaxFault → List ℕ → List Token
 fault_physical file f found =
-    key (codes "physicalLocation") ∷ begin_object ∷ (artifact_location file ++ (fault_region file.lines (place_of f) found ++ end_object ∷ []))
+    key (codes "physicalLocation") ∷ begin_object ∷
+    (artifact_location file ++ (fault_region file.lines (place_of f) found ++ end_object ∷ []))
 
 abbrev pub fault_location : File → SyntaxFault → List ℕ → List ℕ → List Token
 fault_location file f found words = begin_object ∷ (fault_physical file f found ++ (message words ++ end_object ∷ []))

@@ -551,7 +551,8 @@ fn put_result_members(
     detail: &Detail,
     print: &str,
 ) -> Result<(), AllocError>
-    ensures { Adds result writer.old writer.new (spec.result_members file.now (regions points.now) print.now (flow_of own.entry) detail.now) }
+    ensures { Adds result writer.old writer.new
+        (spec.result_members file.now (regions points.now) print.now (flow_of own.entry) detail.now) }
 {
     put_of_rule(alloc, writer, Reported::Broken(detail.finding.rule))?;
     put_level(writer)?;

@@ -130,7 +130,8 @@ pub(crate) fn put_short_lines(
     found: &[Finding],
 ) -> Result<Vec<u8>, AllocError>
     ensures { IfOk result (λ v. (printed : List ℕ)
-        × AreShortLines source.entry.name.now source.entry.text.now tree.now.filter graph.now found.now printed × (v.items ≡ out.items ++ printed)) }
+        × AreShortLines source.entry.name.now source.entry.text.now tree.now.filter graph.now found.now printed ×
+        (v.items ≡ out.items ++ printed)) }
 {
     let details = details(alloc, source.text, tree, graph, found)?;
     put_findings(alloc, out, source.name, details.as_slice())

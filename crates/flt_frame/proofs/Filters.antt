@@ -73,6 +73,7 @@ pre_agrees kind (head.DeferredPre name) = refl
 pre_agrees kind (head.DeferredPost name) = refl
 pre_agrees kind (head.Generic name) = refl
 
+-- a callback for what comes after an operation is one by its place just where it is one by its head
 pub post_agrees : (kind : Operation) (h : Head) → is_event (place.Post kind) (head_place h) ≡ is_post_of kind h
 post_agrees kind (head.Pre own) = refl
 post_agrees kind (head.Post own) = refl
@@ -81,6 +82,7 @@ post_agrees kind (head.DeferredPre name) = refl
 post_agrees kind (head.DeferredPost name) = refl
 post_agrees kind (head.Generic name) = refl
 
+-- a callback for cancelled operations is one by its place just where it is one by its head
 pub canceled_agrees : (h : Head) → is_event place.Canceled (head_place h) ≡ is_canceled h
 canceled_agrees (head.Pre own) = refl
 canceled_agrees (head.Post own) = refl

@@ -27,6 +27,7 @@ turn_decides t u =
     (λ (e : t ≡ u). (ap (λ (x : Turn). x.point) e, ap (λ (x : Turn). x.left) e))
     (Decides-and (t.point == u.point) (t.left == u.left) (Decides-eqb t.point u.point) (Decides-eqb t.left u.left))
 
+-- turns compared one by one are compared as lists
 pub turns_decide : (ts us : List Turn) (r : Bool) → r ≡ pointwise same_turn ts us → Decides r (ts ≡ us)
 turns_decide ts us r e = slice_eq-Decides turn_decides ts us r e
 
@@ -62,6 +63,7 @@ held_decides h k =
     (λ (e : h ≡ k). (ap (λ (x : HeldLock). x.lock) e, ap (λ (x : HeldLock). x.access) e))
     (Decides-and (same_lock h.lock k.lock) (same_access h.access k.access) (lock_decides h.lock k.lock) (access_decides h.access k.access))
 
+-- held locks compared one by one are compared as lists
 pub locks_decide : (hs ks : List HeldLock) (r : Bool) → r ≡ pointwise same_held hs ks → Decides r (hs ≡ ks)
 locks_decide hs ks r e = slice_eq-Decides held_decides hs ks r e
 
@@ -74,9 +76,11 @@ option_decides (Some x) None = (λ e. absurd (cc), λ e. absurd (cc))
 option_decides (Some x) (Some y) =
     Decides-like (x == y) (λ (e : x ≡ y). ap (λ (n : ℕ). Some n) e) (λ (e : Some x ≡ Some y). same_Some x y e) (Decides-eqb x y)
 
+-- numbers compared one by one are compared as lists
 pub numbers_decide : (xs ys : List ℕ) (r : Bool) → r ≡ pointwise eqb xs ys → Decides r (xs ≡ ys)
 numbers_decide xs ys r e = slice_eq-Decides Decides-eqb xs ys r e
 
+-- options compared one by one are compared as lists
 pub options_decide : (xs ys : List (Option ℕ)) (r : Bool) → r ≡ pointwise (option_eq eqb) xs ys → Decides r (xs ≡ ys)
 options_decide xs ys r e = slice_eq-Decides option_decides xs ys r e
 

@@ -101,6 +101,7 @@ header_too_long old new at line said high before =
 
 -- ---- the body
 
+-- a body of the length that was told is read whole, and what follows stays
 pub body_with : (body more : Text) → body_of (length body) (body ++ more) ≡ whole body more
 body_with body more =
     let long : length body ≤ length (body ++ more) = omega (arith, length-append body more) in

@@ -26,6 +26,7 @@ added_layer all s layer f0 f1 f3 after o h1 h3 =
     ++ (point_of all (out-Statement s) (length f0) after ∷ inner_code all l (length f0) after)) (sym o) ∙
     ap (λ (l : List Point). f0 ++ l) (sym (out_code all s (length f0) after)))))
 
+-- what is added for an `if`, its point and then its two blocks, are its points
 pub added_if : (all : List Callback) (s : Statement) (l : Span) (a : Condition) (g r : List Statement) (f0 f1 f2 f3 : List Point)
     (after : ℕ) → s ≡ tree.If l a g r → f1 ≡ f0 ++ point_of all (out-Statement s) (length f0) after ∷ [] →
     f2 ≡ f1 ++ block_code all g (length f1) after → f3 ≡ f2 ++ block_code all r (length f2) after →
@@ -41,6 +42,7 @@ added_if all s l a g r f0 f1 f2 f3 after is h1 h2 h3 =
     (k3 ∙ (ap (λ (x : List Point). x ++ block_code all r (length f0 + 1 + points g) after) k2
     ∙ append_assoc f1 (block_code all g (length f0 + 1) after) (block_code all r (length f0 + 1 + points g) after)))
 
+-- what is added for a `repeat`, its point and then its body, are its points
 pub added_repeat : (all : List Callback) (s : Statement) (l : Span) (k : ℕ) (b : List Statement) (f0 f1 f3 : List Point) (at after : ℕ) →
     at ≡ length f0 → s ≡ tree.Repeat l k b → f1 ≡ f0 ++ point_of all (out-Statement s) (length f0) after ∷ [] →
     f3 ≡ f1 ++ block_code all b (length f1) at → f3 ≡ f0 ++ statement_code all s (length f0) after
@@ -67,6 +69,7 @@ added_more all block i s f0 f1 next after below is hnext h1 =
     ap (λ (l : List Statement). f0 ++ block_code all l (length f0) after)
     (sym (drop_more block i s below ∙ ap (λ (x : Statement). x ∷ drop (i + 1) block) (sym is))))))
 
+-- where all statements of a block were added, its points were
 pub added_all : (all : List Callback) (block : List Statement) (i : ℕ) (f0 f1 : List Point) (at after : ℕ) → length block ≤ i →
     f1 ++ block_code all (drop i block) (length f1) after ≡ f0 ++ block_code all block at after → f1 ≡ f0 ++ block_code all block at after
 added_all all block i f0 f1 at after past h =
@@ -83,19 +86,23 @@ entry_some : (l : List Statement) (at after : ℕ) → 0 < length l → entry l 
 entry_some [] at after h = absurd (omega (arith, h))
 entry_some (s ∷ l) at after h = refl
 
+-- after the last statement of a block comes what comes after the block
 pub entry_last : (block : List Statement) (i at after : ℕ) → length block ≡ i + 1 → entry (drop (i + 1) block) at after ≡ after
 entry_last block i at after e = entry_none (drop (i + 1) block) at after (omega (arith, length-drop (i + 1) block))
 
+-- after a statement that isn't the last comes the next one
 pub entry_next : (block : List Statement) (i at after : ℕ) → i + 1 < length block → entry (drop (i + 1) block) at after ≡ at
 entry_next block i at after h = entry_some (drop (i + 1) block) at after (omega (arith, length-drop (i + 1) block))
 
 -- ---- how many
 
+-- the points of a block from a statement on are those of the statement and of the rest
 pub points_more : (block : List Statement) (i : ℕ) (s : Statement) → i < length block → s ≡ get_or block i s →
     points (drop i block) ≡ points_of s + points (drop (i + 1) block)
 points_more block i s below is = ap points (drop_more block i s below ∙ ap (λ (x : Statement). x ∷ drop (i + 1) block) (sym is))
     ∙ points_cons s (drop (i + 1) block)
 
+-- a `repeat` has one point, and those of its body
 pub points_repeat : (s : Statement) (l : Span) (k : ℕ) (b : List Statement) → s ≡ tree.Repeat l k b → points_of s ≡ 1 + points b
 points_repeat s l k b is = out_points s
     ∙ ap (λ (x : Statement-F Statement). points_step (map-Statement Statement ℕ points_of x)) (ap out-Statement is ∙ outs-Repeat l k b)
@@ -115,6 +122,7 @@ layer_plain all (Statement-F.Return span status) at after hi hr = record { inner
 layer_plain all (Statement-F.If span asked granted refused) at after hi hr = absurd (hi span asked granted refused refl)
 layer_plain all (Statement-F.Repeat span turns block) at after hi hr = absurd (hr span turns block refl)
 
+-- a statement that neither branches nor repeats is plain
 pub is_plain : (all : List Callback) (s : Statement) (at after : ℕ) →
     ((l : Span) (a : Condition) (g r : List Statement) → s ≡ tree.If l a g r → ⊥) →
     ((l : Span) (k : ℕ) (b : List Statement) → s ≡ tree.Repeat l k b → ⊥) → IsPlain all (out-Statement s) at after
@@ -123,9 +131,11 @@ is_plain all s at after hi hr =
     (λ l a g r e. hi l a g r (sym (roll-out-Statement s) ∙ (ap roll-Statement e ∙ rolls-If l a g r)))
     (λ l k b e. hr l k b (sym (roll-out-Statement s) ∙ (ap roll-Statement e ∙ rolls-Repeat l k b)))
 
+-- a plain statement has one point
 pub points_plain : (all : List Callback) (s : Statement) (at after : ℕ) → IsPlain all (out-Statement s) at after → points_of s ≡ 1
 points_plain all s at after h = out_points s ∙ h.one
 
+-- what is added for a plain statement, its point, are its points
 pub added_plain : (all : List Callback) (s : Statement) (f0 f1 : List Point) (after : ℕ) →
     IsPlain all (out-Statement s) (length f0) after → f1 ≡ f0 ++ point_of all (out-Statement s) (length f0) after ∷ [] →
     f1 ≡ f0 ++ statement_code all s (length f0) after

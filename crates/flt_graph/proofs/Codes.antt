@@ -14,6 +14,7 @@ use Rattle.flt_graph.specs.declared.graph.Point.{Point}
 
 -- ---- blocks
 
+-- an empty block has no points
 pub block_nil : (all : List Callback) (at after : ℕ) → block_code all [] at after ≡ []
 unfolding block_code
 block_nil all at after = refl
@@ -22,6 +23,7 @@ entry_map : {A : Type 0} {B : Type 0} (f : A → B) (xs : List A) (at after : �
 entry_map f [] at after = refl
 entry_map f (x ∷ xs) at after = refl
 
+-- the points of a block are those of its first statement, and those of the rest behind them
 pub block_cons : (all : List Callback) (s : Statement) (rest : List Statement) (at after : ℕ) →
     block_code all (s ∷ rest) at after ≡
     statement_code all s at (entry rest (at + points_of s) after) ++ block_code all rest (at + points_of s) after
@@ -86,6 +88,7 @@ out_code all s at after =
 
 -- ---- lengths
 
+-- a block has as many points as its first statement and the rest
 pub points_cons : (s : Statement) (rest : List Statement) → points (s ∷ rest) ≡ points_of s + points rest
 points_cons s rest = sum-map points_of (s ∷ rest)
     ∙ (sum_by-cons points_of s rest ∙ ap (λ n. points_of s + n) (sym (sum-map points_of rest)))
@@ -138,6 +141,7 @@ code_length all s =
     (made_length all (map-Statement ((s : Statement) × HasLength all s) Statement (λ z. z.0) y) (layer_length all y)))
     s
 
+-- a block's points are as many as are counted
 pub block_length : (all : List Callback) (block : List Statement) (at after : ℕ) → length (block_code all block at after) ≡ points block
 block_length all [] at after = ap length (block_nil all at after)
 block_length all (s ∷ rest) at after =
@@ -148,5 +152,6 @@ block_length all (s ∷ rest) at after =
       block_length all rest (at + points_of s) after,
     ) (sym (points_cons s rest))
 
+-- a statement's points are counted by its layer
 pub out_points : (s : Statement) → points_of s ≡ points_step (map-Statement Statement ℕ points_of (out-Statement s))
 out_points s = fold_out-Statement ℕ points_step s

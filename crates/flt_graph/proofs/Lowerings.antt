@@ -14,6 +14,7 @@ graphs_push all (x ∷ cs) (y ∷ gs) c g made one = (made.0, graphs_push all cs
 graphs_push all [] (y ∷ gs) c g made one = absurd made
 graphs_push all (x ∷ cs) [] c g made one = absurd made
 
+-- one more callback has its graph
 pub graphs_more : (all cs : List Callback) (gs : List CallbackGraph) (i : ℕ) (c : Callback) (g : CallbackGraph) →
     AreGraphsOf all (take i cs) gs → i < length cs → c ≡ get_or cs i c → IsGraphOf all c g →
     AreGraphsOf all (take (i + 1) cs) (gs ++ g ∷ [])

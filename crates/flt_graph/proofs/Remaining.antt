@@ -40,6 +40,7 @@ stands block i = stands_of block i (unwind i)
 
 -- ---- what is there
 
+-- a callback's body is at point 0
 pub first_of_body : (body : List Statement) → Stands body 0 body
 first_of_body [] = end
 first_of_body (s ∷ rest) = subst (λ (l : List Statement). Stands (s ∷ rest) 0 (s ∷ l)) (append-nil rest) (before top)
@@ -51,6 +52,7 @@ left_of_self (Statement-F.Return span status) = refl
 left_of_self (Statement-F.If span asked granted refused) = refl
 left_of_self (Statement-F.Repeat span turns block) = (turns, (omega arith, refl))
 
+-- a list that is at a point begins with the point's instruction
 pub first_there : (all : List Callback) (c : Callback) (g : CallbackGraph) (p : ℕ) (list : List Statement) → IsGraphOf all c g →
     Stands c.body p list → IsFirst all (end_of c) p list (point_in g p)
 first_there all c g p list made end = made.end
@@ -106,6 +108,7 @@ at_end : (body : List Statement) (p : Option ℕ) → StandsAt body p None
 at_end body None = tt
 at_end body (Some p) = tt
 
+-- what remains after a first statement is at its successor
 pub next_there : (all : List Callback) (c : Callback) (g : CallbackGraph) (p : ℕ) (list : List Statement) (outcome : Bool) →
     IsGraphOf all c g → Stands c.body p list →
     StandsAt c.body (successor (point_in g p).instruction outcome) (remaining list outcome)
@@ -132,9 +135,11 @@ graph_at all (x ∷ cs) (g ∷ gs) (suc k) c made e = graph_at all cs gs k c mad
 graph_at all [] (g ∷ gs) k c made e = absurd made
 graph_at all (x ∷ cs) [] k c made e = absurd made
 
+-- a graph has as many callbacks as its filter
 pub callbacks_counted : (f : Filter) (g : Graph) → IsLowered f g → length g.callbacks ≡ length f.callbacks
 callbacks_counted f g made = graphs_count f.callbacks f.callbacks g.callbacks made.callbacks
 
+-- the graph of each callback is the one with its number
 pub callbacks_there : (f : Filter) (g : Graph) (k : ℕ) (c : Callback) → IsLowered f g → slice_get f.callbacks k ≡ Some c →
     IsGraphOf f.callbacks c (callback_at g k)
 callbacks_there f g k c made e = graph_at f.callbacks f.callbacks g.callbacks k c made.callbacks e

@@ -98,7 +98,8 @@ choice_with n turns granted refused follows all (condition.Succeeds c) true u v 
 choice_with n turns granted refused follows all (condition.Succeeds c) false u v = v
 
 -- a `repeat` with so many turns left, where the turns round it are these
-turns_with : {body rest follows block : List Statement} {s : Statement} {span : Span} {text n q : ℕ} (left : ℕ) (outcome : Bool) (turns : List Turn)
+turns_with : {body rest follows block : List Statement} {s : Statement} {span : Span} {text n q : ℕ} (left : ℕ)
+    (outcome : Bool) (turns : List Turn)
     (i : In body (s ∷ rest) n q follows) → AreBegun i → out-Statement s ≡ Statement-F.Repeat span text block → left ≤ text →
     left_at n text turns ≡ left → turns_round n turns ≡ turns_in i →
     StandsAtWith body (successor (instruction.Repeat text (entry block (n + 1) n) (entry rest (n + points_of s) q)) outcome)

@@ -1,4 +1,5 @@
--- Each edge of a text's graph leads onwards, or to a `repeat`: a block is followed by a later point, or by the `repeat` that it is the body of.
+-- Each edge of a text's graph leads onwards, or to a `repeat`: a block is followed by a later point,
+-- or by the `repeat` that it is the body of.
 use Rattle.std.proofs.Common.{◌≡◌, ℕ, zero, suc, ◌+◌, ◌<◌, ◌≤◌, Bool, true, false, List, [], ◌∷◌, Option, Some, None, ap, sym, subst, refl, ◌∙◌, arith, inl, inr}
 use Rattle.std.specs.Prelude.{◌⊎◌, ◌==◌, if◌then◌else◌}
 use Rattle.std.proofs.lemmas.Bool.{eqb-true, cases_lt}
@@ -114,7 +115,8 @@ two_rise g n a b to r s h = elim (one_of (edge a to) (edge b to) h) [
   | inr k ↦ along g n b to (edge_hits b to k) s
 ]
 
-call_rises : (g : CallbackGraph) (n a b to : ℕ) (e : Option Effects) → Rises g n a → Rises g n b → 0 < edge a to + failing e b to → Rises g n to
+call_rises : (g : CallbackGraph) (n a b to : ℕ) (e : Option Effects) →
+    Rises g n a → Rises g n b → 0 < edge a to + failing e b to → Rises g n to
 call_rises g n a b to e r s h = elim (one_of (edge a to) (failing e b to) h) [
   | inl k ↦ along g n a to (edge_hits a to k) r
   | inr k ↦ along g n b to (failing_hits e b to k) s

@@ -58,10 +58,12 @@ pub data In (body : List Statement) : List Statement → ℕ → ℕ → List St
   later : {s : Statement} {rest : List Statement} {n q : ℕ} {follows : List Statement} →
       In body (s ∷ rest) n q follows → In body rest (n + points_of s) q follows
   -- the blocks of an `if`, each followed by what stands behind the `if`
-  granted_block : {s : Statement} {rest yes_block no_block : List Statement} {asked : Condition} {span : Span} {n q : ℕ} {follows : List Statement} →
+  granted_block : {s : Statement} {rest yes_block no_block : List Statement} {asked : Condition} {span : Span} {n q : ℕ}
+      {follows : List Statement} →
       In body (s ∷ rest) n q follows → out-Statement s ≡ Statement-F.If span asked yes_block no_block →
       In body yes_block (n + 1) (entry rest (n + points_of s) q) (rest ++ follows)
-  refused_block : {s : Statement} {rest yes_block no_block : List Statement} {asked : Condition} {span : Span} {n q : ℕ} {follows : List Statement} →
+  refused_block : {s : Statement} {rest yes_block no_block : List Statement} {asked : Condition} {span : Span} {n q : ℕ}
+      {follows : List Statement} →
       In body (s ∷ rest) n q follows → out-Statement s ≡ Statement-F.If span asked yes_block no_block →
       In body no_block (n + 1 + points yes_block) (entry rest (n + points_of s) q) (rest ++ follows)
   -- the body of a `repeat`, followed by the `repeat`

@@ -126,7 +126,8 @@ fn add_block(
 ) -> Result<(), AllocError>
     requires { length found.old.items + points block.now ≤ max_points }
     ensures count { OnOk result (length found.new.items ≡ length found.old.items + points block.now) }
-    ensures points { OnOk result (found.new.items ≡ found.old.items ++ code.block_code callbacks.now block.now (length found.old.items) after) }
+    ensures points { OnOk result
+        (found.new.items ≡ found.old.items ++ code.block_code callbacks.now block.now (length found.old.items) after) }
 {
     let mut left = block.len();
     for statement in block {
@@ -151,7 +152,8 @@ fn add_statement(
 ) -> Result<(), AllocError>
     requires { length found.old.items + points_of statement.now ≤ max_points }
     ensures count { OnOk result (length found.new.items ≡ length found.old.items + points_of statement.now) }
-    ensures points { OnOk result (found.new.items ≡ found.old.items ++ code.statement_code callbacks.now statement.now (length found.old.items) after) }
+    ensures points { OnOk result
+        (found.new.items ≡ found.old.items ++ code.statement_code callbacks.now statement.now (length found.old.items) after) }
 {
     let at = found.len();
     push_statement(callbacks, found, statement, after)?;

@@ -30,7 +30,8 @@ apart (m ∷ word) (c ∷ z) a b ne =
     [ true ↦ h | false ↦ omega arith ]
 
 -- bytes stand in a text as often as they do there with one of two letters behind them or the other, or oftener
-pub shared : (word text : Text) (a b : ℕ) → a ≢ b → occurrences (word ++ a ∷ []) text + occurrences (word ++ b ∷ []) text ≤ occurrences word text
+pub shared : (word text : Text) (a b : ℕ) → a ≢ b →
+    occurrences (word ++ a ∷ []) text + occurrences (word ++ b ∷ []) text ≤ occurrences word text
 shared word [] a b ne = omega arith
 shared word (c ∷ z) a b ne = omega (arith, apart word (c ∷ z) a b ne, shared word z a b ne)
 
@@ -91,9 +92,11 @@ gets_rarer text name longer h some r =
     record {
       begun = longer_begun name longer r.letter h.begun r.spelled r.longer_by;
       short = omega (arith, few_letters (length name) (occurrences name text) h.rare some);
-      rare = rw (n, weight (length name)) (doubled (2 ^ length name) (occurrences name text) (occurrences longer text) (2 ^ 17) r.rarer h.rare);
+      rare = rw (n, weight (length name))
+          (doubled (2 ^ length name) (occurrences name text) (occurrences longer text) (2 ^ 17) r.rarer h.rare);
     }
 
+-- a longer name that is rarer occurs less often
 pub is_rarer : (text name longer : Text) → 0 < occurrences name text → IsRarer text name longer →
     occurrences longer text < occurrences name text
 is_rarer text name longer some r = omega (arith, r.rarer)
@@ -107,7 +110,8 @@ named rest words few = rw words (grind (arith, nat_tests))
 no_word : (rest : Text) → lookup vocabulary (95 ∷ rest) ≡ k.Name
 no_word rest = refl
 
-new_at : (text rest : Text) → list_all is_word rest ≡ true → length (95 ∷ rest) ≤ 18 → occurrences (95 ∷ rest) text ≡ 0 → IsNew text (95 ∷ rest)
+new_at : (text rest : Text) → list_all is_word rest ≡ true → length (95 ∷ rest) ≤ 18 →
+    occurrences (95 ∷ rest) text ≡ 0 → IsNew text (95 ∷ rest)
 new_at text rest words short none = record {
   named = named rest words (omega arith);
   no_word = no_word rest;

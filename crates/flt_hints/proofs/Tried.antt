@@ -42,7 +42,8 @@ module _ (told : TheFaultIsTold) (gap : Gap) (word : Text) where
   may_tried h = before (filter_of (tried gap word)) refl h
 
   -- where the text with it there fails, that says whether it may
-  pub tried_fails : (f : SyntaxFault) → Fails (tried gap word) f → (b : Bool) → b ≡ is_past (line_behind gap.before) f → b ≡ may_stand gap word
+  pub tried_fails : (f : SyntaxFault) → Fails (tried gap word) f → (b : Bool) →
+      b ≡ is_past (line_behind gap.before) f → b ≡ may_stand gap word
   unfolding may_stand
   tried_fails f h b same = same ∙ sym (ap (reads_on (line_behind gap.before)) ((told (tried gap word) f).1 h))
 

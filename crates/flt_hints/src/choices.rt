@@ -72,7 +72,8 @@ fn add_possible(
 
 /// The words and symbols of the language that are legal at a place.
 fn expected_in(alloc: Global, gap: Gap<'_>) -> Result<Items<Expected>, AllocError>
-    ensures { IfOk result (λ es. map spec.entry_of es ≡ spec.possible (gap_of gap.entry) vocabulary ++ spec.possible (gap_of gap.entry) spec.symbols) }
+    ensures { IfOk result
+        (λ es. map spec.entry_of es ≡ spec.possible (gap_of gap.entry) vocabulary ++ spec.possible (gap_of gap.entry) spec.symbols) }
 {
     let mut found = Items::new(alloc);
     add_possible(alloc, gap, keywords(), &mut found)?;

@@ -23,7 +23,8 @@ unfoldable pub opening : Text → Text → Text
 opening style summary =
     codes "<!DOCTYPE html>\n<html lang=\"en\"><head><meta charset=\"utf-8\"><title>" ++ (escaped summary
     ++ (codes " - fltstack explain</title><meta name=\"viewport\" content=\"width=device-width\"><style>" ++ (style
-    ++ (codes "</style></head><body><header><h1>fltstack explain</h1><p><a href=\"#reports\">" ++ (escaped summary ++ codes "</a></p><nav>")))))
+    ++ (codes "</style></head><body><header><h1>fltstack explain</h1><p><a href=\"#reports\">" ++
+    (escaped summary ++ codes "</a></p><nav>")))))
 
 -- the lines of what is printed, without their ends
 abbrev pub lines_in : Text → List Text

@@ -84,6 +84,7 @@ visits_carries g anchor callback point cells e =
 
 -- ---- all statements
 
+-- what is below the number after another one is that one, or below it
 pub equal_or_below : (p n : ℕ) → p < suc n → (p ≡ n) ⊎ (p < n)
 equal_or_below p n less = ⊎_elim (λ h. inr h) (λ h. inl (omega (arith, h, less))) (cases_lt p n)
 
@@ -125,6 +126,7 @@ points_past cs callback h = ap (λ (c : CallbackGraph). length c.points) (get_or
 no_points : (g : Graph) (callback p : ℕ) → p < points_at g callback → points_at g callback ≡ 0 → callback < length g.callbacks
 no_points g callback p there e = absurd (omega (arith, there, e))
 
+-- a callback that has a point is one of the graph
 pub is_callback : (g : Graph) (callback p : ℕ) → p < points_at g callback → callback < length g.callbacks
 is_callback g callback p there =
     ⊎_elim (λ h. h) (λ h. no_points g callback p there (points_past g.callbacks callback h)) (cases_lt callback (length g.callbacks))
@@ -176,6 +178,7 @@ complete_by g anchor cells slot at narrow sized e may =
     (notes_nothing g anchor at may.variable cells may.sets
     (visits_notes g anchor at.callback at.point cells (still_at g anchor cells at narrow sized e may.there)))
 
+-- where no point changes a cell, no cell is missing
 pub complete : (g : Graph) (anchor : Anchor) (cells : Cells) → IsNarrow g → length cells ≡ cells_for (length g.callbacks) →
     changes g anchor cells ≡ false → IsComplete g anchor cells
 unfolding IsComplete
@@ -187,9 +190,11 @@ pub blank_just : (g : Graph) (anchor : Anchor) (n : ℕ) → IsJust g anchor (re
 unfolding IsJust
 blank_just g anchor n = λ slot at is. absurd (true≢false (ap is_none (sym (blank_cells n slot) ∙ is)))
 
+-- at first there are as many cells as callbacks need
 pub sized_first : (n m : ℕ) (cells : Cells) → n ≡ m → cells ≡ replicate (cells_for n) None → length cells ≡ cells_for m
 sized_first n m cells e is = ap length is ∙ length-replicate (cells_for n) None ∙ ap cells_for e
 
+-- at first no cell has anything
 pub just_first : (g : Graph) (anchor : Anchor) (n : ℕ) (cells : Cells) → cells ≡ replicate (cells_for n) None → IsJust g anchor cells
 just_first g anchor n cells is = subst (λ (l : Cells). IsJust g anchor l) (sym is) (blank_just g anchor (cells_for n))
 
@@ -201,12 +206,15 @@ module _ (g : Graph) (anchor : Anchor) (old new : Cells) (more : Bool) (fits : I
   moves : Moves g anchor old (round_of g anchor old) (changes g anchor old)
   moves = round_moves g anchor old fits sized
 
+  -- a round keeps how many cells there are
   pub sized_next : length new ≡ cells_for (length g.callbacks)
   sized_next = ap length went ∙ moves.sized ∙ sized
 
+  -- what cells have after a round may set the context that is there
   pub just_next : IsJust g anchor old → IsJust g anchor new
   just_next j = subst (λ (l : Cells). IsJust g anchor l) (sym went) (moves.just j)
 
+  -- a round without a change leaves nothing to be changed
   pub closed_next : more ≡ false → changes g anchor new ≡ false
   closed_next e =
       let no : changes g anchor old ≡ false = sym told ∙ e in
@@ -222,5 +230,6 @@ module _ (g : Graph) (anchor : Anchor) (old new : Cells) (more : Bool) (fits : I
       subst (λ x. count_empty new + (if x then 1 else 0) < count_empty old + 1) (sym e)
       (subst (λ (l : Cells). count_empty l + 0 < count_empty old + 1) (sym same) (omega arith))
 
+  -- a round leaves fewer cells empty, or changes nothing more
   pub falls_next : count_empty new + (if more then 1 else 0) < count_empty old + 1
   falls_next = falls_by more refl

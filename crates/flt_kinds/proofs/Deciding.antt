@@ -42,6 +42,7 @@ held_apart g listed _ k (of_stream {site = site} {instance = b} {slot = slot} gi
 held_apart g listed _ k (of_instance {site = site} {stream = a} {slot = slot} given stream) =
     not_both (sym (k.given site a slot Instance Stream given stream))
 
+-- a context that is mixed has no kinds
 pub exclusive : (g : Graph) (listed : List Spot) (m : Mixed) → AreKinds g listed → IsMixed g m → ⊥
 unfolding AreKinds
 exclusive g listed m k x = held_apart g listed m k x
@@ -294,9 +295,11 @@ module _ (g : Graph) (streams instances : Cells) (s : IsSettled g Stream streams
       begun_pure site at needed.at slot (none_at site e begun.there) begun may
       (subst (λ x. MaySet g Instance x needed.at) (begun_once g site needed.slot slot needed.begun begun) needed.sets)
 
+  -- what is found mixed in the cells of both kinds is mixed
   pub mixed_is : (m : Mixed) → mixed_in g streams instances (length g.callbacks) ≡ Some m → IsMixed g m
   mixed_is m e = in_is (length g.callbacks) m e
 
+  -- where nothing is found mixed, each context has its kind
   pub kinds_are : mixed_in g streams instances (length g.callbacks) ≡ None → AreKinds g (needed_in g instances (length g.callbacks))
   unfolding AreKinds
   kinds_are e = record {

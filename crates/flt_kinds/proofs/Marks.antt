@@ -124,6 +124,7 @@ unmarked_by : (cells : Cells) (s : Slot) (at : Spot) (b : Bool) → b ≡ false 
 unmarked_by cells s at false h = refl
 unmarked_by cells s at true h = absurd (true≢false h)
 
+-- a cell that is filled isn't filled again
 pub unmarked : (cells : Cells) (s : Slot) (at : Spot) → is_none (cell cells s) ≡ false → marked cells s at ≡ cells
 unfolding marked
 unmarked cells s at h = unmarked_by cells s at (is_none (cell cells s)) h

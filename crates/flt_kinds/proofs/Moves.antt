@@ -138,6 +138,7 @@ unfolding noted notes
 note_moves g anchor callbacks callback point cells h k sized there =
     note_by g anchor callbacks callback point cells (set_at g anchor callback point) h k sized there refl
 
+-- to visit a point keeps what cells are for, and fills one where it changes anything
 pub visit_moves : (g : Graph) (anchor : Anchor) (callbacks callback point : ℕ) (cells : Cells) →
     callback < callbacks → point < 513 → length cells ≡ cells_for callbacks → IsThere g (spot callback point) →
     Moves g anchor cells (visited g anchor callback point cells) (visits g anchor callback point cells)
@@ -153,6 +154,7 @@ visit_moves g anchor callbacks callback point cells h k sized there =
 
 -- ---- all statements
 
+-- to visit a callback's points keeps what cells are for, and fills some where it changes anything
 pub points_move : (g : Graph) (anchor : Anchor) (callbacks callback n : ℕ) (cells : Cells) → IsNarrow g → callback < callbacks →
     n ≤ points_at g callback → length cells ≡ cells_for callbacks →
     Moves g anchor cells (points_visited g anchor callback n cells) (points_change g anchor callback n cells)

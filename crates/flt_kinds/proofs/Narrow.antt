@@ -29,5 +29,6 @@ narrow_in all (c ∷ cs) [] are small k = absurd are
 narrow_in all (c ∷ cs) (g ∷ gs) are small zero = omega (arith, are.0.count, few c (left_true (is_small c) (list_all is_small cs) small))
 narrow_in all (c ∷ cs) (g ∷ gs) are small (suc k) = narrow_in all cs gs are.1 (right_true (is_small c) (list_all is_small cs) small) k
 
+-- the graph of a filter within the limits is narrow
 pub narrow : (f : Filter) (g : Graph) → IsTrue (are_small f) → IsLowered f g → IsNarrow g
 narrow f g small is = λ k. narrow_in f.callbacks f.callbacks g.callbacks is.callbacks small k

@@ -136,5 +136,6 @@ module _ (g : Graph) where
   found_by None e = λ at c. in_none (length g.callbacks) at.callback at.point e (is_callback g at.callback at.point c.there) c.there
       (completing at c)
 
+-- the first point that completes with success is the one that is found
 pub found : (g : Graph) (x : Option Spot) → x ≡ completed_in g (length g.callbacks) → AreFound g x
 found g x e = found_by g x (sym e)

@@ -6,6 +6,7 @@ use Rattle.flt_kinds.specs.Deciding.{is_needed, only, needed_below}
 use Rattle.flt_kinds.specs.Flows.{spot}
 use Rattle.flt_kinds.specs.declared.slot.Spot.{Spot}
 
+-- the places that are needed up to one point more
 pub needed_next : (g : Graph) (cells : Cells) (callback n : ℕ) (a b c : List Spot) → b ≡ a ++ needed_below g cells callback n →
     c ≡ b ++ only (is_needed g cells callback n) (spot callback n) → c ≡ a ++ needed_below g cells callback (n + 1)
 needed_next g cells callback n a b c e f =

@@ -307,6 +307,7 @@ same_from x y (t ∷ i) (u ∷ j) e =
     let p = ap (front (word_and_bytes x t)) e in
     more (ap (λ (q : Word × Text). q.0) p) (ap (λ (q : Word × Text). q.1) p) (same_from x y i j (ap behind e))
 
+-- where the layout keeps a text's tokens, it keeps the tree
 pub keeps_tree : KeepsTokens → KeepsTree
 keeps_tree same z f s short =
     let r = file s.grammar (same_from z (laid_out z) (tokens z) (tokens (laid_out z)) (sym (same z))) in

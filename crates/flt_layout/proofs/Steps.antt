@@ -251,6 +251,7 @@ token_step text out s x b z left kd len i e h w f =
 
 -- ---- as the code says it
 
+-- at the beginning nothing is written, and all tokens are left
 pub begun_by : (text out : Text) (left : Input) → out ≡ [] → left ≡ tokens text → IsSoFar text out start space.First text left
 begun_by text out left o e = subst (λ z. IsSoFar text z start space.First text left) (sym o) (begun text left e)
 
@@ -263,6 +264,7 @@ less_one n = omega arith
 after_first : (b : ℕ) (z : Text) → take (length (b ∷ z) - 1) (drop 1 (b ∷ z)) ≡ z
 after_first b z = ap (λ n. take n z) (less_one (length z)) ∙ take-length z
 
+-- after a comment fewer bytes are left
 pub smaller_by : (rest y : Text) → 1 ≤ length rest → y ≡ after_comment (take (length rest - 1) (drop 1 rest)) → length y < length rest
 smaller_by [] y some e = absurd (omega (arith, some))
 smaller_by (b ∷ z) y some e =
@@ -270,6 +272,7 @@ smaller_by (b ∷ z) y some e =
     let q : length y ≡ length (after_comment z) = ap length (e ∙ ap after_comment (after_first b z)) in
     omega (arith, q, h)
 
+-- one more comment is written, with the gap before it
 pub comment_by : (text out out2 out3 : Text) (s s2 : State) (x : Space) (rest found y : Text) (left : Input) →
     IsSoFar text out s x rest left → 1 ≤ length rest → slice_index rest 0 ≡ 35 → out2 ≡ out ++ gap x s.level →
     found ≡ comment rest → out3 ≡ out2 ++ found → s2 ≡ past_comment s → y ≡ after_comment (take (length rest - 1) (drop 1 rest)) →
@@ -287,6 +290,7 @@ pub gap_by : (out out2 : Text) (s : State) (x y : Space) (kd : Kind) (n : ℕ) �
     out2 ≡ out ++ laid_gap s x kd
 gap_by out out2 s x y kd n e h k = e ∙ ap (λ z. out ++ gap z n) h ∙ ap (λ m. out ++ gap (placed s kd x) m) k
 
+-- one more token is written, with the gap before it
 pub token_by : (text out out2 out3 : Text) (s s2 : State) (x : Space) (rest word y : Text) (left more : Input) (kd : Kind) (len : ℕ) →
     IsSoFar text out s x rest left → 1 ≤ length rest → slice_index rest 0 ≢ 35 → is_blank (slice_index rest 0) ≡ false →
     kd ≡ kind left → len ≡ (front left).end - (front left).start → is_fault kd ≡ false →

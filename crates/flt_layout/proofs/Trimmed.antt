@@ -59,9 +59,11 @@ cut_is (b ∷ z) = by (b == 10) refl (cut_is z)
           line = take_as _ (suc n) (b ∷ z) (λ y. list_all plain y ≡ true) more (rw e r.line);
         }
 
+-- what follows a comment isn't longer than what began with it
 pub shorter_by : (z y : Text) → y ≡ after_comment z → length y ≤ length z
 shorter_by z y e = subst (λ x. length x ≤ length z) (sym e) (cut_is z).shorter
 
+-- a comment is what was passed over, before blanks at its end are cut
 pub cut_by : (z y : Text) → y ≡ after_comment z → IsTrimmed z (length z - length y)
 cut_by z y e =
     let r = cut_is z in
@@ -107,6 +109,7 @@ last_of z end some fits =
     let e : end ≡ end - 1 + 1 = omega (arith, some) in
     ap (λ n. take n z) e ∙ take_more z (end - 1) 0 (omega (arith, some, fits))
 
+-- a blank at the end of a comment is cut
 pub trim_by : (z : Text) (end : ℕ) (x : Bool) → IsTrimmed z end → 0 < end → x ≡ is_blank (slice_index z (end - 1)) → x ≡ true →
     IsTrimmed z (end - 1)
 trim_by z end x i some e h =
@@ -118,12 +121,14 @@ trim_by z end x i some e h =
       one_line = front_all (take (end - 1) z) (slice_index z (end - 1) ∷ []) (ap (list_all plain) (sym l) ∙ i.one_line);
     }
 
+-- a comment of which nothing is left is empty
 pub ended_by : (z : Text) (end : ℕ) → IsTrimmed z end → end ≤ 0 → take end z ≡ comment z
 unfolding comment
 ended_by z end i h =
     let e : end ≡ 0 = omega (arith, h) in
     ap (λ n. take n z) e ∙ ap comment (ap (λ n. take n z) (sym e)) ∙ i.same
 
+-- a comment that doesn't end with a blank is cut no further
 pub word_by : (z : Text) (end : ℕ) (x : Bool) → IsTrimmed z end → 0 < end → x ≡ is_blank (slice_index z (end - 1)) → x ≡ false →
     take end z ≡ comment z
 word_by z end x i some e h =

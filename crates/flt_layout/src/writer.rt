@@ -57,8 +57,8 @@ fn write_items(alloc: Global, text: &[u8], tokens: &[Token]) -> Result<Vec<u8>, 
     Ok(out)
 }
 
-/// The layout of a text: its tokens and its comments, each on its line. Blank lines before a line become one, those at both ends none. A text
-/// that has a fault is laid out up to its first byte or word that is no token.
+/// The layout of a text: its tokens and its comments, each on its line. Blank lines before a line become one, those at both ends none.
+/// A text that has a fault is laid out up to its first byte or word that is no token.
 pub fn lay_out(alloc: Global, text: &[u8]) -> Result<Vec<u8>, AllocError>
     requires { length text.now < 2 ^ 32 }
     ensures { IfOk result (λ out. out.items ≡ laid_out text.now) }

@@ -182,22 +182,26 @@ module _ (counts : List ℕ) (actors : List Actor) (standings : List (Option Sta
 -- ---- at a moment
 
 -- one goes on exactly where it has not ended
-goes_alike : (cs : List Callback) (t : List Event) (a : ℕ) (act : Activation) (s : Option Standing) → KeptFor cs t a act s → is_some s ≡ not act.ended
+goes_alike : (cs : List Callback) (t : List Event) (a : ℕ) (act : Activation) (s : Option Standing) →
+    KeptFor cs t a act s → is_some s ≡ not act.ended
 goes_alike cs t a act None kept = sym (ap (λ (b : Bool). not b) kept)
 goes_alike cs t a act (Some s) kept = sym (ap (λ (b : Bool). not b) (goes_there s act kept.stands.same))
 
 same_active : (f : ℕ) (actors : List Actor) (standings : List (Option Standing)) (acts : List Activation) → length standings ≡ length acts →
-    ((a : ℕ) → is_some (get_or standings a None) ≡ not (get_or acts a nobody).ended) → has_standing f actors standings ≡ has_active f actors acts
+    ((a : ℕ) → is_some (get_or standings a None) ≡ not (get_or acts a nobody).ended) →
+    has_standing f actors standings ≡ has_active f actors acts
 same_active f [] standings acts same alike = refl
 same_active f (actor ∷ actors) [] [] same alike = refl
 same_active f (actor ∷ actors) [] (act ∷ acts) same alike = absurd (omega (arith, same))
 same_active f (actor ∷ actors) (s ∷ standings) [] same alike = absurd (omega (arith, same))
 same_active f (actor ∷ actors) (s ∷ standings) (act ∷ acts) same alike =
     ap (λ (b : Bool). ((actor.filter == f) && b) || has_standing f actors standings) (alike 0) ∙
-    ap (λ (b : Bool). ((actor.filter == f) && not act.ended) || b) (same_active f actors standings acts (omega (arith, same)) (λ a. alike (suc a)))
+    ap (λ (b : Bool). ((actor.filter == f) && not act.ended) || b)
+    (same_active f actors standings acts (omega (arith, same)) (λ a. alike (suc a)))
 
 -- a board has a standing of a filter exactly where an activation of it goes on
-pub active_there : (p : List Filter) (b : Situation) (m : Moment) (f : ℕ) → IsAt p b m → has_standing f b.actors b.standings ≡ has_active f m.world.actors m.world.activations
+pub active_there : (p : List Filter) (b : Situation) (m : Moment) (f : ℕ) →
+    IsAt p b m → has_standing f b.actors b.standings ≡ has_active f m.world.actors m.world.activations
 active_there p b m f at =
     ap (λ (l : List Actor). has_standing f l b.standings) at.actors ∙
     same_active f m.world.actors b.standings m.world.activations at.count

@@ -24,7 +24,8 @@ written_bounded b e c can room bounded = record {
   arrivals = arrivals_after b.store c can bounded.arrivals;
   started = omega (arith, longer, bounded.started);
   items = omega (arith, longer, bounded.items, items_after b.store c);
-  references = subst (λ (n : ℕ). AreAtMost n (after_change b.store c)) (sym longer) (references_after (length b.entries) b.store c bounded.references);
+  references = subst (λ (n : ℕ). AreAtMost n (after_change b.store c)) (sym longer)
+      (references_after (length b.entries) b.store c bounded.references);
   standings = λ a s is. subst (λ (n : ℕ). IsSmall n s) (sym longer) (stays_small (length b.entries) s (bounded.standings a s is));
 }
   where
@@ -32,19 +33,22 @@ written_bounded b e c can room bounded = record {
     longer = length-append b.entries (e ∷ [])
 
 -- the same of a store and entries that are these
-pub written_so : (b old : Situation) (e : JournalEntry) (c : Change) (store : Store) (entries : List JournalEntry) → b ≡ old → IsPossible old.store c → length old.entries < 1000000 → IsBounded b →
+pub written_so : (b old : Situation) (e : JournalEntry) (c : Change) (store : Store) (entries : List JournalEntry) →
+    b ≡ old → IsPossible old.store c → length old.entries < 1000000 → IsBounded b →
     store ≡ after_change b.store c → entries ≡ b.entries ++ e ∷ [] → IsBounded (record b { store = store; entries = entries })
 written_so b old e c store entries same can room bounded changed more =
     subst (λ (x : Store). IsBounded (record b { store = x; entries = entries })) (sym changed)
     (subst (λ (es : List JournalEntry). IsBounded (record b { store = after_change b.store c; entries = es })) (sym more)
-    (written_bounded b e c (subst (λ (x : Situation). IsPossible x.store c) (sym same) can) (subst (λ (x : Situation). length x.entries < 1000000) (sym same) room) bounded))
+    (written_bounded b e c (subst (λ (x : Situation). IsPossible x.store c) (sym same) can)
+    (subst (λ (x : Situation). length x.entries < 1000000) (sym same) room) bounded))
 
 found : (n : ℕ) (later : Option Standing) (s : Standing) → IfSome later (λ t. IsSmall n t) → later ≡ Some s → IsSmall n s
 found n None s small is = absurd (cc)
 found n (Some t) s small is = let same : t ≡ s = cc in subst (IsSmall n) same small
 
 -- an activation's standing is another, which is small
-pub put_bounded : (b : Situation) (a : ℕ) (later : Option Standing) → IfSome later (λ s. IsSmall (length b.entries) s) → IsBounded b → IsBounded (record b { standings = set b.standings a later })
+pub put_bounded : (b : Situation) (a : ℕ) (later : Option Standing) →
+    IfSome later (λ s. IsSmall (length b.entries) s) → IsBounded b → IsBounded (record b { standings = set b.standings a later })
 put_bounded b a later small bounded = record {
   both = bounded.both ∙ sym (length-set b.standings a later);
   queues = bounded.queues;
@@ -60,14 +64,17 @@ put_bounded b a later small bounded = record {
     each k s is = elim (cases_eq k a) [
       | inl same ↦ elim (cases_lt a (length b.standings)) [
         | inl within ↦ found (length b.entries) later s small
-            (sym (get_or-set_same b.standings a later None within) ∙ ap (λ (j : ℕ). get_or (set b.standings a later) j None) (sym same) ∙ is)
-        | inr past ↦ absurd (let none : get_or (set b.standings a later) k None ≡ None = get_or_past (set b.standings a later) k None (omega (arith, past, same, length-set b.standings a later)) in cc)
+            (sym (get_or-set_same b.standings a later None within) ∙
+            ap (λ (j : ℕ). get_or (set b.standings a later) j None) (sym same) ∙ is)
+        | inr past ↦ absurd (let none : get_or (set b.standings a later) k None ≡
+            None = get_or_past (set b.standings a later) k None (omega (arith, past, same, length-set b.standings a later)) in cc)
       ]
       | inr differs ↦ bounded.standings k s (sym (get_or-set_other b.standings a k later None differs) ∙ is)
     ]
 
 -- the same of standings that are these
-pub put_so : (b old : Situation) (a : ℕ) (later : Option Standing) (standings : List (Option Standing)) → b ≡ old → IfSome later (λ s. IsSmall (length old.entries) s) → IsBounded b →
+pub put_so : (b old : Situation) (a : ℕ) (later : Option Standing) (standings : List (Option Standing)) →
+    b ≡ old → IfSome later (λ s. IsSmall (length old.entries) s) → IsBounded b →
     standings ≡ set b.standings a later → IsBounded (record b { standings = standings })
 put_so b old a later standings same small bounded changed =
     subst (λ (l : List (Option Standing)). IsBounded (record b { standings = l })) (sym changed)

@@ -37,7 +37,8 @@ module _ (b old : Situation) (counts : List ℕ) (a : ℕ) (same : b ≡ old) (t
 
   -- is so from now on
   pub renewed_so : (later : Option Standing) (s : Standing) (standings : List (Option Standing)) → later ≡ Some s →
-      IfSome later (λ s. IsSmall (length old.entries) s) → standings ≡ set b.standings a (Some s) → IsConsistent (record b { standings = standings }) counts
+      IfSome later (λ s. IsSmall (length old.entries) s) → standings ≡ set b.standings a (Some s) →
+      IsConsistent (record b { standings = standings }) counts
   renewed_so later s standings is small changed = record {
     bounded = put_so b old a (Some s) standings same
         (subst (λ (o : Option Standing). IfSome o (λ s. IsSmall (length old.entries) s)) is small) was.bounded changed;

@@ -22,8 +22,10 @@ use Rattle.flt_machine.specs.Counted.{AreAtMost}
 one_set : (n : ℕ) (s : Store) (y : ℕ) (c : Context) → AreAtMost n s → c.references ≤ n → AreAtMost n (with_context s y c)
 one_set n s y c most less x = elim (cases_eq x y) [
   | inl same ↦ elim (cases_lt y (length s.contexts)) [
-    | inl within ↦ subst (λ (k : ℕ). (get_or (set s.contexts y c) k no_context).references ≤ n) (sym same) (subst (λ (d : Context). d.references ≤ n) (sym (get_or-set_same s.contexts y c no_context within)) less)
-    | inr past ↦ subst (λ (d : Context). d.references ≤ n) (sym (get_or_past (set s.contexts y c) x no_context (subst (λ (k : ℕ). k ≤ x) (sym (length-set s.contexts y c)) (omega (arith, past, same))))) (omega arith)
+    | inl within ↦ subst (λ (k : ℕ). (get_or (set s.contexts y c) k no_context).references ≤ n) (sym same)
+        (subst (λ (d : Context). d.references ≤ n) (sym (get_or-set_same s.contexts y c no_context within)) less)
+    | inr past ↦ subst (λ (d : Context). d.references ≤ n) (sym (get_or_past (set s.contexts y c) x no_context
+        (subst (λ (k : ℕ). k ≤ x) (sym (length-set s.contexts y c)) (omega (arith, past, same))))) (omega arith)
   ]
   | inr differs ↦ subst (λ (d : Context). d.references ≤ n) (sym (get_or-set_other s.contexts y x c no_context differs)) (most x)
 ]
@@ -38,7 +40,9 @@ dropped : (n : ℕ) (s : Store) (x : ℕ) → AreAtMost n s → AreAtMost n (dro
 dropped n s x most = one_set n s x (record (context_at s x) { references = (context_at s x).references - 1 }) most (omega (arith, most x))
 
 added : (n : ℕ) (s : Store) (x : ℕ) → AreAtMost n s → AreAtMost (n + 1) (add_reference s x)
-added n s x most = one_set (n + 1) s x (record (context_at s x) { references = if is_freed (context_at s x) then 0 else (context_at s x).references + 1 }) (more n s most) (by (is_freed (context_at s x)))
+added n s x most = one_set (n + 1) s x
+    (record (context_at s x) { references = if is_freed (context_at s x) then 0 else (context_at s x).references + 1 }) (more n s most)
+    (by (is_freed (context_at s x)))
   where
     by : (b : Bool) → (if b then 0 else (context_at s x).references + 1) ≤ n + 1
     by true = omega arith
@@ -58,29 +62,37 @@ either_most n false s t one other = other
 
 settled_most : (n : ℕ) (s : Store) (v : ℕ) (x : Option ℕ) (way : settling.Way) → AreAtMost n s → AreAtMost n (settling.settled_by s v x way)
 settled_most n s v x way most =
-    either_most n (settling.settles_visit way) (record (settling.lead s v x way) { settled = set (settling.lead s v x way).settled v true }) s
-    (either_most n (settling.is_led s v) (with_route s (visit_at s v).operation (settling.led (visit_at s v).filter x way (route_at s (visit_at s v).operation))) s most most) most
+    either_most n (settling.settles_visit way)
+    (record (settling.lead s v x way) { settled = set (settling.lead s v x way).settled v true }) s
+    (either_most n (settling.is_led s v) (with_route s (visit_at s v).operation
+    (settling.led (visit_at s v).filter x way (route_at s (visit_at s v).operation))) s most most) most
 
-allocated : (n : ℕ) (cs : List Context) (c : Context) → ((x : ℕ) → (get_or cs x no_context).references ≤ n) → c.references ≤ n + 1 → (x : ℕ) → (get_or (cs ++ c ∷ []) x no_context).references ≤ n + 1
+allocated : (n : ℕ) (cs : List Context) (c : Context) → ((x : ℕ) → (get_or cs x no_context).references ≤ n) → c.references ≤ n + 1 →
+    (x : ℕ) → (get_or (cs ++ c ∷ []) x no_context).references ≤ n + 1
 allocated n cs c most less x = elim (cases_lt x (length cs)) [
   | inl within ↦ subst (λ (d : Context). d.references ≤ n + 1) (sym (get_or-append cs (c ∷ []) no_context x within)) (omega (arith, most x))
   | inr past ↦ elim (cases_eq x (length cs)) [
-    | inl same ↦ subst (λ (k : ℕ). (get_or (cs ++ c ∷ []) k no_context).references ≤ n + 1) (sym same) (subst (λ (d : Context). d.references ≤ n + 1) (sym (get_or-append_seam cs c [] no_context)) less)
-    | inr differs ↦ subst (λ (d : Context). d.references ≤ n + 1) (sym (get_or_past (cs ++ c ∷ []) x no_context (subst (λ (k : ℕ). k ≤ x) (sym (length-append cs (c ∷ []))) (omega (arith, past, differs))))) (omega arith)
+    | inl same ↦ subst (λ (k : ℕ). (get_or (cs ++ c ∷ []) k no_context).references ≤ n + 1) (sym same)
+        (subst (λ (d : Context). d.references ≤ n + 1) (sym (get_or-append_seam cs c [] no_context)) less)
+    | inr differs ↦ subst (λ (d : Context). d.references ≤ n + 1) (sym (get_or_past (cs ++ c ∷ []) x no_context
+        (subst (λ (k : ℕ). k ≤ x) (sym (length-append cs (c ∷ []))) (omega (arith, past, differs))))) (omega arith)
   ]
 ]
 
 -- a change adds one reference at most to each context
 pub references_after : (n : ℕ) (s : Store) (c : Change) → AreAtMost n s → AreAtMost (n + 1) (after_change s c)
 references_after n s change.Nothing most = more n s most
-references_after n s (change.Allocate owner) most = allocated n s.contexts (record { owner = owner; references = 1; value = 0; link = None }) most (omega arith)
+references_after n s (change.Allocate owner) most =
+    allocated n s.contexts (record { owner = owner; references = 1; value = 0; link = None }) most (omega arith)
 references_after n s (change.AddReference x) most = added n s x most
 references_after n s (change.DropReference x) most = more n (drop_reference s x) (dropped n s x most)
 references_after n s (change.Write x value) most =
     either_most (n + 1) (is_freed (context_at s x)) s (with_context s x (record (context_at s x) { value = value })) (more n s most)
-    (more n (with_context s x (record (context_at s x) { value = value })) (one_set n s x (record (context_at s x) { value = value }) most (most x)))
+    (more n (with_context s x (record (context_at s x) { value = value }))
+    (one_set n s x (record (context_at s x) { value = value }) most (most x)))
 references_after n s (change.Link x f k None old) most = put n s x (record { filter = f; key = k }) most
-references_after n s (change.Link x f k (Some y) old) most = put n (after_unlink s y old) x (record { filter = f; key = k }) (unlinked n s y old most)
+references_after n s (change.Link x f k (Some y) old) most =
+    put n (after_unlink s y old) x (record { filter = f; key = k }) (unlinked n s y old most)
 references_after n s (change.Unlink x old) most = more n (after_unlink s x old) (unlinked n s x old most)
 references_after n s (change.TakeLock f l a access) most = more n s most
 references_after n s (change.GiveUpLock f l a) most = more n s most
@@ -113,8 +125,10 @@ either_same n false s t one other = other
 
 settled_same : (s : Store) (v : ℕ) (x : Option ℕ) (way : settling.Way) → length (settling.settled_by s v x way).arrivals ≡ length s.arrivals
 settled_same s v x way =
-    either_same (length s.arrivals) (settling.settles_visit way) (record (settling.lead s v x way) { settled = set (settling.lead s v x way).settled v true }) s
-    (either_same (length s.arrivals) (settling.is_led s v) (with_route s (visit_at s v).operation (settling.led (visit_at s v).filter x way (route_at s (visit_at s v).operation))) s refl refl) refl
+    either_same (length s.arrivals) (settling.settles_visit way)
+    (record (settling.lead s v x way) { settled = set (settling.lead s v x way).settled v true }) s
+    (either_same (length s.arrivals) (settling.is_led s v) (with_route s (visit_at s v).operation
+    (settling.led (visit_at s v).filter x way (route_at s (visit_at s v).operation))) s refl refl) refl
 
 unlinked_same : (s : Store) (y : ℕ) (old : Option ContextVariable) → length (after_unlink s y old).arrivals ≡ length s.arrivals
 unlinked_same s y None = refl
@@ -127,7 +141,8 @@ arrivals_after s (change.Allocate owner) can few = few
 arrivals_after s (change.AddReference x) can few = few
 arrivals_after s (change.DropReference x) can few = few
 arrivals_after s (change.Write x value) can few =
-    subst (λ (n : ℕ). n ≤ 65536) (sym (either_same (length s.arrivals) (is_freed (context_at s x)) s (with_context s x (record (context_at s x) { value = value })) refl refl)) few
+    subst (λ (n : ℕ). n ≤ 65536) (sym (either_same (length s.arrivals) (is_freed (context_at s x)) s
+    (with_context s x (record (context_at s x) { value = value })) refl refl)) few
 arrivals_after s (change.Link x f k None old) can few = few
 arrivals_after s (change.Link x f k (Some y) old) can few = subst (λ (n : ℕ). n ≤ 65536) (sym (unlinked_same s y old)) few
 arrivals_after s (change.Unlink x old) can few = subst (λ (n : ℕ). n ≤ 65536) (sym (unlinked_same s x old)) few
@@ -139,7 +154,8 @@ arrivals_after s (change.RemoveOf f o v) can few = few
 arrivals_after s (change.Queue f r v x) can few = few
 arrivals_after s (change.Start i) can few = few
 arrivals_after s (change.Settle v x way) can few = subst (λ (n : ℕ). n ≤ 65536) (sym (settled_same s v x (way_of way))) few
-arrivals_after s (change.Arrive kind mode file) can few = omega (arith, can, length-append s.arrivals (record { kind = kind; mode = mode; file = file } ∷ []))
+arrivals_after s (change.Arrive kind mode file) can few =
+    omega (arith, can, length-append s.arrivals (record { kind = kind; mode = mode; file = file } ∷ []))
 arrivals_after s (change.StartPre o f) can few = few
 arrivals_after s (change.Skip o f) can few = few
 arrivals_after s (change.Lower o) can few = few
@@ -157,8 +173,10 @@ either_items n false s t one other = other
 
 settled_items : (s : Store) (v : ℕ) (x : Option ℕ) (way : settling.Way) → length (settling.settled_by s v x way).items ≡ length s.items
 settled_items s v x way =
-    either_items (length s.items) (settling.settles_visit way) (record (settling.lead s v x way) { settled = set (settling.lead s v x way).settled v true }) s
-    (either_items (length s.items) (settling.is_led s v) (with_route s (visit_at s v).operation (settling.led (visit_at s v).filter x way (route_at s (visit_at s v).operation))) s refl refl) refl
+    either_items (length s.items) (settling.settles_visit way)
+    (record (settling.lead s v x way) { settled = set (settling.lead s v x way).settled v true }) s
+    (either_items (length s.items) (settling.is_led s v) (with_route s (visit_at s v).operation
+    (settling.led (visit_at s v).filter x way (route_at s (visit_at s v).operation))) s refl refl) refl
 
 unlinked_items : (s : Store) (y : ℕ) (old : Option ContextVariable) → length (after_unlink s y old).items ≡ length s.items
 unlinked_items s y None = refl
@@ -174,7 +192,8 @@ items_after s (change.Allocate owner) = one_more _ _ refl
 items_after s (change.AddReference x) = one_more _ _ refl
 items_after s (change.DropReference x) = one_more _ _ refl
 items_after s (change.Write x value) =
-    one_more _ _ (either_items (length s.items) (is_freed (context_at s x)) s (with_context s x (record (context_at s x) { value = value })) refl refl)
+    one_more _ _ (either_items (length s.items) (is_freed (context_at s x)) s
+    (with_context s x (record (context_at s x) { value = value })) refl refl)
 items_after s (change.Link x f k None old) = one_more _ _ refl
 items_after s (change.Link x f k (Some y) old) = one_more _ _ (unlinked_items s y old)
 items_after s (change.Unlink x old) = one_more _ _ (unlinked_items s x old)
@@ -209,8 +228,10 @@ either_queues false s t one other = other
 
 settled_queues : (s : Store) (v : ℕ) (x : Option ℕ) (way : settling.Way) → HasQueues s → HasQueues (settling.settled_by s v x way)
 settled_queues s v x way has =
-    either_queues (settling.settles_visit way) (record (settling.lead s v x way) { settled = set (settling.lead s v x way).settled v true }) s
-    (either_queues (settling.is_led s v) (with_route s (visit_at s v).operation (settling.led (visit_at s v).filter x way (route_at s (visit_at s v).operation))) s has has) has
+    either_queues (settling.settles_visit way)
+    (record (settling.lead s v x way) { settled = set (settling.lead s v x way).settled v true }) s
+    (either_queues (settling.is_led s v)
+    (with_route s (visit_at s v).operation (settling.led (visit_at s v).filter x way (route_at s (visit_at s v).operation))) s has has) has
 
 unlinked_queues : (s : Store) (y : ℕ) (old : Option ContextVariable) → HasQueues s → HasQueues (after_unlink s y old)
 unlinked_queues s y None has = has

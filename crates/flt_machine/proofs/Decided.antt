@@ -40,9 +40,11 @@ enabled_there p w (Some d) (Some step) decides = refl
 abbrev pub DecidesNow : Loaded → Situation → Move → Option Decision → Type 0
 DecidesNow l b move o = Now l b (λ p m. Decides p m.world o (make p m.world move))
 
+-- what is decided of a move for one board holds for the board that it is
 pub decided_now : (l : Loaded) (b now : Situation) (move : Move) (active : Bool) (o : Option Decision) → b ≡ now →
     Now l now (λ p m. IsActive p move active m.world.actors m.world.activations) →
-    ((p : List Filter) (actors : List Actor) (activations : List Activation) → AreLoaded p l → length b.store.presences ≡ length p → IsActive p move active actors activations →
+    ((p : List Filter) (actors : List Actor) (activations : List Activation) →
+    AreLoaded p l → length b.store.presences ≡ length p → IsActive p move active actors activations →
     Decides p (world_of b.store actors activations) o (make p (world_of b.store actors activations) move)) → DecidesNow l now move o
 decided_now l b now move active o same is clause p loaded m at =
     there (λ (w : World). Decides p w o (make p w move)) p b m (subst (λ (x : Situation). IsAt p x m) (sym same) at)
@@ -53,7 +55,8 @@ none_there p w None decides = refl
 none_there p w (Some step) decides = absurd decides
 
 -- with one it is, and the decision is its step
-pub some_there : (p : List Filter) (w : World) (d : Decision) (o : Option Step) → Decides p w (Some d) o → (step : Step) × ((o ≡ Some step) × IsDecided p w d step)
+pub some_there : (p : List Filter) (w : World) (d : Decision) (o : Option Step) →
+    Decides p w (Some d) o → (step : Step) × ((o ≡ Some step) × IsDecided p w d step)
 some_there p w d None decides = absurd decides
 some_there p w d (Some step) decides = (step, (refl, decides))
 
@@ -62,16 +65,20 @@ pub disabled_now : (l : Loaded) (b : Situation) (move : Move) → DecidesNow l b
 disabled_now l b move decides p loaded m at = none_there p m.world (make p m.world move) (decides p loaded m at)
 
 -- with one it is
-pub not_disabled : (l : Loaded) (b : Situation) (move : Move) (d : Decision) → IsOwn l b → DecidesNow l b move (Some d) → IsDisabled l b move → ⊥
+pub not_disabled : (l : Loaded) (b : Situation) (move : Move) (d : Decision) →
+    IsOwn l b → DecidesNow l b move (Some d) → IsDisabled l b move → ⊥
 not_disabled l b move d own decides disabled =
-    subst (λ (o : Option Step). Decides own.filters own.board.moment.world (Some d) o) (disabled own.filters own.loaded own.board.moment own.board.at)
+    subst (λ (o : Option Step). Decides own.filters own.board.moment.world (Some d) o)
+    (disabled own.filters own.loaded own.board.moment own.board.at)
     (decides own.filters own.loaded own.board.moment own.board.at)
 
 -- ---- a decision that is made
 
-module _ (l : Loaded) (b later : Situation) (move : Move) (d : Decision) (decides : DecidesNow l b move (Some d)) (moved : HasMoved b later move d) where
+module _ (l : Loaded) (b later : Situation) (move : Move) (d : Decision) (decides : DecidesNow l b move (Some d))
+    (moved : HasMoved b later move d) where
   -- the move is made
-  pub makes_now : (events : List Event) → events ≡ gains_by (length b.standings) d.start ++ frees_by d.freed → Now l b (λ p m. Makes p later [] (Make move) events m)
+  pub makes_now : (events : List Event) → events ≡ gains_by (length b.standings) d.start ++ frees_by d.freed →
+      Now l b (λ p m. Makes p later [] (Make move) events m)
   makes_now events told p loaded m at =
       let it = some_there p m.world d (make p m.world move) (decides p loaded m at) in
       subst (λ (x : Situation). Makes p x [] (Make move) events m) (sym moved.same)

@@ -32,26 +32,32 @@ some_mapped f None = refl
 some_mapped f (Some x) = refl
 
 -- an entry stands there
-pub stands_there : {A : Type 0} (s : Store) (f o : ℕ) (entry_in : A → Entry) (e : Option A) → option_map entry_in e ≡ find (is_entry_of s o) (queue_at s f) →
+pub stands_there : {A : Type 0} (s : Store) (f o : ℕ) (entry_in : A → Entry) (e : Option A) →
+    option_map entry_in e ≡ find (is_entry_of s o) (queue_at s f) →
     is_some e ≡ list_any (is_entry_of s o) (queue_at s f)
-stands_there s f o entry_in e is = some_mapped entry_in e ∙ ap (λ (x : Option Entry). is_some x) is ∙ found_any (is_entry_of s o) (queue_at s f)
+stands_there s f o entry_in e is =
+    some_mapped entry_in e ∙ ap (λ (x : Option Entry). is_some x) is ∙ found_any (is_entry_of s o) (queue_at s f)
 
 -- ---- one operation's entries alone
 
 -- of a filter where one operation alone may come to wait
-pub one_entry : (s t : Store) (f a o : ℕ) (b : Bool) → ((k : ℕ) → k ≢ o → comes_to_wait s t f k ≡ false) → (nat_lt o (length s.arrivals) && comes_to_wait s t f o) ≡ b →
+pub one_entry : (s t : Store) (f a o : ℕ) (b : Bool) → ((k : ℕ) → k ≢ o → comes_to_wait s t f k ≡ false) →
+    (nat_lt o (length s.arrivals) && comes_to_wait s t f o) ≡ b →
     entries_of s t f a ≡ (if b then subject.Entry a o ∷ [] else [])
 one_entry s t f a o b others is = by (comes_to_wait s t f o) refl (cases_lt o (length s.arrivals))
   where
-    none : ((k : ℕ) → k < length s.arrivals → comes_to_wait s t f k ≡ false) → b ≡ false → entries_of s t f a ≡ (if b then subject.Entry a o ∷ [] else [])
+    none : ((k : ℕ) → k < length s.arrivals → comes_to_wait s t f k ≡ false) → b ≡ false →
+        entries_of s t f a ≡ (if b then subject.Entry a o ∷ [] else [])
     none misses out =
         ap (map (subject.Entry a)) (passing_none (comes_to_wait s t f) (length s.arrivals) misses) ∙
         ap (λ (v : Bool). if v then subject.Entry a o ∷ [] else []) (sym out)
 
-    by : (v : Bool) → comes_to_wait s t f o ≡ v → (o < length s.arrivals) ⊎ (length s.arrivals ≤ o) → entries_of s t f a ≡ (if b then subject.Entry a o ∷ [] else [])
+    by : (v : Bool) → comes_to_wait s t f o ≡ v → (o < length s.arrivals) ⊎ (length s.arrivals ≤ o) →
+        entries_of s t f a ≡ (if b then subject.Entry a o ∷ [] else [])
     by v same (inr past) =
         let out : nat_lt o (length s.arrivals) ≡ false = grind (arith, nat_tests) in
-        none (λ k less. others k (λ it. absurd (omega (arith, less, past, it)))) (sym is ∙ ap (λ (x : Bool). x && comes_to_wait s t f o) out)
+        none (λ k less. others k (λ it. absurd (omega (arith, less, past, it))))
+        (sym is ∙ ap (λ (x : Bool). x && comes_to_wait s t f o) out)
     by false same (inl there) =
         none (λ k less. elim (cases_eq k o) [
           | inl it ↦ ap (comes_to_wait s t f) it ∙ same
@@ -60,7 +66,8 @@ one_entry s t f a o b others is = by (comes_to_wait s t f o) refl (cases_lt o (l
     by true same (inl there) =
         let within : nat_lt o (length s.arrivals) ≡ true = grind (arith, nat_tests) in
         let hits : b ≡ true = sym is ∙ ap (λ (x : Bool). x && comes_to_wait s t f o) within ∙ same in
-        ap (map (subject.Entry a)) (passing_one (comes_to_wait s t f) (length s.arrivals) o there same (λ k less differs. others k differs)) ∙
+        ap (map (subject.Entry a))
+        (passing_one (comes_to_wait s t f) (length s.arrivals) o there same (λ k less differs. others k differs)) ∙
         ap (λ (v : Bool). if v then subject.Entry a o ∷ [] else []) (sym hits)
 
 -- where the same waits, nothing comes to wait
@@ -73,7 +80,8 @@ module _ (s : Store) (o : ℕ) (before : (route_at s o).cancelled ≡ false) whe
   there : o < length s.routes
   there = elim (cases_lt o (length s.routes)) [
     | inl here ↦ here
-    | inr past ↦ absurd (let none : (route_at s o).cancelled ≡ true = ap (λ (r : Route). r.cancelled) (get_or_past s.routes o no_route past) in cc)
+    | inr past ↦
+        absurd (let none : (route_at s o).cancelled ≡ true = ap (λ (r : Route). r.cancelled) (get_or_past s.routes o no_route past) in cc)
   ]
 
   own : (route_at (with_cancel o s) o).cancelled ≡ true
@@ -90,10 +98,12 @@ module _ (s : Store) (o : ℕ) (before : (route_at s o).cancelled ≡ false) whe
   new_only false true = refl
   new_only false false = refl
 
-  own_waits : (f : ℕ) → comes_to_wait s (with_cancel o s) f o ≡ (list_any (is_entry_of s o) (queue_at s f) && not (is_detaching (presence_at s f)))
+  own_waits : (f : ℕ) → comes_to_wait s (with_cancel o s) f o ≡
+      (list_any (is_entry_of s o) (queue_at s f) && not (is_detaching (presence_at s f)))
   own_waits f =
       ap (λ (b : Bool). ((b || is_detaching (presence_at s f)) && list_any (is_entry_of s o) (queue_at s f)) && not (waits s s f o)) own ∙
-      ap (λ (b : Bool). ((true || is_detaching (presence_at s f)) && list_any (is_entry_of s o) (queue_at s f)) && not ((b || is_detaching (presence_at s f)) && list_any (is_entry_of s o) (queue_at s f))) before ∙
+      ap (λ (b : Bool). ((true || is_detaching (presence_at s f)) && list_any (is_entry_of s o) (queue_at s f)) &&
+      not ((b || is_detaching (presence_at s f)) && list_any (is_entry_of s o) (queue_at s f))) before ∙
       new_only (list_any (is_entry_of s o) (queue_at s f)) (is_detaching (presence_at s f))
 
   and_assoc : (a b c : Bool) → (a && (b && c)) ≡ ((a && b) && c)
@@ -102,13 +112,16 @@ module _ (s : Store) (o : ℕ) (before : (route_at s o).cancelled ≡ false) whe
 
   -- of a filter, its entry, unless the filter is being detached
   pub cancelled_entry : (f a : ℕ) → entries_of s (with_cancel o s) f a ≡
-      (if (nat_lt o (length s.arrivals) && list_any (is_entry_of s o) (queue_at s f)) && not (is_detaching (presence_at s f)) then subject.Entry a o ∷ [] else [])
+      (if (nat_lt o (length s.arrivals) && list_any (is_entry_of s o) (queue_at s f)) &&
+      not (is_detaching (presence_at s f)) then subject.Entry a o ∷ [] else [])
   cancelled_entry f a = one_entry s (with_cancel o s) f a o _ (others_wait f)
-      (ap (λ (b : Bool). nat_lt o (length s.arrivals) && b) (own_waits f) ∙ and_assoc (nat_lt o (length s.arrivals)) (list_any (is_entry_of s o) (queue_at s f)) (not (is_detaching (presence_at s f))))
+      (ap (λ (b : Bool). nat_lt o (length s.arrivals) && b) (own_waits f) ∙
+      and_assoc (nat_lt o (length s.arrivals)) (list_any (is_entry_of s o) (queue_at s f)) (not (is_detaching (presence_at s f))))
 
 -- ---- an entry comes into a queue
 
-module _ (s : Store) (f v : ℕ) (x : Option ℕ) (attached : is_attached (presence_at s f) ≡ true) (queues : length s.queues ≡ length s.presences) where
+module _ (s : Store) (f v : ℕ) (x : Option ℕ) (attached : is_attached (presence_at s f) ≡ true)
+    (queues : length s.queues ≡ length s.presences) where
   abbrev pub entry : Entry
   entry = record { visit = v; context = x }
 
@@ -140,7 +153,8 @@ module _ (s : Store) (f v : ℕ) (x : Option ℕ) (attached : is_attached (prese
   other_operations k differs = same_waits s later f k
       (ap (λ (b : Bool). ((route_at s k).cancelled || is_detaching (presence_at s f)) && b)
       (ap (list_any (is_entry_of s k)) queue_is ∙ list_any-append (is_entry_of s k) (queue_at s f) (entry ∷ []) ∙
-      ap (λ (b : Bool). list_any (is_entry_of s k) (queue_at s f) || (b || false)) (ne_eqb o k (λ it. differs (sym it))) ∙ or_none (list_any (is_entry_of s k) (queue_at s f))))
+      ap (λ (b : Bool). list_any (is_entry_of s k) (queue_at s f) || (b || false)) (ne_eqb o k (λ it. differs (sym it))) ∙
+      or_none (list_any (is_entry_of s k) (queue_at s f))))
 
   new_there : (can any : Bool) → (((can || false) && (any || (true || false))) && not ((can || false) && any)) ≡ (can && not any)
   new_there true true = refl
@@ -150,8 +164,10 @@ module _ (s : Store) (f v : ℕ) (x : Option ℕ) (attached : is_attached (prese
 
   own_operation : comes_to_wait s later f o ≡ ((route_at s o).cancelled && not (list_any (is_entry_of s o) (queue_at s f)))
   own_operation =
-      ap (λ (b : Bool). (((route_at s o).cancelled || b) && list_any (is_entry_of s o) (queue_at later f)) && not (((route_at s o).cancelled || b) && list_any (is_entry_of s o) (queue_at s f))) (not_detaching (presence_at s f) attached) ∙
-      ap (λ (b : Bool). (((route_at s o).cancelled || false) && b) && not (((route_at s o).cancelled || false) && list_any (is_entry_of s o) (queue_at s f)))
+      ap (λ (b : Bool). (((route_at s o).cancelled || b) && list_any (is_entry_of s o) (queue_at later f)) &&
+      not (((route_at s o).cancelled || b) && list_any (is_entry_of s o) (queue_at s f))) (not_detaching (presence_at s f) attached) ∙
+      ap (λ (b : Bool). (((route_at s o).cancelled || false) && b) &&
+      not (((route_at s o).cancelled || false) && list_any (is_entry_of s o) (queue_at s f)))
       (ap (list_any (is_entry_of s o)) queue_is ∙ list_any-append (is_entry_of s o) (queue_at s f) (entry ∷ []) ∙
       ap (λ (b : Bool). list_any (is_entry_of s o) (queue_at s f) || (b || false)) (eq-eqb o o refl)) ∙
       new_there (route_at s o).cancelled (list_any (is_entry_of s o) (queue_at s f))
@@ -159,7 +175,8 @@ module _ (s : Store) (f v : ℕ) (x : Option ℕ) (attached : is_attached (prese
   other_filters : (g a : ℕ) → g ≢ f → entries_of s later g a ≡ []
   other_filters g a differs =
       ap (map (subject.Entry a)) (passing_none (comes_to_wait s later g) (length s.arrivals) (λ k less. same_waits s later g k
-      (ap (λ (q : List Entry). ((route_at s k).cancelled || is_detaching (presence_at s g)) && list_any (is_entry_of s k) q) (get_or-set_other s.queues f g (queue_at s f ++ entry ∷ []) [] differs))))
+      (ap (λ (q : List Entry). ((route_at s k).cancelled || is_detaching (presence_at s g)) && list_any (is_entry_of s k) q)
+      (get_or-set_other s.queues f g (queue_at s f ++ entry ∷ []) [] differs))))
 
   -- the operation is cancelled, and has no other entry there
   abbrev pub is_new : Bool
@@ -168,17 +185,20 @@ module _ (s : Store) (f v : ℕ) (x : Option ℕ) (attached : is_attached (prese
   own_filter : (a : ℕ) → entries_of s later f a ≡ (if is_new then subject.Entry a o ∷ [] else [])
   own_filter a = one_entry s later f a o is_new other_operations (ap (λ (b : Bool). nat_lt o (length s.arrivals) && b) own_operation)
 
-  pub inserted_one : (altitudes : List ℕ) (a : ℕ) → slice_get altitudes f ≡ Some a → is_new ≡ true → by_altitude (entries_of s later) 0 altitudes ≡ subject.Entry a o ∷ []
+  pub inserted_one : (altitudes : List ℕ) (a : ℕ) → slice_get altitudes f ≡ Some a → is_new ≡ true →
+      by_altitude (entries_of s later) 0 altitudes ≡ subject.Entry a o ∷ []
   inserted_one altitudes a is new =
       by_altitude_one (entries_of s later) altitudes f a is (λ g b differs. other_filters g b differs) ∙ own_filter a ∙
       ap (λ (b : Bool). if b then subject.Entry a o ∷ [] else []) new
 
+  -- an operation that waits at a filter that isn't there makes no entry
   pub inserted_past : (altitudes : List ℕ) → slice_get altitudes f ≡ None → by_altitude (entries_of s later) 0 altitudes ≡ []
   inserted_past altitudes is = by_altitude_past (entries_of s later) altitudes f is (λ g b differs. other_filters g b differs)
 
   pub inserted_none : (altitudes : List ℕ) → is_new ≡ false → by_altitude (entries_of s later) 0 altitudes ≡ []
   inserted_none altitudes old = by_altitude_none (entries_of s later) altitudes (λ g b. elim (cases_eq g f) [
-    | inl same ↦ ap (λ (h : ℕ). entries_of s later h b) same ∙ own_filter b ∙ ap (λ (y : Bool). if y then subject.Entry b o ∷ [] else []) old
+    | inl same ↦ ap (λ (h : ℕ). entries_of s later h b) same ∙ own_filter b ∙
+        ap (λ (y : Bool). if y then subject.Entry b o ∷ [] else []) old
     | inr differs ↦ other_filters g b differs
   ])
 
@@ -186,9 +206,12 @@ module _ (s : Store) (f v : ℕ) (x : Option ℕ) (attached : is_attached (prese
   abbrev pub new_of : ℕ → Bool
   new_of n = nat_lt n (length s.arrivals) && ((route_at s n).cancelled && not (list_any (is_entry_of s n) (queue_at s f)))
 
-  pub inserted_not : (altitudes : List ℕ) (n : ℕ) (b : Bool) → n ≡ o → b ≡ new_of n → b ≡ false → by_altitude (entries_of s later) 0 altitudes ≡ []
+  -- an operation that doesn't come to wait makes no entry
+  pub inserted_not : (altitudes : List ℕ) (n : ℕ) (b : Bool) →
+      n ≡ o → b ≡ new_of n → b ≡ false → by_altitude (entries_of s later) 0 altitudes ≡ []
   inserted_not altitudes n b same is old = inserted_none altitudes (ap new_of (sym same) ∙ sym is ∙ old)
 
+  -- an operation that comes to wait makes an entry of its filter
   pub inserted_entry : (altitudes : List ℕ) (n a : ℕ) (b : Bool) → n ≡ o → slice_get altitudes f ≡ Some a → b ≡ new_of n → b ≡ true →
       by_altitude (entries_of s later) 0 altitudes ≡ subject.Entry a n ∷ []
   inserted_entry altitudes n a b same at is new =
@@ -228,19 +251,23 @@ module _ (s : Store) (f : ℕ) (attached : is_attached (presence_at s f) ≡ tru
 
   torn_waits : (k : ℕ) → comes_to_wait s torn f k ≡ (list_any (is_entry_of s k) (queue_at s f) && not (route_at s k).cancelled)
   torn_waits k =
-      ap (λ (b : Bool). (((route_at s k).cancelled || b) && list_any (is_entry_of s k) (queue_at s f)) && not (waits s s f k)) now_detaching ∙
-      ap (λ (b : Bool). (((route_at s k).cancelled || true) && list_any (is_entry_of s k) (queue_at s f)) && not (((route_at s k).cancelled || b) && list_any (is_entry_of s k) (queue_at s f))) was_attached ∙
+      ap (λ (b : Bool). (((route_at s k).cancelled || b) && list_any (is_entry_of s k) (queue_at s f)) && not (waits s s f k))
+      now_detaching ∙
+      ap (λ (b : Bool). (((route_at s k).cancelled || true) && list_any (is_entry_of s k) (queue_at s f)) &&
+      not (((route_at s k).cancelled || b) && list_any (is_entry_of s k) (queue_at s f))) was_attached ∙
       not_yet (list_any (is_entry_of s k) (queue_at s f)) (route_at s k).cancelled
 
   other_queues : (g a : ℕ) → g ≢ f → entries_of s torn g a ≡ []
   other_queues g a differs =
       ap (map (subject.Entry a)) (passing_none (comes_to_wait s torn g) (length s.arrivals) (λ k less. same_waits s torn g k
-      (ap (λ (p : Presence). ((route_at s k).cancelled || is_detaching p) && list_any (is_entry_of s k) (queue_at s g)) (same_presence g differs))))
+      (ap (λ (p : Presence). ((route_at s k).cancelled || is_detaching p) && list_any (is_entry_of s k) (queue_at s g))
+      (same_presence g differs))))
 
   -- the operations with an entry that aren't cancelled, by what is marked
   pub detached_some : (altitudes : List ℕ) (a : ℕ) (marks : List Bool) (n : ℕ) → slice_get altitudes f ≡ Some a → n ≡ length s.arrivals →
       ((k : ℕ) → k < length s.arrivals → get_or marks k false ≡ list_any (is_entry_of s k) (queue_at s f)) →
-      by_altitude (entries_of s torn) 0 altitudes ≡ map (subject.Entry a) (passing (λ k. get_or marks k false && not (route_at s k).cancelled) n)
+      by_altitude (entries_of s torn) 0 altitudes ≡ map (subject.Entry a)
+      (passing (λ k. get_or marks k false && not (route_at s k).cancelled) n)
   detached_some altitudes a marks n is same marked =
       by_altitude_one (entries_of s torn) altitudes f a is (λ g b differs. other_queues g b differs) ∙
       ap (map (subject.Entry a))
@@ -248,19 +275,23 @@ module _ (s : Store) (f : ℕ) (attached : is_attached (presence_at s f) ≡ tru
       (λ k less. torn_waits k ∙ ap (λ (b : Bool). b && not (route_at s k).cancelled) (sym (marked k less))) ∙
       ap (passing (λ k. get_or marks k false && not (route_at s k).cancelled)) (sym same))
 
+  -- a filter that isn't there makes no entries where it is detached
   pub detached_past : (altitudes : List ℕ) → slice_get altitudes f ≡ None → by_altitude (entries_of s torn) 0 altitudes ≡ []
   detached_past altitudes is = by_altitude_past (entries_of s torn) altitudes f is (λ g b differs. other_queues g b differs)
 
   other_teardowns : (g a : ℕ) → g ≢ f → teardown_of s torn g a ≡ []
   other_teardowns g a differs =
       ap (λ (b : Bool). if b then subject.Detach a ∷ [] else [])
-      (ap (λ (p : Presence). is_detaching p && not (is_detaching (presence_at s g))) (same_presence g differs) ∙ implied (is_detaching (presence_at s g)) (is_detaching (presence_at s g)) (λ it. it))
+      (ap (λ (p : Presence). is_detaching p && not (is_detaching (presence_at s g))) (same_presence g differs) ∙
+      implied (is_detaching (presence_at s g)) (is_detaching (presence_at s g)) (λ it. it))
 
   -- its teardown
   pub no_torn : (altitudes : List ℕ) → slice_get altitudes f ≡ None → by_altitude (teardown_of s torn) 0 altitudes ≡ []
   no_torn altitudes is = by_altitude_past (teardown_of s torn) altitudes f is (λ g b differs. other_teardowns g b differs)
 
-  pub torn_down : (altitudes : List ℕ) (a : ℕ) → slice_get altitudes f ≡ Some a → by_altitude (teardown_of s torn) 0 altitudes ≡ subject.Detach a ∷ []
+  -- a filter whose detachment begins has a teardown
+  pub torn_down : (altitudes : List ℕ) (a : ℕ) → slice_get altitudes f ≡ Some a →
+      by_altitude (teardown_of s torn) 0 altitudes ≡ subject.Detach a ∷ []
   torn_down altitudes a is =
       by_altitude_one (teardown_of s torn) altitudes f a is (λ g b differs. other_teardowns g b differs) ∙
       ap (λ (b : Bool). if b && not (is_detaching (presence_at s f)) then subject.Detach a ∷ [] else []) now_detaching ∙
@@ -271,15 +302,19 @@ module _ (s : Store) (f : ℕ) (attached : is_attached (presence_at s f) ≡ tru
 module _ (s : Store) (o : ℕ) (before : (route_at s o).cancelled ≡ false) where
   -- one filter more on the walk of a cancelled operation
   pub walked : (altitudes : List ℕ) (old now : List Subject) (n : ℕ) (b : Bool) → 0 < n → n ≤ length altitudes →
-      b ≡ ((nat_lt o (length s.arrivals) && list_any (is_entry_of s o) (queue_at s (n - 1))) && not (is_detaching (presence_at s (n - 1)))) →
+      b ≡ ((nat_lt o (length s.arrivals) && list_any (is_entry_of s o) (queue_at s (n - 1))) &&
+      not (is_detaching (presence_at s (n - 1)))) →
       now ≡ old ++ by_altitude (entries_of s (with_cancel o s)) n (drop n altitudes) →
-      now ++ (if b then subject.Entry (get_or altitudes (n - 1) 0) o ∷ [] else []) ≡ old ++ by_altitude (entries_of s (with_cancel o s)) (n - 1) (drop (n - 1) altitudes)
+      now ++ (if b then subject.Entry (get_or altitudes (n - 1) 0) o ∷ [] else []) ≡
+      old ++ by_altitude (entries_of s (with_cancel o s)) (n - 1) (drop (n - 1) altitudes)
   walked altitudes old now n b more within is so =
       let next : n ≡ (n - 1) + 1 = omega (arith, more) in
       ap (λ (l : List Subject). l ++ (if b then subject.Entry (get_or altitudes (n - 1) 0) o ∷ [] else [])) so ∙
-      append_assoc old (by_altitude (entries_of s (with_cancel o s)) n (drop n altitudes)) (if b then subject.Entry (get_or altitudes (n - 1) 0) o ∷ [] else []) ∙
+      append_assoc old (by_altitude (entries_of s (with_cancel o s)) n (drop n altitudes))
+      (if b then subject.Entry (get_or altitudes (n - 1) 0) o ∷ [] else []) ∙
       ap (λ (l : List Subject). old ++ l)
-      (ap (λ (k : ℕ). by_altitude (entries_of s (with_cancel o s)) k (drop k altitudes) ++ (if b then subject.Entry (get_or altitudes (n - 1) 0) o ∷ [] else [])) next ∙
+      (ap (λ (k : ℕ). by_altitude (entries_of s (with_cancel o s)) k (drop k altitudes) ++
+      (if b then subject.Entry (get_or altitudes (n - 1) 0) o ∷ [] else [])) next ∙
       ap (λ (l : List Subject). by_altitude (entries_of s (with_cancel o s)) ((n - 1) + 1) (drop ((n - 1) + 1) altitudes) ++ l)
       (ap (λ (v : Bool). if v then subject.Entry (get_or altitudes (n - 1) 0) o ∷ [] else []) is ∙
       sym (cancelled_entry s o before (n - 1) (get_or altitudes (n - 1) 0))) ∙

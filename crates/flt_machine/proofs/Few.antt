@@ -86,10 +86,13 @@ module _ (altitudes : List ℕ) (s : Store) (c : Change) (operation activation i
       l3 ≡ l2 ++ one_of item → l4 ≡ l3 ++ es → length l4 ≤ length l3 + 1 → l5 ≡ l4 ++ one_of teardown → length l5 ≤ 2
   two_at_most l0 l1 l2 l3 l4 l5 e0 e1 e2 e3 e4 few e5 =
       let n0 : length l0 ≡ 0 = ap (λ (l : List Subject). length l) e0 in
-      let n1 : length l1 ≡ length l0 + length (one_of operation) = ap (λ (l : List Subject). length l) e1 ∙ length-append l0 (one_of operation) in
-      let n2 : length l2 ≡ length l1 + length (one_of activation) = ap (λ (l : List Subject). length l) e2 ∙ length-append l1 (one_of activation) in
+      let n1 : length l1 ≡ length l0 + length (one_of operation) =
+      ap (λ (l : List Subject). length l) e1 ∙ length-append l0 (one_of operation) in
+      let n2 : length l2 ≡ length l1 + length (one_of activation) =
+      ap (λ (l : List Subject). length l) e2 ∙ length-append l1 (one_of activation) in
       let n3 : length l3 ≡ length l2 + length (one_of item) = ap (λ (l : List Subject). length l) e3 ∙ length-append l2 (one_of item) in
       let n4 : length l4 ≡ length l3 + length es = ap (λ (l : List Subject). length l) e4 ∙ length-append l3 es in
-      let n5 : length l5 ≡ length l4 + length (one_of teardown) = ap (λ (l : List Subject). length l) e5 ∙ length-append l4 (one_of teardown) in
+      let n5 : length l5 ≡ length l4 + length (one_of teardown) =
+      ap (λ (l : List Subject). length l) e5 ∙ length-append l4 (one_of teardown) in
       let one : length es ≤ 1 = omega (arith, n4, few) in
       omega (arith, n0, n1, n2, n3, n4, n5, two_of (sort c) refl one)

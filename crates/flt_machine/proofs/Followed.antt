@@ -22,7 +22,8 @@ arrived s a =
     ap (λ (l : List ℕ). map subject.Operation l ++ newcomer subject.Operation (length s.arrivals) (length (s.arrivals ++ a ∷ [])))
     (passing_none (is_left s (with_arrival s a)) (length s.routes)
     (λ o less. ap (λ (b : Bool). b && not (is_done (with_arrival s a) o))
-    (ap (λ (r : Route). goes_on (route_at s o).position r.position) (get_or-append s.routes (new ∷ []) no_route o less) ∙ stays (route_at s o).position))) ∙
+    (ap (λ (r : Route). goes_on (route_at s o).position r.position) (get_or-append s.routes (new ∷ []) no_route o less) ∙
+    stays (route_at s o).position))) ∙
     newcomer_one subject.Operation (length s.arrivals) (length (s.arrivals ++ a ∷ [])) (length-append s.arrivals (a ∷ []))
   where
     new : Route
@@ -45,7 +46,8 @@ module _ (s t : Store) (o : ℕ) (r : Route) (routes : t.routes ≡ set s.routes
   is_there : goes_on (route_at s o).position r.position ≡ true → o < length s.routes
   is_there goes = elim (cases_lt o (length s.routes)) [
     | inl there ↦ there
-    | inr past ↦ absurd (let none : goes_on (route_at s o).position r.position ≡ false = ap (λ (x : Route). goes_on x.position r.position) (get_or_past s.routes o no_route past) in cc)
+    | inr past ↦ absurd (let none : goes_on (route_at s o).position r.position ≡
+        false = ap (λ (x : Route). goes_on x.position r.position) (get_or_past s.routes o no_route past) in cc)
   ]
 
   others_stay : (k : ℕ) → k ≢ o → is_left s t k ≡ false
@@ -55,14 +57,16 @@ module _ (s t : Store) (o : ℕ) (r : Route) (routes : t.routes ≡ set s.routes
 
   own_left : o < length s.routes → is_left s t o ≡ (goes_on (route_at s o).position r.position && not (is_over t o r))
   own_left there =
-      ap (λ (x : Route). goes_on (route_at s o).position x.position && not (is_up x.position && is_empty x.frames && are_settled o t.visits t.settled)) (own_route there)
+      ap (λ (x : Route). goes_on (route_at s o).position x.position &&
+      not (is_up x.position && is_empty x.frames && are_settled o t.visits t.settled)) (own_route there)
 
   -- it has gone on, and isn't over
   pub one_left : goes_on (route_at s o).position r.position ≡ true → is_over t o r ≡ false → operations s t ≡ subject.Operation o ∷ []
   one_left goes over =
       ap (λ (l : List ℕ). map subject.Operation l ++ newcomer subject.Operation (length s.arrivals) (length t.arrivals))
       (passing_one (is_left s t) (length s.routes) o (is_there goes)
-      (own_left (is_there goes) ∙ ap (λ (b : Bool). b && not (is_over t o r)) goes ∙ ap not over) (λ k less differs. others_stay k differs)) ∙
+      (own_left (is_there goes) ∙ ap (λ (b : Bool). b && not (is_over t o r)) goes ∙ ap not over)
+      (λ k less differs. others_stay k differs)) ∙
       ap (λ (l : List Subject). subject.Operation o ∷ l) (newcomer_none subject.Operation (length s.arrivals) (length t.arrivals) arrivals)
 
   -- it hasn't gone on
@@ -103,7 +107,9 @@ down_of n Up f is = absurd (cc)
 next_filter : (f : ℕ) → goes_on (Down f) (Down (f + 1)) ≡ true
 next_filter f = ap not (ne_eqb f (f + 1) (λ it. absurd (omega (arith, it))))
 
-pub passed_on : (s : Store) (o f : ℕ) → filter_in (length s.presences) (route_at s o).position ≡ Some f → operations s (past_filter o f s) ≡ subject.Operation o ∷ []
+-- an operation that passes a filter is the one that is moved
+pub passed_on : (s : Store) (o f : ℕ) → filter_in (length s.presences) (route_at s o).position ≡ Some f →
+    operations s (past_filter o f s) ≡ subject.Operation o ∷ []
 passed_on s o f is =
     one_left s (past_filter o f s) o (record (route_at s o) { position = Down (f + 1) }) refl refl
     (ap (λ (q : Position). goes_on q (Down (f + 1))) (down_of (length s.presences) (route_at s o).position f is) ∙ next_filter f) refl
@@ -114,9 +120,13 @@ up_from n Visiting is = refl
 up_from n Up is = absurd (cc)
 
 module _ (s : Store) (o : ℕ) (is : is_below (length s.presences) (route_at s o).position ≡ true) where
-  pub lowered_left : (is_empty (route_at s o).frames && are_settled o s.visits s.settled) ≡ false → operations s (lowered o s) ≡ subject.Operation o ∷ []
-  lowered_left more = one_left s (lowered o s) o (carried_out (route_at s o)) refl refl (up_from (length s.presences) (route_at s o).position is) more
+  -- an operation that goes back through the stack is moved where it isn't over
+  pub lowered_left : (is_empty (route_at s o).frames && are_settled o s.visits s.settled) ≡ false →
+      operations s (lowered o s) ≡ subject.Operation o ∷ []
+  lowered_left more = one_left s (lowered o s) o (carried_out (route_at s o)) refl refl
+      (up_from (length s.presences) (route_at s o).position is) more
 
+  -- an operation that goes back through the stack and is over isn't moved
   pub lowered_over : (is_empty (route_at s o).frames && are_settled o s.visits s.settled) ≡ true → operations s (lowered o s) ≡ []
   lowered_over none = one_over s (lowered o s) o (carried_out (route_at s o)) refl refl none
 
@@ -124,7 +134,8 @@ module _ (s : Store) (o : ℕ) (is : is_below (length s.presences) (route_at s o
 
 module _ (s : Store) (v : ℕ) (x : Option ℕ) (way : settling.Way) where
   abbrev led_store : Bool → Store
-  led_store led = if led then with_route s (visit_at s v).operation (settling.led (visit_at s v).filter x way (route_at s (visit_at s v).operation)) else s
+  led_store led = if led then with_route s (visit_at s v).operation
+      (settling.led (visit_at s v).filter x way (route_at s (visit_at s v).operation)) else s
 
   abbrev settled_store : Bool → Bool → Store
   settled_store settles led = if settles then record (led_store led) { settled = set (led_store led).settled v true } else s
@@ -151,18 +162,22 @@ module _ (s : Store) (v : ℕ) (x : Option ℕ) (way : settling.Way) where
     pub led_left : goes_on (route_at s (visit_at s v).operation).position later.position ≡ true →
         is_over (settled_store true true) (visit_at s v).operation later ≡ false →
         operations s (settling.settled_by s v x way) ≡ subject.Operation (visit_at s v).operation ∷ []
-    led_left goes over = ap (operations s) store_is ∙ one_left s (settled_store true true) (visit_at s v).operation later refl refl goes over
+    led_left goes over = ap (operations s) store_is ∙ one_left s (settled_store true true)
+        (visit_at s v).operation later refl refl goes over
 
-    pub led_stays : goes_on (route_at s (visit_at s v).operation).position later.position ≡ false → operations s (settling.settled_by s v x way) ≡ []
+    pub led_stays : goes_on (route_at s (visit_at s v).operation).position later.position ≡ false →
+        operations s (settling.settled_by s v x way) ≡ []
     led_stays stands = ap (operations s) store_is ∙ one_stays s (settled_store true true) (visit_at s v).operation later refl refl stands
 
-    pub led_over : is_over (settled_store true true) (visit_at s v).operation later ≡ true → operations s (settling.settled_by s v x way) ≡ []
+    pub led_over : is_over (settled_store true true) (visit_at s v).operation later ≡ true →
+        operations s (settling.settled_by s v x way) ≡ []
     led_over over = ap (operations s) store_is ∙ one_over s (settled_store true true) (visit_at s v).operation later refl refl over
 
 -- by what its way leads to
 module _ (s : Store) (v : ℕ) (x : Option ℕ) (is : settling.is_led s v ≡ true) where
   abbrev goes : settling.Way → Bool
-  goes way = goes_on (route_at s (visit_at s v).operation).position (lands (visit_at s v).filter way (route_at s (visit_at s v).operation).position)
+  goes way = goes_on (route_at s (visit_at s v).operation).position
+      (lands (visit_at s v).filter way (route_at s (visit_at s v).operation).position)
 
   abbrev spent : Bool
   spent = is_empty (route_at s (visit_at s v).operation).frames && are_settled (visit_at s v).operation s.visits (set s.settled v true)
@@ -181,18 +196,24 @@ module _ (s : Store) (v : ℕ) (x : Option ℕ) (is : settling.is_led s v ≡ tr
   pub settled_one : (way : settling.Way) (b : Bool) →
       (goes way && not (is_up (lands (visit_at s v).filter way (route_at s (visit_at s v).operation).position) && spent)) ≡ b →
       operations s (settling.settled_by s v x way) ≡ (if b then subject.Operation (visit_at s v).operation ∷ [] else [])
-  settled_one settling.Passes b same = follows settling.Passes _ _ refl refl refl ∙ ap (λ (y : Bool). if y then subject.Operation (visit_at s v).operation ∷ [] else []) same
-  settled_one settling.Frames b same = follows settling.Frames _ _ refl refl refl ∙ ap (λ (y : Bool). if y then subject.Operation (visit_at s v).operation ∷ [] else []) same
+  settled_one settling.Passes b same =
+      follows settling.Passes _ _ refl refl refl ∙ ap (λ (y : Bool). if y then subject.Operation (visit_at s v).operation ∷ [] else []) same
+  settled_one settling.Frames b same =
+      follows settling.Frames _ _ refl refl refl ∙ ap (λ (y : Bool). if y then subject.Operation (visit_at s v).operation ∷ [] else []) same
   settled_one (settling.Ends outcome) b same =
-      follows (settling.Ends outcome) _ _ refl refl refl ∙ ap (λ (y : Bool). if y then subject.Operation (visit_at s v).operation ∷ [] else []) same
-  settled_one settling.Rises b same = follows settling.Rises _ _ refl refl refl ∙ ap (λ (y : Bool). if y then subject.Operation (visit_at s v).operation ∷ [] else []) same
+      follows (settling.Ends outcome) _ _ refl refl refl ∙
+      ap (λ (y : Bool). if y then subject.Operation (visit_at s v).operation ∷ [] else []) same
+  settled_one settling.Rises b same =
+      follows settling.Rises _ _ refl refl refl ∙ ap (λ (y : Bool). if y then subject.Operation (visit_at s v).operation ∷ [] else []) same
   settled_one settling.Stays b same =
       not_settled s v x settling.Stays refl ∙
       ap (λ (y : Bool). if y then subject.Operation (visit_at s v).operation ∷ [] else [])
-      (ap (λ (y : Bool). y && not (is_up (route_at s (visit_at s v).operation).position && spent)) (sym (stays (route_at s (visit_at s v).operation).position)) ∙ same)
+      (ap (λ (y : Bool). y && not (is_up (route_at s (visit_at s v).operation).position && spent))
+      (sym (stays (route_at s (visit_at s v).operation).position)) ∙ same)
 
 -- the same of what is read
-pub settled_read : (s : Store) (v : ℕ) (x : Option ℕ) (way : settling.Way) (o f : ℕ) (from : Position) (spent b : Bool) → settling.is_led s v ≡ true →
+pub settled_read : (s : Store) (v : ℕ) (x : Option ℕ) (way : settling.Way) (o f : ℕ) (from : Position) (spent b : Bool) →
+    settling.is_led s v ≡ true →
     o ≡ (visit_at s v).operation → f ≡ (visit_at s v).filter → from ≡ (route_at s o).position →
     spent ≡ (is_empty (route_at s o).frames && are_settled o s.visits (set s.settled v true)) →
     b ≡ (goes_on from (lands f way from) && not (is_up (lands f way from) && spent)) →

@@ -36,12 +36,14 @@ use Rattle.flt_machine.proofs.Quieted.{quiet_entries, quiet_teardown}
 
 -- as it was found out, where the move is made
 pub moved_next : (altitudes : List ℕ) (b later : Situation) (m : Move) (d : Decision) (next : List Subject) → HasMoved b later m d →
-    next ≡ subjects altitudes b.store (after_change b.store d.change) (newcomer subject.Activation (length b.standings) (length b.standings + length (actors_by d.start))) →
+    next ≡ subjects altitudes b.store (after_change b.store d.change)
+    (newcomer subject.Activation (length b.standings) (length b.standings + length (actors_by d.start))) →
     next ≡ after_move altitudes b.store later.store (length b.standings) (length later.standings)
 moved_next altitudes b later m d next moved is =
     is ∙
     ap (λ (n : ℕ). subjects altitudes b.store (after_change b.store d.change) (newcomer subject.Activation (length b.standings) n))
-    (ap (λ (n : ℕ). length b.standings + n) (same_number [] d.start moved.standing (moved.begins [])) ∙ sym (length-append b.standings (standings_by moved.standing))) ∙
+    (ap (λ (n : ℕ). length b.standings + n) (same_number [] d.start moved.standing (moved.begins [])) ∙
+    sym (length-append b.standings (standings_by moved.standing))) ∙
     ap (λ (x : Situation). after_move altitudes b.store x.store (length b.standings) (length x.standings)) (sym moved.same)
 
 -- ---- a step of an activation
@@ -53,20 +55,24 @@ there standings a s is = elim (cases_lt a (length standings)) [
 ]
 
 -- as it was found out, where the step is made and the activation's standing put
-pub go_next : (altitudes : List ℕ) (b w x : Situation) (c : Change) (e : JournalEntry) (a : ℕ) (s : Standing) (later : Option Standing) (goes : Bool) (next : List Subject) →
-    standing_of b a ≡ Some s → w ≡ record b { store = after_change b.store c; entries = b.entries ++ e ∷ [] } → x ≡ record w { standings = set w.standings a later } →
+pub go_next : (altitudes : List ℕ) (b w x : Situation) (c : Change) (e : JournalEntry) (a : ℕ) (s : Standing) (later : Option Standing)
+    (goes : Bool) (next : List Subject) →
+    standing_of b a ≡ Some s → w ≡ record b { store = after_change b.store c; entries = b.entries ++ e ∷ [] } →
+    x ≡ record w { standings = set w.standings a later } →
     goes ≡ is_some later → next ≡ subjects altitudes b.store (after_change b.store c) (if goes then subject.Activation a ∷ [] else []) →
     next ≡ after_go altitudes b.store x.store a (is_some (standing_of x a))
 go_next altitudes b w x c e a s later goes next stands of_w of_x of_goes is =
     is ∙ ap (after_go altitudes b.store (after_change b.store c) a)
     (of_goes ∙ ap (λ (o : Option Standing). is_some o) (sym (get_or-set_same b.standings a later None (there b.standings a s stands)))) ∙
-    ap (λ (y : Situation). after_go altitudes b.store (after_change b.store c) a (is_some (get_or (set y.standings a later) a None))) (sym of_w) ∙
+    ap (λ (y : Situation). after_go altitudes b.store (after_change b.store c) a (is_some (get_or (set y.standings a later) a None)))
+    (sym of_w) ∙
     ap (λ (y : Situation). after_go altitudes b.store y.store a (is_some (get_or (set w.standings a later) a None))) (sym of_w) ∙
     ap (λ (y : Situation). after_go altitudes b.store y.store a (is_some (standing_of y a))) (sym of_x)
 
 -- ---- before the move is made
 
-joined : {o : Subject} {operations items entries teardowns : List Subject} → operations ≡ o ∷ [] → items ≡ [] → entries ≡ [] → teardowns ≡ [] →
+joined : {o : Subject} {operations items entries teardowns : List Subject} → operations ≡ o ∷ [] → items ≡ [] →
+    entries ≡ [] → teardowns ≡ [] →
     operations ++ [] ++ items ++ entries ++ teardowns ≡ o ∷ []
 joined one none some rest = rw (one, none, some, rest) refl
 
@@ -74,8 +80,10 @@ joined one none some rest = rw (one, none, some, rest) refl
 subjects_arrived : (altitudes : List ℕ) (s : Store) (kind : Operation) (mode : Mode) (file : ℕ) →
     subjects altitudes s (after_change s (change.Arrive kind mode file)) [] ≡ subject.Operation (length s.arrivals) ∷ []
 subjects_arrived altitudes s kind mode file =
-    joined (arrived s (record { kind = kind; mode = mode; file = file })) (newcomer_none subject.Item (length s.items) (length s.items) refl)
-    (quiet_entries s (change.Arrive kind mode file) altitudes (λ o is. absurd (let same = is in cc)) (λ f v x is. absurd (let same = is in cc)) (λ f is. absurd (let same = is in cc)))
+    joined (arrived s (record { kind = kind; mode = mode; file = file }))
+    (newcomer_none subject.Item (length s.items) (length s.items) refl)
+    (quiet_entries s (change.Arrive kind mode file) altitudes (λ o is. absurd (let same = is in cc))
+    (λ f v x is. absurd (let same = is in cc)) (λ f is. absurd (let same = is in cc)))
     (quiet_teardown s (change.Arrive kind mode file) altitudes (λ f is. absurd (let same = is in cc)))
 
 abbrev arrival_step : World → Operation → Mode → ℕ → Step
@@ -84,24 +92,28 @@ arrival_step w kind mode file = stores w (with_arrival w.store (record { kind = 
 none_is : (step : Step) → None ≡ Some step → ⊥
 none_is step same = absurd (cc)
 
-arrive_gives : (altitudes : List ℕ) (w : World) (kind : Operation) (mode : Mode) (file : ℕ) (step : Step) → arrive w kind mode file ≡ Some step →
+arrive_gives : (altitudes : List ℕ) (w : World) (kind : Operation) (mode : Mode) (file : ℕ) (step : Step) →
+    arrive w kind mode file ≡ Some step →
     by_move altitudes w (arrive w kind mode file) ≡ subject.Operation (length w.store.arrivals) ∷ []
 arrive_gives altitudes w kind mode file step some = by (fits_mode kind mode && nat_lt file 1024) some
   where
     by : (b : Bool) → (if b then Some (arrival_step w kind mode file) else None) ≡ Some step →
         by_move altitudes w (if b then Some (arrival_step w kind mode file) else None) ≡ subject.Operation (length w.store.arrivals) ∷ []
     by true same =
-        ap (subjects altitudes w.store (after_change w.store (change.Arrive kind mode file))) (newcomer_none subject.Activation (length w.activations) (length w.activations) refl) ∙
+        ap (subjects altitudes w.store (after_change w.store (change.Arrive kind mode file)))
+        (newcomer_none subject.Activation (length w.activations) (length w.activations) refl) ∙
         subjects_arrived altitudes w.store kind mode file
     by false same = absurd (none_is step same)
 
 module _ (altitudes : List ℕ) (p : List Filter) (b : Situation) (m : Moment) (d : Decision) (at : IsAt p b m) where
   -- an arrival that is enabled
-  pub arrival_next : (kind : Operation) (mode : Mode) (file : ℕ) → Decides p m.world (Some d) (make p m.world (move.Arrive kind mode file)) →
+  pub arrival_next : (kind : Operation) (mode : Mode) (file : ℕ) →
+      Decides p m.world (Some d) (make p m.world (move.Arrive kind mode file)) →
       subject.Operation (length b.store.arrivals) ∷ [] ≡ by_move altitudes m.world (make p m.world (move.Arrive kind mode file))
   arrival_next kind mode file decides =
       let it = some_there p m.world d (make p m.world (move.Arrive kind mode file)) decides in
-      ap (λ (s : Store). subject.Operation (length s.arrivals) ∷ []) at.store ∙ sym (arrive_gives altitudes m.world kind mode file it.0 it.1.0)
+      ap (λ (s : Store). subject.Operation (length s.arrivals) ∷ []) at.store ∙
+      sym (arrive_gives altitudes m.world kind mode file it.0 it.1.0)
 
   as_many : (o : Option Start) → length (actors_by o) ≡ length (activations_by p o)
   as_many None = refl
@@ -109,20 +121,27 @@ module _ (altitudes : List ℕ) (p : List Filter) (b : Situation) (m : Moment) (
 
   -- any other move that is enabled
   pub other_next : (step : Move) (next : List Subject) → Decides p m.world (Some d) (make p m.world step) →
-      next ≡ subjects altitudes b.store (after_change b.store d.change) (newcomer subject.Activation (length b.standings) (length b.standings + length (actors_by d.start))) →
+      next ≡ subjects altitudes b.store (after_change b.store d.change)
+      (newcomer subject.Activation (length b.standings) (length b.standings + length (actors_by d.start))) →
       next ≡ by_move altitudes m.world (make p m.world step)
   other_next step next decides is =
       let it = some_there p m.world d (make p m.world step) decides in
       is ∙
-      ap (λ (s : Store). subjects altitudes s (after_change s d.change) (newcomer subject.Activation (length b.standings) (length b.standings + length (actors_by d.start)))) at.store ∙
-      ap (λ (n : ℕ). subjects altitudes m.world.store (after_change m.world.store d.change) (newcomer subject.Activation n (n + length (actors_by d.start)))) at.count ∙
-      ap (λ (n : ℕ). subjects altitudes m.world.store (after_change m.world.store d.change) (newcomer subject.Activation (length m.world.activations) n))
-      (ap (λ (n : ℕ). length m.world.activations + n) (as_many d.start) ∙ sym (length-append m.world.activations (activations_by p d.start))) ∙
-      ap (λ (w : World). after_move altitudes m.world.store w.store (length m.world.activations) (length w.activations)) (sym it.1.1.world) ∙
+      ap (λ (s : Store). subjects altitudes s (after_change s d.change)
+      (newcomer subject.Activation (length b.standings) (length b.standings + length (actors_by d.start)))) at.store ∙
+      ap (λ (n : ℕ). subjects altitudes m.world.store (after_change m.world.store d.change)
+      (newcomer subject.Activation n (n + length (actors_by d.start)))) at.count ∙
+      ap (λ (n : ℕ). subjects altitudes m.world.store (after_change m.world.store d.change)
+      (newcomer subject.Activation (length m.world.activations) n))
+      (ap (λ (n : ℕ). length m.world.activations + n) (as_many d.start) ∙
+      sym (length-append m.world.activations (activations_by p d.start))) ∙
+      ap (λ (w : World). after_move altitudes m.world.store w.store (length m.world.activations) (length w.activations))
+      (sym it.1.1.world) ∙
       ap (by_move altitudes m.world) (sym it.1.0)
 
 -- there is room for any other move
-pub has_room : (s : Store) (step : Move) → ((kind : Operation) (mode : Mode) (file : ℕ) → step ≡ move.Arrive kind mode file → ⊥) → HasRoom s step
+pub has_room : (s : Store) (step : Move) → ((kind : Operation) (mode : Mode) (file : ℕ) → step ≡ move.Arrive kind mode file → ⊥) →
+    HasRoom s step
 has_room s (move.Arrive kind mode file) other = absurd (other kind mode file refl)
 has_room s (move.Pre o) other = tt
 has_room s (move.Skip o) other = tt

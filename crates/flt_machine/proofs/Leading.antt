@@ -20,13 +20,15 @@ neither : (b : Bool) → (if b then nothing else nothing) ≡ nothing
 neither true = refl
 neither false = refl
 
-module _ (p : List Filter) (t : List Event) (w : World) (a : ℕ) (choice : Bool) (step : Step) (lives : (activation_at w a).ended ≡ false) (made : board p t w a choice ≡ Some step) where
+module _ (p : List Filter) (t : List Event) (w : World) (a : ℕ) (choice : Bool) (step : Step) (lives : (activation_at w a).ended ≡ false)
+    (made : board p t w a choice ≡ Some step) where
   -- no `repeat` stands where others see the next step
   repeats_not : (s : Standing) (turns : ℕ) → RepeatsFirst s (activation_at w a).rest turns → ⊥
   repeats_not s turns x = let none : board p t w a choice ≡ None = rw (lives, x.rest_is, x.text) (neither choice) in absurd (cc)
 
   -- the instruction leads on
-  pub leads : (cs : List Callback) (s : Standing) (i : Instruction) → Remains cs s (activation_at w a).rest i → is_ending i ≡ false → leads_on i ≡ true
+  pub leads : (cs : List Callback) (s : Standing) (i : Instruction) →
+      Remains cs s (activation_at w a).rest i → is_ending i ≡ false → leads_on i ≡ true
   leads cs s (instruction.Act x on) r goes = refl
   leads cs s (instruction.Call k granted refused) r goes = refl
   leads cs s (instruction.Test x granted refused) r goes = refl

@@ -99,7 +99,8 @@ module _ {A : Type 0} (xs ys : List A) (d : A) where
 
 -- ---- the move
 
-module _ (p : List Filter) (b : Situation) (m : Moment) (d : Decision) (step : Step) (at : IsAt p b m) (is : IsDecided p m.world d step) where
+module _ (p : List Filter) (b : Situation) (m : Moment) (d : Decision) (step : Step) (at : IsAt p b m)
+    (is : IsDecided p m.world d step) where
   nobody_starts : (entries : List JournalEntry) → d.start ≡ None → IsAt p (moved_by b d None entries) (after m step)
   nobody_starts entries none = record {
     actors = actors;
@@ -112,10 +113,12 @@ module _ (p : List Filter) (b : Situation) (m : Moment) (d : Decision) (step : S
   }
     where
       actors_same : step.world.actors ≡ m.world.actors
-      actors_same = ap (λ (w : World). w.actors) is.world ∙ ap (λ (o : Option Start). m.world.actors ++ actors_by o) none ∙ append-nil m.world.actors
+      actors_same = ap (λ (w : World). w.actors) is.world ∙ ap (λ (o : Option Start). m.world.actors ++ actors_by o) none ∙
+          append-nil m.world.actors
 
       acts_same : step.world.activations ≡ m.world.activations
-      acts_same = ap (λ (w : World). w.activations) is.world ∙ ap (λ (o : Option Start). m.world.activations ++ activations_by p o) none ∙ append-nil m.world.activations
+      acts_same = ap (λ (w : World). w.activations) is.world ∙ ap (λ (o : Option Start). m.world.activations ++ activations_by p o) none ∙
+          append-nil m.world.activations
 
       events_are : step.events ≡ frees_by d.freed
       events_are = is.events ∙ ap (λ (o : Option Start). gains_by (length m.world.activations) o ++ frees_by d.freed) none
@@ -127,20 +130,24 @@ module _ (p : List Filter) (b : Situation) (m : Moment) (d : Decision) (step : S
       actors = ap (λ (o : Option Start). b.actors ++ actors_by o) none ∙ append-nil b.actors ∙ at.actors ∙ sym actors_same
 
       count : length (b.standings ++ []) ≡ length step.world.activations
-      count = ap (λ (l : List (Option Standing)). length l) standings_same ∙ at.count ∙ ap (λ (l : List Activation). length l) (sym acts_same)
+      count = ap (λ (l : List (Option Standing)). length l) standings_same ∙ at.count ∙
+          ap (λ (l : List Activation). length l) (sym acts_same)
 
       both : length step.world.actors ≡ length step.world.activations
       both = ap (λ (l : List Actor). length l) actors_same ∙ at.both ∙ ap (λ (l : List Activation). length l) (sym acts_same)
 
       quiet : (k v : ℕ) → (gains step.events k (Visit v) ≡ 0) × (loses step.events k (Visit v) ≡ 0)
-      quiet k v = subst (λ (es : List Event). (gains es k (Visit v) ≡ 0) × (loses es k (Visit v) ≡ 0)) (sym events_are) (frees_gain k v d.freed)
+      quiet k v = subst (λ (es : List Event). (gains es k (Visit v) ≡ 0) × (loses es k (Visit v) ≡ 0)) (sym events_are)
+          (frees_gain k v d.freed)
 
-      young : (k v : ℕ) → length step.world.activations ≤ k → (gains (m.trace ++ step.events) k (Visit v) ≡ 0) × (loses (m.trace ++ step.events) k (Visit v) ≡ 0)
+      young : (k v : ℕ) → length step.world.activations ≤ k → (gains (m.trace ++ step.events) k (Visit v) ≡ 0) ×
+          (loses (m.trace ++ step.events) k (Visit v) ≡ 0)
       young k v past =
           let before = at.young k v (subst (λ (l : List Activation). length l ≤ k) acts_same past) in
           (omega (arith, before.0, gains-append m.trace step.events k (Visit v), (quiet k v).0), omega (arith, before.1, loses-append m.trace step.events k (Visit v), (quiet k v).1))
 
-      on : (k : ℕ) (act : Activation) (s : Option Standing) (f : ℕ) → KeptFor (callbacks_at p f) m.trace k act s → KeptFor (callbacks_at p f) (m.trace ++ step.events) k act s
+      on : (k : ℕ) (act : Activation) (s : Option Standing) (f : ℕ) →
+          KeptFor (callbacks_at p f) m.trace k act s → KeptFor (callbacks_at p f) (m.trace ++ step.events) k act s
       on k act None f it = it
       on k act (Some s) f it = record {
         stands = it.stands;
@@ -150,18 +157,25 @@ module _ (p : List Filter) (b : Situation) (m : Moment) (d : Decision) (step : S
         };
       }
 
-      kept : (k : ℕ) → KeptFor (callbacks_at p (get_or step.world.actors k no_actor).filter) (m.trace ++ step.events) k (get_or step.world.activations k nobody) (get_or (b.standings ++ []) k None)
+      kept : (k : ℕ) → KeptFor (callbacks_at p (get_or step.world.actors k no_actor).filter) (m.trace ++ step.events) k
+          (get_or step.world.activations k nobody) (get_or (b.standings ++ []) k None)
       kept k =
-          subst (λ (l : List Actor). KeptFor (callbacks_at p (get_or l k no_actor).filter) (m.trace ++ step.events) k (get_or step.world.activations k nobody) (get_or (b.standings ++ []) k None)) (sym actors_same)
-          (subst (λ (l : List Activation). KeptFor (callbacks_at p (get_or m.world.actors k no_actor).filter) (m.trace ++ step.events) k (get_or l k nobody) (get_or (b.standings ++ []) k None)) (sym acts_same)
-          (subst (λ (l : List (Option Standing)). KeptFor (callbacks_at p (get_or m.world.actors k no_actor).filter) (m.trace ++ step.events) k (get_or m.world.activations k nobody) (get_or l k None)) (sym standings_same)
+          subst (λ (l : List Actor). KeptFor (callbacks_at p (get_or l k no_actor).filter) (m.trace ++ step.events) k
+          (get_or step.world.activations k nobody) (get_or (b.standings ++ []) k None)) (sym actors_same)
+          (subst (λ (l : List Activation). KeptFor (callbacks_at p (get_or m.world.actors k no_actor).filter) (m.trace ++ step.events) k
+          (get_or l k nobody) (get_or (b.standings ++ []) k None)) (sym acts_same)
+          (subst (λ (l : List (Option Standing)). KeptFor (callbacks_at p (get_or m.world.actors k no_actor).filter)
+          (m.trace ++ step.events) k (get_or m.world.activations k nobody) (get_or l k None)) (sym standings_same)
           (on k (activation_at m.world k) (standing_of b k) (actor_at m.world k).filter (at.kept k))))
 
-  one_starts : (start : Start) (s : Standing) (entries : List JournalEntry) → d.start ≡ Some start → Begins p (Some start) (Some s) → IsAt p (moved_by b d (Some s) entries) (after m step)
+  one_starts : (start : Start) (s : Standing) (entries : List JournalEntry) →
+      d.start ≡ Some start → Begins p (Some start) (Some s) → IsAt p (moved_by b d (Some s) entries) (after m step)
   one_starts start s entries some (stands, (gained, lost)) = record {
     actors = ap (λ (l : List Actor). l ++ actors_by d.start) at.actors ∙ sym (ap (λ (w : World). w.actors) is.world);
-    count = length-append b.standings (Some s ∷ []) ∙ ap (λ (n : ℕ). n + 1) at.count ∙ sym (length-append m.world.activations (new ∷ [])) ∙ ap (λ (l : List Activation). length l) (sym acts_are);
-    both = ap (λ (l : List Actor). length l) actors_are ∙ length-append m.world.actors (actor ∷ []) ∙ ap (λ (n : ℕ). n + 1) at.both ∙ sym (length-append m.world.activations (new ∷ [])) ∙ ap (λ (l : List Activation). length l) (sym acts_are);
+    count = length-append b.standings (Some s ∷ []) ∙ ap (λ (n : ℕ). n + 1) at.count ∙ sym (length-append m.world.activations (new ∷ [])) ∙
+        ap (λ (l : List Activation). length l) (sym acts_are);
+    both = ap (λ (l : List Actor). length l) actors_are ∙ length-append m.world.actors (actor ∷ []) ∙ ap (λ (n : ℕ). n + 1) at.both ∙
+        sym (length-append m.world.activations (new ∷ [])) ∙ ap (λ (l : List Activation). length l) (sym acts_are);
     filters = ap (λ (w : World). length w.store.presences) is.world ∙ filters_stay m.world.store d.change ∙ at.filters;
     kept = kept;
     store = ap (λ (s : Store). after_change s d.change) at.store ∙ sym (ap (λ (w : World). w.store) is.world);
@@ -189,9 +203,11 @@ module _ (p : List Filter) (b : Situation) (m : Moment) (d : Decision) (step : S
       own : AreOf n step.events
       own = subst (AreOf n) (sym (is.events)) (events_of n d.start d.freed)
 
-      young : (k v : ℕ) → length step.world.activations ≤ k → (gains (m.trace ++ step.events) k (Visit v) ≡ 0) × (loses (m.trace ++ step.events) k (Visit v) ≡ 0)
+      young : (k v : ℕ) → length step.world.activations ≤ k → (gains (m.trace ++ step.events) k (Visit v) ≡ 0) ×
+          (loses (m.trace ++ step.events) k (Visit v) ≡ 0)
       young k v past =
-          let longer : length step.world.activations ≡ n + 1 = ap (λ (l : List Activation). length l) acts_are ∙ length-append m.world.activations (new ∷ []) in
+          let longer : length step.world.activations ≡ n + 1 =
+          ap (λ (l : List Activation). length l) acts_are ∙ length-append m.world.activations (new ∷ []) in
           let apart : k ≢ n = λ same. absurd (omega (arith, past, longer, same)) in
           let before = at.young k v (omega (arith, past, longer)) in (
             omega (arith, before.0, gains-append m.trace step.events k (Visit v), gains_other n k (Visit v) step.events apart own),
@@ -199,10 +215,12 @@ module _ (p : List Filter) (b : Situation) (m : Moment) (d : Decision) (step : S
           )
 
       actor_there : get_or (m.world.actors ++ actor ∷ []) n no_actor ≡ actor
-      actor_there = subst (λ (j : ℕ). get_or (m.world.actors ++ actor ∷ []) j no_actor ≡ actor) at.both (get_or-append_seam m.world.actors actor [] no_actor)
+      actor_there = subst (λ (j : ℕ). get_or (m.world.actors ++ actor ∷ []) j no_actor ≡ actor) at.both
+          (get_or-append_seam m.world.actors actor [] no_actor)
 
       standing_there : get_or (b.standings ++ Some s ∷ []) n None ≡ Some s
-      standing_there = subst (λ (j : ℕ). get_or (b.standings ++ Some s ∷ []) j None ≡ Some s) at.count (get_or-append_seam b.standings (Some s) [] None)
+      standing_there = subst (λ (j : ℕ). get_or (b.standings ++ Some s ∷ []) j None ≡ Some s) at.count
+          (get_or-append_seam b.standings (Some s) [] None)
 
       begun : IsKept (callbacks_at p start.filter) (m.trace ++ step.events) n new s
       begun = record {
@@ -224,32 +242,48 @@ module _ (p : List Filter) (b : Situation) (m : Moment) (d : Decision) (step : S
       }
 
       Kept : ℕ → List Actor → List Activation → List (Option Standing) → Type 0
-      Kept k actors acts standings = KeptFor (callbacks_at p (get_or actors k no_actor).filter) (m.trace ++ step.events) k (get_or acts k nobody) (get_or standings k None)
+      Kept k actors acts standings = KeptFor (callbacks_at p (get_or actors k no_actor).filter) (m.trace ++ step.events) k
+          (get_or acts k nobody) (get_or standings k None)
 
-      fresh : KeptFor (callbacks_at p (get_or (m.world.actors ++ actor ∷ []) n no_actor).filter) (m.trace ++ step.events) n (get_or (m.world.activations ++ new ∷ []) n nobody) (get_or (b.standings ++ Some s ∷ []) n None)
+      fresh : KeptFor (callbacks_at p (get_or (m.world.actors ++ actor ∷ []) n no_actor).filter) (m.trace ++ step.events) n
+          (get_or (m.world.activations ++ new ∷ []) n nobody) (get_or (b.standings ++ Some s ∷ []) n None)
       fresh =
-          subst (λ (x : Actor). KeptFor (callbacks_at p x.filter) (m.trace ++ step.events) n (get_or (m.world.activations ++ new ∷ []) n nobody) (get_or (b.standings ++ Some s ∷ []) n None)) (sym actor_there)
-          (subst (λ (x : Activation). KeptFor (callbacks_at p start.filter) (m.trace ++ step.events) n x (get_or (b.standings ++ Some s ∷ []) n None)) (sym (get_or-append_seam m.world.activations new [] nobody))
+          subst (λ (x : Actor). KeptFor (callbacks_at p x.filter) (m.trace ++ step.events) n
+          (get_or (m.world.activations ++ new ∷ []) n nobody) (get_or (b.standings ++ Some s ∷ []) n None)) (sym actor_there)
+          (subst (λ (x : Activation). KeptFor (callbacks_at p start.filter) (m.trace ++ step.events) n x
+          (get_or (b.standings ++ Some s ∷ []) n None)) (sym (get_or-append_seam m.world.activations new [] nobody))
           (subst (KeptFor (callbacks_at p start.filter) (m.trace ++ step.events) n new) (sym standing_there) begun))
 
-      others : (k : ℕ) → k ≢ n → KeptFor (callbacks_at p (get_or (m.world.actors ++ actor ∷ []) k no_actor).filter) (m.trace ++ step.events) k (get_or (m.world.activations ++ new ∷ []) k nobody) (get_or (b.standings ++ Some s ∷ []) k None)
+      others : (k : ℕ) → k ≢ n → KeptFor (callbacks_at p (get_or (m.world.actors ++ actor ∷ []) k no_actor).filter)
+          (m.trace ++ step.events) k (get_or (m.world.activations ++ new ∷ []) k nobody) (get_or (b.standings ++ Some s ∷ []) k None)
       others k differs =
-          subst (λ (x : Actor). KeptFor (callbacks_at p x.filter) (m.trace ++ step.events) k (get_or (m.world.activations ++ new ∷ []) k nobody) (get_or (b.standings ++ Some s ∷ []) k None)) (sym (grown_other m.world.actors (actor ∷ []) no_actor k refl (λ it. differs (it ∙ at.both))))
-          (subst (λ (x : Activation). KeptFor (callbacks_at p (actor_at m.world k).filter) (m.trace ++ step.events) k x (get_or (b.standings ++ Some s ∷ []) k None)) (sym (grown_other m.world.activations (new ∷ []) nobody k refl differs))
-          (subst (KeptFor (callbacks_at p (actor_at m.world k).filter) (m.trace ++ step.events) k (activation_at m.world k)) (sym (grown_other b.standings (Some s ∷ []) None k refl (λ it. differs (it ∙ at.count))))
-          (other_kept (callbacks_at p (actor_at m.world k).filter) m.trace step.events n k (activation_at m.world k) (standing_of b k) differs own (at.kept k))))
+          subst (λ (x : Actor). KeptFor (callbacks_at p x.filter) (m.trace ++ step.events) k
+          (get_or (m.world.activations ++ new ∷ []) k nobody) (get_or (b.standings ++ Some s ∷ []) k None))
+          (sym (grown_other m.world.actors (actor ∷ []) no_actor k refl (λ it. differs (it ∙ at.both))))
+          (subst (λ (x : Activation). KeptFor (callbacks_at p (actor_at m.world k).filter) (m.trace ++ step.events) k x
+          (get_or (b.standings ++ Some s ∷ []) k None)) (sym (grown_other m.world.activations (new ∷ []) nobody k refl differs))
+          (subst (KeptFor (callbacks_at p (actor_at m.world k).filter) (m.trace ++ step.events) k (activation_at m.world k))
+          (sym (grown_other b.standings (Some s ∷ []) None k refl (λ it. differs (it ∙ at.count))))
+          (other_kept (callbacks_at p (actor_at m.world k).filter) m.trace step.events n k (activation_at m.world k)
+          (standing_of b k) differs own (at.kept k))))
 
-      kept : (k : ℕ) → KeptFor (callbacks_at p (get_or step.world.actors k no_actor).filter) (m.trace ++ step.events) k (get_or step.world.activations k nobody) (get_or (b.standings ++ Some s ∷ []) k None)
+      kept : (k : ℕ) → KeptFor (callbacks_at p (get_or step.world.actors k no_actor).filter) (m.trace ++ step.events) k
+          (get_or step.world.activations k nobody) (get_or (b.standings ++ Some s ∷ []) k None)
       kept k =
-          subst (λ (l : List Actor). KeptFor (callbacks_at p (get_or l k no_actor).filter) (m.trace ++ step.events) k (get_or step.world.activations k nobody) (get_or (b.standings ++ Some s ∷ []) k None)) (sym actors_are)
-          (subst (λ (l : List Activation). KeptFor (callbacks_at p (get_or (m.world.actors ++ actor ∷ []) k no_actor).filter) (m.trace ++ step.events) k (get_or l k nobody) (get_or (b.standings ++ Some s ∷ []) k None)) (sym acts_are)
+          subst (λ (l : List Actor). KeptFor (callbacks_at p (get_or l k no_actor).filter) (m.trace ++ step.events) k
+          (get_or step.world.activations k nobody) (get_or (b.standings ++ Some s ∷ []) k None)) (sym actors_are)
+          (subst (λ (l : List Activation). KeptFor (callbacks_at p (get_or (m.world.actors ++ actor ∷ []) k no_actor).filter)
+          (m.trace ++ step.events) k (get_or l k nobody) (get_or (b.standings ++ Some s ∷ []) k None)) (sym acts_are)
           (elim (cases_eq k n) [
-            | inl same ↦ subst (λ (j : ℕ). KeptFor (callbacks_at p (get_or (m.world.actors ++ actor ∷ []) j no_actor).filter) (m.trace ++ step.events) j (get_or (m.world.activations ++ new ∷ []) j nobody) (get_or (b.standings ++ Some s ∷ []) j None)) (sym same) fresh
+            | inl same ↦ subst (λ (j : ℕ). KeptFor (callbacks_at p (get_or (m.world.actors ++ actor ∷ []) j no_actor).filter)
+                (m.trace ++ step.events) j (get_or (m.world.activations ++ new ∷ []) j nobody) (get_or (b.standings ++ Some s ∷ []) j None))
+                (sym same) fresh
             | inr differs ↦ others k differs
           ]))
 
   -- the board after a move stands after its step
-  pub stands_after : (s : Option Standing) (entries : List JournalEntry) → Begins p d.start s → IsAt p (moved_by b d s entries) (after m step)
+  pub stands_after : (s : Option Standing) (entries : List JournalEntry) →
+      Begins p d.start s → IsAt p (moved_by b d s entries) (after m step)
   stands_after s entries begins = by d.start s refl begins
     where
       by : (o : Option Start) (s : Option Standing) → d.start ≡ o → Begins p o s → IsAt p (moved_by b d s entries) (after m step)
@@ -261,4 +295,5 @@ module _ (p : List Filter) (b : Situation) (m : Moment) (d : Decision) (step : S
   -- the move is made
   pub makes : (move : Move) (s : Option Standing) (entries : List JournalEntry) → next p m (Make move) ≡ Some step → Begins p d.start s →
       Makes p (moved_by b d s entries) [] (Make move) (events_by m.world d) m
-  makes move s entries made begins = record { middle = m; step = step; reached = refl; made = made; told = sym is.events; at = stands_after s entries begins }
+  makes move s entries made begins =
+      record { middle = m; step = step; reached = refl; made = made; told = sym is.events; at = stands_after s entries begins }

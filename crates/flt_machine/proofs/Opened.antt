@@ -15,7 +15,8 @@ all_same x [] = refl
 all_same x (f ∷ p) = ap (λ l. x ∷ l) (all_same x p)
 
 store_same : (p : List Filter) → empty_store (length p) ≡ (start p).world.store
-store_same p = rw (all_same {A = Presence} Attached p, all_same {A = List Entry} [] p, all_same {A = List (List Holder)} (replicate 8 []) p) refl
+store_same p =
+    rw (all_same {A = Presence} Attached p, all_same {A = List Entry} [] p, all_same {A = List (List Holder)} (replicate 8 []) p) refl
 
 none_yet : (a v : ℕ) → (gains [] a (Visit v) ≡ 0) × (loses [] a (Visit v) ≡ 0)
 unfolding gains loses

@@ -59,7 +59,8 @@ module _ (give : ℕ → ℕ → List Subject) where
   nothing_from : (f : ℕ) (altitudes : List ℕ) → ((g a : ℕ) → f ≤ g → give g a ≡ []) → by_altitude give f altitudes ≡ []
   nothing_from f [] misses = refl
   nothing_from f (a ∷ altitudes) misses =
-      ap (λ (l : List Subject). l ++ give f a) (nothing_from (f + 1) altitudes (λ g b more. misses g b (omega (arith, more)))) ∙ misses f a (omega arith)
+      ap (λ (l : List Subject). l ++ give f a) (nothing_from (f + 1) altitudes (λ g b more. misses g b (omega (arith, more)))) ∙
+      misses f a (omega arith)
 
   one_from : (f : ℕ) (altitudes : List ℕ) (k a : ℕ) → slice_get altitudes k ≡ Some a → ((g b : ℕ) → g ≢ f + k → give g b ≡ []) →
       by_altitude give f altitudes ≡ give (f + k) a
@@ -67,7 +68,8 @@ module _ (give : ℕ → ℕ → List Subject) where
   one_from f (b ∷ altitudes) zero a is misses =
       let same : b ≡ a = cc in
       let here : f ≡ f + 0 = omega arith in
-      ap (λ (l : List Subject). l ++ give f b) (nothing_from (f + 1) altitudes (λ g c more. misses g c (λ it. absurd (omega (arith, more, it))))) ∙
+      ap (λ (l : List Subject). l ++ give f b)
+      (nothing_from (f + 1) altitudes (λ g c more. misses g c (λ it. absurd (omega (arith, more, it))))) ∙
       ap (give f) same ∙ ap (λ (n : ℕ). give n a) here
   one_from f (b ∷ altitudes) (suc k) a is misses =
       let there : (f + 1) + k ≡ f + suc k = omega arith in
@@ -109,4 +111,5 @@ module _ (give : ℕ → ℕ → List Subject) where
 
   -- and none yet
   pub by_altitude_start : (altitudes : List ℕ) (f : ℕ) → f ≡ length altitudes → by_altitude give f (drop f altitudes) ≡ []
-  by_altitude_start altitudes f all = ap (by_altitude give f) (ap (λ (n : ℕ). drop n altitudes) all ∙ drop_all (length altitudes) altitudes (omega arith))
+  by_altitude_start altitudes f all =
+      ap (by_altitude give f) (ap (λ (n : ℕ). drop n altitudes) all ∙ drop_all (length altitudes) altitudes (omega arith))

@@ -44,9 +44,11 @@ module _ (s : Store) where
 
   settled_on : (v : ℕ) (x : Option ℕ) (way : settling.Way) → length (settling.settled_by s v x way).presences ≡ length s.presences
   settled_on v x way =
-      either (length s.presences) (settling.settles_visit way) (record (settling.lead s v x way) { settled = set (settling.lead s v x way).settled v true }) s
+      either (length s.presences) (settling.settles_visit way)
+      (record (settling.lead s v x way) { settled = set (settling.lead s v x way).settled v true }) s
       (either (length s.presences) (settling.is_led s v)
-      (with_route s (visit_at s v).operation (settling.led (visit_at s v).filter x way (route_at s (visit_at s v).operation))) s refl refl) refl
+      (with_route s (visit_at s v).operation (settling.led (visit_at s v).filter x way (route_at s (visit_at s v).operation))) s
+      refl refl) refl
 
   -- after a change there are as many filters as before
   pub filters_stay : (c : Change) → length (after_change s c).presences ≡ length s.presences
@@ -82,11 +84,13 @@ module _ (s : Store) where
 -- ---- what is kept after a planned step
 
 -- what is written doesn't depend on the statements that remain
-written_with : (x : Write) (s later : Standing) (list : List Statement) → is_end x ≡ false → activation_with later [] ≡ written x (activation_with s []) →
+written_with : (x : Write) (s later : Standing) (list : List Statement) →
+    is_end x ≡ false → activation_with later [] ≡ written x (activation_with s []) →
     written x (activation_with s list) ≡ activation_with later list
 written_with x s later list goes same = same_rest x goes ∙ ap (λ (act : Activation). record act { rest = list }) (sym same)
   where
-    same_rest : (x : Write) → is_end x ≡ false → written x (activation_with s list) ≡ record (written x (activation_with s [])) { rest = list }
+    same_rest : (x : Write) →
+        is_end x ≡ false → written x (activation_with s list) ≡ record (written x (activation_with s [])) { rest = list }
     same_rest write.Nothing goes = refl
     same_rest (write.Number n value) goes = refl
     same_rest (write.Output None x) goes = refl
@@ -105,51 +109,67 @@ ended_by (write.Take l access) act ends = absurd (cc)
 ended_by (write.GiveUp l) act ends = absurd (cc)
 ended_by write.End act ends = refl
 
-chosen : (list : List Statement) (granted : Bool) → (if granted then remaining_by list true else remaining_by list false) ≡ remaining_by list granted
+chosen : (list : List Statement) (granted : Bool) →
+    (if granted then remaining_by list true else remaining_by list false) ≡ remaining_by list granted
 chosen list true = refl
 chosen list false = refl
 
 module _ (p : List Filter) (m : Moment) (a : ℕ) (cs : List Callback) (s : Standing) (plan : Plan) (step : Step)
     (kept : IsKept cs m.trace a (activation_at m.world a) s)
-    (planned : IsPlanned m.world a plan [] (remaining_by (activation_at m.world a).rest true) (remaining_by (activation_at m.world a).rest false) step) where
+    (planned : IsPlanned m.world a plan [] (remaining_by (activation_at m.world a).rest
+    true) (remaining_by (activation_at m.world a).rest false) step) where
   abbrev rest : List Statement
   rest = (activation_at m.world a).rest
 
   abbrev last : Activation
-  last = written plan.write (onward m.world a (if plan.granted then remaining_by (activation_at m.world a).rest true else remaining_by (activation_at m.world a).rest false))
+  last = written plan.write (onward m.world a
+      (if plan.granted then remaining_by (activation_at m.world a).rest true else remaining_by (activation_at m.world a).rest false))
 
   world_is : step.world ≡ record m.world { activations = set m.world.activations a (written plan.write (onward m.world a (if plan.granted then remaining_by (activation_at m.world a).rest true else remaining_by (activation_at m.world a).rest false))); store = after_change m.world.store plan.change }
   world_is = planned.world
 
   -- a standing that is written so is kept
-  pub kept_on : (later : Standing) → is_end plan.write ≡ false → IsWritten cs s later plan (activation_at m.world a).rest → IsCountedOn a s later plan →
-      IsKept cs (m.trace ++ step.events) a (written plan.write (onward m.world a (if plan.granted then remaining_by (activation_at m.world a).rest true else remaining_by (activation_at m.world a).rest false))) later
+  pub kept_on : (later : Standing) → is_end plan.write ≡ false → IsWritten cs s later plan (activation_at m.world a).rest →
+      IsCountedOn a s later plan →
+      IsKept cs (m.trace ++ step.events) a (written plan.write (onward m.world a
+      (if plan.granted then remaining_by (activation_at m.world a).rest true else remaining_by (activation_at m.world a).rest false))) later
   kept_on later goes w counts = record {
     stands = subst (StandsFor cs later) (sym act_is) (record { same = refl; stands = stands });
     counted = record {
-      gained = λ v is. let g = counts.gained v (sym w.given ∙ is) in let k = kept.counted.gained v (sym w.given ∙ is) in let e = ap (λ (es : List Event). gains es a (Visit v)) planned.events in omega (arith, g, k, e, gains-append m.trace step.events a (Visit v));
-      lost = λ v is. let g = counts.lost v (sym w.given ∙ is) in let k = kept.counted.lost v (sym w.given ∙ is) in let e = ap (λ (es : List Event). loses es a (Visit v)) planned.events in omega (arith, g, k, e, loses-append m.trace step.events a (Visit v));
+      gained = λ v is. let g = counts.gained v (sym w.given ∙ is) in let k = kept.counted.gained v (sym w.given ∙ is) in
+          let e = ap (λ (es : List Event). gains es a (Visit v)) planned.events in
+          omega (arith, g, k, e, gains-append m.trace step.events a (Visit v));
+      lost = λ v is. let g = counts.lost v (sym w.given ∙ is) in let k = kept.counted.lost v (sym w.given ∙ is) in
+          let e = ap (λ (es : List Event). loses es a (Visit v)) planned.events in
+          omega (arith, g, k, e, loses-append m.trace step.events a (Visit v));
     };
   }
     where
-      act_is : written plan.write (onward m.world a (if plan.granted then remaining_by (activation_at m.world a).rest true else remaining_by (activation_at m.world a).rest false)) ≡ activation_with later (remaining_by (activation_at m.world a).rest plan.granted)
+      act_is : written plan.write (onward m.world a
+          (if plan.granted then remaining_by (activation_at m.world a).rest true else remaining_by (activation_at m.world a).rest false)) ≡
+          activation_with later (remaining_by (activation_at m.world a).rest plan.granted)
       act_is =
           ap (λ (l : List Statement). written plan.write (onward m.world a l)) (chosen (activation_at m.world a).rest plan.granted) ∙
-          ap (λ (act : Activation). written plan.write (record act { rest = remaining_by (activation_at m.world a).rest plan.granted })) kept.stands.same ∙
+          ap (λ (act : Activation). written plan.write (record act { rest = remaining_by (activation_at m.world a).rest plan.granted }))
+          kept.stands.same ∙
           written_with plan.write s later (remaining_by (activation_at m.world a).rest plan.granted) goes w.variables
 
-      stands : StandsWith (body_of (slice_get cs later.callback)) later.point later.turns (remaining_by (activation_at m.world a).rest plan.granted)
-      stands = subst (λ (k : ℕ). StandsWith (body_of (slice_get cs k)) later.point later.turns (remaining_by (activation_at m.world a).rest plan.granted)) (sym w.callback)
+      stands : StandsWith (body_of (slice_get cs later.callback)) later.point later.turns
+          (remaining_by (activation_at m.world a).rest plan.granted)
+      stands = subst (λ (k : ℕ). StandsWith (body_of (slice_get cs k)) later.point later.turns
+          (remaining_by (activation_at m.world a).rest plan.granted)) (sym w.callback)
           w.stands
 
 -- a planned step that goes on
 pub planned_on : (p : List Filter) (m : Moment) (a : ℕ) (s later : Standing) (plan : Plan) (step : Step) →
     IsKept (callbacks_at p (actor_at m.world a).filter) m.trace a (activation_at m.world a) s →
-    IsPlanned m.world a plan [] (remaining_by (activation_at m.world a).rest true) (remaining_by (activation_at m.world a).rest false) step → AreOf a plan.events → is_end plan.write ≡ false →
+    IsPlanned m.world a plan [] (remaining_by (activation_at m.world a).rest true)
+    (remaining_by (activation_at m.world a).rest false) step → AreOf a plan.events → is_end plan.write ≡ false →
     IsWritten (callbacks_at p (actor_at m.world a).filter) s later plan (activation_at m.world a).rest → IsCountedOn a s later plan →
     IsStepped p m a (Some later) (after_change m.world.store plan.change) step
 planned_on p m a s later plan step kept planned own goes w counts = record {
-  act = written plan.write (onward m.world a (if plan.granted then remaining_by (activation_at m.world a).rest true else remaining_by (activation_at m.world a).rest false));
+  act = written plan.write (onward m.world a
+      (if plan.granted then remaining_by (activation_at m.world a).rest true else remaining_by (activation_at m.world a).rest false));
   world = planned.world;
   filters = filters_stay m.world.store plan.change;
   own = subst (AreOf a) planned.events own;
@@ -158,12 +178,15 @@ planned_on p m a s later plan step kept planned own goes w counts = record {
 
 -- a planned step that ends the activation
 pub planned_end : (p : List Filter) (m : Moment) (a : ℕ) (plan : Plan) (step : Step) →
-    IsPlanned m.world a plan [] (remaining_by (activation_at m.world a).rest true) (remaining_by (activation_at m.world a).rest false) step → AreOf a plan.events → is_end plan.write ≡ true →
+    IsPlanned m.world a plan [] (remaining_by (activation_at m.world a).rest true)
+    (remaining_by (activation_at m.world a).rest false) step → AreOf a plan.events → is_end plan.write ≡ true →
     IsStepped p m a None (after_change m.world.store plan.change) step
 planned_end p m a plan step planned own ends = record {
-  act = written plan.write (onward m.world a (if plan.granted then remaining_by (activation_at m.world a).rest true else remaining_by (activation_at m.world a).rest false));
+  act = written plan.write (onward m.world a
+      (if plan.granted then remaining_by (activation_at m.world a).rest true else remaining_by (activation_at m.world a).rest false));
   world = planned.world;
   filters = filters_stay m.world.store plan.change;
   own = subst (AreOf a) planned.events own;
-  kept = ended_by plan.write (onward m.world a (if plan.granted then remaining_by (activation_at m.world a).rest true else remaining_by (activation_at m.world a).rest false)) ends;
+  kept = ended_by plan.write (onward m.world a
+      (if plan.granted then remaining_by (activation_at m.world a).rest true else remaining_by (activation_at m.world a).rest false)) ends;
 }

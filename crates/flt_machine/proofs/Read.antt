@@ -27,17 +27,21 @@ use Rattle.flt_machine.specs.Calls.{is_refused_lock, leaves_choice_at}
 
 module _ (w : World) (c : Caller) (filter_is : (actor_at w c.activation).filter ≡ c.filter) where
   call_refused : (span : Span) (x : PlainCall) (granted refused : ℕ) →
-      is_refused_lock w.store c (instruction.Call (invocation.plain x) granted refused) ≡ is_blocked_by w c.activation (Statement-F.Call span x)
+      is_refused_lock w.store c (instruction.Call (invocation.plain x) granted refused) ≡
+      is_blocked_by w c.activation (Statement-F.Call span x)
   call_refused span (plain.DeleteContext d) granted refused = refl
   call_refused span (plain.ReferenceContext d e) granted refused = refl
   call_refused span (plain.ReleaseContext d) granted refused = refl
-  call_refused span (plain.AcquireLock k l) granted refused = ap (λ (f : ℕ). not (is_free_for c.activation Exclusive (holders_of w.store f l))) (sym filter_is)
-  call_refused span (plain.AcquirePushLockShared l) granted refused = ap (λ (f : ℕ). not (is_free_for c.activation Shared (holders_of w.store f l))) (sym filter_is)
+  call_refused span (plain.AcquireLock k l) granted refused =
+      ap (λ (f : ℕ). not (is_free_for c.activation Exclusive (holders_of w.store f l))) (sym filter_is)
+  call_refused span (plain.AcquirePushLockShared l) granted refused =
+      ap (λ (f : ℕ). not (is_free_for c.activation Shared (holders_of w.store f l))) (sym filter_is)
   call_refused span (plain.ReleaseLock k l) granted refused = refl
   call_refused span (plain.CompletePendedPreOperation d st) granted refused = refl
   call_refused span plain.CompletePendedPostOperation granted refused = refl
 
-  asked_refused : (cs : List Callback) (x : FallibleCall) (granted refused : ℕ) → is_refused_lock w.store c (instruction.Call (invocation.fallible cs x) granted refused) ≡ false
+  asked_refused : (cs : List Callback) (x : FallibleCall) (granted refused : ℕ) →
+      is_refused_lock w.store c (instruction.Call (invocation.fallible cs x) granted refused) ≡ false
   asked_refused cs (fallible.AllocateContext d) granted refused = refl
   asked_refused cs (fallible.GetContext on d) granted refused = refl
   asked_refused cs (fallible.SetContext on existing d old) granted refused = refl
@@ -48,7 +52,8 @@ module _ (w : World) (c : Caller) (filter_is : (actor_at w c.activation).filter 
   asked_refused cs (fallible.QueueGenericWorkItem r d) granted refused = refl
 
   -- what blocks a list is what blocks its first statement
-  by_first : (rest later : List Statement) (first : Statement) (text : Statement-F Statement) → rest ≡ first ∷ later → out-Statement first ≡ text →
+  by_first : (rest later : List Statement) (first : Statement) (text : Statement-F Statement) →
+      rest ≡ first ∷ later → out-Statement first ≡ text →
       is_blocked w c.activation rest ≡ is_blocked_by w c.activation text
   by_first rest later first text is same = ap (is_blocked w c.activation) is ∙ ap (is_blocked_by w c.activation) same
 
@@ -57,13 +62,18 @@ module _ (w : World) (c : Caller) (filter_is : (actor_at w c.activation).filter 
       is_refused_lock w.store c i ≡ is_blocked w c.activation rest
   refused_is cs s rest (instruction.Act x on) r = sym (by_first rest r.later r.first (Statement-F.Act r.span x) r.rest_is r.text)
   refused_is cs s rest (instruction.Call made granted refused) (inl r) =
-      ap (λ (k : Invocation). is_refused_lock w.store c (instruction.Call k granted refused)) r.made_is ∙ call_refused r.span r.call granted refused ∙
+      ap (λ (k : Invocation). is_refused_lock w.store c (instruction.Call k granted refused)) r.made_is ∙
+      call_refused r.span r.call granted refused ∙
       sym (by_first rest r.later r.first (Statement-F.Call r.span r.call) r.rest_is r.text)
   refused_is cs s rest (instruction.Call made granted refused) (inr r) =
-      ap (λ (k : Invocation). is_refused_lock w.store c (instruction.Call k granted refused)) r.made_is ∙ asked_refused cs r.call granted refused ∙
-      sym (by_first rest r.later r.first (Statement-F.If r.span (condition.Succeeds r.call) r.granted_block r.refused_block) r.rest_is r.text)
-  refused_is cs s rest (instruction.Test x granted refused) r = sym (by_first rest r.later r.first (Statement-F.If r.span (condition.Test x) r.granted_block r.refused_block) r.rest_is r.text)
-  refused_is cs s rest (instruction.Repeat turns body behind) r = sym (ap (is_blocked w c.activation) r.rest_is ∙ ap (is_blocked_by w c.activation) r.text)
+      ap (λ (k : Invocation). is_refused_lock w.store c (instruction.Call k granted refused)) r.made_is ∙
+      asked_refused cs r.call granted refused ∙
+      sym (by_first rest r.later r.first
+      (Statement-F.If r.span (condition.Succeeds r.call) r.granted_block r.refused_block) r.rest_is r.text)
+  refused_is cs s rest (instruction.Test x granted refused) r =
+      sym (by_first rest r.later r.first (Statement-F.If r.span (condition.Test x) r.granted_block r.refused_block) r.rest_is r.text)
+  refused_is cs s rest (instruction.Repeat turns body behind) r =
+      sym (ap (is_blocked w c.activation) r.rest_is ∙ ap (is_blocked_by w c.activation) r.text)
   refused_is cs s rest (instruction.Return st) r = sym (by_first rest r.later r.first (Statement-F.Return r.span st) r.rest_is r.text)
   refused_is cs s rest instruction.End r = sym (ap (is_blocked w c.activation) r)
 
@@ -80,7 +90,8 @@ call_choice (plain.CompletePendedPreOperation d st) granted refused = refl
 call_choice plain.CompletePendedPostOperation granted refused = refl
 
 asked_choice : (cs : List Callback) (x : FallibleCall) (granted refused : ℕ) (span : Span) (holds fails : List Statement) →
-    leaves_choice_at (instruction.Call (invocation.fallible cs x) granted refused) ≡ leaves_choice_by (Statement-F.If span (condition.Succeeds x) holds fails)
+    leaves_choice_at (instruction.Call (invocation.fallible cs x) granted refused) ≡
+    leaves_choice_by (Statement-F.If span (condition.Succeeds x) holds fails)
 asked_choice cs (fallible.AllocateContext d) granted refused span holds fails = refl
 asked_choice cs (fallible.GetContext on d) granted refused span holds fails = refl
 asked_choice cs (fallible.SetContext on existing d old) granted refused span holds fails = refl
@@ -90,21 +101,27 @@ asked_choice cs (fallible.RemoveNextIo o d) granted refused span holds fails = r
 asked_choice cs (fallible.QueueDeferredIoWorkItem r d) granted refused span holds fails = refl
 asked_choice cs (fallible.QueueGenericWorkItem r d) granted refused span holds fails = refl
 
-begins_by : (rest later : List Statement) (first : Statement) (text : Statement-F Statement) → rest ≡ first ∷ later → out-Statement first ≡ text →
+begins_by : (rest later : List Statement) (first : Statement) (text : Statement-F Statement) →
+    rest ≡ first ∷ later → out-Statement first ≡ text →
     begins_with_choice rest ≡ leaves_choice_by text
 begins_by rest later first text is same = ap begins_with_choice is ∙ ap (λ (s : Statement-F Statement). leaves_choice_by s) same
 
 -- an instruction leaves a choice where the statement does
-begins_is : (cs : List Callback) (s : Standing) (rest : List Statement) (i : Instruction) → Remains cs s rest i → leaves_choice_at i ≡ begins_with_choice rest
+begins_is : (cs : List Callback) (s : Standing) (rest : List Statement) (i : Instruction) →
+    Remains cs s rest i → leaves_choice_at i ≡ begins_with_choice rest
 begins_is cs s rest (instruction.Act x on) r = sym (begins_by rest r.later r.first (Statement-F.Act r.span x) r.rest_is r.text)
 begins_is cs s rest (instruction.Call made granted refused) (inl r) =
     ap (λ (k : Invocation). leaves_choice_at (instruction.Call k granted refused)) r.made_is ∙ call_choice r.call granted refused ∙
     sym (begins_by rest r.later r.first (Statement-F.Call r.span r.call) r.rest_is r.text)
 begins_is cs s rest (instruction.Call made granted refused) (inr r) =
-    ap (λ (k : Invocation). leaves_choice_at (instruction.Call k granted refused)) r.made_is ∙ asked_choice cs r.call granted refused r.span r.granted_block r.refused_block ∙
-    sym (begins_by rest r.later r.first (Statement-F.If r.span (condition.Succeeds r.call) r.granted_block r.refused_block) r.rest_is r.text)
-begins_is cs s rest (instruction.Test x granted refused) r = sym (begins_by rest r.later r.first (Statement-F.If r.span (condition.Test x) r.granted_block r.refused_block) r.rest_is r.text)
-begins_is cs s rest (instruction.Repeat turns body behind) r = sym (ap begins_with_choice r.rest_is ∙ ap (λ (x : Statement-F Statement). leaves_choice_by x) r.text)
+    ap (λ (k : Invocation). leaves_choice_at (instruction.Call k granted refused)) r.made_is ∙
+    asked_choice cs r.call granted refused r.span r.granted_block r.refused_block ∙
+    sym (begins_by rest r.later r.first
+    (Statement-F.If r.span (condition.Succeeds r.call) r.granted_block r.refused_block) r.rest_is r.text)
+begins_is cs s rest (instruction.Test x granted refused) r =
+    sym (begins_by rest r.later r.first (Statement-F.If r.span (condition.Test x) r.granted_block r.refused_block) r.rest_is r.text)
+begins_is cs s rest (instruction.Repeat turns body behind) r =
+    sym (ap begins_with_choice r.rest_is ∙ ap (λ (x : Statement-F Statement). leaves_choice_by x) r.text)
 begins_is cs s rest (instruction.Return st) r = sym (begins_by rest r.later r.first (Statement-F.Return r.span st) r.rest_is r.text)
 begins_is cs s rest instruction.End r = sym (ap begins_with_choice r)
 
@@ -115,5 +132,7 @@ written_choice false true = refl
 written_choice false false = refl
 
 -- the choice that the code writes is the one that is written
-pub choice_is : (cs : List Callback) (s : Standing) (rest : List Statement) (i : Instruction) (grant : Bool) → Remains cs s rest i → (grant || not (leaves_choice_at i)) ≡ choice_at rest grant
-choice_is cs s rest i grant r = written_choice grant (leaves_choice_at i) ∙ ap (λ (b : Bool). if b then grant else true) (begins_is cs s rest i r)
+pub choice_is : (cs : List Callback) (s : Standing) (rest : List Statement) (i : Instruction) (grant : Bool) →
+    Remains cs s rest i → (grant || not (leaves_choice_at i)) ≡ choice_at rest grant
+choice_is cs s rest i grant r =
+    written_choice grant (leaves_choice_at i) ∙ ap (λ (b : Bool). if b then grant else true) (begins_is cs s rest i r)

@@ -41,7 +41,8 @@ all_below : (locks : List HeldLock) (q : ℕ) → list_any (eqb q) (places_of lo
 all_below [] q is = absurd (cc)
 all_below (h ∷ locks) q is = elim (cases_eq q (place_of h.lock)) [
   | inl same ↦ subst (λ (n : ℕ). n < 8) (sym same) (below h.lock)
-  | inr differs ↦ all_below locks q (ap (λ (b : Bool). b || list_any (eqb q) (places_of locks)) (sym (ne_eqb q (place_of h.lock) differs)) ∙ is)
+  | inr differs ↦ all_below locks q
+      (ap (λ (b : Bool). b || list_any (eqb q) (places_of locks)) (sym (ne_eqb q (place_of h.lock) differs)) ∙ is)
 ]
 
 places_apart : (n : ℕ) (locks : List HeldLock) → AreApart n locks → AllByRecursion (λ (y : ℕ). eqb n y ≡ false) (places_of locks)
@@ -50,11 +51,13 @@ places_apart n (h ∷ locks) (one, others) = (one, places_apart n locks others)
 
 places_distinct : (locks : List HeldLock) → AreDistinct locks → IsDistinct eqb (places_of locks)
 places_distinct [] distinct = IsDistinct-from_apart eqb [] (λ i j d a b. absurd (omega (arith, b)))
-places_distinct (h ∷ locks) (one, others) = IsDistinct-cons eqb (place_of h.lock) (places_of locks) (places_apart (place_of h.lock) locks one) (places_distinct locks others)
+places_distinct (h ∷ locks) (one, others) =
+    IsDistinct-cons eqb (place_of h.lock) (places_of locks) (places_apart (place_of h.lock) locks one) (places_distinct locks others)
 
 -- no more locks than a filter may have
 eight : (locks : List HeldLock) → AreDistinct locks → length locks ≤ 8
-eight locks distinct = subst (λ (n : ℕ). n ≤ 8) (length-map locks (λ (h : HeldLock). place_of h.lock)) (length-le_from_distinct_below (places_of locks) 8 (places_distinct locks distinct) (all_below locks))
+eight locks distinct = subst (λ (n : ℕ). n ≤ 8) (length-map locks (λ (h : HeldLock). place_of h.lock))
+    (length-le_from_distinct_below (places_of locks) 8 (places_distinct locks distinct) (all_below locks))
 
 first : (b c : Bool) → (b || c) ≡ false → b ≡ false
 first false c is = refl
@@ -83,27 +86,33 @@ module _ (l : LockNumber) (access : Access) where
 
   -- a lock that isn't held has its place
   pub has_place : (locks : List HeldLock) → AreDistinct locks → holds_lock l locks ≡ false → length locks < 8
-  has_place locks distinct free = omega (arith, eight (locks ++ held l access ∷ []) (taken locks distinct free), length-append locks (held l access ∷ []))
+  has_place locks distinct free =
+      omega (arith, eight (locks ++ held l access ∷ []) (taken locks distinct free), length-append locks (held l access ∷ []))
 
-either_apart : (n : ℕ) (b : Bool) (locks others : List HeldLock) → AreApart n locks → AreApart n others → AreApart n (if b then locks else others)
+either_apart : (n : ℕ) (b : Bool) (locks others : List HeldLock) →
+    AreApart n locks → AreApart n others → AreApart n (if b then locks else others)
 either_apart n true locks others one other = one
 either_apart n false locks others one other = other
 
-either_distinct : (b : Bool) (locks others : List HeldLock) → AreDistinct locks → AreDistinct others → AreDistinct (if b then locks else others)
+either_distinct : (b : Bool) (locks others : List HeldLock) →
+    AreDistinct locks → AreDistinct others → AreDistinct (if b then locks else others)
 either_distinct true locks others one other = one
 either_distinct false locks others one other = other
 
 module _ (l : LockNumber) where
   still_apart : (n : ℕ) (locks : List HeldLock) → AreApart n locks → AreApart n (without_last l locks)
   still_apart n [] all = tt
-  still_apart n (h ∷ locks) (one, others) = either_apart n (same_lock l h.lock && not (holds_lock l locks)) locks (h ∷ without_last l locks) others (one, still_apart n locks others)
+  still_apart n (h ∷ locks) (one, others) = either_apart n (same_lock l h.lock && not (holds_lock l locks)) locks
+      (h ∷ without_last l locks) others (one, still_apart n locks others)
 
   given_up : (locks : List HeldLock) → AreDistinct locks → AreDistinct (without_last l locks)
   given_up [] distinct = tt
   given_up (h ∷ locks) (one, others) =
-      either_distinct (same_lock l h.lock && not (holds_lock l locks)) locks (h ∷ without_last l locks) others (still_apart (place_of h.lock) locks one, given_up locks others)
+      either_distinct (same_lock l h.lock && not (holds_lock l locks)) locks (h ∷ without_last l locks) others
+      (still_apart (place_of h.lock) locks one, given_up locks others)
 
-written_locks : (x : Write) (s later : Standing) → is_end x ≡ false → TakesNone s.locks x → activation_with later [] ≡ written x (activation_with s []) → AreDistinct s.locks → AreDistinct later.locks
+written_locks : (x : Write) (s later : Standing) → is_end x ≡ false → TakesNone s.locks x →
+    activation_with later [] ≡ written x (activation_with s []) → AreDistinct s.locks → AreDistinct later.locks
 written_locks x s later goes free same distinct = subst AreDistinct (sym (ap (λ (act : Activation). act.locks) same)) (by x goes free)
   where
     by : (x : Write) → is_end x ≡ false → TakesNone s.locks x → AreDistinct (written x (activation_with s [])).locks
@@ -117,7 +126,8 @@ written_locks x s later goes free same distinct = subst AreDistinct (sym (ap (λ
     by write.End goes free = absurd (cc)
 
 -- a standing that is written stays small, where one entry more comes
-pub written_small : (n : ℕ) (x : Write) (s later : Standing) → is_end x ≡ false → TakesNone s.locks x → activation_with later [] ≡ written x (activation_with s []) →
+pub written_small : (n : ℕ) (x : Write) (s later : Standing) →
+    is_end x ≡ false → TakesNone s.locks x → activation_with later [] ≡ written x (activation_with s []) →
     later.gained ≤ s.gained + 16 → later.lost ≤ s.lost + 16 → IsSmall n s → IsSmall (n + 1) later
 written_small n x s later goes free same gained lost small = record {
   gained = omega (arith, gained, small.gained);

@@ -55,6 +55,7 @@ apart (t ∷ trees) altitude h = one (t.filter.altitude == altitude) refl h (apa
     one false differs h more (suc k) d inside = more h k d (omega arith)
 
 module _ (trees : List Tree) (i : ℕ) (tree d : Tree) (h : i < length trees) (at : tree ≡ get_or trees i d) where
+  -- a filter whose altitude no earlier one has leaves the altitudes distinct
   pub distinct_more : HasDistinctAltitudes (filters_of (take i trees)) →
       list_any (λ t. t.filter.altitude == tree.filter.altitude) (take i trees) ≡ false →
       HasDistinctAltitudes (filters_of (take (i + 1) trees))
@@ -64,6 +65,7 @@ module _ (trees : List Tree) (i : ℕ) (tree d : Tree) (h : i < length trees) (a
       rw more (all_pairs_push (λ (f g : Filter). f.altitude ≢ g.altitude) (filters_of (take i trees)) tree.filter distinct
       (apart (take i trees) tree.filter.altitude none))
 
+  -- the first filter whose altitude an earlier one has is the repeated one
   pub repeated : HasDistinctAltitudes (filters_of (take i trees)) →
       list_any (λ t. t.filter.altitude == tree.filter.altitude) (take i trees) ≡ true →
       IsRepeated (filters_of trees) i
@@ -77,6 +79,7 @@ module _ (trees : List Tree) (i : ℕ) (tree d : Tree) (h : i < length trees) (a
     earlier = earlier (take i trees) tree.filter.altitude some;
   }
 
+-- where all filters have been taken, their altitudes are distinct as they were found
 pub all_distinct : (trees : List Tree) (i : ℕ) → length trees ≤ i → HasDistinctAltitudes (filters_of (take i trees)) →
     HasDistinctAltitudes (filters_of trees)
 all_distinct trees i h distinct =

@@ -189,6 +189,7 @@ clean_legal filters entries r =
     arrives_legal p (start p) r.last 0 entries r.transitions r.expanded
     (clean_course p (start p) r.last r.transitions 0 r.runs r.clean)
 
+-- a journal is legal just where it is a run that breaks nothing
 pub legal_is_clean : (filters : List Filter) (entries : List JournalEntry) → (verdict filters entries ≡ Legal) ↔ IsCleanRun filters entries
 legal_is_clean filters entries = (legal_clean filters entries, clean_legal filters entries)
 
@@ -676,10 +677,12 @@ broken_told filters entries v n r =
     ∙ next_fails p (start p) b.last b.transitions reaches v n (drop n entries) r.transitions r.last
     (sym (one_more n entries ∙ q.more) ∙ r.expanded) r.runs r.broken
 
+-- a journal isn't a run at an entry just where its run stops there
 pub stopped_is_told : (filters : List Filter) (entries : List JournalEntry) (n : ℕ) → (verdict filters entries ≡ NotARun n) ↔
     IsStoppedAt filters entries n
 stopped_is_told filters entries n = (told_stopped filters entries n, stopped_told filters entries n)
 
+-- a journal breaks a violation at an entry just where its run does
 pub broken_is_told : (filters : List Filter) (entries : List JournalEntry) (v : Violation) (n : ℕ) →
     (verdict filters entries ≡ Breaks v n) ↔ IsBrokenAt filters entries v n
 broken_is_told filters entries v n = (told_broken filters entries v n, broken_told filters entries v n)

@@ -40,6 +40,7 @@ data Goes (left : ℕ) (found : Entries) (text : Text) : Reading → Type 0 wher
 
 -- ---- a front of what is read
 
+-- bytes that stand in front of a text are read from it
 pub exactly_again : (front text : Text) → exactly front (front ++ text) ≡ Ok (tt, text)
 exactly_again [] text = refl
 exactly_again (b ∷ front) text = rw (eq-eqb b b refl) (exactly_again front text)
@@ -275,20 +276,24 @@ first_fault text n left h = go (journal text) h (read_as text)
           stopped = stops given m rest line same halts;
         }
 
+-- entries that are read are spelled by the text
 pub reads_spelled : (text : Text) (r : Result Entries JournalFault) (left : Text) → ReadsAll (journal text) r left →
     IfOk r (λ found. text ≡ spelling found)
 reads_spelled text (Ok found) left h = (is_spelled text found h.0).0
 reads_spelled text (Err e) left h = tt
 
+-- entries that are read are a journal
 pub reads_journal : (text : Text) (r : Result Entries JournalFault) (left : Text) → ReadsAll (journal text) r left →
     IfOk r (λ found. IsJournal found)
 reads_journal text (Ok found) left h = (is_spelled text found h.0).1
 reads_journal text (Err e) left h = tt
 
+-- a text that is read is read to its end
 pub reads_all : (text : Text) (r : Result Entries JournalFault) (left : Text) → ReadsAll (journal text) r left → OnOk r (left ≡ [])
 reads_all text (Ok found) left h = h.1
 reads_all text (Err e) left h = tt
 
+-- the spelling of a journal is read as this journal, unless something hinders reading
 pub reads_again : (text : Text) (r : Result Entries JournalFault) (left : Text) → ReadsAll (journal text) r left →
     (entries : Entries) → IsJournal entries → text ≡ spelling entries →
     MatchResult r (λ found. found ≡ entries) IsHindrance
@@ -297,6 +302,7 @@ reads_again text (Err (faults.Line n)) left h entries good e = is_no_journal tex
 reads_again text (Err faults.Read) left h entries good e = tt
 reads_again text (Err faults.OutOfMemory) left h entries good e = tt
 
+-- a fault is at the first byte with which no journal goes on
 pub reads_fault : (text : Text) (r : Result Entries JournalFault) (left : Text) → ReadsAll (journal text) r left →
     MatchResult r (λ found. Unit {0}) (λ e. IsFaultOf text e left)
 reads_fault text (Ok found) left h = tt

@@ -16,6 +16,7 @@ use Rattle.flt_model.specs.declared.moves.Key.TheVariants.{Stream, Instance}
 use Rattle.flt_model.specs.declared.moves.Move.TheVariants as moves
 use Rattle.flt_model.proofs.LinesOnline.{line_text, IsLine}
 
+-- two texts one after the other have the line ends of both
 pub ends_both : (a b : Text) → line_ends (a ++ b) ≡ line_ends a + line_ends b
 ends_both [] b = omega arith
 ends_both (x ∷ a) b = go (x == 10) (ends_both a b)
@@ -38,6 +39,7 @@ pub record Ended (text : Text) : Type 0 where
   pub whole : text ≡ body ++ 10 ∷ []
   pub plain : line_ends body ≡ 0
 
+-- a text without a line end, and an LF after it, is a line
 pub bare : (front : Text) → line_ends front ≡ 0 → Ended (front ++ 10 ∷ [])
 bare front h = record { body = front; whole = refl; plain = h }
 
@@ -99,10 +101,12 @@ entry_ended (entries.Go activation steps false) h =
     (behind (number_text activation 32) (number_text steps 32 ++ (codes "no" ++ 10 ∷ [])) (number_plain activation h.0)
     (behind (number_text steps 32) (codes "no" ++ 10 ∷ []) (number_plain steps h.1) (bare (codes "no") refl)))
 
+-- the text of an entry's line is one line
 pub line_ended : (x : Option JournalEntry) → IsLine x → Ended (line_text x)
 line_ended None h = bare (codes "end") refl
 line_ended (Some entry) h = entry_ended entry h
 
+-- a line has one line end
 pub one_end : (text : Text) → Ended text → line_ends text ≡ 1
 one_end text e = ap line_ends e.whole ∙ ends_both e.body (10 ∷ []) ∙ (let plain = e.plain in omega arith)
 

@@ -100,11 +100,13 @@ number_is_read word text n behind h e = ap (numbered word) e
 
 -- ---- what the functions ensure
 
+-- a move that is read is spelled by what was read
 pub reads_spelled_move : (b : ℕ) (text : Text) (r : Result Move Stop) (left : Text) → Reads (move_by b text) r left →
     IfOk r (λ made. b ∷ text ≡ move_line made ++ left)
 reads_spelled_move b text (Ok made) left h = move_is_spelled b text made left h
 reads_spelled_move b text (Err e) left h = tt
 
+-- the spelling of a move is read as this move
 pub reads_move_again : (b : ℕ) (text : Text) (r : Result Move Stop) (left : Text) → Reads (move_by b text) r left →
     (made : Move) → IsMove made → (behind : Text) → b ∷ text ≡ move_line made ++ behind → IsReadAs made behind r left
 reads_move_again b text (Ok found) left h made good behind e =
@@ -115,11 +117,13 @@ reads_move_again b text (Err Wrong) left h made good behind e = let read : move_
     move_is_read b text made behind good e in cc
 reads_move_again b text (Err Failed) left h made good behind e = tt
 
+-- a number that is read after a word is spelled by what was read
 pub reads_spelled_number : (word text : Text) (r : Result ℕ Stop) (left : Text) → Reads (numbered word text) r left →
     IfOk r (λ n. text ≡ word ++ (number_text n 10 ++ left))
 reads_spelled_number word text (Ok n) left h = number_is_spelled word text n left h
 reads_spelled_number word text (Err e) left h = tt
 
+-- a number's spelling after a word is read as this number
 pub reads_number_again : (word text : Text) (r : Result ℕ Stop) (left : Text) → Reads (numbered word text) r left →
     (n : ℕ) → IsNumber n → (behind : Text) → text ≡ word ++ (number_text n 10 ++ behind) → IsReadAs n behind r left
 reads_number_again word text (Ok found) left h n good behind e =

@@ -124,6 +124,7 @@ arrive_online = after (Behind (codes "a")) (codes "rrive ") _
 abbrev pub Numbered : Text → Text → ℕ → Type 0
 Numbered front c n = (c ≡ front ++ number_text n 10) × (n < 2 ^ 32)
 
+-- a number after a word is read up to the first byte that no spelling goes on with
 pub numbered_online : (front : Text) → Online (Numbered front) (numbered front)
 unfolding numbered
 numbered_online front = after (Numbered front) front (number 10)
@@ -245,6 +246,7 @@ go_line_online : Online (λ w x. Line (103 ∷ w) x) (go >>= λ entry. pure (Som
 go_line_online = then_online BehindGo (λ w x. Line (103 ∷ w) x) go _ go_online (λ c e h.
     pure_online (λ w x. Line (103 ∷ (c ++ w)) x) (Some e) (ap (λ z. 103 ∷ z) (append-nil c) ∙ h.0, h.1))
 
+-- after its first byte a move is read up to the first byte that no spelling goes on with, or no move begins so
 pub move_choice : (b : ℕ) → Choice (λ w m. Behind [] (b ∷ w) m) (move_by b)
 unfolding move_by
 move_choice b =
@@ -258,6 +260,7 @@ move_line_choice : (b : ℕ) → Choice (λ w x. Line (b ∷ w) x) (move_by b >>
 move_line_choice b = choice_then (λ w m. Behind [] (b ∷ w) m) (λ w x. Line (b ∷ w) x) (move_by b) _ (move_choice b) (λ c m h.
     pure_online (λ w x. Line (b ∷ (c ++ w)) x) (Some (entries.Move m)) (ap (λ z. b ∷ z) (append-nil c) ∙ h.0, h.1))
 
+-- a line is read up to the first byte that no spelling goes on with
 pub line_online : Online Line line
 unfolding line
 line_online = node Line _ 101 end_online

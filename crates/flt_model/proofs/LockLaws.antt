@@ -402,7 +402,8 @@ module _ (p : List Filter) (t : List Event) (w : World) (a : ℕ) where
   granted_of : (grant free : Bool) → (grant && free) ≡ true → free ≡ true
   granted_of grant free h = (and_parts grant free h).1
 
-  plain_excludes : (span : Span) (rest : List Statement) (grant : Bool) (c : PlainCall) → may_go w a grant (Statement-F.Call span c) ≡ true →
+  plain_excludes : (span : Span) (rest : List Statement) (grant : Bool) (c : PlainCall) →
+      may_go w a grant (Statement-F.Call span c) ≡ true →
       Excludes w (plain_step p t w a rest c)
   plain_excludes span rest grant (plain.DeleteContext c) go =
       left_excludes w (delete w a c rest) (deleted_leaves w a rest (context_in now c))

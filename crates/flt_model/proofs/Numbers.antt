@@ -83,6 +83,7 @@ reads_on end n e = decimal_by_steps (ReadsOn end) one more n
               ∙ ap (λ k. digits (10 - length (ds ++ (48 + n % 10) ∷ [])) end k text) whole,
         )
 
+-- a number below 2^32 is read again before a byte that is no digit
 pub number_again : (end n : ℕ) (text : Text) → end < 48 → n < 2 ^ 32 → number end (number_text n end ++ text) ≡ Ok (n, text)
 unfolding number ReadsOn
 number_again end zero text e small = rw (decimal_digit 0 (omega arith)) (rw (eq-eqb end end refl) refl)
@@ -168,6 +169,7 @@ begins end b (Some k) e differs =
     live (said (Tail end k) (λ w n. Whole end (b ∷ w) n) (digits 9 end k) (λ c n h. (ap (λ z. z ++ c) (sym text) ∙ h.0, h.1))
     (digits_online 9 end k some more.small))
 
+-- a number is read up to the first byte that no spelling goes on with
 pub number_online : (end : ℕ) → Online (Whole end) (number end)
 unfolding number
 number_online end = node (Whole end) _ 48 (zero_online end)

@@ -35,6 +35,7 @@ said {A = A} Is Js p f o = record {
     go text _ (stopped c b left w a e l h) = stopped c b left w a e l (f (c ++ w) a h)
     go text _ (missing c w a e h) = missing c w a e (f (c ++ w) a h)
 
+-- what is read of no bytes stops at none
 pub pure_online : {A : Type 0} (Is : Text → A → Type 0) (a : A) → Is [] a → Online Is (pure a)
 pure_online Is a h = record { spelled = []; value = a; some = h; seen = λ text. took [] a text refl h (λ s. refl) }
 
@@ -100,6 +101,7 @@ pick {A = A} Is b d p q l c = go (b == d) refl
     go true e = live (subst (λ z. Online (λ w a. Is (z ∷ w) a) p) (sym (eqb-true b d e)) l)
     go false e = c e
 
+-- what may follow a byte, and what is read after it, stop together at the first byte that no spelling goes on with
 pub choice_then : {A B : Type 0} (Is : Text → A → Type 0) (Js : Text → B → Type 0) (p : Parser A) (k : A → Parser B) → Choice Is p →
     ((c : Text) (a : A) → Is c a → Online (λ w b. Js (c ++ w) b) (k a)) → Choice Js (p >>= k)
 choice_then Is Js p k (live l) g = live (then_online Is Js p k l g)

@@ -21,6 +21,7 @@ exactly_none bytes i text new Failed low h = tt
 one_less : (n : ℕ) → 0 < n → n ≡ suc (n - 1)
 one_less n h = omega arith
 
+-- where no byte is left, no digit is read
 pub digits_none : (left end n : ℕ) (text new : Text) (e : Stop) → Reads {A = ℕ} (byte text) (Err e) new →
     Reads {A = ℕ} (digits left end n text) (Err e) new
 unfolding digits
@@ -28,16 +29,19 @@ digits_none zero end n text new Wrong h = rw h refl
 digits_none (suc left) end n text new Wrong h = rw h refl
 digits_none left end n text new Failed h = tt
 
+-- the byte that ends a number ends it, and is taken
 pub digits_end : (left end n b : ℕ) (text new : Text) → byte text ≡ Ok (b, new) → (b == end) ≡ true → digits left end n text ≡ Ok (n, new)
 unfolding digits
 digits_end zero end n b text new h e = rw (h, e) refl
 digits_end (suc left) end n b text new h e = rw (h, e) refl
 
+-- a digit more than a number may have isn't read
 pub digits_last : (left end n b : ℕ) (text new : Text) → left ≡ 0 → byte text ≡ Ok (b, new) → (b == end) ≡ false →
     digits left end n text ≡ Err new
 unfolding digits
 digits_last left end n b text new z h e = rw (z, h, e) refl
 
+-- a byte that isn't a digit, or that makes the number too large, ends the reading
 pub digits_wrong : (left end n b : ℕ) (text new : Text) → 0 < left → byte text ≡ Ok (b, new) → (b == end) ≡ false →
     with_digit n b ≡ None → digits left end n text ≡ Err new
 unfolding digits
@@ -48,6 +52,7 @@ more_behind : (less end n b m : ℕ) (text new : Text) → byte text ≡ Ok (b, 
 unfolding digits
 more_behind less end n b m text new h e d = rw (h, e, d) refl
 
+-- one more digit is read, and one fewer may follow
 pub digits_more : (left end n b m : ℕ) (text new : Text) → 0 < left → byte text ≡ Ok (b, new) → (b == end) ≡ false →
     with_digit n b ≡ Some m →
     digits left end n text ≡ digits (left - 1) end m new
@@ -74,6 +79,7 @@ pub first_within : (bytes : Text) (b : ℕ) → slice_get bytes 0 ≡ Some b →
 first_within [] b is = cc is
 first_within (a ∷ bytes) b is = omega arith
 
+-- a number that begins with a digit other than 0 goes on with nine digits at most
 pub number_begins : (bytes left : Text) (end b n : ℕ) → slice_get bytes 0 ≡ Some b → (b == 48) ≡ false →
     with_digit 0 b ≡ Some n → number end (bytes ++ left) ≡ digits 9 end n (drop 1 (bytes ++ left))
 unfolding number
@@ -82,11 +88,13 @@ number_begins (a ∷ bytes) left end b n is other digit =
     let same : a ≡ b = cc is in
     rw (same, other, digit) refl
 
+-- a number ends at its byte, wherever that is among the bytes at hand
 pub number_ends : (bytes left : Text) (i end n b : ℕ) → i < length bytes → b ≡ slice_index_or bytes i b → (b == end) ≡ true →
     digits (10 - i) end n (drop i (bytes ++ left)) ≡ Ok (n, drop (i + 1) (bytes ++ left))
 number_ends bytes left i end n b low is last =
     digits_end (10 - i) end n b (drop i (bytes ++ left)) (drop (i + 1) (bytes ++ left)) (byte_read bytes left i b low is) last
 
+-- a number goes on with the next of the bytes at hand
 pub number_goes_on : (bytes left : Text) (i end n b m : ℕ) → i < 10 → i < length bytes → b ≡ slice_index_or bytes i b →
     (b == end) ≡ false → with_digit n b ≡ Some m →
     digits (10 - i) end n (drop i (bytes ++ left)) ≡ digits (10 - (i + 1)) end m (drop (i + 1) (bytes ++ left))
@@ -98,6 +106,7 @@ number_goes_on bytes left i end n b m few low is other digit =
 
 -- ---- entries
 
+-- a journal has at most 1000000 entries
 pub most_entries_is : most_entries ≡ 1000000
 unfolding most_entries
 most_entries_is = refl
@@ -105,21 +114,25 @@ most_entries_is = refl
 one_left : (n number : ℕ) → number < n → n - number ≡ suc (n - (number + 1))
 one_left n number h = omega arith
 
+-- one more entry is read, and one fewer may follow
 pub next_entry : (n number : ℕ) (found : Entries) (entry : JournalEntry) (text new : Text) → number < n → length found ≡ number →
     line text ≡ Ok (Some entry, new) → entries_from (n - number) found text ≡ entries_from (n - (number + 1)) (found ++ entry ∷ []) new
 unfolding entries_from
 next_entry n number found entry text new low count read = rw (one_left n number low, read) refl
 
+-- after the last entry the journal is closed
 pub last_entry : (n number : ℕ) (found : Entries) (text new : Text) → number < n →
     line text ≡ Ok (None, new) → entries_from (n - number) found text ≡ closed found new
 unfolding entries_from
 last_entry n number found text new low read = rw (one_left n number low, read) refl
 
+-- an entry that can't be read is a fault in its line; the first line is the journal's own
 pub bad_entry : (n number : ℕ) (found : Entries) (text new : Text) → number < n → length found ≡ number →
     line text ≡ Err new → entries_from (n - number) found text ≡ Err (record { line = number + 2; left = new })
 unfolding entries_from
 bad_entry n number found text new low count read = rw (one_left n number low, count, read) refl
 
+-- after as many entries as there may be, the journal ends
 pub full : (n number : ℕ) (found : Entries) (text : Text) → number ≡ n → entries_from (n - number) found text ≡ ending found text
 unfolding entries_from
 full n number found text h = let none : n - number ≡ 0 = omega arith in rw none refl

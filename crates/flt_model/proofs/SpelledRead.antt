@@ -19,6 +19,7 @@ unfolding grant
 grant_again true text = refl
 grant_again false text = refl
 
+-- the line of an entry is read as this entry
 pub line_again : (entry : JournalEntry) (text : Text) → IsEntry entry → line (entry_line entry ++ text) ≡ Ok (Some entry, text)
 unfolding line operation mode key numbered twice_numbered arrive pre_or_post cancel_or_canceled detach_or_detached detach_or_drain
     unlink go move_by

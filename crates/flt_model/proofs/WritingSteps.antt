@@ -21,9 +21,11 @@ more_taken old between new at n bytes first second =
     let rest : Appends between new (take n (drop at bytes)) = rw (take_rest bytes at) at second in
     subst (Appends old new) (sym (take-add at n bytes)) (Appends-trans old between new (take at bytes) (take n (drop at bytes)) first rest)
 
+-- what two writes append is appended in all
 pub two_parts : (one two three : Option Text) (a b : Text) → Appends one two a → Appends two three b → Appends one three (a ++ b)
 two_parts = Appends-trans
 
+-- what three writes append is appended in all
 pub three_parts : (one two three four : Option Text) (a b c : Text) → Appends one two a → Appends two three b →
     Appends three four c → Appends one four (a ++ (b ++ c))
 three_parts one two three four a b c first second third =

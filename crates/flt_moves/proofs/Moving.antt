@@ -20,6 +20,7 @@ none_active : (f : ℕ) (actors : List Actor) → has_active f actors [] ≡ fal
 none_active f [] = refl
 none_active f (a ∷ actors) = refl
 
+-- past the last activation none of a filter is active
 pub active_past : (f : ℕ) (actors : List Actor) (acts : List Activation) (n : ℕ) → length acts ≤ n →
     has_active f (drop n actors) (drop n acts) ≡ false
 active_past f actors acts n h = rw (drop_all n acts h) (none_active f (drop n actors))
@@ -30,6 +31,7 @@ module _ (p : List Filter) (w after later : World) (o : ℕ) (frame : Frame) (ea
   abbrev frames : List Frame
   frames = (route_at w.store o).frames
 
+  -- a post callback starts with the last frame of its operation, which is taken out
   pub post_happens : last_frame frames ≡ Some frame →
       after ≡ record w {
         store = with_route w.store o
@@ -39,6 +41,7 @@ module _ (p : List Filter) (w after later : World) (o : ℕ) (frame : Frame) (ea
       ComesOf (post_by p w o (route_at w.store o) (last_frame frames)) true later earlier events
   post_happens last is h = rw last (refl, (rw is at h))
 
+  -- a draining callback starts with the frame of its filter, which is taken out
   pub drain_happens : (f : ℕ) → find (is_frame_of f) frames ≡ Some frame →
       after ≡ record w { store = with_route w.store o (record (route_at w.store o) { frames = other_frames f frames }) } →
       Happened later earlier events (starts_post p after o frame true) →

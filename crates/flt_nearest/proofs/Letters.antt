@@ -5,7 +5,8 @@ use Rattle.std.proofs.lemmas.Str.{IsUtf8-string_bytes, chars_from_encodes}
 use Rattle.flt_nearest.specs.Nearest.{lowered}
 
 -- its characters are those that were put there
-chars_of : {Z : Type 0} (text : String Z) (letters : List ℕ) → string_bytes text ≡ encode_utf8_all letters → chars (string_bytes text) ≡ letters
+chars_of : {Z : Type 0} (text : String Z) (letters : List ℕ) →
+    string_bytes text ≡ encode_utf8_all letters → chars (string_bytes text) ≡ letters
 chars_of text letters is = sym (chars_from_encodes letters (string_bytes text) (IsUtf8-string_bytes text) (sym is))
 
 -- behind the last letter the text is the word in lower case

@@ -40,16 +40,20 @@ plain_zero true = record { goes_on = λ rest. refl }
 plain_zero false = record { goes_on = λ rest. refl }
 
 plain_name : (r : Rule) → Plain (rule_name r)
-plain_name r = plain_both (codes "R") ((if nat_lt (number r) 10 then codes "0" else []) ++ decimal (number r)) (record { goes_on = λ rest. refl })
-    (plain_both (if nat_lt (number r) 10 then codes "0" else []) (decimal (number r)) (plain_zero (nat_lt (number r) 10)) (plain_decimal (number r)))
+plain_name r = plain_both (codes "R") ((if nat_lt (number r) 10 then codes "0" else []) ++ decimal (number r))
+    (record { goes_on = λ rest. refl })
+    (plain_both (if nat_lt (number r) 10 then codes "0" else []) (decimal (number r)) (plain_zero (nat_lt (number r) 10))
+    (plain_decimal (number r)))
 
 plain_refusal : (f : Finding) → Plain (refusal_line f)
 plain_refusal f =
     plain_both _ (text f.rule) (plain_both _ (codes " ") (plain_both _ (rule_name f.rule) (plain_both _ (codes " ")
     (plain_both _ (decimal f.line) (plain_both _ (codes " line ") (plain_both _ (decimal f.point) (plain_both _ (codes " point ")
     (plain_both (codes "refused callback ") (decimal f.callback) (record { goes_on = λ rest. refl }) (plain_decimal f.callback))
-    (record { goes_on = λ rest. refl })) (plain_decimal f.point)) (record { goes_on = λ rest. refl })) (plain_decimal f.line)) (record { goes_on = λ rest. refl })) (plain_name f.rule)) (record { goes_on = λ rest. refl })) (plain_rule f.rule)
+    (record { goes_on = λ rest. refl })) (plain_decimal f.point)) (record { goes_on = λ rest. refl })) (plain_decimal f.line))
+    (record { goes_on = λ rest. refl })) (plain_name f.rule)) (record { goes_on = λ rest. refl })) (plain_rule f.rule)
 
+-- the line that ends the reports of findings is quiet
 pub quiet_findings : (found : List Finding) → is_quiet (findings_closing found) ≡ true
 quiet_findings [] = refl
 quiet_findings (f ∷ found) = (plain_refusal f).goes_on (10 ∷ [])
@@ -67,20 +71,27 @@ plain_fault E08 = record { goes_on = λ rest. refl }
 plain_syntax : (f : SyntaxFault) → Plain (syntax_line f)
 plain_syntax f =
     plain_both _ (fault_name f.kind) (plain_both _ (codes " ") (plain_both _ (decimal f.column) (plain_both _ (codes ":")
-    (plain_both (codes "syntax ") (decimal f.line) (record { goes_on = λ rest. refl }) (plain_decimal f.line)) (record { goes_on = λ rest. refl })) (plain_decimal f.column)) (record { goes_on = λ rest. refl }))
+    (plain_both (codes "syntax ") (decimal f.line) (record { goes_on = λ rest. refl }) (plain_decimal f.line))
+    (record { goes_on = λ rest. refl })) (plain_decimal f.column)) (record { goes_on = λ rest. refl }))
     (plain_fault f.kind)
 
+-- the line that ends the report of a syntax fault is quiet
 pub quiet_fault : (f : SyntaxFault) → is_quiet (syntax_line f ++ 10 ∷ []) ≡ true
 quiet_fault f = (plain_syntax f).goes_on (10 ∷ [])
 
 plain_malformed : (name : List ℕ) (line : ℕ) → Plain name → Plain (name ++ codes " line " ++ decimal line)
-plain_malformed name line plain = plain_both _ (decimal line) (plain_both name (codes " line ") plain (record { goes_on = λ rest. refl })) (plain_decimal line)
+plain_malformed name line plain =
+    plain_both _ (decimal line) (plain_both name (codes " line ") plain (record { goes_on = λ rest. refl })) (plain_decimal line)
 
+-- the line that ends a notice is quiet
 pub quiet_notice : (n : Notice) → is_quiet (notices.closing n) ≡ true
 quiet_notice (Whole kind count) = refl
-quiet_notice (Malformed Certificate reason) = (plain_malformed (codes "certificate") reason.line (record { goes_on = λ rest. refl })).goes_on (10 ∷ [])
-quiet_notice (Malformed Journal reason) = (plain_malformed (codes "journal") reason.line (record { goes_on = λ rest. refl })).goes_on (10 ∷ [])
-quiet_notice (Malformed Script reason) = (plain_malformed (codes "script") reason.line (record { goes_on = λ rest. refl })).goes_on (10 ∷ [])
+quiet_notice (Malformed Certificate reason) =
+    (plain_malformed (codes "certificate") reason.line (record { goes_on = λ rest. refl })).goes_on (10 ∷ [])
+quiet_notice (Malformed Journal reason) =
+    (plain_malformed (codes "journal") reason.line (record { goes_on = λ rest. refl })).goes_on (10 ∷ [])
+quiet_notice (Malformed Script reason) =
+    (plain_malformed (codes "script") reason.line (record { goes_on = λ rest. refl })).goes_on (10 ∷ [])
 
 plain_plural : (one : Bool) → Plain (if one then [] else codes "s")
 plain_plural true = record { goes_on = λ rest. refl }
@@ -90,12 +101,13 @@ plain_more : (findings files all : ℕ) →
     Plain ((if findings == 1 then [] else codes "s") ++ codes " in " ++ decimal files ++ codes " of " ++ decimal all ++ codes " files")
 plain_more findings files all =
     plain_both _ (codes " files") (plain_both _ (decimal all) (plain_both _ (codes " of ") (plain_both _ (decimal files)
-    (plain_both (if findings == 1 then [] else codes "s") (codes " in ") (plain_plural (findings == 1)) (record { goes_on = λ rest. refl })) (plain_decimal files))
-    (record { goes_on = λ rest. refl })) (plain_decimal all)) (record { goes_on = λ rest. refl })
+    (plain_both (if findings == 1 then [] else codes "s") (codes " in ") (plain_plural (findings == 1)) (record { goes_on = λ rest. refl }))
+    (plain_decimal files)) (record { goes_on = λ rest. refl })) (plain_decimal all)) (record { goes_on = λ rest. refl })
 
 quiet_found : (findings files all : ℕ) → is_quiet (found_in findings files all ++ 10 ∷ []) ≡ true
 quiet_found findings files all =
-    let more = (if findings == 1 then [] else codes "s") ++ codes " in " ++ decimal files ++ codes " of " ++ decimal all ++ codes " files" in
+    let more = (if findings == 1 then [] else codes "s") ++ codes " in " ++ decimal files ++ codes " of " ++
+    decimal all ++ codes " files" in
     rw (append_assoc (decimal findings ++ codes " finding") more (10 ∷ []), append_assoc (decimal findings) (codes " finding") (more ++ 10 ∷ []))
     (quiet_number findings (codes " finding" ++ (more ++ 10 ∷ [])) refl ((plain_more findings files all).goes_on (10 ∷ [])))
 
@@ -104,7 +116,8 @@ pub quiet_summary : (findings files all : ℕ) → is_quiet (summary findings fi
 quiet_summary findings files all = go (findings == 0)
   where
     go : (none : Bool) →
-        is_quiet ((if none then codes "nothing found in " ++ decimal all ++ codes " files" else found_in findings files all) ++ 10 ∷ []) ≡ true
+        is_quiet ((if none then codes "nothing found in " ++ decimal all ++ codes " files" else found_in findings files all) ++
+        10 ∷ []) ≡ true
     go true =
         (plain_both (codes "nothing found in " ++ decimal all) (codes " files")
         (plain_both (codes "nothing found in ") (decimal all) (record { goes_on = λ rest. refl }) (plain_decimal all))

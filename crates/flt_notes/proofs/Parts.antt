@@ -77,6 +77,7 @@ notice_part look trees s kind n p other is closes prints = record {
   many = closes.count;
 }
 
+-- a notice of a text that is no filter is printed as the part of this text
 pub notice_parts : (look : Look) (trees : List Tree) (s : Source) (kind : Kind) (n : Notice) (result : Result Part AllocError) →
     IsOther s.text.now kind → notices.IsNotice (stack_of (filters_of trees)) kind s.text.now n → IfOk result (ClosesNotice n) →
     IfOk result (PrintsNotice look trees s n) → IfOk result (IsNoticePart look trees s)
@@ -84,11 +85,13 @@ notice_parts look trees s kind n (Ok p) other is closes prints = notice_part loo
 notice_parts look trees s kind n (Err e) other is closes prints = tt
 
 -- of a text that parses
-pub known_is : (look : Look) (trees : List Tree) (k : Known) (before : Output) (p : Part) → IsKnownIn look trees k → IsSaid trees look.states before →
+pub known_is : (look : Look) (trees : List Tree) (k : Known) (before : Output) (p : Part) →
+    IsKnownIn look trees k → IsSaid trees look.states before →
     HasNotes trees k before.noted → AreFirsts k.found.now (numbers_in before.noted) →
     p.output.bytes.items ≡ before.bytes.items ++ quieted (findings_closing k.found.now) → p.output.noted ≡ before.noted →
     p.tally.status ≡ warned_status look.options.is_strict k.found.now k.details.now → p.tally.findings ≡ length k.found.now →
-    IsKnownPrint look trees k.place k.source p.output.noted p.output.bytes.items p.tally.status p.tally.findings → IsKnownPart look trees k p
+    IsKnownPrint look trees k.place k.source p.output.noted p.output.bytes.items p.tally.status p.tally.findings →
+    IsKnownPart look trees k p
 known_is look trees k before p known said notes firsts added same status count print = record {
   report = record {
     is = inl (record {
@@ -117,10 +120,12 @@ numbers_more : (notes : List Noted) (n : Noted) → numbers_in (notes ++ n ∷ [
 numbers_more [] n = refl
 numbers_more (m ∷ notes) n = ap (λ ns. m.finding ∷ ns) (numbers_more notes n)
 
+-- one more note leaves the notes of what is known
 pub notes_more : (trees : List Tree) (k : Known) (old new : List Noted) (n : Noted) → HasNotes trees k old → IsNotedOf trees k old n →
     new ≡ old ++ n ∷ [] → HasNotes trees k new
 notes_more trees k old new n notes is added = rw added (one_more notes is)
 
+-- one more note has its finding's number last
 pub numbers_with : (old new : List Noted) (n : Noted) (number : ℕ) → new ≡ old ++ n ∷ [] → n.finding ≡ number →
     numbers_in new ≡ numbers_in old ++ number ∷ []
 numbers_with old new n number added is = rw (added, numbers_more old n, is) refl

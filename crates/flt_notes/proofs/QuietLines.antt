@@ -19,6 +19,7 @@ same_from true (b ∷ bytes) is = go (begins_note (b ∷ bytes)) is (same_from (
     go true is same = absurd (cc is)
     go false is same = ap (λ r. b ∷ r) (same is)
 
+-- quiet lines stay as they are when they are quieted
 pub quieted_same : (lines : List ℕ) → is_quiet lines ≡ true → quieted lines ≡ lines
 quieted_same lines is = same_from true lines is
 
@@ -97,6 +98,7 @@ quiet_from true (b ∷ bytes) = go (begins_note (b ∷ bytes)) refl (begins_same
     go true e same quiet = rw (blank_first rest (same ∙ e)) quiet
     go false e same quiet = rw (same ∙ e) quiet
 
+-- quieted lines are quiet
 pub quiet_quieted : (lines : List ℕ) → is_quiet (quieted lines) ≡ true
 quiet_quieted lines = quiet_from true lines
 
@@ -106,6 +108,7 @@ quiet_quieted lines = quiet_from true lines
 pub record Plain (line : List ℕ) : Type 0 where
   pub goes_on : (rest : List ℕ) → is_quiet_from false (line ++ rest) ≡ is_quiet_from false rest
 
+-- two plain texts one after the other are plain
 pub plain_both : (a b : List ℕ) → Plain a → Plain b → Plain (a ++ b)
 plain_both a b first second =
     record { goes_on = λ rest. rw (append_assoc a b rest) (first.goes_on (b ++ rest) ∙ second.goes_on rest) }
@@ -133,6 +136,7 @@ digits_plain (suc k) n acc rest = go (n / 10 == 0) (digits_plain k (n / 10) (dig
     go true further = glyph_plain (n % 10) (acc ++ rest)
     go false further = further ∙ glyph_plain (n % 10) (acc ++ rest)
 
+-- a number in decimal is plain
 pub plain_decimal : (n : ℕ) → Plain (decimal n)
 unfolding digits
 plain_decimal n = record { goes_on = λ rest. digits_plain 64 n [] rest }
@@ -152,7 +156,8 @@ digits_first (suc k) n acc rest is =
     go (n / 10 == 0) (digits_first k (n / 10) (digit_glyph false (n % 10) ∷ acc) rest (glyph_first (n % 10) (acc ++ rest)))
   where
     go : (z : Bool) → begins_note (digits_onto k 10 false (n / 10) (digit_glyph false (n % 10) ∷ acc) ++ rest) ≡ false →
-        begins_note ((if z then digit_glyph false (n % 10) ∷ acc else digits_onto k 10 false (n / 10) (digit_glyph false (n % 10) ∷ acc)) ++ rest)
+        begins_note
+        ((if z then digit_glyph false (n % 10) ∷ acc else digits_onto k 10 false (n / 10) (digit_glyph false (n % 10) ∷ acc)) ++ rest)
         ≡ false
     go true further = glyph_first (n % 10) (acc ++ rest)
     go false further = further
@@ -162,7 +167,8 @@ quiet_if [] first is = refl
 quiet_if (b ∷ bytes) first is = rw first is
 
 -- a line that begins with a number is quiet
-pub quiet_number : (n : ℕ) (rest : List ℕ) → begins_note rest ≡ false → is_quiet_from false rest ≡ true → is_quiet (decimal n ++ rest) ≡ true
+pub quiet_number : (n : ℕ) (rest : List ℕ) → begins_note rest ≡ false → is_quiet_from false rest ≡ true →
+    is_quiet (decimal n ++ rest) ≡ true
 unfolding digits
 quiet_number n rest first is =
     quiet_if (decimal n ++ rest) (digits_first 64 n [] rest first) (digits_plain 64 n [] rest ∙ is)

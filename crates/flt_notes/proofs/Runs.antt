@@ -57,12 +57,14 @@ outcomes_of trees k g (r ∷ reports) (s ∷ found) (o ∷ all) same suspects ar
     } in
     (first, outcomes_of trees k g reports found all same suspects.1 are.1)
 
-found_by : (p : List Filter) (cs : List Callback) (g : Graph) (f : Finding) (a : Schedule) (b : Broken) → IsSchedule p cs g f a → a ≡ Breaks b →
+found_by : (p : List Filter) (cs : List Callback) (g : Graph) (f : Finding) (a : Schedule) (b : Broken) →
+    IsSchedule p cs g f a → a ≡ Breaks b →
     IsFound p (violations_of f.rule) b
 found_by p cs g f a b is same = (subst (λ x. IsSchedule p cs g f x) same is).0
 
 -- in runs of one filter alone
-found_alone : (tree : Tree) (g : Graph) (f : Finding) (s : Scheduled) (b : Broken) → IsScheduled (tree ∷ []) 0 g f s → schedule_of s ≡ Breaks b →
+found_alone : (tree : Tree) (g : Graph) (f : Finding) (s : Scheduled) (b : Broken) →
+    IsScheduled (tree ∷ []) 0 g f s → schedule_of s ≡ Breaks b →
     IsFound (tree.filter ∷ []) (violations_of f.rule) b
 found_alone tree g f (Together a) b is same = found_by (tree.filter ∷ []) _ g f a b is.0 same
 found_alone tree g f (Alone a) b is same = found_by (tree.filter ∷ []) _ g f a b is same
@@ -70,7 +72,8 @@ found_alone tree g f (Alone a) b is same = found_by (tree.filter ∷ []) _ g f a
 same_finding : (found : List Finding) (n : ℕ) (f h : Finding) → slice_get found n ≡ Some f → slice_get found n ≡ Some h → f ≡ h
 same_finding found n f h one other = cc
 
-outcome_again : (tree : Tree) (g : Graph) (found : List Finding) (s : Suspect) (o : Outcome) → IsSuspectAgain found s → o.number ≡ s.number →
+outcome_again : (tree : Tree) (g : Graph) (found : List Finding) (s : Suspect) (o : Outcome) →
+    IsSuspectAgain found s → o.number ≡ s.number →
     IsScheduled (tree ∷ []) 0 g s.finding o.scheduled → IsOutcomeAgain (tree ∷ []) found o
 outcome_again tree g found s o suspect number scheduled =
     λ f b numbered breaks.
@@ -135,13 +138,15 @@ zip_more R (a ∷ xs) [] x y are is = absurd are
 zip_more R (a ∷ xs) (b ∷ ys) x y are is = (are.0, zip_more R xs ys x y are.1 is)
 
 -- a report's number is below the count of findings
-pub within_at : (count : ℕ) (reports : List Report) (i : ℕ) (r : Report) → All (λ (r : Report). r.finding < count) reports → i < length reports →
+pub within_at : (count : ℕ) (reports : List Report) (i : ℕ) (r : Report) →
+    All (λ (r : Report). r.finding < count) reports → i < length reports →
     r ≡ get_or reports i r → r.finding < count
 within_at count [] i r all h is = absurd (omega (arith, h))
 within_at count (x ∷ reports) zero r all h is = rw is (All-head (λ (r : Report). r.finding < count) x reports all)
 within_at count (x ∷ reports) (suc i) r all h is =
     within_at count reports i r (All-tail (λ (r : Report). r.finding < count) x reports all) (omega (arith, h)) is
 
+-- one more report has its suspect
 pub suspects_more : (found : List Finding) (reports : List Report) (i : ℕ) (r : Report) (old new : List Suspect) (s : Suspect) →
     i < length reports → r ≡ get_or reports i r → AllZip (IsSuspectOf found) (take i reports) old → IsSuspectOf found r s →
     new ≡ old ++ s ∷ [] → AllZip (IsSuspectOf found) (take (i + 1) reports) new
@@ -162,6 +167,7 @@ goes_more text whole new more on added = record {
   is = added ∙ ap (λ z. z ++ more) on.is ∙ append_assoc text on.more more;
 }
 
+-- a setter that is found where the text goes on with what is added, at the line after its end, is one of this text
 pub setter_is : (text whole : Text) (added : List ℕ) (line : ℕ) (judged : Judged) (s : Option Setter) → GoesOn text whole →
     whole ≡ ended text ++ added → line ≡ line_ends (ended text) + 1 → IsJudged whole judged → IfSome s (IsOfJudged judged) →
     IfSome s (λ s. (string_bytes s.added ≡ added) × (s.line ≡ line)) → IfSome s (IsSetter text)
@@ -185,6 +191,7 @@ some_left trees k reports i [] h are none =
     let left = length-drop i reports in omega (arith, h, long, left)
 some_left trees k reports i (o ∷ all) h are none = cc
 
+-- the last outcome that is left is that of the next report
 pub next_outcome : (trees : List Tree) (k : Known) (reports : List Report) (i : ℕ) (r : Report) (old rest : List Outcome) (o : Outcome) →
     i < length reports → r ≡ get_or reports i r → AllZip (IsOutcomeOf trees k) (drop i reports) (reverse old) → old ≡ rest ++ o ∷ [] →
     IsOutcomeOf trees k r o × AllZip (IsOutcomeOf trees k) (drop (i + 1) reports) (reverse rest)
@@ -200,9 +207,11 @@ pub within_all : (count : ℕ) (reports : List Report) → All (λ n. n < count)
     All (λ (r : Report). r.finding < count) reports
 within_all count [] all = All-nil (λ (r : Report). r.finding < count)
 within_all count (r ∷ reports) all =
-    All-cons (λ (r : Report). r.finding < count) r reports (All-head (λ n. n < count) r.finding (map (λ (r : Report). r.finding) reports) all)
+    All-cons (λ (r : Report). r.finding < count) r reports
+    (All-head (λ n. n < count) r.finding (map (λ (r : Report). r.finding) reports) all)
     (within_all count reports (All-tail (λ n. n < count) r.finding (map (λ (r : Report). r.finding) reports) all))
 
+-- one more report has its finding's number last
 pub numbers_taken : (reports : List Report) (i : ℕ) (r : Report) → i < length reports → r ≡ get_or reports i r →
     map (λ (r : Report). r.finding) (take (i + 1) reports) ≡ map (λ (r : Report). r.finding) (take i reports) ++ r.finding ∷ []
 numbers_taken reports i r h is =

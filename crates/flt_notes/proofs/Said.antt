@@ -32,6 +32,7 @@ said_noted trees states old new n rows said added pushed =
 pub silent_none : (trees : List Tree) (states : ℕ) (o : Output) → o.bytes.items ≡ [] → o.noted ≡ [] → IsSilent trees states o
 silent_none trees states o bytes noted = record { none = noted; said = said_none trees states o bytes noted }
 
+-- quieted lines that come last leave the output silent
 pub silent_more : (trees : List Tree) (states : ℕ) (old new : Output) (lines : List ℕ) → IsSilent trees states old →
     new.bytes.items ≡ old.bytes.items ++ quieted lines → new.noted ≡ old.noted → IsSilent trees states new
 silent_more trees states old new lines silent added same =

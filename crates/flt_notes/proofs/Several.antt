@@ -59,19 +59,20 @@ unnoted trees text (Other kind) notes are none = are
 unnoted trees text (Known place) notes are none = absurd (omega (arith, none))
 
 -- with the report of a text more
-pub printed_more : (look : Look) (trees : List Tree) (each : List Studied) (s : Studied) (old new : Printed) → ArePrinted look trees each old →
+pub printed_more : (look : Look) (trees : List Tree) (each : List Studied) (s : Studied) (old new : Printed) →
+    ArePrinted look trees each old →
     IsStudied trees s → IsPlaced (known_in each) s.reading → IsMore look trees s old new → ArePrinted look trees (each ++ s ∷ []) new
 printed_more look trees each s old new are is placed more = record {
   parts = rw (texts_push each s, more.bytes, more.status, more.findings, more.files) (parts_more are.parts more.is.report);
   notes = rw (texts_push each s, known_push each s, more.noted)
-      (notes_more trees (known_in each) (texts_read each) old.output.noted s.source.text.now s.reading more.part.output.noted are.notes is placed
-      more.is.notes);
+      (notes_more trees (known_in each) (texts_read each) old.output.noted s.source.text.now s.reading
+      more.part.output.noted are.notes is placed more.is.notes);
   said = rw (more.noted, more.bytes)
       (others (old.output.noted ++ more.part.output.noted) (old.output.bytes.items ++ more.part.output.bytes.items) (10 ∷ [])
       (said_both trees look.states old.output.noted old.output.bytes.items are.said more.is.said) refl);
   prints = rw (sources_push each s, known_push each s, more.noted, more.bytes, more.status, more.findings, more.files)
-      (prints_more look trees (known_in each) (sources_read each) old.output.noted old.output.bytes.items old.total.status old.total.findings
-      old.total.files s.source s.reading more.part are.prints placed
+      (prints_more look trees (known_in each) (sources_read each) old.output.noted old.output.bytes.items
+      old.total.status old.total.findings old.total.files s.source s.reading more.part are.prints placed
       (unnoted trees s.source.text.now s.reading more.part.output.noted more.is.notes) more.is.print);
 }
 
@@ -117,7 +118,8 @@ rest_out look trees s old new a b c more all first second =
 
 -- whole reports of the first of some texts
 pub first_of : (look : Look) (trees : List Tree) (each : List Studied) (further : List Text) (p : Printed) → ArePrinted look trees each p →
-    AreParsed (texts_read each ++ further) (filters_of trees) → AreFirst look.options (texts_read each) further look.states p.output.bytes.items
+    AreParsed (texts_read each ++ further) (filters_of trees) →
+    AreFirst look.options (texts_read each) further look.states p.output.bytes.items
 first_of look trees each further p are parsed = record {
   trees = trees;
   parsed = parsed;
@@ -138,7 +140,8 @@ cut_none options texts states old = record { printed = []; added = appends_none 
 pub cut_at : (look : Look) (trees : List Tree) (all each rest : List Studied) (p : Printed) (held : Bool) (old new : Option (List ℕ)) →
     AreParsed (texts_read all) (filters_of trees) → all ≡ each ++ rest → ArePrinted look trees each p → (held ≡ true → new ≡ old) →
     (held ≡ false → Appends old new p.output.bytes.items) → IsCut look.options (texts_read all) look.states old new
-cut_at look trees all each rest p true old new parsed is are none some = rw (none refl) (cut_none look.options (texts_read all) look.states old)
+cut_at look trees all each rest p true old new parsed is are none some =
+    rw (none refl) (cut_none look.options (texts_read all) look.states old)
 cut_at look trees all each rest p false old new parsed is are none some =
     let whole : texts_read all ≡ texts_read each ++ texts_read rest = ap texts_read is ∙ texts_both each rest in
     record {
@@ -160,7 +163,8 @@ all_but_last options [] (t ∷ before) last states printed is are = absurd (cc i
 all_but_last options (t ∷ texts) before last states printed is are = record { before = before; last = last; whole = is; are = are }
 
 -- the reports of all texts but the last are put out, and the last one's stands behind them
-pub put_out : (look : Look) (trees : List Tree) (all each : List Studied) (s : Studied) (old new : Printed) (held : Bool) (a b : Option (List ℕ)) →
+pub put_out : (look : Look) (trees : List Tree) (all each : List Studied) (s : Studied) (old new : Printed) (held : Bool)
+    (a b : Option (List ℕ)) →
     AreParsed (texts_read all) (filters_of trees) → all ≡ each ++ s ∷ [] → ArePrinted look trees each old → IsMore look trees s old new →
     new.sent ≡ old.sent → HoldsBack held old → (held ≡ true → b ≡ a) → (held ≡ false → Appends a b old.output.bytes.items) →
     IsPutOut look.options (texts_read all) look.states held a b new
@@ -194,7 +198,8 @@ pub put_out_more : (options : WarningOptions) (texts : List Text) (states : ℕ)
 put_out_more options texts states held a b old new more is same added =
     let bytes = old.output.bytes.items in
     let within = is.within in
-    let first : take old.sent bytes ≡ take new.sent new.output.bytes.items = rw (same, added) (sym (take_within old.sent bytes more within)) in
+    let first : take old.sent bytes ≡ take new.sent new.output.bytes.items =
+    rw (same, added) (sym (take_within old.sent bytes more within)) in
     record {
       within = rw (same, added) (omega (arith, length-append bytes more, within));
       added = subst (λ z. Appends a b z) first is.added;
@@ -203,7 +208,8 @@ put_out_more options texts states held a b old new more is same added =
     }
 
 -- the reports of all texts but the last, or nothing, are whole reports of the first of them
-whole_of_all_but_last : (options : WarningOptions) (texts : List Text) (states : ℕ) (printed : List ℕ) → IsAllButLast options texts states printed →
+whole_of_all_but_last : (options : WarningOptions) (texts : List Text) (states : ℕ) (printed : List ℕ) →
+    IsAllButLast options texts states printed →
     AreWhole options texts states printed
 whole_of_all_but_last options [] states printed none = inl none
 whole_of_all_but_last options (t ∷ ts) states printed all =
@@ -224,7 +230,8 @@ cut_after options texts states false a b p is = record {
 }
 
 -- nothing is put out of nothing
-pub put_out_none : (options : WarningOptions) (states : ℕ) (held : Bool) (a : Option (List ℕ)) (p : Printed) → p.output.bytes.items ≡ [] → p.sent ≡ 0 →
+pub put_out_none : (options : WarningOptions) (states : ℕ) (held : Bool) (a : Option (List ℕ)) (p : Printed) →
+    p.output.bytes.items ≡ [] → p.sent ≡ 0 →
     IsPutOut options [] states held a a p
 put_out_none options states held a p bytes sent = record {
   within = rw (sent, bytes) (omega arith);
@@ -234,7 +241,8 @@ put_out_none options states held a p bytes sent = record {
 }
 
 -- nor of the only text
-pub put_out_only : (options : WarningOptions) (trees : List Tree) (text : Text) (states : ℕ) (held : Bool) (a : Option (List ℕ)) (p : Printed) →
+pub put_out_only : (options : WarningOptions) (trees : List Tree) (text : Text) (states : ℕ) (held : Bool)
+    (a : Option (List ℕ)) (p : Printed) →
     AreParsed (text ∷ []) (filters_of trees) → p.sent ≡ 0 → IsPutOut options (text ∷ []) states held a a p
 put_out_only options trees text states held a p parsed sent = record {
   within = rw sent (omega arith);
@@ -275,7 +283,8 @@ summed reports line new findings files count many added is same =
     ∙ sym (append_assoc reports (summary findings files count) (10 ∷ [])) ∙ ap (λ n. reports ++ summary findings files n ++ 10 ∷ []) same
 
 -- the same where only that differs which is put out
-pub more_same : (look : Look) (trees : List Tree) (s : Studied) (old mid new : Printed) → IsMore look trees s old mid → new.output ≡ mid.output →
+pub more_same : (look : Look) (trees : List Tree) (s : Studied) (old mid new : Printed) →
+    IsMore look trees s old mid → new.output ≡ mid.output →
     new.total ≡ mid.total → IsMore look trees s old new
 more_same look trees s old mid new more output total = record {
   part = more.part;
@@ -293,12 +302,15 @@ pub empty_notes : (trees : List Tree) (each : List Studied) (notes : List Noted)
 empty_notes trees [] notes few none = rw none notes_none
 empty_notes trees (s ∷ each) notes few none = absurd (omega (arith, few))
 
+-- where there is one text, what was noted of it are the notes of all
 pub only_noted : (look : Look) (trees : List Tree) (each : List Studied) (d : Studied) (p : Printed) → 1 ≤ length each → length each < 2 →
-    AreStudied trees 0 each → IsPart look trees (get_or each 0 d) (part_of p) → AreNotesIn trees (known_in each) (texts_read each) p.output.noted
+    AreStudied trees 0 each → IsPart look trees (get_or each 0 d) (part_of p) →
+    AreNotesIn trees (known_in each) (texts_read each) p.output.noted
 only_noted look trees [] d p some few are part = absurd (omega (arith, some))
 only_noted look trees (s ∷ []) d p some few are part = only_notes trees s p.output.noted are.0 are.1 part.notes
 only_noted look trees (s ∷ (t ∷ each)) d p some few are part = absurd (omega (arith, few))
 
+-- where there is one text, and nothing was sent early, it is put out as a whole
 pub only_sent : (options : WarningOptions) (trees : List Tree) (states : ℕ) (held : Bool) (a : Option (List ℕ)) (each : List Studied)
     (p : Printed) → 1 ≤ length each → length each < 2 → AreParsed (texts_read each) (filters_of trees) → p.sent ≡ 0 →
     IsPutOut options (texts_read each) states held a a p
@@ -307,6 +319,7 @@ only_sent options trees states held a (s ∷ []) p some few parsed sent =
     put_out_only options trees s.source.text.now states held a p parsed sent
 only_sent options trees states held a (s ∷ (t ∷ each)) p some few parsed sent = absurd (omega (arith, few))
 
+-- where there is no text, nothing printed is what is printed of all
 pub printed_empty : (look : Look) (trees : List Tree) (each : List Studied) (p : Printed) → length each < 1 → p.output.bytes.items ≡ [] →
     p.output.noted ≡ [] → p.total.status ≡ 0 → p.total.findings ≡ 0 → p.total.files ≡ 0 → ArePrinted look trees each p
 printed_empty look trees [] p few bytes noted status findings files = printed_none look trees p bytes noted status findings files
@@ -314,6 +327,7 @@ printed_empty look trees (s ∷ each) p few bytes noted status findings files = 
 
 -- with the last one, all of them
 module _ (look : Look) (trees : List Tree) (each : List Studied) (i : ℕ) (d : Studied) (old new : Printed) where
+  -- where all texts but the last are printed, the last one's report completes what is printed of all
   pub whole_printed : 1 ≤ length each → AreStudied trees 0 each → length (take (length each - 1) each) ≤ i →
       ArePrinted look trees (take i (take (length each - 1) each)) old → IsMore look trees (get_or each (length each - 1) d) old new →
       ArePrinted look trees each new
@@ -327,6 +341,7 @@ module _ (look : Look) (trees : List Tree) (each : List Studied) (i : ℕ) (d : 
       (last_studied trees each (get_or each (length each - 1) d) are some last)
       (last_placed trees each (get_or each (length each - 1) d) are some last) more)
 
+  -- where all texts but the last were put out, the last one's report completes what is put out
   pub whole_sent : (held : Bool) (a b : Option (List ℕ)) → 1 ≤ length each → AreParsed (texts_read each) (filters_of trees) →
       length (take (length each - 1) each) ≤ i → ArePrinted look trees (take i (take (length each - 1) each)) old →
       IsMore look trees (get_or each (length each - 1) d) old new → new.sent ≡ old.sent → HoldsBack held old → (held ≡ true → b ≡ a) →
@@ -364,6 +379,7 @@ print_of_only look trees s (Known place) p placed none is = record {
   is = inl (subst (λ n. IsKnownPrint look trees n s p.output.noted p.output.bytes.items p.total.status p.total.findings) placed is);
 }
 
+-- where there is one text, its report is what is printed of all
 pub only_print : (look : Look) (trees : List Tree) (each : List Studied) (d : Studied) (p : Printed) → 1 ≤ length each → length each < 2 →
     AreStudied trees 0 each → IsPart look trees (get_or each 0 d) (part_of p) →
     IsPrintOfAll look trees (sources_read each) p.output.noted p.output.bytes.items p.total.status
@@ -372,13 +388,16 @@ only_print look trees (s ∷ []) d p some few are part =
     print_of_only look trees s.source s.reading p are.1 (unnoted trees s.source.text.now s.reading p.output.noted part.notes) part.print
 only_print look trees (s ∷ (t ∷ each)) d p some few are part = absurd (omega (arith, few))
 
+-- where there is no text, nothing is printed of all
 pub empty_print : (look : Look) (trees : List Tree) (each : List Studied) (p : Printed) → length each < 1 → p.output.noted ≡ [] →
-    p.output.bytes.items ≡ [] → p.total.status ≡ 0 → IsPrintOfAll look trees (sources_read each) p.output.noted p.output.bytes.items p.total.status
+    p.output.bytes.items ≡ [] → p.total.status ≡ 0 →
+    IsPrintOfAll look trees (sources_read each) p.output.noted p.output.bytes.items p.total.status
 empty_print look trees [] p few noted bytes status = (noted, bytes, status)
 empty_print look trees (s ∷ each) p few noted bytes status = absurd (omega (arith, few))
 
 -- of several, with the line that says how much is found
-pub several_print : (look : Look) (trees : List Tree) (each : List Studied) (old : Printed) (notes : List Noted) (line printed : List ℕ) (count : ℕ) →
+pub several_print : (look : Look) (trees : List Tree) (each : List Studied) (old : Printed) (notes : List Noted)
+    (line printed : List ℕ) (count : ℕ) →
     ArePrinted look trees each old → notes ≡ old.output.noted → printed ≡ old.output.bytes.items ++ quieted line →
     line ≡ summary old.total.findings old.total.files count ++ 10 ∷ [] → count ≡ length (sources_read each) →
     AreSeveralPrinted look trees (sources_read each) notes printed old.total.status
@@ -398,6 +417,7 @@ some_print look trees [] notes printed status some are = absurd (omega (arith, s
 some_print look trees (s ∷ []) notes printed status some are = absurd (omega (arith, some))
 some_print look trees (s ∷ (t ∷ each)) notes printed status some are = are
 
+-- where there are two texts or more, what is printed of several is what is printed of all
 pub some_printed : (look : Look) (trees : List Tree) (each : List Studied) (result : Result Printed ExplainFault) → 2 ≤ length each →
     IfOk result (λ p. AreSeveralPrinted look trees (sources_read each) p.output.noted p.output.bytes.items p.total.status) →
     IfOk result (λ p. IsPrintOfAll look trees (sources_read each) p.output.noted p.output.bytes.items p.total.status)

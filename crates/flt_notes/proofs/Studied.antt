@@ -44,7 +44,9 @@ pub get_last : {X : Type 0} (xs : List X) (y : X) → slice_get (xs ++ y ∷ [])
 get_last [] y = refl
 get_last (x ∷ xs) y = get_last xs y
 
-pub one_taken : (each : List Studied) (i : ℕ) (s : Studied) → i < length each → s ≡ get_or each i s → take (i + 1) each ≡ take i each ++ s ∷ []
+-- one more text is taken of those that were studied
+pub one_taken : (each : List Studied) (i : ℕ) (s : Studied) →
+    i < length each → s ≡ get_or each i s → take (i + 1) each ≡ take i each ++ s ∷ []
 one_taken each i s h is = take_more each i s h ∙ ap (λ x. take i each ++ x ∷ []) (sym is)
 
 -- one more text
@@ -56,14 +58,17 @@ studied_push trees place (t ∷ each) s are is placed =
     let same : place + (known t.reading + known_in each) ≡ place + known t.reading + known_in each = omega arith in
     (are.0, are.1, studied_push trees (place + known t.reading) each s are.2 is (subst (λ n. IsPlaced n s.reading) same placed))
 
+-- one more text that is studied is one source more
 pub sources_push : (each : List Studied) (s : Studied) → sources_read (each ++ s ∷ []) ≡ sources_read each ++ s.source ∷ []
 sources_push [] s = refl
 sources_push (t ∷ each) s = ap (λ ss. t.source ∷ ss) (sources_push each s)
 
+-- one more text that is studied is one text more
 pub texts_push : (each : List Studied) (s : Studied) → texts_read (each ++ s ∷ []) ≡ texts_read each ++ s.source.text.now ∷ []
 texts_push [] s = refl
 texts_push (t ∷ each) s = ap (λ ts. t.source.text.now ∷ ts) (texts_push each s)
 
+-- one more text that is studied may be one filter more that is known
 pub known_push : (each : List Studied) (s : Studied) → known_in (each ++ s ∷ []) ≡ known_in each + known s.reading
 known_push [] s = omega arith
 known_push (t ∷ each) s = let more = known_push each s in omega (arith, more)
@@ -110,14 +115,16 @@ module _ (r : Readings) (are : AreReadings r) (s : Studied) (new : Readings) whe
   }
 
 -- each file is what it is said to be
-pub studied_at : (trees : List Tree) (place : ℕ) (each : List Studied) (i : ℕ) (d : Studied) → AreStudied trees place each → i < length each →
+pub studied_at : (trees : List Tree) (place : ℕ) (each : List Studied) (i : ℕ) (d : Studied) →
+    AreStudied trees place each → i < length each →
     IsStudied trees (get_or each i d)
 studied_at trees place [] i d are h = absurd (omega (arith, h))
 studied_at trees place (s ∷ each) zero d are h = are.0
 studied_at trees place (s ∷ each) (suc i) d are h = studied_at trees (place + known s.reading) each i d are.2 (omega (arith, h))
 
 -- and the tree of one that parses has the place that stands behind those before it
-pub placed_at : (trees : List Tree) (place : ℕ) (each : List Studied) (i : ℕ) (d : Studied) → AreStudied trees place each → i < length each →
+pub placed_at : (trees : List Tree) (place : ℕ) (each : List Studied) (i : ℕ) (d : Studied) →
+    AreStudied trees place each → i < length each →
     IsPlaced (place + known_in (take i each)) (get_or each i d).reading
 placed_at trees place [] i d are h = absurd (omega (arith, h))
 placed_at trees place (s ∷ each) zero d are h =
@@ -142,17 +149,20 @@ pub texts_both : (each more : List Studied) → texts_read (each ++ more) ≡ te
 texts_both [] more = refl
 texts_both (s ∷ each) more = ap (λ ts. s.source.text.now ∷ ts) (texts_both each more)
 
+-- texts that are studied are studied up to each place
 pub studied_taken : (trees : List Tree) (place : ℕ) (each : List Studied) (n : ℕ) → AreStudied trees place each →
     AreStudied trees place (take n each)
 studied_taken trees place each zero are = tt
 studied_taken trees place [] (suc n) are = tt
 studied_taken trees place (s ∷ each) (suc n) are = (are.0, are.1, studied_taken trees (place + known s.reading) each n are.2)
 
+-- a text among those that were taken is studied
 pub studied_here : (trees : List Tree) (each : List Studied) (n i : ℕ) (s : Studied) → AreStudied trees 0 each → i < length (take n each) →
     s ≡ get_or (take n each) i s → IsStudied trees s
 studied_here trees each n i s are h is =
     subst (IsStudied trees) (sym is) (studied_at trees 0 (take n each) i s (studied_taken trees 0 each n are) h)
 
+-- a text among those that were taken has its place by the filters before it
 pub placed_here : (trees : List Tree) (each : List Studied) (n i : ℕ) (s : Studied) → AreStudied trees 0 each → i < length (take n each) →
     s ≡ get_or (take n each) i s → IsPlaced (known_in (take i (take n each))) s.reading
 placed_here trees each n i s are h is =
@@ -161,11 +171,13 @@ placed_here trees each n i s are h is =
     subst (λ (x : Studied). IsPlaced (known_in (take i (take n each))) x.reading) (sym is)
     (subst (λ m. IsPlaced m (get_or (take n each) i s).reading) same here)
 
+-- the last text is studied
 pub last_studied : (trees : List Tree) (each : List Studied) (s : Studied) → AreStudied trees 0 each → 1 ≤ length each →
     s ≡ get_or each (length each - 1) s → IsStudied trees s
 last_studied trees each s are some is =
     subst (IsStudied trees) (sym is) (studied_at trees 0 each (length each - 1) s are (omega (arith, some)))
 
+-- the last text has its place by the filters of those before it
 pub last_placed : (trees : List Tree) (each : List Studied) (s : Studied) → AreStudied trees 0 each → 1 ≤ length each →
     s ≡ get_or each (length each - 1) s → IsPlaced (known_in (take (length each - 1) each)) s.reading
 last_placed trees each s are some is =

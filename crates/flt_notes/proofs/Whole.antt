@@ -46,7 +46,8 @@ five_behind : (o a b c d e : List ℕ) → (o ++ a) ++ b ++ c ++ d ++ e ≡ o ++
 five_behind o a b c d e = simp append_assoc
 
 again_rows_are : (text : Text) (found : List Finding) (setting : Option Setting) (again : Option Again) (rows : List ℕ) →
-    IfSome setting (IsSetting text found) → (setting ≡ None → again ≡ None) → AreSettingRows setting again rows → AreAgainRows text again rows
+    IfSome setting (IsSetting text found) → (setting ≡ None → again ≡ None) → AreSettingRows setting again rows →
+    AreAgainRows text again rows
 again_rows_are text found None None rows is none are = are
 again_rows_are text found None (Some a) rows is none are = let no : Some a ≡ None = none refl in absurd (cc no)
 again_rows_are text found (Some s) None rows is none are = are
@@ -77,6 +78,7 @@ adds_block trees states text found setting r n old mid new number behind is none
   noted = note.noted ∙ ap (λ ns. ns ++ n ∷ []) same;
 }
 
+-- without blocks nothing is added
 pub blocks_none : (trees : List Tree) (states : ℕ) (text : Text) (o : Output) → AddBlocks trees states text [] o o
 blocks_none trees states text o = record {
   notes = [];
@@ -119,6 +121,7 @@ body_of_reports look trees k reports old new some are blocks = record {
   noted = blocks.noted;
 }
 
+-- where a list isn't found to have anything, it has nothing
 pub empty_of : (found : List Finding) (b : Bool) → b ≡ (length found == 0) → (b ≡ false → ⊥) → found ≡ []
 empty_of [] b is some = refl
 empty_of (f ∷ found) b is some = absurd (some (is ∙ ne_eqb (length (f ∷ found)) 0 (λ h. omega arith)))
@@ -138,7 +141,9 @@ body_of_none look trees k lines old new none are added same = record {
 
 -- ---- the whole of one text
 
-pub known_print : TextsWithoutCirclesAreOrderly → (look : Look) (trees : List Tree) (k : Known) (first before : Output) (p : Part) → IsKnownIn look trees k →
+-- what was printed of a known filter, up to the lines that end it, is its part
+pub known_print : TextsWithoutCirclesAreOrderly → (look : Look) (trees : List Tree) (k : Known) (first before : Output) (p : Part) →
+    IsKnownIn look trees k →
     first.bytes.items ≡ [] → first.noted ≡ [] → AddsBody look trees k first before → HasNotes trees k before.noted →
     p.output.bytes.items ≡ before.bytes.items ++ quieted (findings_closing k.found.now) → p.output.noted ≡ before.noted →
     p.tally.status ≡ warned_status look.options.is_strict k.found.now k.details.now → p.tally.findings ≡ length k.found.now →
@@ -165,6 +170,7 @@ known_print law look trees k first before p known none unnoted body notes added 
       many = count;
     }
 
+-- what was printed of a text that doesn't parse, with the line that ends it, is its part
 pub unread_print : (look : Look) (s : Source) (f : SyntaxFault) (lines before : List ℕ) (p : Part) → IsUnread s.text.now f →
     IsFaultReport look.coloured s.name.now s.text.now lines → before ≡ quieted lines →
     p.output.bytes.items ≡ before ++ quieted (syntax_line f ++ 10 ∷ []) → p.tally.status ≡ 2 →
@@ -181,6 +187,7 @@ unread_print look s f lines before p unread are first added status count =
       many = count;
     }
 
+-- what was printed of a notice, with the line that ends it, is the notice's print
 pub prints_notice : (look : Look) (trees : List Tree) (s : Source) (alone : Bool) (n : Notice) (lines before : List ℕ) (p : Part) →
     alone ≡ is_alone trees s.text.now → AreNoticeLines look.coloured alone s.name.now n lines → before ≡ quieted lines →
     p.output.bytes.items ≡ before ++ quieted (notices.closing n) → PrintsNotice look trees s n p
@@ -194,7 +201,8 @@ prints_notice look trees s alone n lines before p same are first added = record 
 
 -- one more
 pub prints_more : (look : Look) (trees : List Tree) (place : ℕ) (sources : List Source) (notes : List Noted) (printed : List ℕ)
-    (greatest findings files : ℕ) (s : Source) (r : Reading) (p : Part) → ArePrints look trees place sources notes printed greatest findings files →
+    (greatest findings files : ℕ) (s : Source) (r : Reading) (p : Part) →
+    ArePrints look trees place sources notes printed greatest findings files →
     IsPlaced place r → (known r ≡ 0 → p.output.noted ≡ []) → IsPrintOf look trees s r p →
     ArePrints look trees (place + known r) (sources ++ s ∷ []) (notes ++ p.output.noted) (printed ++ p.output.bytes.items ++ 10 ∷ [])
     (max greatest p.tally.status) (findings + p.tally.findings) (files + some p.tally.findings)

@@ -98,7 +98,8 @@ also_words v =
 
 -- the search was ended at so many states
 abbrev pub cut_words : ℕ → List ℕ
-cut_words states = codes "no run was found in " ++ decimal states ++ codes " state" ++ plural states ++ codes "; `--states N` sets another bound"
+cut_words states = codes "no run was found in " ++ decimal states ++ codes " state" ++ plural states ++
+    codes "; `--states N` sets another bound"
 
 -- a search found none: other rules are broken before, or it was ended at a bound, or it came to its end
 abbrev pub searched : Bool → Option ℕ → List ℕ
@@ -139,7 +140,8 @@ again_words v entry =
 
 abbrev pub run_again : Broken → List ℕ
 run_again b =
-    again_words b.violation b.entry ++ lengths b.journal ++ (codes "; it is no run of this text, and `--journal` doesn't keep it:" ++ 10 ∷ [])
+    again_words b.violation b.entry ++ lengths b.journal ++
+    (codes "; it is no run of this text, and `--journal` doesn't keep it:" ++ 10 ∷ [])
 
 -- the line on what comes of a finding where one more callback sets the contexts that nothing in its text sets
 abbrev pub again_line : Option Again → List ℕ

@@ -75,7 +75,8 @@ pub record IsNear (place : ℕ) (found : List Finding) (finding : Finding) (n : 
   pub point : other.point ≡ finding.point
 
 -- the run of an earlier note at the same point breaks this too by its last entry, and the finding's rule prevents it
-pub record IsAlso (trees : List Tree) (place : ℕ) (found : List Finding) (earlier : List Noted) (finding : Finding) (v : Violation) : Type 0 where
+pub record IsAlso (trees : List Tree) (place : ℕ) (found : List Finding) (earlier : List Noted) (finding : Finding)
+    (v : Violation) : Type 0 where
   pub number : ℕ
   pub note : Noted
   pub noted : slice_get earlier number ≡ Some note
@@ -97,7 +98,8 @@ IsAgain text finding RunsNowhere = Unit {0}
 
 -- a note, behind earlier ones of the same text: what comes of the finding of its number. The text is that of the tree of this place, and
 -- has these points and findings
-pub record IsNoted (trees : List Tree) (text : Text) (place : ℕ) (graph : Graph) (found : List Finding) (earlier : List Noted) (n : Noted) : Type 0 where
+pub record IsNoted (trees : List Tree) (text : Text) (place : ℕ) (graph : Graph) (found : List Finding) (earlier : List Noted)
+    (n : Noted) : Type 0 where
   pub filter : n.filter ≡ place
   pub finding : Finding
   pub numbered : slice_get found n.finding ≡ Some finding

@@ -68,14 +68,16 @@ of_another o x d =
 -- ---- where one visit more is settled
 
 -- the last unsettled visit of an operation: none is counted after it
-pub last_counted : (o : ℕ) (visits : List Visit) (settled : List Bool) (v : ℕ) → length settled ≡ length visits → get_or settled v true ≡ false →
+pub last_counted : (o : ℕ) (visits : List Visit) (settled : List Bool) (v : ℕ) →
+    length settled ≡ length visits → get_or settled v true ≡ false →
     (get_or visits v no_visit).operation ≡ o → (count_unsettled o visits settled == 1) ≡ are_settled o visits (set settled v true)
 last_counted o visits settled v same unsettled of = elim (cases_lt v (length settled)) [
   | inl here ↦
       let less = count_less o visits settled v same (omega (arith, here, same)) unsettled in
       let one = of_itself o (get_or visits v no_visit) of in
       let none = none_counted o visits (set settled v true) in
-      let fewer : (count_unsettled o visits settled == 1) ≡ (count_unsettled o visits (set settled v true) == 0) = grind (arith, nat_tests) in
+      let fewer : (count_unsettled o visits settled == 1) ≡ (count_unsettled o visits (set settled v true) == 0) =
+      grind (arith, nat_tests) in
       fewer ∙ none
   | inr past ↦ absurd (let none = get_or_past settled v true past in cc)
 ]
@@ -102,7 +104,8 @@ others_counted o visits settled v same apart = ap (λ (n : ℕ). n == 0) (sym al
 pub past_counted : (o : ℕ) (visits : List Visit) (settled : List Bool) (v : ℕ) → length settled ≡ length visits → length visits ≤ v →
     (count_unsettled o visits settled == 0) ≡ are_settled o visits (set settled v true)
 past_counted o visits settled v same past =
-    others_counted o visits settled v same (λ unsettled of. let none = get_or_past settled v true (omega (arith, past, same)) in absurd (cc))
+    others_counted o visits settled v same (λ unsettled of. let none = get_or_past settled v true (omega (arith, past, same)) in
+    absurd (cc))
 
 -- ---- the counts that are kept
 

@@ -88,7 +88,8 @@ pub met_more : (unmet : List Bool) (list : List Acquisition) (l : LockNumber) (a
     AreMet unmet list → AreMet (set unmet (place_of l) false) (list ++ a ∷ [])
 met_more unmet list l a among same met =
     All-push (λ (b : Acquisition). is_left (set unmet (place_of l) false) b.taken ≡ false) list a
-    (All-weaker (λ (b : Acquisition). is_left unmet b.taken ≡ false) (λ (b : Acquisition). is_left (set unmet (place_of l) false) b.taken ≡ false)
+    (All-weaker (λ (b : Acquisition). is_left unmet b.taken ≡ false)
+    (λ (b : Acquisition). is_left (set unmet (place_of l) false) b.taken ≡ false)
     (λ b h. gone unmet l b.taken among h) list met)
     (taken_away unmet l a.taken among same)
 

@@ -64,5 +64,6 @@ callback_within k n m x e = within k n [] (λ d.
     let none : state_at k n m ≡ None = ap (λ l. get_or l m None) d in
     let bad : None ≡ Some x = sym none ∙ e in absurd (cc))
 
+-- a point with a state is one of its callback's points
 pub point_within : (k : Certificate) (n m : ℕ) (x : State) → state_at k n m ≡ Some x → m < count_at k n
 point_within k n m x e = within (get_or k n []) m None (λ d. let bad : None ≡ Some x = sym d ∙ e in absurd (cc))

@@ -120,6 +120,7 @@ module _ (g : Graph) (k : Certificate) (left : List Bool) (n : ℕ) (l : LockNum
   not_one : (m : LockNumber) → is_left left m ≡ false → place_of m ≢ place_of l
   not_one m h same = let bad : true ≡ false = sym among ∙ (ap (λ i. get_or left i false) (sym same) ∙ h) in absurd (cc)
 
+  -- the locks that were taken away are ranked still with the next one of them
   pub ranked_on : AreRanked g k after (n + 1)
   ranked_on = record {
     rank = rank;

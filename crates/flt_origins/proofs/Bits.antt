@@ -61,6 +61,7 @@ high_by true true = refl
 pub irp_bit : (s : ModeSet) → (bit_and (mode_bits s) 1 == 1) ≡ s.irp
 irp_bit s = low_by s.irp s.fast
 
+-- the lowest bit of the digit says whether it may not be draining
 pub no_bit : (s : DrainingSet) → (bit_and (draining_bits s) 1 == 1) ≡ s.no
 no_bit s = low_by s.no s.yes
 
@@ -68,5 +69,6 @@ no_bit s = low_by s.no s.yes
 pub fast_bit : (s : ModeSet) → (bit_and (mode_bits s) 2 == 2) ≡ s.fast
 fast_bit s = high_by s.irp s.fast
 
+-- the second bit of the digit says whether it may be draining
 pub yes_bit : (s : DrainingSet) → (bit_and (draining_bits s) 2 == 2) ≡ s.yes
 yes_bit s = high_by s.no s.yes

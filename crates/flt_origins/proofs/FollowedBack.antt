@@ -43,7 +43,8 @@ module _ (g : Graph) (k : ℕ) (f : Fact) where
     by again false e = absurd (cc)
 
   one_step : (p q : ℕ) (s : Step) → s.point ≡ p → is_outcome (instruction_at g k s.point) s.granted ≡ true →
-      successor (instruction_at g k s.point) s.granted ≡ Some q → (more : List Step) → path_end g k (Some p) (s ∷ more) ≡ path_end g k (Some q) more
+      successor (instruction_at g k s.point) s.granted ≡ Some q → (more : List Step) →
+      path_end g k (Some p) (s ∷ more) ≡ path_end g k (Some q) more
   one_step p q s at outcome led more =
       ap (λ (b : Bool). if b then path_end g k (successor (instruction_at g k s.point) s.granted) more else None)
       (and_from (s.point == p) (is_outcome (instruction_at g k s.point) s.granted) (eq-eqb s.point p at) outcome)
@@ -62,7 +63,8 @@ module _ (g : Graph) (k : ℕ) (f : Fact) where
       nothing (r ∷ rest) e = absurd (cc)
 
     by : ((to : ℕ) → leads g k f (Some to) steps ≡ Some p → path_end g k (Some to) steps ≡ Some p) → (b : Bool) → is_kept g k f q s ≡ b →
-        (if b then leads g k f (successor (instruction_at g k s.point) s.granted) steps else None) ≡ Some p → path_end g k (Some q) (s ∷ steps) ≡ Some p
+        (if b then leads g k f (successor (instruction_at g k s.point) s.granted) steps else None) ≡ Some p →
+        path_end g k (Some q) (s ∷ steps) ≡ Some p
     by again true is e =
         let parts = and_parts (s.point == q) (keeps (instruction_at g k s.point) s.granted f) is in
         ap (λ (b : Bool). if b then path_end g k (successor (instruction_at g k s.point) s.granted) steps else None)
@@ -107,7 +109,8 @@ module _ (g : Graph) (k : ℕ) (f : Fact) where
             subst (λ a. IsArrival g k f found n h.one a) same_arrival arrival
 
         -- one step before, which doesn't make it
-        pub traced_back : (m : ℕ) (s : Step) (more : List Step) → r.arrival ≡ Some (m, s) → is_made_by g k f s ≡ false → more ≡ later ++ s ∷ [] →
+        pub traced_back : (m : ℕ) (s : Step) (more : List Step) →
+            r.arrival ≡ Some (m, s) → is_made_by g k f s ≡ false → more ≡ later ++ s ∷ [] →
             IsTraced g k f found p m more
         traced_back m s more is unmade is_more =
             let by = stepped m s is in
@@ -119,7 +122,8 @@ module _ (g : Graph) (k : ℕ) (f : Fact) where
               so = so.0;
               kept = ap (leads g k f (Some by.from.point)) turned
                   ∙ ap (λ (b : Bool). if b then leads g k f (successor (instruction_at g k s.point) s.granted) (reverse later) else None)
-                  (and_from (s.point == by.from.point) (keeps (instruction_at g k s.point) s.granted f) (eq-eqb s.point by.from.point by.point) so.1)
+                  (and_from (s.point == by.from.point) (keeps (instruction_at g k s.point) s.granted f)
+                  (eq-eqb s.point by.from.point by.point) so.1)
                   ∙ ap (λ o. leads g k f o (reverse later)) by.leads ∙ h.kept;
               unmade = ap (are_unmade g k f) turned
                   ∙ and_from (not (is_made_by g k f s)) (are_unmade g k f (reverse later)) (ap not unmade) h.unmade;
@@ -129,7 +133,8 @@ module _ (g : Graph) (k : ℕ) (f : Fact) where
         comes_before m s is = (stepped m s is).before
 
         -- the step that makes it
-        pub made_origin : (m : ℕ) (s : Step) (o : Origin) → r.arrival ≡ Some (m, s) → is_made_by g k f s ≡ true → o ≡ origin f (cause.Made s) (reverse later) →
+        pub made_origin : (m : ℕ) (s : Step) (o : Origin) →
+            r.arrival ≡ Some (m, s) → is_made_by g k f s ≡ true → o ≡ origin f (cause.Made s) (reverse later) →
             IsOrigin g k f p o × IsOnPath g k f p o
         made_origin m s o is made at = subst (λ (o : Origin). IsOrigin g k f p o × IsOnPath g k f p o) (sym at) both where
           both : IsOrigin g k f p (origin f (cause.Made s) (reverse later)) × IsOnPath g k f p (origin f (cause.Made s) (reverse later))
@@ -147,13 +152,15 @@ module _ (g : Graph) (k : ℕ) (f : Fact) where
               )
 
         -- or the entry
-        pub entry_origin : (o : Origin) → r.arrival ≡ None → o ≡ origin f cause.Entry (reverse later) → IsOrigin g k f p o × IsOnPath g k f p o
+        pub entry_origin : (o : Origin) → r.arrival ≡ None → o ≡ origin f cause.Entry (reverse later) →
+            IsOrigin g k f p o × IsOnPath g k f p o
         entry_origin o is at = subst (λ (o : Origin). IsOrigin g k f p o × IsOnPath g k f p o) (sym at) both where
           both : IsOrigin g k f p (origin f cause.Entry (reverse later)) × IsOnPath g k f p (origin f cause.Entry (reverse later))
           both =
               let no_arrival : h.one.arrival ≡ None = ap (λ (x : Reached). x.arrival) same ∙ is in
               let by = subst (λ a. IsArrival g k f found n h.one a) no_arrival arrival in
-              let kept : leads g k f (Some 0) (reverse later) ≡ Some p = ap (λ q. leads g k f (Some q) (reverse later)) (sym by.0) ∙ h.kept in (
+              let kept : leads g k f (Some 0) (reverse later) ≡ Some p =
+              ap (λ q. leads g k f (Some q) (reverse later)) (sym by.0) ∙ h.kept in (
                 record { about = refl; made = by.1 h.so; path = kept },
                 (reverse later, kept_path 0 p (reverse later) kept, (refl, h.unmade)),
               )
@@ -166,7 +173,8 @@ module _ (g : Graph) (k : ℕ) (f : Fact) where
     by h = h.before
 
   -- what isn't reached isn't followed back
-  pub nothing_traced : (found : List Reached) (p n : ℕ) (later : List Step) (o : Origin) → slice_get found n ≡ None → IsTraced g k f found p n later →
+  pub nothing_traced : (found : List Reached) (p n : ℕ) (later : List Step) (o : Origin) →
+      slice_get found n ≡ None → IsTraced g k f found p n later →
       IsOrigin g k f p o × IsOnPath g k f p o
   nothing_traced found p n later o none h = let there = h.there in absurd (cc)
 

@@ -160,6 +160,7 @@ alone x [] h = refl
 alone x (g ∷ gs) h =
     ap (λ b. if b then group g.first (g.others ++ x ∷ []) ∷ gs else g ∷ added x gs) (h g.first) ∙ ap (λ hs. g ∷ hs) (alone x gs h)
 
+-- a finding that has no group begins one
 pub unknown : (x : Traced) (gs : List Group) → common_of x ≡ None → added x gs ≡ gs ++ group x [] ∷ []
 unknown x gs e = alone x gs (λ y. unlike x y e)
 

@@ -39,7 +39,8 @@ beside l m k apart same = ap (λ p. place_of l == p) (sym (eqb-true (place_of m)
 -- ---- taken
 
 -- one more lock
-more : (l m : LockNumber) (a : Access) (hs : List HeldLock) → holds_lock l (hs ++ held m a ∷ []) ≡ (holds_lock l hs || (same_lock l m || false))
+more : (l m : LockNumber) (a : Access) (hs : List HeldLock) →
+    holds_lock l (hs ++ held m a ∷ []) ≡ (holds_lock l hs || (same_lock l m || false))
 more l m a hs = list_any-append (λ (h : HeldLock). same_lock l h.lock) hs (held m a ∷ [])
 
 or_true : (x y : Bool) → y ≡ true → (x || (y || false)) ≡ true

@@ -33,11 +33,13 @@ module _ (g : Graph) (k : ℕ) (f : Fact) where
   hidden_here c before s later false e none = absurd (true≢false (sym e))
 
   -- a step that makes it hides those before
-  hidden : (c : Cause) (before front : List Step) (s : Step) (later : List Step) → is_made_by g k f s ≡ true → are_unmade g k f later ≡ true →
+  hidden : (c : Cause) (before front : List Step) (s : Step) (later : List Step) →
+      is_made_by g k f s ≡ true → are_unmade g k f later ≡ true →
       (last_cause g k f c (front ++ s ∷ later) ≡ cause.Made s) × (since g k f before (front ++ s ∷ later) ≡ later)
   hidden c before [] s later made none = hidden_here c before s later (is_made_by g k f s) made none
   hidden c before (x ∷ front) s later made none =
-      hidden (if is_made_by g k f x then cause.Made x else c) (if is_made_by g k f x then front ++ s ∷ later else before) front s later made none
+      hidden (if is_made_by g k f x then cause.Made x else c)
+      (if is_made_by g k f x then front ++ s ∷ later else before) front s later made none
 
   only : (steps : List Step) (c : Cause) (later : List Step) → IsLast g k f steps c later →
       (last_cause g k f cause.Entry steps ≡ c) × (since g k f steps steps ≡ later)
@@ -73,7 +75,8 @@ module _ (g : Graph) (k : ℕ) (f : Fact) where
   kept all before (cause.Made x) later s rest e h =
       (h.0, h.1 ++ s ∷ [], h.2, h.3 ∙ sym (append_assoc h.1 (s ∷ []) rest), h.4, one_more h.1 s h.5 e)
 
-  at_end : (all before : List Step) (c : Cause) (later : List Step) → all ≡ before ++ [] → SoFar all before c later [] → IsLast g k f all c later
+  at_end : (all before : List Step) (c : Cause) (later : List Step) →
+      all ≡ before ++ [] → SoFar all before c later [] → IsLast g k f all c later
   at_end all before cause.Entry later e h = (h.0, subst (λ (x : List Step). are_unmade g k f x ≡ true) (sym (e ∙ append-nil before)) h.1)
   at_end all before (cause.Made s) later e h =
       (h.0, h.2, h.4, subst (λ (x : List Step). are_unmade g k f x ≡ true) (sym (h.3 ∙ append-nil h.1)) h.5)
@@ -105,6 +108,7 @@ module _ (g : Graph) (k : ℕ) (f : Fact) where
       subst (λ (x : Cause). IsLast g k f steps x later) (sym e)
       (subst (λ (x : List Step). IsLast g k f steps (last_cause g k f cause.Entry steps) x) (sym h) (is_last steps))
 
+  -- where the last step that made a fact isn't an origin at a point, the steps have none there
   pub none_at : (steps later : List Step) (p : ℕ) (c : Cause) (b : Bool) → c ≡ last_cause g k f cause.Entry steps →
       later ≡ since g k f steps steps → b ≡ is_origin g k f p c later → b ≡ false → HasNone g k f steps p
   none_at steps later p c b e h same wrong =

@@ -48,7 +48,8 @@ called_whole c e gives t h = subst IsWhole (sym (call_leaves c e gives t)) whole
   where
     whole : IsWhole (after_call c e gives t)
     whole = record {
-      contexts = length_named (context_named c.output) (left e.output gives) (set_named (context_named c.context) (left e.context gives) t.contexts)
+      contexts = length_named (context_named c.output) (left e.output gives)
+          (set_named (context_named c.context) (left e.context gives) t.contexts)
           ∙ length_named (context_named c.context) (left e.context gives) t.contexts ∙ h.contexts;
       operations = length_named (operation_named c.operation) (left e.operation gives) t.operations ∙ h.operations;
       locks = locks_once c.lock e.lock t.locks h.locks;
@@ -62,7 +63,8 @@ acted_whole : (a : Action) (t : Situation) → IsWhole t → IsWhole (acted a t)
 acted_whole (action.ClearContext c) t h =
     record { contexts = length-set t.contexts (context_place c) Null ∙ h.contexts; operations = h.operations; locks = h.locks }
 acted_whole (action.ClearOperation o) t h =
-    record { contexts = h.contexts; operations = length-set t.operations (operation_place (Removed o)) Null ∙ h.operations; locks = h.locks }
+    record
+    { contexts = h.contexts; operations = length-set t.operations (operation_place (Removed o)) Null ∙ h.operations; locks = h.locks }
 acted_whole (action.SetNumber n a) t h = h
 acted_whole (action.ReadValue n c) t h = h
 acted_whole (action.ReadFile n d) t h = h
@@ -138,7 +140,8 @@ may_be_so x t (fact.Lock l b) h so = ap (λ hs. agrees (holds_lock l hs) b) h.lo
 -- ---- one step
 
 -- what may come out leads on
-goes_on : (i : Instruction) (t : Situation) (outcome : Bool) → may_come_out i t outcome ≡ true → successor i outcome ≡ Some (next_point i outcome)
+goes_on : (i : Instruction) (t : Situation) (outcome : Bool) →
+    may_come_out i t outcome ≡ true → successor i outcome ≡ Some (next_point i outcome)
 goes_on (instruction.Act a next) t outcome e = refl
 goes_on (instruction.Call c granted refused) t outcome e = refl
 goes_on (instruction.Test q granted refused) t outcome e = refl
@@ -165,7 +168,8 @@ step_on g k f p t c later s rest whole at come before so =
     onward : successor (instruction_at g k s.point) s.granted ≡ Some (next_point (instruction_at g k p) s.granted)
     onward = ap (λ x. successor (instruction_at g k x) s.granted) at ∙ goes_on (instruction_at g k p) t s.granted come
 
-    kept_on : is_kept g k f p s ≡ true → leads g k f (Some p) (s ∷ rest) ≡ leads g k f (Some (next_point (instruction_at g k p) s.granted)) rest
+    kept_on : is_kept g k f p s ≡ true → leads g k f (Some p) (s ∷ rest) ≡
+        leads g k f (Some (next_point (instruction_at g k p) s.granted)) rest
     kept_on e =
         ap (λ (b : Bool). if b then leads g k f (successor (instruction_at g k s.point) s.granted) rest else None) e
         ∙ ap (λ o. leads g k f o rest) onward
@@ -193,7 +197,8 @@ at_end : (g : Graph) (k : ℕ) (f : Fact) (p : ℕ) (c : Cause) (later : List St
 at_end g k f p c later on =
     and_from (is_made g k f c) (is_at (leads g k f (behind g k c) later) p) on.0 (ap (λ o. is_at o p) on.1 ∙ eq-eqb p p refl)
 
-along : (g : Graph) (k : ℕ) (clean : Bool) (f : Fact) (steps : List Step) (p : ℕ) (t : Situation) (c : Cause) (later : List Step) (m : Moment) →
+along : (g : Graph) (k : ℕ) (clean : Bool) (f : Fact) (steps : List Step) (p : ℕ) (t : Situation) (c : Cause)
+    (later : List Step) (m : Moment) →
     IsWhole t → end_of g k clean p t steps ≡ Some m → (is_so f t ≡ true → LeadOn g k f c later p steps) → is_so f m.situation ≡ true →
     is_origin g k f m.point (last_cause g k f c steps) (since g k f later steps) ≡ true
 along g k clean f [] p t c later m whole e before so =

@@ -27,6 +27,7 @@ part_in weigh (turn ∷ turns) (x ∷ xs) h =
     together : (a b c d r : ℕ) → r ≡ c → b + c ≡ d → (a + b) + r ≡ a + d
     together a b c d r e f = omega (arith, e, f)
 
+-- each finding is in exactly one group
 pub part : Part
 part xs weigh = part_in weigh xs xs (omega arith)
 
@@ -43,5 +44,6 @@ alike_in [] xs = refl
 alike_in (turn ∷ turns) [] = refl
 alike_in (turn ∷ turns) (x ∷ xs) = and_from _ _ (passed (is_like x) xs) (alike_in turns (filter (is_unlike x) xs))
 
+-- all of a group are of one callback, rule, subject and origin
 pub alike : Alike
 alike xs = alike_in xs xs

@@ -133,9 +133,11 @@ module _ (g : Graph) (k : ℕ) (f : Fact) where
         (subst (λ i. successor (instruction_at g k i) s.granted ≡ Some to) (sym same) leads) less in (
           found.0,
           λ e. found.1
-              (subst (λ i. (makes (instruction_at g k i) s.granted s.gives f || (a.one.is_so && keeps (instruction_at g k i) s.granted f)) ≡ true)
+              (subst (λ i.
+              (makes (instruction_at g k i) s.granted s.gives f || (a.one.is_so && keeps (instruction_at g k i) s.granted f)) ≡ true)
               (sym same)
-              (subst (λ b. (makes (instruction_at g k s.point) s.granted s.gives f || (b && keeps (instruction_at g k s.point) s.granted f)) ≡ true)
+              (subst (λ b.
+              (makes (instruction_at g k s.point) s.granted s.gives f || (b && keeps (instruction_at g k s.point) s.granted f)) ≡ true)
               (sym a.same) e)),
         )
 
@@ -201,7 +203,8 @@ module _ (g : Graph) (k : ℕ) (f : Fact) where
       go at outcome (Some to) led e =
           not_kept to later
           ((onward q false s to a at outcome led (kept_within to later e)).1
-          (or_left (makes (instruction_at g k s.point) s.granted s.gives f) (false && keeps (instruction_at g k s.point) s.granted f) made)) e
+          (or_left (makes (instruction_at g k s.point) s.granted s.gives f) (false && keeps (instruction_at g k s.point) s.granted f) made))
+          e
       go at outcome None led e = kept_nowhere p later e
 
       by : (b : Bool) → is_step_from g k q s ≡ b →
@@ -241,9 +244,11 @@ module _ (g : Graph) (k : ℕ) (f : Fact) where
           absurd (no_origin steps c later path last parts.0 (is_there (leads g k f (behind g k c) later) p parts.1))
       by false is = refl
 
+  -- where all that was reached has been followed, no path has an origin at the point
   pub all_followed : (p : ℕ) (x : Search) (n : ℕ) → IsSearched g k f p x n → length x.found ≤ n → HasNoneAt g k f p
   all_followed p x n h all = none_at p x n h all
 
+  -- where nothing is left to follow, no path has an origin at the point
   pub nothing_left : (p : ℕ) (x : Search) (n : ℕ) → IsSearched g k f p x n → slice_get x.found n ≡ None → HasNoneAt g k f p
   nothing_left p x n h end = none_at p x n h (none_past x.found n end)
 
@@ -299,7 +304,8 @@ module _ (g : Graph) (k : ℕ) (f : Fact) where
         (arrived_there x (at_entry false) no_marks some) (λ e. cc)
 
   -- what is reached first
-  pub entered_searched : (p points : ℕ) (so : Bool) (x y : Search) → points ≡ points_at g k → so ≡ may_be (entry (place_at g k)) f → IsUnsearched points p x →
+  pub entered_searched : (p points : ℕ) (so : Bool) (x y : Search) →
+      points ≡ points_at g k → so ≡ may_be (entry (place_at g k)) f → IsUnsearched points p x →
       y ≡ entered so x → IsSearched g k f p y 0
   entered_searched p points so x y same may h is =
       subst (λ (z : Search). IsSearched g k f p z 0) (sym is) (entered_if p x (subst (λ n. IsUnsearched n p x) same h) so (sym may))

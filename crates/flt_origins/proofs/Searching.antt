@@ -95,6 +95,7 @@ pub record IsMore (x y : Search) : Type 0 where
 pub more_same : (x : Search) → IsMore x x
 more_same x = record { more = λ n r h. h; marks = λ h. h; long = refl; sum = refl }
 
+-- a search that has more than one with more than a third has more than the third
 pub more_then : (x y z : Search) → IsMore x y → IsMore y z → IsMore x z
 more_then x y z a b = record {
   more = λ n r h. b.more n r (a.more n r h);
@@ -103,6 +104,7 @@ more_then x y z a b = record {
   sum = b.sum ∙ a.sum;
 }
 
+-- what a search has reached, one with more has reached
 pub still_reached : (x y : Search) (p : ℕ) (so : Bool) → IsMore x y → IsReached x.found p so → IsReached y.found p so
 still_reached x y p so a h =
     record { number = h.number; one = h.one; there = a.more h.number h.one h.there; point = h.point; same = h.same }
@@ -120,7 +122,8 @@ added_marks x r m e all p n so there is = by (at_set x.seen r.point (marked m r.
   by (inl before) = old (all p n so before is)
   by (inr (at, same)) = new at (marked_cases m r.is_so so (subst (λ v. is_marked v so ≡ true) (sym same) is))
 
-added_more : (x : Search) (r : Reached) (m : Mark) → slice_get x.seen r.point ≡ Some m → is_marked m r.is_so ≡ false → IsMore x (added x r m)
+added_more : (x : Search) (r : Reached) (m : Mark) →
+    slice_get x.seen r.point ≡ Some m → is_marked m r.is_so ≡ false → IsMore x (added x r m)
 added_more x r m e is = record {
   more = λ n s h. kept_at x.found (r ∷ []) n s h;
   marks = added_marks x r m e;
@@ -140,6 +143,7 @@ arrived_by_more : (x : Search) (r : Reached) (o : Option Mark) → slice_get x.s
 arrived_by_more x r None e = more_same x
 arrived_by_more x r (Some m) e = marked_more x r m e (is_marked m r.is_so) refl
 
+-- an arrival leaves all that was reached
 pub arrived_more : (x : Search) (r : Reached) → IsMore x (arrived x r)
 arrived_more x r = arrived_by_more x r (slice_get x.seen r.point) refl
 
@@ -174,7 +178,8 @@ module _ (g : Graph) (k : ℕ) (f : Fact) where
     so = h.so;
   }
 
-  added_arrivals : (x : Search) (r : Reached) (m : Mark) → IsArrival g k f x.found (length x.found) r r.arrival → AreArrivals g k f x.found →
+  added_arrivals : (x : Search) (r : Reached) (m : Mark) →
+      IsArrival g k f x.found (length x.found) r r.arrival → AreArrivals g k f x.found →
       AreArrivals g k f (added x r m).found
   added_arrivals x r m new all n s there = by (at_push x.found r s n there) where
     by : (slice_get x.found n ≡ Some s) ⊎ ((n ≡ length x.found) × (r ≡ s)) → IsArrival g k f (x.found ++ r ∷ []) n s s.arrival
@@ -221,7 +226,8 @@ module _ (g : Graph) (k : ℕ) (f : Fact) where
       so = so;
     }
 
-    without : (y : Search) → slice_get y.found n ≡ Some r → AreArrivals g k f y.found → AreArrivals g k f (arrived y (reached p false n s)).found
+    without : (y : Search) → slice_get y.found n ≡ Some r → AreArrivals g k f y.found →
+        AreArrivals g k f (arrived y (reached p false n s)).found
     without y here all = arrived_arrivals y (reached p false n s) (new y false here (λ h. cc)) all
 
     by : (b : Bool) → may_be_after g k f r s ≡ b → AreArrivals g k f (arrived_both b p n s x).found
@@ -249,9 +255,11 @@ module _ (g : Graph) (k : ℕ) (f : Fact) where
 
   pub taken_more : (n : ℕ) (r : Reached) (s : Step) (x : Search) → IsMore x (taken g k f n r s x)
   taken_more n r s x =
-      led_more (successor (instruction_at g k s.point) s.granted) (is_outcome (instruction_at g k s.point) s.granted) (may_be_after g k f r s) n s x
+      led_more (successor (instruction_at g k s.point) s.granted) (is_outcome (instruction_at g k s.point) s.granted)
+      (may_be_after g k f r s) n s x
 
-  led_arrivals : (o : Option ℕ) (b : Bool) (n : ℕ) (r : Reached) (s : Step) (x : Search) → slice_get x.found n ≡ Some r → s.point ≡ r.point →
+  led_arrivals : (o : Option ℕ) (b : Bool) (n : ℕ) (r : Reached) (s : Step) (x : Search) →
+      slice_get x.found n ≡ Some r → s.point ≡ r.point →
       is_outcome (instruction_at g k s.point) s.granted ≡ b → successor (instruction_at g k s.point) s.granted ≡ o →
       AreArrivals g k f x.found → AreArrivals g k f (led o b (may_be_after g k f r s) n s x).found
   led_arrivals (Some p) true n r s x there at outcome leads all =
@@ -262,7 +270,8 @@ module _ (g : Graph) (k : ℕ) (f : Fact) where
   taken_arrivals : (n : ℕ) (r : Reached) (s : Step) (x : Search) → slice_get x.found n ≡ Some r → s.point ≡ r.point →
       AreArrivals g k f x.found → AreArrivals g k f (taken g k f n r s x).found
   taken_arrivals n r s x there at all =
-      led_arrivals (successor (instruction_at g k s.point) s.granted) (is_outcome (instruction_at g k s.point) s.granted) n r s x there at refl refl all
+      led_arrivals (successor (instruction_at g k s.point) s.granted)
+      (is_outcome (instruction_at g k s.point) s.granted) n r s x there at refl refl all
 
   -- a point is reached without the fact, and with it if it may be so
   abbrev AreReached : Search → ℕ → Bool → Type 0
@@ -283,8 +292,8 @@ module _ (g : Graph) (k : ℕ) (f : Fact) where
       successor (instruction_at g k s.point) s.granted ≡ Some p → AreMarks x → p < length x.seen →
       AreReached (taken g k f n r s x) p (may_be_after g k f r s)
   taken_reached n r s x p outcome leads all less =
-      led_reached (successor (instruction_at g k s.point) s.granted) (is_outcome (instruction_at g k s.point) s.granted) (may_be_after g k f r s)
-      p n s x outcome leads all less
+      led_reached (successor (instruction_at g k s.point) s.granted) (is_outcome (instruction_at g k s.point) s.granted)
+      (may_be_after g k f r s) p n s x outcome leads all less
 
   -- ---- all steps from a point
 
@@ -319,9 +328,11 @@ module _ (g : Graph) (k : ℕ) (f : Fact) where
     from_one : IsMore one four
     from_one = more_then one two four (taken_more n r (step r.point true false) one) from_two
 
+    -- what is reached after a point leaves all that was reached
     pub gone_more : IsMore x (gone_on g k f n r x)
     gone_more = more_then x three four to_three from_three
 
+    -- the arrivals after a point has been followed come from points that were reached
     pub gone_arrivals : slice_get x.found n ≡ Some r → AreArrivals g k f x.found → AreArrivals g k f (gone_on g k f n r x).found
     gone_arrivals there all =
         taken_arrivals n r (step r.point false false) three (to_three.more n r there) refl
@@ -347,6 +358,7 @@ module _ (g : Graph) (k : ℕ) (f : Fact) where
         let e = from_three.long in
         taken_reached n r (step r.point false false) three p outcome leads (to_three.marks all) (omega (arith, e, less))
 
+  -- what was followed in a search is followed in one with more
   pub still_followed : (x y : Search) (r : Reached) → IsMore x y → IsFollowed g k f x r → IsFollowed g k f y r
   still_followed x y r a h granted gives p outcome leads less =
       let e = a.long in

@@ -126,10 +126,12 @@ is_context_place : (n : Option ContextVariable) (v : ContextVariable) → is_pla
 is_context_place (Some c) v = refl
 is_context_place None v = refl
 
-is_operation_place : (n : Option OperationVariable) (v : OperationVariable) → is_place (operation_named n) (operation_place v) ≡ is_operation n v
+is_operation_place : (n : Option OperationVariable) (v : OperationVariable) →
+    is_place (operation_named n) (operation_place v) ≡ is_operation n v
 is_operation_place (Some d) v = refl
 is_operation_place None v = refl
 
+-- a context variable's status after a call is what the call makes of it, or what it was
 pub context_at : (n : Option ContextVariable) (change : Change) (gives : Bool) (xs : List Status) (v : ContextVariable) → length xs ≡ 9 →
     slice_index_or (set_named (context_named n) (left change gives) xs) (context_place v) Null
     ≡ status_from (left (change_of (is_context n v) change) gives) (slice_index_or xs (context_place v) Null)
@@ -137,7 +139,9 @@ context_at n change gives xs v h =
     now_at (context_named n) change gives xs (context_place v) (context_within n xs h)
     ∙ ap (λ b. status_from (left (change_of b change) gives) (slice_index_or xs (context_place v) Null)) (is_context_place n v)
 
-pub operation_at : (n : Option OperationVariable) (change : Change) (gives : Bool) (xs : List Status) (v : OperationVariable) → length xs ≡ 5 →
+-- an operation variable's status after a call is what the call makes of it, or what it was
+pub operation_at : (n : Option OperationVariable) (change : Change) (gives : Bool) (xs : List Status) (v : OperationVariable) →
+    length xs ≡ 5 →
     slice_index_or (set_named (operation_named n) (left change gives) xs) (operation_place v) Null
     ≡ status_from (left (change_of (is_operation n v) change) gives) (slice_index_or xs (operation_place v) Null)
 operation_at n change gives xs v h =
@@ -157,11 +161,12 @@ later becomes.NullOrHeld a false u = refl
 -- what is so of a variable behind a change of one context and then of another
 pub contexts_at : (n m : Option ContextVariable) (first second : Change) (gives : Bool) (xs : List Status) (v : ContextVariable) →
     length xs ≡ 9 →
-    slice_index_or (set_named (context_named m) (left second gives) (set_named (context_named n) (left first gives) xs)) (context_place v) Null
-    ≡ status_from (left (latest (change_of (is_context m v) second) (change_of (is_context n v) first)) gives)
+    slice_index_or (set_named (context_named m) (left second gives) (set_named (context_named n) (left first gives) xs))
+    (context_place v) Null ≡ status_from (left (latest (change_of (is_context m v) second) (change_of (is_context n v) first)) gives)
     (slice_index_or xs (context_place v) Null)
 contexts_at n m first second gives xs v h =
-    context_at m second gives (set_named (context_named n) (left first gives) xs) v (length_named (context_named n) (left first gives) xs ∙ h)
+    context_at m second gives (set_named (context_named n) (left first gives) xs) v
+    (length_named (context_named n) (left first gives) xs ∙ h)
     ∙ ap (status_from (left (change_of (is_context m v) second) gives)) (context_at n first gives xs v h)
     ∙ later (change_of (is_context m v) second) (change_of (is_context n v) first) gives (slice_index_or xs (context_place v) Null)
 
@@ -193,6 +198,7 @@ after_call c e gives t = situation
     (set_named (context_named c.output) (left e.output gives) (set_named (context_named c.context) (left e.context gives) t.contexts))
     (set_named (operation_named c.operation) (left e.operation gives) t.operations) t.mode t.draining (locks_named c.lock e.lock t.locks)
 
+-- what a call leaves of a situation is what its effects say
 pub call_leaves : (c : Invocation) (e : Effects) (gives : Bool) (t : Situation) → called c e gives t ≡ after_call c e gives t
 call_leaves c e gives t =
     let one = context_put c.context (left e.context gives) t in
@@ -203,7 +209,8 @@ call_leaves c e gives t =
     let four = locks_put c.lock e.lock (situation (set_named (context_named c.output) (left e.output gives)
     (set_named (context_named c.context) (left e.context gives) t.contexts))
     (set_named (operation_named c.operation) (left e.operation gives) t.operations) t.mode t.draining t.locks) in
-    ap (λ x. put_locks c.lock e.lock (put_operation c.operation (left e.operation gives) (put_context c.output (left e.output gives) x))) one
+    ap (λ x. put_locks c.lock e.lock
+    (put_operation c.operation (left e.operation gives) (put_context c.output (left e.output gives) x))) one
     ∙ ap (λ x. put_locks c.lock e.lock (put_operation c.operation (left e.operation gives) x)) two
     ∙ ap (put_locks c.lock e.lock) three
     ∙ four

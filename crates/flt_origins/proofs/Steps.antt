@@ -139,7 +139,8 @@ mode_behind (instruction.Repeat turns block next) outcome gives t = refl
 mode_behind (instruction.Return status) outcome gives t = refl
 mode_behind instruction.End outcome gives t = refl
 
-failed_draining : (c : Invocation) (effects : Option Effects) (gives : Bool) (t : Situation) → (failed c effects gives t).draining ≡ t.draining
+failed_draining : (c : Invocation) (effects : Option Effects) (gives : Bool) (t : Situation) →
+    (failed c effects gives t).draining ≡ t.draining
 failed_draining c (Some e) gives t = ap (λ (x : Situation). x.draining) (call_leaves c e gives t)
 failed_draining c None gives t = refl
 
@@ -188,6 +189,7 @@ lock_made (list.Taken a) false x e = cc
 lock_made list.Released true x e = cc
 lock_made list.Released false x e = refl
 
+-- an instruction that makes a fact leaves it so, whatever was so before
 pub made : Made
 made i outcome gives (fact.Context v s) t h e =
     ap (same_status s) (context_behind i outcome gives t v h) ∙ status_made (context_change i outcome v) gives s (context_now t v) e
@@ -223,6 +225,7 @@ alone_kept i outcome gives (fact.Draining b) t h e = ap (λ x. agrees x b) (drai
 alone_kept i outcome gives (fact.Lock l b) t h e =
     ap (λ x. agrees x b) (lock_behind i outcome gives t l h ∙ lock_kept (lock_change i outcome l) (holds_lock l t.locks) e)
 
+-- an instruction that keeps a fact leaves it as it was
 pub kept : Kept
 kept i outcome gives f t h e = alone_kept i outcome gives f t h (and_parts (leaves_alone i outcome f) (lets_pass i outcome f) e).0
 
@@ -257,7 +260,8 @@ found_context : (c v : ContextVariable) (s : VariableStatus) (t : Situation) (ou
     same_status s (context_now t v) ≡ true → agrees (not (is_null (context_now t c))) outcome ≡ true → finds b s outcome ≡ true
 found_context c v s t outcome true same so e =
     ap (λ x. agrees (not x) outcome) (null_alike s (context_now t v) so)
-    ∙ sym (ap (λ p. agrees (not (is_null (slice_index_or t.contexts p Null))) outcome) (eqb-true (context_place c) (context_place v) same)) ∙ e
+    ∙ sym (ap (λ p. agrees (not (is_null (slice_index_or t.contexts p Null))) outcome)
+    (eqb-true (context_place c) (context_place v) same)) ∙ e
 found_context c v s t outcome false same so e = refl
 
 found_operation : (c v : OperationVariable) (s : VariableStatus) (t : Situation) (outcome b : Bool) →
@@ -265,12 +269,14 @@ found_operation : (c v : OperationVariable) (s : VariableStatus) (t : Situation)
     agrees (not (is_null (operation_now t c))) outcome ≡ true → finds b s outcome ≡ true
 found_operation c v s t outcome true same so e =
     ap (λ x. agrees (not x) outcome) (null_alike s (operation_now t v) so)
-    ∙ sym (ap (λ p. agrees (not (is_null (slice_index_or t.operations p Null))) outcome) (eqb-true (operation_place c) (operation_place v) same)) ∙ e
+    ∙ sym (ap (λ p. agrees (not (is_null (slice_index_or t.operations p Null))) outcome)
+    (eqb-true (operation_place c) (operation_place v) same)) ∙ e
 found_operation c v s t outcome false same so e = refl
 
 test_passes : (q : Test) (outcome : Bool) (f : Fact) (t : Situation) → is_so f t ≡ true → may_find q t outcome ≡ true →
     may_find_with q f outcome ≡ true
-test_passes (test.ContextIsSome c) outcome (fact.Context v s) t so e = found_context c v s t outcome (context_place c == context_place v) refl so e
+test_passes (test.ContextIsSome c) outcome (fact.Context v s) t so e =
+    found_context c v s t outcome (context_place c == context_place v) refl so e
 test_passes (test.ContextIsSome c) outcome (fact.Operation v s) t so e = refl
 test_passes (test.ContextIsSome c) outcome (fact.Mode m) t so e = refl
 test_passes (test.ContextIsSome c) outcome (fact.Draining b) t so e = refl
@@ -339,6 +345,7 @@ lock_split (list.Taken a) false x p e q = cc
 lock_split list.Released true x p e q = cc
 lock_split list.Released false x p e q = refl
 
+-- what is so after an instruction was made there, or was so before and is kept
 pub made_or_kept : MadeOrKept
 made_or_kept i outcome gives (fact.Context v s) t h come e =
     status_split (context_change i outcome v) gives s (context_now t v) (lets_pass i outcome (fact.Context v s))

@@ -24,7 +24,8 @@ word_alone Null = refl
 word_alone Held = refl
 word_alone Stale = refl
 
-word_at : (us : List Status) (i : ℕ) → word_in (slice_index_or (map status_alone us) i (status_alone Null)) ≡ word_of (slice_index_or us i Null)
+word_at : (us : List Status) (i : ℕ) →
+    word_in (slice_index_or (map status_alone us) i (status_alone Null)) ≡ word_of (slice_index_or us i Null)
 word_at [] i = refl
 word_at (u ∷ us) zero = word_alone u
 word_at (u ∷ us) (suc i) = word_at us i

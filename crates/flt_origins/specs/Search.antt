@@ -57,7 +57,8 @@ led _ _ so n s x = x
 -- where a step leads is reached, if it may come out so
 abbrev pub taken : Graph → ℕ → Fact → ℕ → Reached → Step → Search → Search
 taken g k f n r s x =
-    led (successor (instruction_at g k s.point) s.granted) (is_outcome (instruction_at g k s.point) s.granted) (may_be_after g k f r s) n s x
+    led (successor (instruction_at g k s.point) s.granted) (is_outcome (instruction_at g k s.point) s.granted)
+    (may_be_after g k f r s) n s x
 
 abbrev pub step : ℕ → Bool → Bool → Step
 step p granted gives = record { point = p; granted = granted; gives = gives }

@@ -79,7 +79,8 @@ fn push_at(
     }
 }
 
-/// The folds of the blocks of a text of several lines, in the order of their closing braces. A closing brace without an opening one has none.
+/// The folds of the blocks of a text of several lines, in the order of their closing braces.
+/// A closing brace without an opening one has none.
 ///
 /// # Errors
 ///

@@ -15,7 +15,8 @@ use Rattle.flt_places.specs.Places.{behind, place_in, one_column_on, part_of, re
 -- ---- places
 
 -- a byte that isn't behind the text's front stands in the line there
-before : (line start at o : ℕ) (z : Text) → at ≤ o → counted line start (starts_from o z) at ≡ record { line = line; column = at - start + 1 }
+before : (line start at o : ℕ) (z : Text) → at ≤ o →
+    counted line start (starts_from o z) at ≡ record { line = line; column = at - start + 1 }
 before line start at o [] h = refl
 before line start at o (b ∷ z) h = go (b == 10) refl (before line start at (o + 1) z (omega (arith, h)))
   where
@@ -32,18 +33,21 @@ along line start o (suc k) (b ∷ z) h few =
     go (b == 10) refl (λ l s less. along l s (o + 1) k z less (omega (arith, few)))
   where
     go : (x : Bool) → (b == 10) ≡ x →
-        ((l s : ℕ) → s ≤ o + 1 → counted l s (starts_from (o + 1) z) (o + 1 + k) ≡ behind (record { line = l; column = o + 1 - s + 1 }) (take k z)) →
+        ((l s : ℕ) → s ≤ o + 1 → counted l s (starts_from (o + 1) z) (o + 1 + k) ≡
+        behind (record { line = l; column = o + 1 - s + 1 }) (take k z)) →
         counted line start (starts_from o (b ∷ z)) (o + suc k) ≡
         behind (if b == 10 then record { line = line + 1; column = 1 } else record { line = line; column = o - start + 1 + 1 }) (take k z)
     go true e others = let more : nat_lt (o + suc k) (o + 1) ≡ false = grind (arith, common_steps) in
         let one : o + 1 - (o + 1) + 1 ≡ 1 = omega arith in
         let same : o + suc k ≡ o + 1 + k = omega arith in
-        rw (e, more, same) (others (line + 1) (o + 1) (omega arith) ∙ ap (λ c. behind (record { line = line + 1; column = c }) (take k z)) one)
+        rw (e, more, same) (others (line + 1) (o + 1) (omega arith) ∙
+        ap (λ c. behind (record { line = line + 1; column = c }) (take k z)) one)
     go false e others =
         let further : o + 1 - start + 1 ≡ o - start + 1 + 1 = omega (arith, h) in
         let same : o + suc k ≡ o + 1 + k = omega arith in
         rw (e, same) (others line start (omega (arith, h)) ∙ ap (λ c. behind (record { line = line; column = c }) (take k z)) further)
 
+-- the place of a byte by the starts of lines is its place in the text
 pub by_lines : (text : Text) (at : ℕ) → counted 1 0 (starts_from 0 text) (min at (length text)) ≡ place_in text at
 by_lines text at =
     let here : 0 + min at (length text) ≡ min at (length text) = omega arith in
@@ -63,6 +67,7 @@ capped m n = grind (arith, common_steps)
 capped_before : (m n : ℕ) → min (min m (n + 1) - 1) n ≡ min (m - 1) n
 capped_before m n = grind (arith, common_steps)
 
+-- a part of a text is where its first byte and its last one are
 pub part_at : (text : Text) (s : Span) (from to : ℕ) →
     record {
       first = place_in text (min (s.start + from) (length text + 1));
@@ -94,6 +99,7 @@ along_point line start (x ∷ xs) at (suc k) few point =
       λ i d low high. point.1 (suc i) d (omega (arith, low)) (omega (arith, high)),
     ))
 
+-- the place of a byte is in the last line that begins no later
 pub by_point : (xs : List ℕ) (at k : ℕ) → k ≤ length xs →
     IsPartitionPoint (λ (n : ℕ). nat_le n at ≡ true) (λ (n : ℕ). nat_le n at ≡ false) xs k →
     record { line = k + 1; column = at - get_or (0 ∷ xs) k 0 + 1 } ≡ counted 1 0 xs at
@@ -103,6 +109,7 @@ by_point xs at k few point = let same : 1 + k ≡ k + 1 = omega arith in sym (rw
 pub first_or : (xs : List ℕ) (lines : ℕ) → lines ≡ 0 → 0 ≡ get_or (0 ∷ xs) lines 0
 first_or xs lines none = rw none refl
 
+-- the start of a line, or 0 for the first, is read from the list with 0 before it
 pub later_or : (xs : List ℕ) (lines : ℕ) → 1 ≤ lines → unwrap_or (slice_get xs (lines - 1)) 0 ≡ get_or (0 ∷ xs) lines 0
 later_or xs lines some =
     let one : lines ≡ suc (lines - 1) = omega (arith, some) in
@@ -114,7 +121,8 @@ starts_behind o [] i d h = absurd (omega (arith, h))
 starts_behind o (b ∷ z) i d h = go (b == 10) refl i h (starts_behind (o + 1) z)
   where
     go : (x : Bool) → (b == 10) ≡ x → (i : ℕ) → i < length (starts_from o (b ∷ z)) →
-        ((i d : ℕ) → i < length (starts_from (o + 1) z) → o + 1 < get_or (starts_from (o + 1) z) i d) → o < get_or (starts_from o (b ∷ z)) i d
+        ((i d : ℕ) → i < length (starts_from (o + 1) z) → o + 1 < get_or (starts_from (o + 1) z) i d) →
+        o < get_or (starts_from o (b ∷ z)) i d
     go true e zero h later = rw e (omega arith)
     go true e (suc i) h later = rw e (omega (arith, later i d (let l = rw e at h in omega (arith, l))))
     go false e i h later = rw e (omega (arith, later i d (rw e at h)))
@@ -132,6 +140,7 @@ ascending_from o (b ∷ z) = go (b == 10) refl (ascending_from (o + 1) z)
     go true e later (suc i) (suc j) d le h = rw e (later i j d (omega (arith, le)) (let l = rw e at h in omega (arith, l)))
     go false e later i j d le h = rw e (later i j d le (rw e at h))
 
+-- the starts of lines ascend
 pub ascending : (starts : List ℕ) (z : Text) → starts ≡ starts_from 0 z → IsNonDecreasingBy (λ (n : ℕ). n) starts
 ascending starts z same = rw same (ascending_from 0 z)
 

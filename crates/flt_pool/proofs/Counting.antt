@@ -24,6 +24,7 @@ taken_weigh : (ticket : Subject) (views : List Hand) → times_taken ticket view
 taken_weigh ticket [] = refl
 taken_weigh ticket (v ∷ views) = omega (arith, times_weigh ticket v.taken, taken_weigh ticket views)
 
+-- no ticket is taken twice
 pub none_taken_twice : NoneIsTakenTwice
 none_taken_twice left hands balanced ticket =
     omega (arith, put_weigh ticket hands, taken_weigh ticket hands, times_weigh ticket left, balanced (one_for ticket))
@@ -69,5 +70,6 @@ same_itself (Item m) = same_number m
 same_itself (Entry m i) = (λ x. same_number m x && (i == i)) ∙ same_number i
 same_itself (Detach m) = same_number m
 
+-- tickets that are the same are equal
 pub same_means_equal : SameMeansEqual
 same_means_equal a b = (same_is_equal a b, λ e. subst (λ (c : Subject). is_same a c ≡ true) e (same_itself a))

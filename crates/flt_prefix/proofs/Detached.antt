@@ -336,6 +336,7 @@ taken_span taken z =
     let all : length (taken ++ z) - length z ≡ length taken = omega (arith, length-append taken z) in
     rw (all, take-append_seam taken z) refl
 
+-- a part that is read before other tokens has the same place in the text
 pub same_span : {A : Type 0} {R : Input → A → Input → Type 0} {i o : Input} {x : A} (d : Detached R i x o) (z : Input) →
     span (d.taken ++ z) z ≡ span i o
 same_span {o = o} d z = taken_span d.taken z ∙ sym (ap (λ j. span j o) d.parts ∙ taken_span d.taken o)
@@ -380,7 +381,8 @@ mutual
   statement_free {scope = scope} {d = d} {o = o} (grammar.repeat {r = r} {n = n} {body = body} (words.next {t = t} e) p h q) =
       let dp = number_free p in
       shift_token t e refl (shift dp (made (block_free q) (λ j z y.
-      subst (λ l. (s : StatementAt scope d (suc r) (t ∷ (dp.taken ++ j)) (Repeat l n body) z) × (Unit {0} → front z ≡ front o → StatementOver s))
+      subst (λ l. (s : StatementAt scope d (suc r) (t ∷ (dp.taken ++ j)) (Repeat l n body) z) ×
+      (Unit {0} → front z ≡ front o → StatementOver s))
       (behind_span t dp j) (grammar.repeat (words.next e) (dp.again j) h y, λ over same. tt))))
 
   else_free : {scope : Scope} {d r : ℕ} {i o : Input} {ss : List Statement} (p : ElseAt scope d r i ss o) →

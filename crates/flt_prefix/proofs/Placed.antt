@@ -42,7 +42,8 @@ first z last at offset = record { word = (token z).0; position = past last at; s
 
 placed : (text : Text) (left : ℕ) (comment : Bool) (last : ℕ) (at : Position) (offset : ℕ) (front z : Text) →
     IsRead text front z last at offset → All (IsPlacedIn text) (tokens_from left comment last at offset z)
-placed text left comment last at offset front [] r = All-cons (IsPlacedIn text) _ [] (λ h. absurd (h refl)) (λ k d less. absurd (omega (arith, less)))
+placed text left comment last at offset front [] r =
+    All-cons (IsPlacedIn text) _ [] (λ h. absurd (h refl)) (λ k d less. absurd (omega (arith, less)))
 placed text (suc left) comment last at offset front (b ∷ z) r =
     placed text left comment b (past last at) (offset + 1) (front ++ b ∷ []) z (one_more text front z b last offset at r)
 placed text zero true last at offset front (b ∷ z) r =
@@ -58,12 +59,16 @@ placed text zero false last at offset front (b ∷ z) r =
     go false e true e2 f e3 others = rw (e, e2) (others zero false)
     go false e false e2 true e3 others =
         let same : tokens_from zero false last at offset (b ∷ z) ≡ first (b ∷ z) last at offset ∷ [] = rw (e, e2, e3) refl in
-        subst (All (IsPlacedIn text)) (sym same) (All-cons (IsPlacedIn text) _ [] (λ h. here text front (b ∷ z) last offset at r) (λ k d less. absurd (omega (arith, less))))
+        subst (All (IsPlacedIn text)) (sym same)
+        (All-cons (IsPlacedIn text) _ [] (λ h. here text front (b ∷ z) last offset at r) (λ k d less. absurd (omega (arith, less))))
     go false e false e2 false e3 others =
         let rest : List Token = tokens_from ((token (b ∷ z)).1 - 1) false b (past last at) (offset + 1) z in
         let same : tokens_from zero false last at offset (b ∷ z) ≡ first (b ∷ z) last at offset ∷ rest = rw (e, e2, e3) refl in
-        subst (All (IsPlacedIn text)) (sym same) (All-cons (IsPlacedIn text) _ rest (λ h. here text front (b ∷ z) last offset at r) (others ((token (b ∷ z)).1 - 1) false))
+        subst (All (IsPlacedIn text)) (sym same)
+        (All-cons (IsPlacedIn text) _ rest (λ h. here text front (b ∷ z) last offset at r) (others ((token (b ∷ z)).1 - 1) false))
 
+-- the parser's place for each token is the one that is counted
 pub tokens_are_placed : TokensArePlaced
 unfolding tokens
-tokens_are_placed text = placed text zero false 0 (record { line = 1; column = 0 }) 0 [] text (record { whole = refl; place = refl; many = refl })
+tokens_are_placed text =
+    placed text zero false 0 (record { line = 1; column = 0 }) 0 [] text (record { whole = refl; place = refl; many = refl })

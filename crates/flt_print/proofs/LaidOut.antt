@@ -42,6 +42,7 @@ layout : (l : Line) (z : Text) → indentation l.level ++ (joined l.words ++ 10 
 layout l z =
     sym (append_assoc (indentation l.level ++ joined l.words) (10 ∷ []) z ∙ append_assoc (indentation l.level) (joined l.words) (10 ∷ z))
 
+-- lines whose words are pieces are written as those words, with blanks and line feeds between them
 pub laid_out : (ls : List Line) (vs : List Word) → Pieces (words_of ls) vs → Written (words_of ls) vs (lines_text ls)
 laid_out [] _ none = done
 laid_out (l ∷ ls) vs p =

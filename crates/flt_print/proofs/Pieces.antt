@@ -111,6 +111,7 @@ name_names : (w : Text) → is_name w ≡ true → names (keyword w).kind ≡ tr
 name_names [] e = absurd (false≢true e)
 name_names (b ∷ z) e = keyword_names (b ∷ z) (short_by (length z) (parts b z e).short)
 
+-- a name that is looked up among the words is a word
 pub named_word : (w : Text) → is_name w ≡ true → cursor.is_word (keyword w).kind ≡ true
 unfolding names
 named_word w e = (and_parts (cursor.is_word (keyword w).kind) (not (is_fault (keyword w).kind)) (name_names w e)).0
@@ -119,6 +120,7 @@ named_right : (w : Text) → is_name w ≡ true → is_fault (keyword w).kind �
 unfolding names
 named_right w e = not-true _ (and_parts (cursor.is_word (keyword w).kind) (not (is_fault (keyword w).kind)) (name_names w e)).1
 
+-- a name is read as one word
 pub named : (w : Text) → is_name w ≡ true → Piece w (keyword w)
 named [] e = absurd (false≢true e)
 named (b ∷ z) e =
@@ -136,27 +138,33 @@ pub keyword_is : (w : Text) (kd : Kind) → same_kind (keyword w).kind kd ≡ tr
 unfolding keyword same_kind
 keyword_is w kd e = ap word (same_true the_type (search rules) _ kd e)
 
+-- the spelling of a kind that reads back is read as one word of the kind
 pub spelled : (kd : Kind) → reads_back kd ≡ true → Piece (spelling kd) (word kd)
 spelled kd e =
     let p = and_parts (is_name (spelling kd)) (same_kind (keyword (spelling kd)).kind kd) e in
     subst (Piece (spelling kd)) (keyword_is (spelling kd) kd p.1) (named (spelling kd) p.0)
 
+-- `{` is read as one word
 pub open_piece : Piece (spelling k.OpenBrace) (word k.OpenBrace)
 unfolding spelling token
 open_piece = piece refl refl (λ b z g. refl) refl
 
+-- `}` is read as one word
 pub close_piece : Piece (spelling k.CloseBrace) (word k.CloseBrace)
 unfolding spelling token
 close_piece = piece refl refl (λ b z g. refl) refl
 
+-- `<` is read as one word
 pub less_piece : Piece (spelling k.Less) (word k.Less)
 unfolding spelling token
 less_piece = piece refl refl (λ b z g. refl) refl
 
+-- `+` is read as one word
 pub plus_piece : Piece (spelling k.Plus) (word k.Plus)
 unfolding spelling token
 plus_piece = piece refl refl (λ b z g. refl) refl
 
+-- `-` is read as one word
 pub minus_piece : Piece (spelling k.Minus) (word k.Minus)
 unfolding spelling token
 minus_piece = piece refl refl (λ b z g. refl) refl
@@ -172,14 +180,17 @@ both pair one c z =
     let e : nat_lt 1 (length (c ∷ 61 ∷ z)) ≡ true = lt-ltb 1 (suc (suc (length z))) (omega arith) in
     rw e refl
 
+-- `=` is read as one word
 pub assign_piece : Piece (spelling k.Assign) (word k.Assign)
 unfolding spelling token
 assign_piece = piece refl refl (λ b z g. alone k.Equal k.Assign 61 b z g) refl
 
+-- `==` is read as one word
 pub equal_piece : Piece (spelling k.Equal) (word k.Equal)
 unfolding spelling token
 equal_piece = piece refl refl (λ b z g. both k.Equal k.Assign 61 (b ∷ z)) refl
 
+-- `!=` is read as one word
 pub differs_piece : Piece (spelling k.NotEqual) (word k.NotEqual)
 unfolding spelling token
 differs_piece = piece refl refl (λ b z g. both k.NotEqual k.Stray 33 (b ∷ z)) refl
@@ -271,5 +282,6 @@ digits_piece (c ∷ w) n some e h =
     let p = and_parts (is_ascii_digit c) (list_all is_ascii_digit w) e in
     word_piece c w (numeral n) (digit_word c p.0) (digits_words w p.1) (rw p.0 h) refl
 
+-- a number below 2^64 is read as one word
 pub decimal_piece : (n : ℕ) → n < 2 ^ 64 → Piece (decimal n) (numeral n)
 decimal_piece n fits = let r = decimal_reads n fits in digits_piece (decimal n) n (decimal_nonempty n fits) r.digits (decimal_number n fits)

@@ -47,15 +47,18 @@ spells f h w short read a =
       whole = whole_alike f.callbacks h.callbacks f.callbacks h.callbacks a.callbacks a.callbacks w.whole;
     }
 
+-- where all words read back, the canonical text of a well-formed filter spells it, apart from places
 pub parses_again : ReadsBackWords → ParsesAgain
 unfolding Found
 parses_again law f w short =
     let r = found law f w in
     (r.0, spells f r.0 w short r.1 r.2, sym (places_alike f r.0 r.2))
 
+-- where what is spelled is well-formed, what a text spells is spelled by its canonical text too, apart from places
 pub prints_and_parses : SpelledIsWellFormed → ParsesAgain → PrintAndParse
 prints_and_parses fine again text f s = again f (fine text f s)
 
+-- where a text spells one filter at most, filters with one canonical text differ in places alone
 pub prints_at_most_one : SpellsAtMostOne → ParsesAgain → PrintsAtMostOne
 prints_at_most_one only_one again f g v w short e =
     let r = again f v short in

@@ -81,6 +81,7 @@ module _ (text : Text) (locks : List Lock) (queue : Bool) where
   says_status statuses.MoreProcessingRequired =
       says_by (says_meant bare_status_of k.MoreProcessingRequired statuses.MoreProcessingRequired refl refl) (λ i o p. calls.bare p)
 
+  -- the words of a status that may be left out say it
   pub says_optional_status : (s : Option Status) → Says text (optional_status_words s) (λ i o. OptionalStatusAt i s o)
   says_optional_status None = says_none (λ i. calls.no_status)
   says_optional_status (Some s) = says_by (says_status s) (λ i o p. calls.some_status p)
@@ -167,6 +168,7 @@ module _ (text : Text) (locks : List Lock) (queue : Bool) where
   says_release Fast = says_plain_shape k.ReleaseFastMutex (plain_shapes.Lock (does.Release Fast)) refl refl
   says_release Push = says_plain_shape k.ReleasePushLock (plain_shapes.Lock (does.Release Push)) refl refl
 
+  -- the words of a plain call say it
   pub says_plain : (c : PlainCall) → IsPlain locks c → Says text (plain_words locks c) (λ i o. PlainAt scope i c o)
   unfolding spelling keyword same_kind
   says_plain (plain.DeleteContext c) h =
@@ -205,6 +207,7 @@ module _ (text : Text) (locks : List Lock) (queue : Bool) where
       says_by (says_both (says_atom x h.0) (says_both (says_next k.Minus minus_piece) (says_atom y h.1)))
       (λ i o p. actions.difference p.1 p.2.1 p.2.2)
 
+  -- the words of an action say it
   pub says_action : (a : Action) → IsAction a → Says text (action_words a) (λ i o. ActionAt i a o)
   unfolding spelling keyword same_kind
   says_action (SetNumber n e) h = says_by
@@ -244,6 +247,7 @@ module _ (text : Text) (locks : List Lock) (queue : Bool) where
   says_test IsIrp h = says_by (says_both (says_kind k.Irp refl) (says_kind k.Data refl)) (λ i o p. actions.is_irp p.1 p.2)
   says_test IsDraining h = says_by (says_kind k.Draining refl) (λ i o p. actions.is_draining p)
 
+  -- the words of a condition say it, but for where its call stands
   pub says_condition : (c : Condition) → IsCondition queue c →
       Says text (condition_words c) (λ i o. (d : Condition) × ConditionAt scope i d o × AlikeCondition c d)
   says_condition (made.Test t) h = says_by (says_test t h) (λ i o p. (made.Test t, actions.test p, a_test))

@@ -103,6 +103,7 @@ module _ (text : Text) where
   abbrev pub LikeFilter : Filter → Span
   LikeFilter f i o = kind o ≡ k.End → (h : Filter) × FileAt text i h × AlikeFilter f h
 
+  -- the lines of a well-formed filter say one that is like it
   pub says_filter : (f : Filter) → IsWellFormed f → Says text (words_of (filter_lines f)) (LikeFilter f)
   unfolding spelling keyword same_kind
   says_filter f w =

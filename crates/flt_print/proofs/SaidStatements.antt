@@ -129,6 +129,7 @@ module _ (text : Text) (locks : List Lock) (queue : Bool) where
         (says_lines (inside (map (statement_lines locks) (s ∷ ss)) level) (closing level) (says_body (s ∷ ss) (level + 1) p) closes))
         (λ i o p. (p.1.0, p.1.1, (p.2.1.0, g.some_else p.1.2.1 (g.block p.1.2.2 p.2.1.1 p.2.2), p.2.1.2)))
 
+    -- the lines of statements say some that are like them
     pub says_body : {d r : ℕ} (ss : List Statement) (level : ℕ) → AreStatements locks queue d r ss →
         Says text (words_of (in_turn (map (statement_lines locks) ss) level)) (LikeStatements d r ss)
     says_body [] level fine.empty = says_none (λ i. ([], g.empty, alike.empty))

@@ -148,28 +148,36 @@ existing_known Keep = refl
 existing_known Replace = refl
 
 module _ {text : Text} where
+  -- the spelling of a number variable says it
   pub says_number_variable : (x : NumberVariable) → Says text (spelling (number_kind x) ∷ []) (λ i o. Meant number_variable_of i x o)
   says_number_variable x = says_meant number_variable_of (number_kind x) x (number_variable_reads x) (number_variable_known x)
 
+  -- the spelling of a context variable says it
   pub says_context : (x : ContextVariable) → Says text (spelling (context_kind x) ∷ []) (λ i o. Meant context_variable_of i x o)
   says_context x = says_meant context_variable_of (context_kind x) x (context_reads x) (context_known x)
 
+  -- the spelling of a variable for a removed operation says it
   pub says_removed : (x : RemovedVariable) → Says text (spelling (removed_kind x) ∷ []) (λ i o. Meant removed_variable_of i x o)
   says_removed x = says_meant removed_variable_of (removed_kind x) x (removed_reads x) (removed_known x)
 
+  -- the spelling of an operation variable says it
   pub says_operation_variable : (x : OperationVariable) →
       Says text (spelling (operation_variable_kind x) ∷ []) (λ i o. Meant operation_variable_of i x o)
   says_operation_variable x = says_meant operation_variable_of (operation_variable_kind x) x (operation_variable_reads x)
       (operation_variable_known x)
 
+  -- the spelling of a final status says it
   pub says_final_status : (x : FinalStatus) → Says text (spelling (final_status_kind x) ∷ []) (λ i o. Meant final_status_of i x o)
   says_final_status x = says_meant final_status_of (final_status_kind x) x (final_status_reads x) (final_status_known x)
 
+  -- the spelling of an operation says it
   pub says_operation : (x : Operation) → Says text (spelling (operation_kind x) ∷ []) (λ i o. Meant operation_of i x o)
   says_operation x = says_meant operation_of (operation_kind x) x (operation_reads x) (operation_known x)
 
+  -- the spelling of a kind of lock says it
   pub says_lock_kind : (x : LockKind) → Says text (spelling (lock_kind_kind x) ∷ []) (λ i o. Meant lock_kind_of i x o)
   says_lock_kind x = says_meant lock_kind_of (lock_kind_kind x) x (lock_kind_reads x) (lock_kind_known x)
 
+  -- the spelling of what becomes of an existing context says it
   pub says_existing : (x : Existing) → Says text (spelling (existing_kind x) ∷ []) (λ i o. Meant existing_of i x o)
   says_existing x = says_meant existing_of (existing_kind x) x (existing_reads x) (existing_known x)

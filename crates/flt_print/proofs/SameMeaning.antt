@@ -36,7 +36,8 @@ record Agree (X : Type 0) (a b : Statement-F X → X) : Type 0 where
   acts : (m n : Span) (x : Action) → a (Statement-F.Act m x) ≡ b (Statement-F.Act n x)
   calls : (m n : Span) (c : PlainCall) → a (Statement-F.Call m c) ≡ b (Statement-F.Call n c)
   returns : (m n : Span) (s : Option Status) → a (Statement-F.Return m s) ≡ b (Statement-F.Return n s)
-  choices : (m n : Span) (c d : Condition) (gs rs : List X) → AlikeCondition c d → a (Statement-F.If m c gs rs) ≡ b (Statement-F.If n d gs rs)
+  choices : (m n : Span) (c d : Condition) (gs rs : List X) →
+      AlikeCondition c d → a (Statement-F.If m c gs rs) ≡ b (Statement-F.If n d gs rs)
   repeats : (m n : Span) (turns : ℕ) (bs : List X) → a (Statement-F.Repeat m turns bs) ≡ b (Statement-F.Repeat n turns bs)
 
 unrolled : (X : Type 0) (step : Statement-F X → X) (s : Statement) (y : Statement-F Statement) → roll-Statement y ≡ s →
@@ -103,6 +104,7 @@ small_alike {c} {d} a =
     ap (λ l. small_by (sum l) (cost c.body)) (folds_alike ℕ points_step points_step points_agree a.body)
     ∙ ap (λ l. small_by (points d.body) (sum l)) (folds_alike ℕ cost_step cost_step cost_agree a.body)
 
+-- callbacks that are alike are small alike
 pub small_callbacks : (cs ds : List Callback) → AlikeCallbacks cs ds → list_all is_small cs ≡ list_all is_small ds
 small_callbacks _ _ no_callback = refl
 small_callbacks _ _ (one_callback {c} {d} {cs} {ds} a r) =
@@ -134,6 +136,7 @@ one_behind : {cs ds : List Callback} {c d : Callback} → AlikeCallbacks cs ds �
 one_behind no_callback a = one_callback a no_callback
 one_behind (one_callback b r) a = one_callback b (one_behind r a)
 
+-- callbacks that are alike are new alike behind callbacks that are alike
 pub new_alike : (before again cs ds : List Callback) → AlikeCallbacks before again → AlikeCallbacks cs ds →
     AreNewCallbacks before cs → AreNewCallbacks again ds
 new_alike before again _ _ b no_callback n = tt
@@ -142,10 +145,12 @@ new_alike before again _ _ b (one_callback {c} {d} {cs} {ds} a r) n = (
   new_alike (before ++ c ∷ []) (again ++ d ∷ []) cs ds (one_behind b a) r n.1,
 )
 
+-- callbacks that are alike are equally many
 pub length_alike : {cs ds : List Callback} → AlikeCallbacks cs ds → length cs ≡ length ds
 length_alike no_callback = refl
 length_alike (one_callback a r) = ap suc (length_alike r)
 
+-- callbacks that are alike serve a queue alike
 pub served_alike : (q r : Option Position) (cs ds : List Callback) → is_some q ≡ is_some r → AlikeCallbacks cs ds →
     IsServed q cs → IsServed r ds
 served_alike None None cs ds e a s = tt
@@ -187,6 +192,7 @@ lacks_alike : (h : Head) {cs ds : List Callback} → AlikeCallbacks cs ds → la
 lacks_alike (Post op) a = ap not (event_alike (Pre op) a)
 lacks_alike _ a = refl
 
+-- callbacks that are alike are whole alike among callbacks that are alike
 pub whole_alike : (all again cs ds : List Callback) → AlikeCallbacks all again → AlikeCallbacks cs ds → AreWhole all cs → AreWhole again ds
 whole_alike all again _ _ a no_callback w = tt
 whole_alike all again _ _ a (one_callback {c} {d} {cs} {ds} x r) w = (
@@ -222,8 +228,10 @@ body_alike p = folds_alike Statement step_without step_without without_agree p
 callbacks_alike : {cs ds : List Callback} → AlikeCallbacks cs ds → map callback_without cs ≡ map callback_without ds
 callbacks_alike no_callback = refl
 callbacks_alike (one_callback {c} {d} {cs} {ds} a r) =
-    ap (λ h. record { head = h; position = nowhere; span = no_span; body = map statement_without c.body; end = no_span } ∷ map callback_without cs) a.head
-    ∙ ap (λ b. record { head = d.head; position = nowhere; span = no_span; body = b; end = no_span } ∷ map callback_without cs) (body_alike a.body)
+    ap (λ h. record { head = h; position = nowhere; span = no_span; body = map statement_without c.body; end = no_span } ∷
+    map callback_without cs) a.head
+    ∙ ap (λ b. record { head = d.head; position = nowhere; span = no_span; body = b; end = no_span } ∷ map callback_without cs)
+    (body_alike a.body)
     ∙ ap (λ l. callback_without d ∷ l) (callbacks_alike r)
 
 queue_alike : (q r : Option Position) → is_some q ≡ is_some r → option_map (λ at. nowhere) q ≡ option_map (λ at. nowhere) r
@@ -236,6 +244,7 @@ filter_of_parts : Text → ℕ → List Lock → Option Position → List Callba
 filter_of_parts name altitude locks queue callbacks =
     record { name = name; altitude = altitude; locks = locks; queue = queue; callbacks = callbacks }
 
+-- filters that are alike are one without their places
 pub places_alike : (f h : Filter) → AlikeFilter f h → without_places f ≡ without_places h
 unfolding filter_of_parts
 places_alike f h a =

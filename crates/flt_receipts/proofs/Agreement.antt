@@ -100,7 +100,8 @@ later n a (e ∷ es) =
     (all_one (λ (r : Receipt). n ≤ r.number) n (receipt_of n a e) (one_at_most n a e) (λ r is. omega (arith, is)))
     (λ k d here. let less = after k d here in omega (arith, less))
 
-put_first : (n : ℕ) (rs rest : List Receipt) → (rs ≡ []) ⊎ Single n rs → All (λ (r : Receipt). n + 1 ≤ r.number) rest → Apart rest → Apart (rs ++ rest)
+put_first : (n : ℕ) (rs rest : List Receipt) → (rs ≡ []) ⊎ Single n rs → All (λ (r : Receipt). n + 1 ≤ r.number) rest →
+    Apart rest → Apart (rs ++ rest)
 put_first n rs rest (inl none) after apart = subst (λ (l : List Receipt). Apart (l ++ rest)) (sym none) apart
 put_first n rs rest (inr one) after apart =
     subst (λ (l : List Receipt). Apart (l ++ rest)) (sym one.is)

@@ -11,16 +11,19 @@ use Rattle.flt_records.proofs.NumberMaps.{filled}
 
 -- ---- room
 
+-- values read the same where there is room for more of them
 pub values_filled : (xs new : List ℕ) (size : ℕ) → length xs < size →
     new ≡ take size xs ++ replicate (size - length xs) 0 → (n : ℕ) → get_or new n 0 ≡ get_or xs n 0
 values_filled xs new size l is n = filled 0 xs new size l is n
 
+-- links read the same where there is room for more of them
 pub links_filled : (xs new : List (Option Link)) (size : ℕ) → length xs < size →
     new ≡ take size xs ++ replicate (size - length xs) None → (n : ℕ) → get_or new n None ≡ get_or xs n None
 links_filled xs new size l is n = filled None xs new size l is n
 
 -- ---- one context
 
+-- as many contexts are there as were allocated
 pub length_is : (owners : List Allocated) (vs : List ℕ) (ls : List (Option Link)) → length (contexts_of owners vs ls) ≡ length owners
 unfolding contexts_of
 length_is [] vs ls = refl
@@ -47,6 +50,7 @@ pub read_past : (owners : List Allocated) (vs : List ℕ) (ls : List (Option Lin
     get_or (contexts_of owners vs ls) x d ≡ d
 read_past owners vs ls x d l = get_or_past (contexts_of owners vs ls) x d (let e = length_is owners vs ls in omega (arith, e))
 
+-- a context's owner is that of its allocation
 pub owner_is : (owners : List Allocated) (vs : List ℕ) (ls : List (Option Link)) (x : ℕ) →
     (get_or (contexts_of owners vs ls) x no_context).owner ≡ (get_or owners x no_one).owner
 owner_is owners vs ls x =
@@ -55,6 +59,7 @@ owner_is owners vs ls x =
     ∙ sym (ap (λ (a : Allocated). a.owner) (get_or_past owners x no_one l)))
     (cases_lt x (length owners))
 
+-- a context's references are those of its allocation
 pub references_are : (owners : List Allocated) (vs : List ℕ) (ls : List (Option Link)) (x : ℕ) →
     (get_or (contexts_of owners vs ls) x no_context).references ≡ (get_or owners x no_one).references
 references_are owners vs ls x =
@@ -63,6 +68,7 @@ references_are owners vs ls x =
     ∙ sym (ap (λ (a : Allocated). a.references) (get_or_past owners x no_one l)))
     (cases_lt x (length owners))
 
+-- a context's value stands in the list of values, and is 0 where none was written
 pub value_is : (owners : List Allocated) (vs : List ℕ) (ls : List (Option Link)) (x : ℕ) → length vs ≤ length owners →
     (get_or (contexts_of owners vs ls) x no_context).value ≡ get_or vs x 0
 value_is owners vs ls x h =
@@ -71,6 +77,7 @@ value_is owners vs ls x h =
     ∙ sym (get_or_past vs x 0 (omega (arith, h, l))))
     (cases_lt x (length owners))
 
+-- a context's link stands in the list of links, and is none where none was made
 pub link_is : (owners : List Allocated) (vs : List ℕ) (ls : List (Option Link)) (x : ℕ) → length ls ≤ length owners →
     (get_or (contexts_of owners vs ls) x no_context).link ≡ get_or ls x None
 link_is owners vs ls x h =
@@ -85,7 +92,8 @@ link_is owners vs ls x h =
 pub changed : (owners new : List Allocated) (vs ws : List ℕ) (ls ms : List (Option Link)) (x : ℕ) (c : Context) →
     length new ≡ length owners → x < length owners →
     context_from (get_or new x no_one) (get_or ws x 0) (get_or ms x None) ≡ c →
-    ((n : ℕ) → n ≢ x → (get_or new n no_one ≡ get_or owners n no_one) × (get_or ws n 0 ≡ get_or vs n 0) × (get_or ms n None ≡ get_or ls n None)) →
+    ((n : ℕ) → n ≢ x → (get_or new n no_one ≡ get_or owners n no_one) × (get_or ws n 0 ≡ get_or vs n 0) ×
+    (get_or ms n None ≡ get_or ls n None)) →
     contexts_of new ws ms ≡ set (contexts_of owners vs ls) x c
 changed owners new vs ws ls ms x c e l is same =
     let old_long = length_is owners vs ls in
@@ -114,6 +122,7 @@ changed_past owners vs ls x c l =
     sym (set_past (contexts_of owners vs ls) x c (let e = length_is owners vs ls in omega (arith, e, l)))
 
 module _ (owners : List Allocated) (vs : List ℕ) (ls : List (Option Link)) (x : ℕ) where
+  -- a count of references that is changed among the allocations is changed in its context
   pub referenced : (r : ℕ) →
       contexts_of (set owners x (record (get_or owners x no_one) { references = r })) vs ls
       ≡ set (contexts_of owners vs ls) x (record (get_or (contexts_of owners vs ls) x no_context) { references = r })
@@ -130,6 +139,7 @@ module _ (owners : List Allocated) (vs : List ℕ) (ls : List (Option Link)) (x 
       ∙ changed_past owners vs ls x (record (get_or (contexts_of owners vs ls) x no_context) { references = r }) l)
       (cases_lt x (length owners))
 
+  -- a value that is written among the values is written in its context
   pub valued : (room : List ℕ) (v : ℕ) → x < length owners → x < length room → ((n : ℕ) → get_or room n 0 ≡ get_or vs n 0) →
       contexts_of owners (set room x v) ls
       ≡ set (contexts_of owners vs ls) x (record (get_or (contexts_of owners vs ls) x no_context) { value = v })
@@ -139,6 +149,7 @@ module _ (owners : List Allocated) (vs : List ℕ) (ls : List (Option Link)) (x 
       ∙ ap (λ (c : Context). record c { value = v }) (sym (read_at owners vs ls x no_context l)))
       (λ n ne. (refl, get_or-set_other room x n v 0 ne ∙ same n, refl))
 
+  -- a link that is put among the links is put in its context
   pub linked : (room : List (Option Link)) (link : Option Link) → x < length owners → x < length room →
       ((n : ℕ) → get_or room n None ≡ get_or ls n None) →
       contexts_of owners vs (set room x link)
@@ -162,6 +173,7 @@ module _ (owners : List Allocated) (vs : List ℕ) (ls : List (Option Link)) (x 
       changed_past owners vs ls x (record (get_or (contexts_of owners vs ls) x no_context) { link = None }) l)
       (cases_lt x (length owners))
 
+-- one more allocation is one more context, with the value 0 and no link
 pub added : (owners : List Allocated) (vs : List ℕ) (ls : List (Option Link)) (a : Allocated) → length vs ≤ length owners →
     length ls ≤ length owners → contexts_of (owners ++ a ∷ []) vs ls ≡ contexts_of owners vs ls ++ context_from a 0 None ∷ []
 unfolding contexts_of
@@ -178,6 +190,7 @@ added (o ∷ rest) (w ∷ vs) (m ∷ ls) a v l =
 
 -- ---- whether one is linked by a filter
 
+-- a filter has a link to a context where the list of links has one of it
 pub any_linked : (f : ℕ) (owners : List Allocated) (vs : List ℕ) (ls : List (Option Link)) → length ls ≤ length owners →
     list_any (λ (c : Context). is_linked_by f c.link) (contexts_of owners vs ls) ≡ list_any (is_linked_by f) ls
 unfolding contexts_of
@@ -190,6 +203,7 @@ any_linked f (o ∷ rest) (v ∷ vs) (l ∷ ls) h = ap (λ (b : Bool). is_linked
 
 -- ---- one link after another
 
+-- a link that is emptied and put again is put
 pub relinked : (cs : List Context) (x : ℕ) (link : Option Link) →
     set (set cs x (record (get_or cs x no_context) { link = None })) x
     (record (get_or (set cs x (record (get_or cs x no_context) { link = None })) x no_context) { link = link })

@@ -18,14 +18,18 @@ module _ {X : Type 0} (test : X → Bool) where
       × (nat_lt (position_or_len test xs) (length xs) ≡ true)
   at_first xs i e = some_holds _ i (position_or_len test xs) e
 
+  -- the first place at which a test passes is in the list
   pub within : (xs : List X) (i : ℕ) → Some i ≡ position test xs → i < length xs
   within xs i e = rw (at_first xs i e).0 (ltb-true _ _ (at_first xs i e).1)
 
+  -- what stands at the first place is what is found
   pub found_there : (xs : List X) (i : ℕ) → Some i ≡ position test xs → find test xs ≡ slice_get xs i
   found_there xs i e = find_at test xs ∙ ap (slice_get xs) (sym (at_first xs i e).0)
 
+  -- the list without its first place is what was before it and what was after it
   pub without : (xs : List X) (i : ℕ) → Some i ≡ position test xs → remove xs i ≡ before_first test xs ++ after_first test xs
   without xs i e = rw ((at_first xs i e).0, add-one) refl
 
+  -- where there is no first place, nothing is found
   pub none_found : (xs : List X) → None ≡ position test xs → find test xs ≡ None
   none_found xs e = find_at test xs ∙ slice_get_past xs _ (ltb-false _ _ (none_fails _ (position_or_len test xs) e))

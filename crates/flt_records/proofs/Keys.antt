@@ -9,9 +9,11 @@ use Rattle.std.specs.declared.cmp.Ordering.TheVariants.{Less}
 pub at_is : (n k : ℕ) → is_at (nat_cmp n) k ≡ (n == k)
 at_is n k = grind (arith, nat_tests)
 
+-- a number is found at itself
 pub at_self : (n : ℕ) → is_at (nat_cmp n) n ≡ true
 at_self n = grind (arith, nat_tests)
 
+-- another number isn't found at it
 pub at_other : (n k : ℕ) → k ≢ n → is_at (nat_cmp n) k ≡ false
 at_other n k h = grind (arith, nat_tests)
 
@@ -23,5 +25,6 @@ at_later n k h = grind (arith, nat_tests)
 pub at_earlier : (n k : ℕ) → k < n → is_at (nat_cmp n) k ≡ false
 at_earlier n k h = grind (arith, nat_tests)
 
+-- a number that compares as less is less
 pub less_is : (n k : ℕ) → nat_cmp n k ≡ Less → n < k
 less_is n k h = ranked n k Less (sym h)

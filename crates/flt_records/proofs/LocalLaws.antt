@@ -51,6 +51,7 @@ module _ (draining : Bool) (act : Activation) (others rest : List Statement) whe
   condition_same (condition.Test t) = test_same t
   condition_same (condition.Succeeds c) = refl
 
+  -- what a statement makes of the variables doesn't depend on what remains
   pub statement_same : (s : Statement-F Statement) → after_statement draining elsewhere rest s ≡ after_statement draining act rest s
   statement_same (Statement-F.Act span a) = action_same a
   statement_same (Statement-F.Call span c) = refl
@@ -68,14 +69,17 @@ module _ (draining : Bool) (steps made : ℕ) (old : Activation) (whole : Option
   unrolled : option_and_then (local_steps draining (steps - (made + 1))) (local_step draining old old.rest) ≡ whole
   unrolled = sym (ap (λ n. local_steps draining n old) less) ∙ so_far
 
+  -- after one local step those that are left are one fewer, and lead to the same
   pub one_more : (new : Activation) → local_step draining old old.rest ≡ Some new → local_steps draining (steps - (made + 1)) new ≡ whole
   one_more new is = sym (ap (option_and_then (local_steps draining (steps - (made + 1)))) is) ∙ unrolled
 
+  -- where no local step can be made, those that are left can't
   pub none_more : local_step draining old old.rest ≡ None → whole ≡ None
   none_more is = sym unrolled ∙ ap (option_and_then (local_steps draining (steps - (made + 1)))) is
 
 -- where nothing remains, there is none
-pub none_of_ended : (draining : Bool) (steps : ℕ) (act : Activation) → (steps ≡ 0 → ⊥) → act.rest ≡ [] → local_steps draining steps act ≡ None
+pub none_of_ended : (draining : Bool) (steps : ℕ) (act : Activation) →
+    (steps ≡ 0 → ⊥) → act.rest ≡ [] → local_steps draining steps act ≡ None
 none_of_ended draining zero act some none = absurd (some refl)
 none_of_ended draining (suc n) act some none =
     ap (λ (rest : List Statement). option_and_then (local_steps draining n) (local_step draining act rest)) none

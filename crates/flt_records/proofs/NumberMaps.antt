@@ -23,6 +23,7 @@ module _ {X : Type 0} (z : X) where
       ap (λ (ys : List X). get_or ys n z) (is ∙ ap (λ (ys : List X). ys ++ replicate (size - length xs) z) (take_all size xs (omega arith)))
       ∙ same_with_more xs (size - length xs) n
 
+-- numbers read the same where there is room for more of them
 pub filled_up : (xs new : List (Option ℕ)) (size : ℕ) → length xs < size →
     new ≡ take size xs ++ replicate (size - length xs) None → (n : ℕ) → get_or new n None ≡ get_or xs n None
 filled_up xs new size l is n = filled None xs new size l is n
@@ -55,7 +56,7 @@ appended old k x e n =
     ⊎_elim (λ (l : n < length old). get_or_append_left old (x ∷ []) None n l)
     (λ (l : length old ≤ n).
     let more : length old < n = grind (arith, e, l, ne) in
-    get_or_past (old ++ x ∷ []) n None (let long = length-append old (x ∷ []) in omega (arith, long, more)) ∙ sym (get_or_past old n None l))
-    (cases_lt n (length old))
+    get_or_past (old ++ x ∷ []) n None (let long = length-append old (x ∷ []) in omega (arith, long, more)) ∙
+    sym (get_or_past old n None l)) (cases_lt n (length old))
     ∙ ap (λ (b : Bool). if b then x else get_or old n None) (sym (tells_other k n ne)))
     (cases_eq n k)

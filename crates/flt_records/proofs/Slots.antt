@@ -422,6 +422,7 @@ pub counted_one : (access : Access) (a : ℕ) (slots : List (Option Holder)) (pl
 counted_one access a slots places are has =
     sym (free_by access a slots (lookup (is_at (nat_cmp a)) places) (are.each a) ∙ rw (has, sym are.counted) refl)
 
+-- where an activation has no place of its own, there are no places just where no other one holds the lock in this way
 pub counted_none : (access : Access) (a : ℕ) (slots : List (Option Holder)) (places : List (ℕ × ℕ)) → ArePlaces access slots places →
     is_some (lookup (is_at (nat_cmp a)) places) ≡ false → (length places == 0) ≡ no_other access a (left slots)
 counted_none access a slots places are has =

@@ -20,6 +20,7 @@ use Rattle.flt_records.proofs.Keys.{at_self, at_other, at_later, less_is}
 abbrev pub IsPositive : List (ℕ × ℕ) → Type 0
 IsPositive es = (n : ℕ) → IfSome (lookup (is_at (nat_cmp n)) es) (λ times. 0 < times)
 
+-- where no key stands among the counts, each number counts 0
 pub empty_from_length : (es : List (ℕ × ℕ)) → length es ≡ 0 → (n : ℕ) → count_in es n ≡ 0
 unfolding count_in
 empty_from_length [] h n = refl
@@ -33,6 +34,7 @@ some_counts k v es h =
     let p : 0 < v = subst (λ (o : Option ℕ). IfSome o (λ times. 0 < times)) e (h k) in
     subst (λ (o : Option ℕ). 0 < unwrap_or o 0) (sym e) p
 
+-- where each number counts 0, no key stands among the counts
 pub length_from_empty : (es : List (ℕ × ℕ)) → IsPositive es → ((n : ℕ) → count_in es n ≡ 0) → length es ≡ 0
 length_from_empty [] h z = refl
 length_from_empty ((k, v) ∷ es) h z = absurd (omega (arith, some_counts k v es h, z k))

@@ -13,6 +13,7 @@ use Rattle.flt_records.specs.declared.rest.Part.TheVariants.{Block, Repeat}
 
 -- ---- the last one
 
+-- without blocks nothing is gone on with
 pub nothing_left : (blocks : List (Bor (List Statement))) (repeats : List Begun) → blocks ≡ [] → parts_of blocks repeats ≡ []
 unfolding parts_from
 nothing_left blocks repeats e = rw e refl
@@ -23,12 +24,14 @@ unfolding parts_from
 block_first b blocks [] h = refl
 block_first b blocks (r ∷ repeats) h = rw h refl
 
-repeat_first : (b : Bor (List Statement)) (blocks : List (Bor (List Statement))) (r : Begun) (repeats : List Begun) → is_place b.now ≡ true →
+repeat_first : (b : Bor (List Statement)) (blocks : List (Bor (List Statement))) (r : Begun) (repeats : List Begun) →
+    is_place b.now ≡ true →
     parts_from (b ∷ blocks) (r ∷ repeats) ≡ Repeat r.span r.turns r.body ∷ parts_from blocks repeats
 unfolding parts_from
 repeat_first b blocks r repeats h = rw h refl
 
-alone_first : (b : Bor (List Statement)) (blocks : List (Bor (List Statement))) → parts_from (b ∷ blocks) [] ≡ Block b ∷ parts_from blocks []
+alone_first : (b : Bor (List Statement)) (blocks : List (Bor (List Statement))) →
+    parts_from (b ∷ blocks) [] ≡ Block b ∷ parts_from blocks []
 unfolding parts_from
 alone_first b blocks = refl
 
@@ -49,6 +52,7 @@ module _ (p : Part) (ps : List Part) where
   back : reverse (p ∷ ps) ≡ reverse ps ++ p ∷ []
   back = reverse-append (p ∷ []) ps
 
+-- a block that isn't empty is the last part
 pub block_last : (old blocks : List (Bor (List Statement))) (b : Bor (List Statement)) (repeats : List Begun) → old ≡ blocks ++ b ∷ [] →
     0 < length b.now → parts_of old repeats ≡ parts_of blocks repeats ++ Block b ∷ []
 block_last old blocks b repeats e h =
@@ -64,6 +68,7 @@ block_alone old blocks b repeats e none =
     (ap (λ (bs : List (Bor (List Statement))). reverse (parts_from bs [])) (ap reverse e ∙ round b blocks)
     ∙ ap reverse (alone_first b (reverse blocks)) ∙ back (Block b) (parts_from (reverse blocks) []))
 
+-- a block that is empty stands for the last `repeat`
 pub repeat_last : (old blocks : List (Bor (List Statement))) (b : Bor (List Statement)) (were repeats : List Begun) (r : Begun) →
     old ≡ blocks ++ b ∷ [] → length b.now < 1 → were ≡ repeats ++ r ∷ [] →
     parts_of old were ≡ parts_of blocks repeats ++ Repeat r.span r.turns r.body ∷ []

@@ -38,6 +38,7 @@ nothing : (l : List Statement) → length l < 1 → l ≡ []
 nothing [] h = refl
 nothing (x ∷ l) h = absurd (omega arith)
 
+-- a turn of the last part is a turn of what remains
 pub turn_of : (here outer : List Statement) (old new : List Part) (body : List Statement) → length here < 1 → length outer < 1 →
     TurnsLast old body new → IsTurn (remaining here outer old) (remaining body outer new)
 turn_of here outer old new body small none h = rw (nothing here small, nothing outer none) (last_turned old new body h)

@@ -119,7 +119,9 @@ latest_added : (visits : List Visit) (x : Visit) (o : ℕ) (r : Option ℕ) (thi
 latest_added visits x o r true e h = latest_here visits x o e
 latest_added visits x o r false e h = latest_past visits x o r e h
 
-pub added : (visits : List Visit) (settled : List Bool) (before last more_last : List (Option ℕ)) (counts more_counts : List ℕ) (x : Visit) →
+-- the indices of visits where one comes
+pub added : (visits : List Visit) (settled : List Bool) (before last more_last : List (Option ℕ))
+    (counts more_counts : List ℕ) (x : Visit) →
     AreVisits visits settled before last counts → ((o : ℕ) → count more_counts o ≡ count counts o + one_if x.operation o) →
     ((o : ℕ) → get_or more_last o None ≡ (if x.operation == o then Some (length visits) else get_or last o None)) →
     AreVisits (visits ++ x ∷ []) (settled ++ false ∷ []) (before ++ get_or last x.operation None ∷ []) more_last more_counts
@@ -147,6 +149,7 @@ added visits settled before last more_last counts more_counts x was counted set_
           (by_order v (length visits) (omega arith));
     }
 
+-- the indices of visits stay where the counts read the same
 pub same_counts : (visits : List Visit) (settled : List Bool) (before last : List (Option ℕ)) (counts same : List ℕ) →
     AreVisits visits settled before last counts → ((o : ℕ) → count same o ≡ count counts o) → AreVisits visits settled before last same
 same_counts visits settled before last counts same was e =
@@ -154,6 +157,7 @@ same_counts visits settled before last counts same was e =
 
 -- ---- a visit is settled
 
+-- the indices of visits where one is settled
 pub settled_now : (visits : List Visit) (settled : List Bool) (before last : List (Option ℕ)) (counts less : List ℕ) (v : ℕ) →
     AreVisits visits settled before last counts → v < length visits → get_or settled v true ≡ false →
     ((o : ℕ) → count counts o ≡ count less o + one_if (get_or visits v no_visit).operation o) →
@@ -212,6 +216,7 @@ skipped visits o n v (Some m) h l =
 abbrev pub AreListed : List Visit → ℕ → Option ℕ → List ℕ → Type 0
 AreListed visits o r ns = (v : ℕ) → list_any (nat_eq v) ns ≡ (not (nat_lt v (end_of r)) && is_visit_of o visits v)
 
+-- one more visit of an operation, the latest before those that are listed
 pub listed_more : (visits : List Visit) (o n : ℕ) (r : Option ℕ) (ns : List ℕ) → IsLatest visits o n r → is_visit_of o visits n ≡ true →
     AreListed visits o (Some n) ns → AreListed visits o r (ns ++ n ∷ [])
 listed_more visits o n r ns h is so = λ v.
@@ -245,6 +250,7 @@ latest_before visits settled before last counts o n are h =
     let is = visit_is visits o n h in
     subst (λ (p : ℕ). IsLatest visits p n (get_or before n None)) is.1 (are.earlier n is.0)
 
+-- the latest visit before a bound is one of the operation
 pub latest_is : (visits : List Visit) (o bound : ℕ) (r : Option ℕ) → IsLatest visits o bound r →
     IfSome r (λ n. is_visit_of o visits n ≡ true)
 latest_is visits o bound None h = tt

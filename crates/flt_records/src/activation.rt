@@ -197,7 +197,8 @@ impl<'a> Activation<'a> {
 
     /// Takes out the first statement that remains.
     pub fn next(&mut self) -> Option<Upcoming<'a>>
-        ensures rest { MatchOption result ((self.old.rest ≡ []) × (self.new.rest ≡ [])) (λ u. self.old.rest ≡ statement_of u ∷ self.new.rest) }
+        ensures rest { MatchOption result ((self.old.rest ≡ []) × (self.new.rest ≡ []))
+            (λ u. self.old.rest ≡ statement_of u ∷ self.new.rest) }
         ensures others { self.new ≡ record self.old { rest = self.new.rest } }
     {
         match &mut self.state {

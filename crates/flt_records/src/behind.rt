@@ -65,7 +65,8 @@ impl<'a> Behind<'a> {
     /// Takes out the last one.
     #[tactic(auto, using(crate::proofs::Suspended::nothing_left, crate::proofs::Suspended::block_last, crate::proofs::Suspended::block_alone, crate::proofs::Suspended::repeat_last))]
     pub(crate) fn pop(&mut self) -> Option<Part<'a>>
-        ensures { MatchOption result ((parts self.old ≡ []) × (parts self.new ≡ [])) (λ part. parts self.old ≡ parts self.new ++ part ∷ []) }
+        ensures { MatchOption result ((parts self.old ≡ []) × (parts self.new ≡ []))
+            (λ part. parts self.old ≡ parts self.new ++ part ∷ []) }
     {
         let block = self.blocks.pop()?;
         if let [_, ..] = block {

@@ -205,7 +205,8 @@ impl<'a> Going<'a> {
 impl<'a> Going<'a> {
     /// Takes out the first statement that remains.
     pub(crate) fn next(&mut self) -> Option<Upcoming<'a>>
-        ensures rest { MatchOption result ((self.old.rest ≡ []) × (self.new.rest ≡ [])) (λ u. self.old.rest ≡ statement_of u ∷ self.new.rest) }
+        ensures rest { MatchOption result ((self.old.rest ≡ []) × (self.new.rest ≡ []))
+            (λ u. self.old.rest ≡ statement_of u ∷ self.new.rest) }
         ensures others { self.new ≡ record self.old { rest = self.new.rest } }
     {
         self.rest.next(&mut self.kept)

@@ -120,7 +120,8 @@ impl Few {
     /// All that an activation keeps, if it uses only these variables.
     fn all<'a>(&self, alloc: Global) -> All<'a>
         ensures lists { (parts result.after ≡ []) × (result.locks ≡ []) }
-        ensures variables { (result.numbers ≡ replicate 8 0) × ((result.contexts ≡ few_contexts self.now) × (result.operations ≡ few_operations self.now)) }
+        ensures variables { (result.numbers ≡ replicate 8 0) ×
+            ((result.contexts ≡ few_contexts self.now) × (result.operations ≡ few_operations self.now)) }
     {
         All {
             after: Behind::new(alloc),
@@ -278,7 +279,8 @@ impl<'a> Kept<'a> {
     /// Adds the rest of a block, with which execution will continue before the others.
     pub(crate) fn suspend_block(&mut self, block: &'a [Statement]) -> Result<(), AllocError>
         requires { 0 < length block.now }
-        ensures { OnOk result (contents self.new ≡ record (contents self.old) { after = (contents self.old).after ++ Block block.entry ∷ [] }) }
+        ensures { OnOk result
+            (contents self.new ≡ record (contents self.old) { after = (contents self.old).after ++ Block block.entry ∷ [] }) }
     {
         see_to_all(&mut self.form, self.alloc)?;
         if let Form::All(_, all) = &mut self.form {
@@ -367,7 +369,8 @@ impl<'a> Kept<'a> {
         context: Option<usize>,
     ) -> Result<(), AllocError>
         requires { place < 9 }
-        ensures { OnOk result (contents self.new ≡ record (contents self.old) { contexts = set (contents self.old).contexts place context }) }
+        ensures { OnOk result
+            (contents self.new ≡ record (contents self.old) { contexts = set (contents self.old).contexts place context }) }
     {
         if let Form::Few(_, few) = &mut self.form {
             if few.put_context(place, context)? {
@@ -389,7 +392,8 @@ impl<'a> Kept<'a> {
         visit: Option<usize>,
     ) -> Result<(), AllocError>
         requires { place < 5 }
-        ensures { OnOk result (contents self.new ≡ record (contents self.old) { operations = set (contents self.old).operations place visit }) }
+        ensures { OnOk result
+            (contents self.new ≡ record (contents self.old) { operations = set (contents self.old).operations place visit }) }
     {
         if let Form::Few(_, few) = &mut self.form {
             if few.put_operation(place, visit)? {

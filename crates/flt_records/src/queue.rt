@@ -135,7 +135,8 @@ fn list_visit(
     entries: &[Option<Entry>],
     ticket: usize,
 ) -> Result<(), AllocError>
-    ensures { OnOk result (visits.new.items ≡ visits.old.items ++ map (λ (e : machine.Entry). e.visit) (present (get_or entries.now ticket None ∷ []))) }
+    ensures { OnOk result
+        (visits.new.items ≡ visits.old.items ++ map (λ (e : machine.Entry). e.visit) (present (get_or entries.now ticket None ∷ []))) }
 {
     if let Some(Some(entry)) = entries.get(ticket) {
         visits.push(entry.visit)?;

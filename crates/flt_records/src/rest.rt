@@ -46,7 +46,8 @@ impl<'a> Rest<'a> {
     /// Takes out the first statement.
     #[tactic(auto, using(crate::proofs::Remaining::before_push))]
     pub(crate) fn next(&mut self, kept: &mut Kept<'a>) -> Option<Upcoming<'a>>
-        ensures rest { MatchOption result ((remains self.old (contents kept.old).after ≡ []) × (remains self.new (contents kept.new).after ≡ []))
+        ensures rest { MatchOption result
+            ((remains self.old (contents kept.old).after ≡ []) × (remains self.new (contents kept.new).after ≡ []))
             (λ u. remains self.old (contents kept.old).after ≡ statement_of u ∷ remains self.new (contents kept.new).after) }
         ensures others { contents kept.new ≡ record (contents kept.old) { after = (contents kept.new).after } }
     {
@@ -135,7 +136,8 @@ impl<'a> Rest<'a> {
         kept: &mut Kept<'a>,
         block: &'a [Statement],
     ) -> Result<(), AllocError>
-        ensures rest { OnOk result (remains self.new (contents kept.new).after ≡ block.now ++ others (remains self.old (contents kept.old).after)) }
+        ensures rest { OnOk result
+            (remains self.new (contents kept.new).after ≡ block.now ++ others (remains self.old (contents kept.old).after)) }
         ensures others { OnOk result (contents kept.new ≡ record (contents kept.old) { after = (contents kept.new).after }) }
     {
         let _ = self.next(kept);
@@ -175,7 +177,8 @@ impl<'a> Rest<'a> {
         turns: u64,
         body: &'a [Statement],
     ) -> Result<(), AllocError>
-        ensures rest { OnOk result (remains self.new (contents kept.new).after ≡ turns_left span.now turns body.now (remains self.old (contents kept.old).after)) }
+        ensures rest { OnOk result
+            (remains self.new (contents kept.new).after ≡ turns_left span.now turns body.now (remains self.old (contents kept.old).after)) }
         ensures others { OnOk result (contents kept.new ≡ record (contents kept.old) { after = (contents kept.new).after }) }
     {
         if turns == 0 {

@@ -35,7 +35,8 @@ pub record Follows (p : List Filter) (m : Moment) (x : Transition) (s : Step) (w
   pub events_are : s.events ≡ events
 
 -- the same step, and the least violation of rules that it breaks
-pub record IsJudgedBy (p : List Filter) (m : Moment) (x : Transition) (w : World) (events : List Event) (rule : Option Violation) : Type 0 where
+pub record IsJudgedBy (p : List Filter) (m : Moment) (x : Transition) (w : World) (events : List Event)
+    (rule : Option Violation) : Type 0 where
   pub step : Step
   pub follows : Follows p m x step w events
   pub least : rule ≡ first_of of_rules p m step

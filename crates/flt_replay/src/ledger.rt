@@ -314,7 +314,8 @@ impl Ledger {
         touched: &mut Vec<usize>,
         kept: &mut Kept,
     ) -> Result<bool, AllocError>
-        ensures stale { IfOk result (λ fresh. fresh ≡ false → (t : List Event) → spec.Tells t self.old → rules.is_fresh world.now t event ≡ false) }
+        ensures stale { IfOk result
+            (λ fresh. fresh ≡ false → (t : List Event) → spec.Tells t self.old → rules.is_fresh world.now t event ≡ false) }
         ensures taken { IfOk result (λ fresh. fresh ≡ true → (t : List Event) → spec.Tells t self.old → spec.IsCounted self.old →
             spec.Taken world.now t event self.old self.new touched.old.items touched.new.items
             kept.old.tight kept.old.once kept.new.tight kept.new.once) }

@@ -247,7 +247,8 @@ impl<'b, 'a> Scene<'b, 'a> {
 impl<'b, 'a> Scene<'b, 'a> {
     /// Whether a call isn't made above its greatest level.
     fn is_low_enough(&self, greatest: Level) -> bool
-        ensures { result ≡ not (places.is_above (level_at (program.filter_at self.now.stack.now (actor_at (before self.now) self.now.activation).filter)
+        ensures { result ≡
+            not (places.is_above (level_at (program.filter_at self.now.stack.now (actor_at (before self.now) self.now.activation).filter)
             (actor_at (before self.now) self.now.activation).place (activation_at (before self.now) self.now.activation).locks) greatest) }
     {
         !self.level().is_above(greatest)
@@ -298,12 +299,15 @@ impl<'b, 'a> Scene<'b, 'a> {
     #[inline(always)]
     fn also_call(&self, call: Call, kept: &mut Kept)
         ensures statuses { (t : List Event) →
-            kept.new.statuses ≡ (kept.old.statuses && spec.is_legal self.now.stack.now (before self.now) t (Called self.now.activation call)) }
+            kept.new.statuses ≡ (kept.old.statuses && spec.is_legal self.now.stack.now (before self.now) t
+            (Called self.now.activation call)) }
         ensures levels { (t : List Event) →
-            kept.new.levels ≡ (kept.old.levels && spec.is_low_enough self.now.stack.now (before self.now) t (Called self.now.activation call)) }
+            kept.new.levels ≡ (kept.old.levels && spec.is_low_enough self.now.stack.now (before self.now) t
+            (Called self.now.activation call)) }
         ensures locks { kept.new.locks ≡ kept.old.locks }
         ensures places { (t : List Event) →
-            kept.new.places ≡ (kept.old.places && spec.is_in_place self.now.stack.now (before self.now) t (Called self.now.activation call)) }
+            kept.new.places ≡ (kept.old.places && spec.is_in_place self.now.stack.now (before self.now) t
+            (Called self.now.activation call)) }
     {
         let row = row(call);
         kept.statuses &= self.may_pend(call);

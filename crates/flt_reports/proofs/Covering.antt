@@ -110,7 +110,8 @@ module _ (shown : List Shown) where
         (λ t at. (suc at.0, omega (arith, at.1), at.2)) (placed (n + 1) fs),
   )
 
-  found_in : (n : ℕ) (fs : List Finding) (k : ℕ) (f : Finding) → slice_get fs k ≡ Some f → In (traced (n + k) f shown) (traced_from n fs shown)
+  found_in : (n : ℕ) (fs : List Finding) (k : ℕ) (f : Finding) →
+      slice_get fs k ≡ Some f → In (traced (n + k) f shown) (traced_from n fs shown)
   found_in n [] k f is = absurd (cc)
   found_in n (e ∷ fs) zero f is =
       let same : n ≡ n + 0 = omega arith in
@@ -195,7 +196,8 @@ led (turn ∷ turns) (x ∷ xs) enough up t (inr there) =
       akin = akin_like x t e;
     }
     by_test false e on =
-        later t (group x (filter (is_like x) xs)) (groups_in turns (filter (is_unlike x) xs)) (on (stays (is_unlike x) xs t there (ap not e)))
+        later t (group x (filter (is_like x) xs)) (groups_in turns (filter (is_unlike x) xs))
+        (on (stays (is_unlike x) xs t there (ap not e)))
 
 -- ---- the numbers of the groups' firsts
 
@@ -209,6 +211,7 @@ within [] k x is = absurd (cc)
 within (y ∷ ys) zero x is = omega arith
 within (y ∷ ys) (suc k) x is = let rest = within ys k x is in omega (arith, rest)
 
+-- the first findings of the groups are those to which all others are akin
 pub are_firsts : (found : List Finding) (shown : List Shown) → AreFirsts found (map number_of (groups_of (traced_from 0 found shown)))
 are_firsts found shown = record {
   rise = rising xs xs (ascending shown 0 found);

@@ -21,6 +21,7 @@ one_more R (z ∷ xs) (w ∷ ys) zero x y less is all new = absurd all
 one_more R (z ∷ xs) [] (suc i) x y less is all new = absurd all
 one_more R (z ∷ xs) (w ∷ ys) (suc i) x y less is all new = (all.0, one_more R xs ys i x y (omega (arith, less)) is all.1 new)
 
+-- one more report is that of the next group
 pub one_report_more : (R : Group → Report → Type 0) (groups : List Group) (i : ℕ) (one : Group) (r : Report) (all more : List Report) →
     i < length groups → one ≡ get_or groups i one → AllZip R (take i groups) all → R one r → more ≡ all ++ r ∷ [] →
     AllZip R (take (i + 1) groups) more

@@ -69,10 +69,12 @@ teardown_follows p w altitude m next = comes_in p w _ altitude _ m next
 
 -- ---- what the calls answer
 
+-- an operation's next move is none that callers ask for
 pub own_following : (p : List Filter) (w : World) (serial : ℕ) (o : Option Move) → o ≡ next_of p w serial → IfSome o IsFollowing
 own_following p w serial None same = tt
 own_following p w serial (Some m) same = own_follows p w serial m (sym same)
 
+-- a teardown's next move is none that callers ask for
 pub teardown_following : (p : List Filter) (w : World) (altitude : ℕ) (o : Option Move) → ComesNextOf p w altitude o → IfSome o IsFollowing
 teardown_following p w altitude None next = tt
 teardown_following p w altitude (Some m) next = teardown_follows p w altitude m next

@@ -18,6 +18,7 @@ no_standing : (b : Situation) (a : ℕ) (o : Option Standing) → option_map (fr
 no_standing b a None same = refl
 no_standing b a (Some s) same = absurd (cc)
 
+-- the turn of an activation that has no standing ends, and changes nothing
 pub has_ended : (l : Loaded) (b : Situation) (c : Choices) (a : ℕ) (stays : Bool) (named : List Subject) →
     option_map (frame_of b a) (standing_of b a) ≡ None → stays ≡ false → named ≡ [] → HasGone l b b c c a stays named
 has_ended l b c a stays named none goes nothing =
@@ -35,6 +36,7 @@ module _ (b : Situation) (a : ℕ) (advanced : Advanced) where
         draining = subst (λ (f : Frame). (actor_of b f.activation).draining ≡ f.draining) frame refl;
       }
 
+  -- a frame that was just taken is fresh
   pub is_fresh : option_map (frame_of b a) (standing_of b a) ≡ Some advanced.frame → IsFresh b advanced
   is_fresh same = as_taken (standing_of b a) refl same
 
@@ -45,6 +47,7 @@ number_of b a advanced None same = absurd (cc)
 number_of b a advanced (Some s) same =
     let frame : frame_of b a s ≡ advanced.frame = cc in subst (λ (f : Frame). f.activation ≡ a) frame refl
 
+-- a turn that commits a step leads to the board after it, and names what follows
 pub has_gone : (l : Loaded) (b later : Situation) (c d : Choices) (a : ℕ) (advanced : Advanced) (grant : Bool) (events : List Event)
     (named : List Subject) → Takes l b a advanced → grant ≡ is_granted c → Now l b (λ p m. Commits p b later advanced grant events m) →
     d ≡ counted c (leaves_choice_at (instruction_for l advanced)) → named ≡ after_go l.altitudes b.store later.store
@@ -54,6 +57,7 @@ has_gone l b later c d a advanced grant events named takes same commits counts n
     subst (λ (n : List Subject). HasGone l b later c d a false n) (sym (names ∙ ap (λ (n : ℕ). named_by_step l b later n) number))
     (went advanced takes (events, subst (λ (g : Bool). Now l b (λ p m. Commits p b later advanced g events m)) same commits) counts)
 
+-- a turn that is blocked changes nothing and is taken again
 pub has_waited : (l : Loaded) (b later : Situation) (c : Choices) (a : ℕ) (advanced : Advanced) (grant stays : Bool)
     (named : List Subject) → Takes l b a advanced → grant ≡ is_granted c → IsBlocked l b advanced grant → later ≡ b → stays ≡ true →
     named ≡ [] → HasGone l b later c c a stays named

@@ -42,7 +42,9 @@ zipped_at R (a ∷ xs) [] k x all e = absurd all
 zipped_at R (a ∷ xs) (b ∷ ys) zero x all e = let same : a ≡ x = cc in subst (λ z. R z b) same all.0
 zipped_at R (a ∷ xs) (b ∷ ys) (suc k) x all e = zipped_at R xs ys k x all.1 e
 
-pub found_by : {V : Type 0} (items : V → List Answer) (p : List Filter) (found : List Suspect) (goals seen : List Goal) (r : Result V AllocError) →
+-- answers for the goals of findings are answers for the findings
+pub found_by : {V : Type 0} (items : V → List Answer) (p : List Filter) (found : List Suspect) (goals seen : List Goal)
+    (r : Result V AllocError) →
     seen ≡ goals → AllZip IsGoalFor found goals → IfOk r (λ a. AreAnswers p seen (items a)) → IfOk r (λ a. AreFound p found (items a))
 found_by items p found goals seen (Ok a) same meant are =
     λ k s is. zipped_at (λ (s : Suspect) a. IsFoundFor p s.finding a) found (items a) k s
@@ -56,12 +58,15 @@ together_for trees n s (Breaks b) may is = (is, may)
 together_for trees n s NotWithin may is = tt
 together_for trees n s Cut may is = tt
 
-each_together : (trees : List Tree) (n : ℕ) (s : Suspect) (o : Option Answer) → MayMeet trees n → IfSome o (IsFoundFor (filters_of trees) s.finding) →
+each_together : (trees : List Tree) (n : ℕ) (s : Suspect) (o : Option Answer) →
+    MayMeet trees n → IfSome o (IsFoundFor (filters_of trees) s.finding) →
     IfSome o (IsTogetherFor trees n s.finding)
 each_together trees n s (Some b) may has = together_for trees n s b may has
 each_together trees n s None may has = tt
 
-pub together_by : {V : Type 0} (items : V → List Answer) (trees : List Tree) (n : ℕ) (found : List Suspect) (r : Result V AllocError) → MayMeet trees n →
+-- answers for findings of filters that may meet are answers for them together
+pub together_by : {V : Type 0} (items : V → List Answer) (trees : List Tree) (n : ℕ) (found : List Suspect) (r : Result V AllocError) →
+    MayMeet trees n →
     IfOk r (λ a. AreFound (filters_of trees) found (items a)) → IfOk r (λ a. AreTogether trees n found (items a))
 together_by items trees n found (Ok a) may are =
     λ k s is. each_together trees n s (slice_get (items a) k) may (are k s is)
@@ -73,7 +78,8 @@ found_of trees n f NotWithin is = tt
 found_of trees n f Cut is = tt
 
 -- what runs of all filters have is a run of them
-pub together_found : (trees : List Tree) (n : ℕ) (f : Finding) (a : Option (Bor Answer)) → IsTogetherBy trees n f a → IsFoundBy (filters_of trees) f a
+pub together_found : (trees : List Tree) (n : ℕ) (f : Finding) (a : Option (Bor Answer)) →
+    IsTogetherBy trees n f a → IsFoundBy (filters_of trees) f a
 together_found trees n f (Some b) is = found_of trees n f b.now is
 together_found trees n f None is = tt
 
@@ -81,7 +87,8 @@ may_of : (trees : List Tree) (n : ℕ) (f : Finding) (a : Answer) (b : Broken) �
 may_of trees n f a b is together = (subst (IsTogetherFor trees n f) is together).1
 
 -- and they may meet then
-pub together_meets : (trees : List Tree) (n : ℕ) (f : Finding) (a : Option (Bor Answer)) (o : Bor Answer) (b : Broken) → a ≡ Some o → o.now ≡ Breaks b →
+pub together_meets : (trees : List Tree) (n : ℕ) (f : Finding) (a : Option (Bor Answer)) (o : Bor Answer) (b : Broken) →
+    a ≡ Some o → o.now ≡ Breaks b →
     IsTogetherBy trees n f a → MayMeet trees n
 together_meets trees n f a o b there is together = may_of trees n f o.now b is (subst (IsTogetherBy trees n f) there together)
 
@@ -98,7 +105,9 @@ step R (z ∷ xs) (w ∷ ys) zero x y less is all new = absurd all
 step R (z ∷ xs) [] (suc i) x y less is all new = absurd all
 step R (z ∷ xs) (w ∷ ys) (suc i) x y less is all new = (all.0, step R xs ys i x y (omega (arith, less)) is all.1 new)
 
-pub one_more : {A B : Type 0} (R : A → B → Type 0) (xs : List A) (ys more : List B) (i : ℕ) (x : A) (y : B) → i < length xs → x ≡ get_or xs i x →
+-- one more pair is in a relation with those before it
+pub one_more : {A B : Type 0} (R : A → B → Type 0) (xs : List A) (ys more : List B) (i : ℕ) (x : A) (y : B) →
+    i < length xs → x ≡ get_or xs i x →
     AllZip R (take i xs) ys → R x y → more ≡ ys ++ y ∷ [] → AllZip R (take (i + 1) xs) more
 one_more R xs ys more i x y less is all new after =
     let next : i + 1 ≡ suc i = omega arith in

@@ -54,7 +54,8 @@ AreFound p found answers =
 
 -- the journal breaks, by its last entry, something that the finding's rule prevents. That nothing hands a context is said exactly where
 -- `arg` is held where it mustn't be, and nothing ever gives it one. That nothing starts the callback is said only where no run starts it,
--- whatever other filters take part; that nothing sets a context which is asked for on each path to what is found, only where that is so. Where no run was found nothing is claimed.
+-- whatever other filters take part; that nothing sets a context which is asked for on each path to what is found, only where that is so.
+-- Where no run was found nothing is claimed.
 abbrev pub IsSchedule : List Filter → List Callback → Graph → Finding → Schedule → Type 0
 IsSchedule p cs g f (schedule.Breaks b) = IsFound p (violations_of f.rule) b × (is_without_hand_over g f ≡ false)
 IsSchedule p cs g f schedule.NeverHanded = is_without_hand_over g f ≡ true

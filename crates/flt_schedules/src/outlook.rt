@@ -124,7 +124,8 @@ impl Surveyed {
 
     /// Whether a finding holds in no possible state.
     fn excludes(&self, finding: &Finding) -> bool
-        ensures { result ≡ spec.is_fine_for finding.now.rule finding.now.subject (spec.at self.now.rows finding.now.callback finding.now.point) }
+        ensures { result ≡ spec.is_fine_for finding.now.rule finding.now.subject
+            (spec.at self.now.rows finding.now.callback finding.now.point) }
     {
         let set = at(self.rows.as_slice(), finding.callback, finding.point);
         is_fine_for(finding.rule, finding.subject, set)

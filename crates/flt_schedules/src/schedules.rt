@@ -264,7 +264,8 @@ fn searched_alone<W: SearchWatch>(
     states: u32,
     watched: &mut Watched<'_, W>,
 ) -> Result<Vec<Answer>, AllocError>
-    ensures { IfOk result (λ found. spec.AreFound (filters_of (spec.only trees.now suspects.now.filter)) suspects.now.found.now found.items) }
+    ensures { IfOk result
+        (λ found. spec.AreFound (filters_of (spec.only trees.now suspects.now.filter)) suspects.now.found.now found.items) }
 {
     let left = if together.is_empty() {
         states
@@ -337,7 +338,8 @@ fn outcomes_by(
     requires started { spec.IsStartedOf (spec.callbacks_of trees.now suspects.now.filter) started }
     requires together { spec.AreTogether trees.now suspects.now.filter suspects.now.found.now together.now }
     requires alone { spec.AreFound (filters_of (spec.only trees.now suspects.now.filter)) suspects.now.found.now alone.now }
-    ensures { IfOk result (λ all. spec.AreOutcomes trees.now suspects.now.filter suspects.now.outlook.now suspects.now.found.now all.items) }
+    ensures { IfOk result
+        (λ all. spec.AreOutcomes trees.now suspects.now.filter suspects.now.outlook.now suspects.now.found.now all.items) }
 {
     let mut all = Vec::new(alloc);
     for (place, suspect) in suspects.found.iter().enumerate() {
@@ -374,7 +376,8 @@ pub fn outcomes_among<W: SearchWatch>(
     states: u32,
     watch: &mut W,
 ) -> Result<Vec<Outcome>, AllocError>
-    ensures { IfOk result (λ all. spec.AreOutcomes trees.now suspects.now.filter suspects.now.outlook.now suspects.now.found.now all.items) }
+    ensures { IfOk result
+        (λ all. spec.AreOutcomes trees.now suspects.now.filter suspects.now.outlook.now suspects.now.found.now all.items) }
 {
     let started = Started::of(alloc, callbacks_of(trees, suspects.filter))?;
     let started = started.as_ref();

@@ -72,5 +72,6 @@ reads_made text left r other fine reads command good behind e =
 pub made_is : (r : Result Move Stop) (made found : Move) → r ≡ Ok made → result_ok r ≡ Some found → found ≡ made
 made_is r made found e h = let same : Some found ≡ Some made = sym h ∙ ap result_ok e in cc
 
+-- a result that is well has a value
 pub made_none : (r : Result Move Stop) (made : Move) → r ≡ Ok made → result_ok r ≡ None → ⊥
 made_none r made e h = let same : None ≡ Some made = sym h ∙ ap result_ok e in cc

@@ -76,6 +76,7 @@ Finds stack found left result new =
     (command : Command) → may_follow stack found command ≡ true → (behind : Text) → left ≡ command_line command ++ behind →
     (result ≡ Some command) × (new ≡ behind)
 
+-- before the first line a script is reached with no commands
 pub at_start : (stack : Stack) (text : Text) → Reached stack text [] text
 at_start stack text = record {
   spelled = refl;
@@ -95,6 +96,7 @@ line_shorter command left new e = go (command_line command) refl
         let parts = length-append (b ∷ line) new in
         omega arith
 
+-- one more line leads to one more command
 pub one_line : (stack : Stack) (text : Text) (found : Commands) (left : Text) (command : Command) (new : Text) →
     Reached stack text found left →
     left ≡ command_line command ++ new → may_follow stack found command ≡ true → Finds stack found left (Some command) new →
@@ -136,10 +138,12 @@ one_line stack text found left command new at line follows finds = record {
 
 -- ---- where reading ends
 
+-- what has bytes isn't empty
 pub some_left : (left : Text) → (length left == 0) ≡ false → left ≢ []
 some_left [] h e = cc
 some_left (b ∷ left) h e = cc
 
+-- what has no bytes is empty
 pub none_left : (left : Text) → (length left == 0) ≡ true → left ≡ []
 none_left left h = nil_from_length left (eqb-true (length left) 0 h)
 
@@ -155,9 +159,11 @@ only_script stack text found at commands good e = by ahead.more ahead.parts ahea
     by [] parts rest = sym (append-nil found) ∙ sym parts
     by (first ∷ more) parts rest = absurd (line_some first (spelling more) (sym rest))
 
+-- a text that is read to its end is the spelling of its commands
 pub whole_script : (stack : Stack) (text : Text) (found : Commands) → Reached stack text found [] → text ≡ spelling found
 whole_script stack text found at = at.spelled ∙ append-nil (spelling found)
 
+-- commands that are reached are a script
 pub is_reached_script : (stack : Stack) (text : Text) (found : Commands) (left : Text) → Reached stack text found left →
     is_script stack found ≡ true
 is_reached_script stack text found left at = at.script

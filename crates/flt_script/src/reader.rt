@@ -55,8 +55,10 @@ fn command_at(text: &mut &[u8]) -> Option<Command>
 /// The command whose line comes next, if it is legal after those before it.
 fn next_command(stack: Option<&[Tree]>, before: &[Command], text: &mut &[u8]) -> Option<Command>
     ensures spelled { IfSome result (λ command. text.old.now ≡ spec.command_line command ++ text.new.now) }
-    ensures follows { IfSome result (λ command. IsTrue (spec.may_follow (option_map (λ trees. filters_of trees.now) stack.entry) before.now command)) }
-    ensures read { (command : Command) → IsTrue (spec.may_follow (option_map (λ trees. filters_of trees.now) stack.entry) before.now command) → (behind : Text) →
+    ensures follows { IfSome result
+        (λ command. IsTrue (spec.may_follow (option_map (λ trees. filters_of trees.now) stack.entry) before.now command)) }
+    ensures read { (command : Command) →
+        IsTrue (spec.may_follow (option_map (λ trees. filters_of trees.now) stack.entry) before.now command) → (behind : Text) →
         text.old.now ≡ spec.command_line command ++ behind → (result ≡ Some command) × (text.new.now ≡ behind) }
 {
     let command = command_at(text)?;
@@ -76,7 +78,8 @@ pub fn read(alloc: Global, stack: Option<&[Tree]>, text: &[u8]) -> Result<Script
     ensures read { (commands : spec.Commands) → IsTrue (spec.is_script (option_map (λ trees. filters_of trees.now) stack.entry) commands) →
         text.now ≡ spec.spelling commands → MatchResult result (λ script. script ≡ commands) (λ e. e ≡ ScriptFault.OutOfMemory) }
     // A fault names the first malformed line.
-    ensures fault { MatchResult result (λ _. Unit {0}) (λ e. spec.IsFaultOf (option_map (λ trees. filters_of trees.now) stack.entry) text.now e) }
+    ensures fault { MatchResult result (λ _. Unit {0})
+        (λ e. spec.IsFaultOf (option_map (λ trees. filters_of trees.now) stack.entry) text.now e) }
 {
     let mut found = Items::new(alloc);
     let mut left = text;

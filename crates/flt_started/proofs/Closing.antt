@@ -25,6 +25,7 @@ module _ (cs : List Callback) (marks : List Bool) (entries : has_entries cs mark
       (and_parts (has_entry cs marks Write) _
       (and_parts (has_entry cs marks Read) _ (and_parts (has_entry cs marks Create) _ entries).1).1).1
 
+  -- marks that pass the tests are a closed set
   pub closed : ((k : ℕ) → is_kept cs marks k ≡ true) → IsClosed cs (is_marked marks)
   closed kept = record {
     pre = λ kind there. implied (has_pre cs kind) (is_marked marks (pre_number cs kind)) (entry kind) there;

@@ -30,11 +30,13 @@ module _ (p : List Filter) (w : World) where
   some_begins : (c : Option Callee) (r s : Step) → To c r → Some r ≡ Some s → To c s
   some_begins c r s h e = let same : r ≡ s = cc in subst (To c) same h
 
-  when_begins : (c : Option Callee) (b : Bool) (o : Option Step) (s : Step) → (o ≡ Some s → To c s) → (if b then o else None) ≡ Some s → To c s
+  when_begins : (c : Option Callee) (b : Bool) (o : Option Step) (s : Step) →
+      (o ≡ Some s → To c s) → (if b then o else None) ≡ Some s → To c s
   when_begins c true o s h e = h e
   when_begins c false o s h e = absurd (cc)
 
-  unless_begins : (c : Option Callee) (b : Bool) (o : Option Step) (s : Step) → (o ≡ Some s → To c s) → (if b then None else o) ≡ Some s → To c s
+  unless_begins : (c : Option Callee) (b : Bool) (o : Option Step) (s : Step) →
+      (o ≡ Some s → To c s) → (if b then None else o) ≡ Some s → To c s
   unless_begins c true o s h e = absurd (cc)
   unless_begins c false o s h e = h e
 
@@ -65,7 +67,8 @@ module _ (p : List Filter) (w : World) where
   lower_begins o Visiting s e = absurd (cc)
   lower_begins o Up s e = absurd (cc)
 
-  post_begins : (o : ℕ) (frame : Frame) (draining : Bool) (route : Route) → To (Some (post_callee p (arrival_at w.store o).kind frame)) (post_of p w o frame draining route)
+  post_begins : (o : ℕ) (frame : Frame) (draining : Bool) (route : Route) →
+      To (Some (post_callee p (arrival_at w.store o).kind frame)) (post_of p w o frame draining route)
   post_begins o frame draining route = record {
     actor = _;
     act = _;
@@ -106,7 +109,8 @@ module _ (p : List Filter) (w : World) where
       some_begins (Some (item_callee item)) (work_of p w i item) s
       (record { actor = _; act = _; actors_are = refl; activations_are = refl; filter_is = refl; body_is = refl }) e
 
-  drain_begins : (f o : ℕ) (frame : Option Frame) (s : Step) → drain_by p w f o frame ≡ Some s → To (option_map (post_callee p (arrival_at w.store o).kind) frame) s
+  drain_begins : (f o : ℕ) (frame : Option Frame) (s : Step) →
+      drain_by p w f o frame ≡ Some s → To (option_map (post_callee p (arrival_at w.store o).kind) frame) s
   drain_begins f o None s e = absurd (cc)
   drain_begins f o (Some frame) s e =
       some_begins (Some (post_callee p (arrival_at w.store o).kind frame)) (post_of p w o frame true _) s (post_begins o frame true _) e
@@ -136,8 +140,8 @@ module _ (p : List Filter) (w : World) where
   make_begins (move.Drain altitude o) s e =
       let f = filter_of p altitude in
       let frame = find (is_frame_of f) (route_at w.store o).frames in
-      when_begins (option_map (post_callee p (arrival_at w.store o).kind) frame) (is_detaching (presence_at w.store f)) (drain_by p w f o frame) s
-      (λ k. drain_begins f o frame s k) e
+      when_begins (option_map (post_callee p (arrival_at w.store o).kind) frame) (is_detaching (presence_at w.store f))
+      (drain_by p w f o frame) s (λ k. drain_begins f o frame s k) e
   make_begins (move.Unlink altitude key) s e =
       let f = filter_of p altitude in
       let x = linked_at w.store (record { filter = f; key = key }) in
@@ -162,10 +166,12 @@ begins h p m (Make x) s e = make_begins p m.world x s e
 begins h p m (Local a) s e = as_many m.world a s.world.activations (h.hidden p m.trace m.world a s e)
 begins h p m (Board a grant) s e = as_many m.world a s.world.activations (h.seen p m.trace m.world a grant s e)
 
+-- a transition that is said to start a callback starts that one
 pub one : Spending → (p : List Filter) (m : Moment) (x : Transition) (s : Step) (c : Callee) → next p m x ≡ Some s →
     starts_callback p m.world x ≡ Some c → Starts p c m.world s.world
 one h p m x s c e is = subst (λ (o : Option Callee). Begins p o m.world s.world) is (begins h p m x s e)
 
+-- a transition that is said to start no callback starts no activation
 pub none : Spending → (p : List Filter) (m : Moment) (x : Transition) (s : Step) → next p m x ≡ Some s →
     starts_callback p m.world x ≡ None → length s.world.activations ≡ length m.world.activations
 none h p m x s e is = subst (λ (o : Option Callee). Begins p o m.world s.world) is (begins h p m x s e)

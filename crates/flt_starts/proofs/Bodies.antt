@@ -25,6 +25,7 @@ module _ (cs : List Callback) (may_start : ℕ → Bool) (at : Place) where
   pub first_within : (s : Statement) (rest : List Statement) → Within (s ∷ rest) → one s ≡ true
   first_within s rest h = (and_parts (one s) (body_within cs may_start at rest) h).0
 
+  -- where statements ask for nothing but what may start, those after the first one do so, too
   pub rest_within : (s : Statement) (rest : List Statement) → Within (s ∷ rest) → Within rest
   rest_within s rest h = (and_parts (one s) (body_within cs may_start at rest) h).1
 
@@ -37,7 +38,8 @@ module _ (cs : List Callback) (may_start : ℕ → Bool) (at : Place) where
   append_within (s ∷ xs) ys h k = cons_within s (xs ++ ys) (first_within s xs h) (append_within xs ys (rest_within s xs h) k)
 
   -- a statement by its kind
-  pub layer_within : (s : Statement) → one s ≡ true → step_within cs may_start at (map-Statement Statement Bool one (out-Statement s)) ≡ true
+  pub layer_within : (s : Statement) → one s ≡ true →
+      step_within cs may_start at (map-Statement Statement Bool one (out-Statement s)) ≡ true
   layer_within s h = sym (fold_out-Statement Bool (step_within cs may_start at) s) ∙ h
 
   -- a `repeat` asks for what its block asks for

@@ -51,6 +51,7 @@ module _ (arrivals later_arrivals : List Arrival) (visits later_visits : List Vi
             (a (get_or visits v no_visit).operation o.arrived).0;
       }
 
+  -- a visit that a filter's activation owns fits its place still after visits and arrivals were added
   pub fits_later : (at : Place) (f v : ℕ) → Owns arrivals visits f v → Fits arrivals visits at v → Fits later_arrivals later_visits at v
   fits_later (place.Pre kind) f v o h =
       let operation_is = ap (λ (x : Visit). x.operation) (g v o.there).1 in

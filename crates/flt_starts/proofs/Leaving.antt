@@ -164,8 +164,8 @@ module _ (q : Setting) (w : World) (k : Kept q w) (a : ℕ) where
         (settled_still q w.store k.store v x (way_of q.filters w.store v (CompletesPre (whose d) v st)) (λ asks own.
         asked_by q (visit_at w.store v).filter (arrival_of w.store v).kind (visit_at w.store v).stage false (Some st)
         (λ pre.
-        of_kind (status_within (callbacks q) q.may_start false (Some st)) (arrival_of w.store v).kind (m (sym o.filter_is ∙ own))) asks own))
-        (on rest h)
+        of_kind (status_within (callbacks q) q.may_start false (Some st)) (arrival_of w.store v).kind
+        (m (sym o.filter_is ∙ own))) asks own)) (on rest h)
 
     complete_to : (d : OperationVariable) (st : Status) (v : Option ℕ) (c : Option (Option ℕ)) → IfSome v Own →
         (own_filter ≡ q.own → plain_within (callbacks q) q.may_start (plain.CompletePendedPreOperation d st) ≡ true) →
@@ -199,6 +199,7 @@ module _ (q : Setting) (w : World) (k : Kept q w) (a : ℕ) where
 
     -- ---- reads
 
+    -- to read a context's value keeps the world as it has to stay
     pub value_read : (m : NumberVariable) (x : Option ℕ) → To (read_value_of w a m rest x)
     value_read m None = goes _ _ same (on rest h)
     value_read m (Some x) = goes _ _ same (on rest h)
@@ -206,14 +207,17 @@ module _ (q : Setting) (w : World) (k : Kept q w) (a : ℕ) where
     put_same : (x value : ℕ) → Same (put_value w.store x value)
     put_same x value = by (is_freed (context_at w.store x))
       where
-        by : (b : Bool) → Same (if b then w.store else record w.store { contexts = set w.store.contexts x (record (context_at w.store x) { value = value }) })
+        by : (b : Bool) → Same (if b then w.store
+            else record w.store { contexts = set w.store.contexts x (record (context_at w.store x) { value = value }) })
         by true = same
         by false = same
 
+    -- to write a context's value keeps the world as it has to stay
     pub value_written : (value : Atom) (x : Option ℕ) → To (write_value_of w a value rest x)
     value_written value None = goes _ _ same (on rest h)
     value_written value (Some x) = goes _ _ (put_same x (atom_value here value)) (on rest h)
 
+    -- to read an operation's file keeps the world as it has to stay
     pub file_read : (m : NumberVariable) (v : Option ℕ) → To (read_file_of w a m rest v)
     file_read m None = goes _ _ same (on rest h)
     file_read m (Some v) = goes _ _ same (on rest h)
@@ -225,6 +229,7 @@ module _ (q : Setting) (w : World) (k : Kept q w) (a : ℕ) where
     tested_by true = g
     tested_by false = r
 
+    -- to test an operation's mode keeps the world as it has to stay
     pub irp_tested : (v : Option ℕ) → To (test_irp_of w a granted refused v)
     irp_tested None = goes _ _ same (on refused r)
     irp_tested (Some v) = goes _ _ same (on _ (tested_by (is_irp (arrival_of w.store v).mode)))
@@ -298,7 +303,8 @@ module _ (q : Setting) (w : World) (k : Kept q w) (a : ℕ) where
         (own_filter ≡ q.own → q.may_start routine ≡ true) →
         Kept q (record w {
           activations = set w.activations a (onward w a granted);
-          store = record w.store { items = w.store.items ++ Some (record { filter = own_filter; routine = routine; visit = v; context = x }) ∷ [] };
+          store = record w.store
+              { items = w.store.items ++ Some (record { filter = own_filter; routine = routine; visit = v; context = x }) ∷ [] };
         })
     item_to routine v x o e m =
         goes _ _
@@ -349,7 +355,8 @@ module _ (q : Setting) (w : World) (k : Kept q w) (a : ℕ) where
   -- ---- returns
 
   -- it ends, and what activations share is this
-  ends_to : (s : Store) → Same s → Kept q (record w { activations = set w.activations a (record here { rest = []; ended = true }); store = s })
+  ends_to : (s : Store) → Same s →
+      Kept q (record w { activations = set w.activations a (record here { rest = []; ended = true }); store = s })
   ends_to s st = goes _ s st (record { owned = (k.runs a).owned; fits = (k.runs a).fits; within = λ own. refl })
 
   module _ (t : List Event) (st : Option Status)
@@ -368,7 +375,8 @@ module _ (q : Setting) (w : World) (k : Kept q w) (a : ℕ) where
     returned_to : (b : Bool) (v : Option ℕ) → answers actor.place ≡ b → operation_in here Data ≡ v → To (returned q.filters t w a st b v)
     returned_to true (Some v) is given =
         ends_to _
-        (settled_still q w.store k.store v (there (named_in here (named_context st))) (way_of q.filters w.store v (Returned st)) (λ asked own.
+        (settled_still q w.store k.store v (there (named_in here (named_context st)))
+        (way_of q.filters w.store v (Returned st)) (λ asked own.
         let mine = (k.runs a).owned 4 v given in
         asked_by q (visit_at w.store v).filter (arrival_of w.store v).kind (visit_at w.store v).stage true st
         (asks actor.place v is ((k.runs a).fits v given) (m (sym mine.filter_is ∙ own))) asked own))

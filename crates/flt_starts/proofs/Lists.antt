@@ -14,9 +14,11 @@ use Rattle.flt_model.specs.World.{Frame}
 abbrev pub Grows : {A : Type 0} → A → List A → List A → Type 0
 Grows d xs ys = (n : ℕ) → n < length xs → (n < length ys) × (get_or ys n d ≡ get_or xs n d)
 
+-- a list that stays has grown by nothing
 pub stays : {A : Type 0} (d : A) (xs : List A) → Grows d xs xs
 stays d xs n h = (h, refl)
 
+-- a list to which an element is pushed has grown
 pub pushed : {A : Type 0} (d : A) (xs : List A) (x : A) → Grows d xs (xs ++ x ∷ [])
 pushed d xs x n h = (omega (arith, length-append xs (x ∷ [])), get_or_append_left xs (x ∷ []) d n h)
 
@@ -75,6 +77,7 @@ last_all P [] x h e = absurd (cc)
 last_all P (y ∷ []) x h e = let equal : y ≡ x = cc in subst P equal (All-head P y [] h)
 last_all P (y ∷ z ∷ frames) x h e = last_all P (z ∷ frames) x (All-tail P y (z ∷ frames) h) e
 
+-- what holds of all frames holds of all but the last
 pub without_last_all : (P : Frame → Type 0) (frames : List Frame) → All P frames → All P (without_last frames)
 without_last_all P [] h = h
 without_last_all P (y ∷ []) h = All-nil P

@@ -84,7 +84,8 @@ is_there s o test x l none h = by (cases_lt o (length s.routes))
 
 -- ---- what activations share, after visits or operations have come
 
-module _ (q : Setting) (arrivals later_arrivals : List Arrival) (visits later_visits : List Visit) (a : Grows no_arrival arrivals later_arrivals)
+module _ (q : Setting) (arrivals later_arrivals : List Arrival) (visits later_visits : List Visit)
+    (a : Grows no_arrival arrivals later_arrivals)
     (g : Grows no_visit visits later_visits) where
   abbrev later : (f v : ℕ) → Owns arrivals visits f v → Owns later_arrivals later_visits f v
   later = owns_later arrivals later_arrivals visits later_visits a g
@@ -130,7 +131,8 @@ arrival_holds q s arrival h =
     let route : Route = record { position = Down 0; frames = []; cancelled = false; outcome = None } in
     record {
       as_many = let before = h.as_many in omega (arith, length-append s.arrivals (arrival ∷ []), length-append s.routes (route ∷ []));
-      framed = push_both (AreFramed q) s.arrivals s.routes arrival no_arrival route no_route h.as_many h.framed (All-nil (Framed q arrival));
+      framed = push_both (AreFramed q) s.arrivals s.routes arrival no_arrival route no_route h.as_many h.framed
+          (All-nil (Framed q arrival));
       waiting = λ f. waits_later q s.arrivals (s.arrivals ++ arrival ∷ []) s.visits s.visits a g f (get_or s.queues f []) (h.waiting f);
       queued = λ i. queued_later q s.arrivals (s.arrivals ++ arrival ∷ []) s.visits s.visits a g (get_or s.items i None) (h.queued i);
     }
@@ -196,7 +198,8 @@ module _ (q : Setting) (w : World) (k : Kept q w) where
     given_owned given is (suc (suc zero)) v e = absurd (cc)
     given_owned given is (suc (suc (suc zero))) v e = absurd (cc)
     given_owned None is (suc (suc (suc (suc zero)))) v e = absurd (cc)
-    given_owned (Some u) is (suc (suc (suc (suc zero)))) v e = let equal : u ≡ v = cc in subst (Owns s.arrivals s.visits actor.filter) equal is.0
+    given_owned (Some u) is (suc (suc (suc (suc zero)))) v e = let equal : u ≡ v = cc in
+        subst (Owns s.arrivals s.visits actor.filter) equal is.0
     given_owned given is (suc (suc (suc (suc (suc d))))) v e = absurd (cc)
 
     given_fits : (given : Option ℕ) → Given given → (v : ℕ) → given ≡ Some v → Fits s.arrivals s.visits actor.place v
@@ -207,7 +210,8 @@ module _ (q : Setting) (w : World) (k : Kept q w) where
         Kept q (record { actors = w.actors ++ actor ∷ []; activations = w.activations ++ starting body given arg ∷ []; store = s })
     begins given arg is m = record {
       store = h;
-      as_many = let before = k.as_many in omega (arith, length-append w.actors (actor ∷ []), length-append w.activations (starting body given arg ∷ []));
+      as_many = let before = k.as_many in
+          omega (arith, length-append w.actors (actor ∷ []), length-append w.activations (starting body given arg ∷ []));
       runs = push_both (Runs q s.arrivals s.visits) w.actors w.activations actor no_actor (starting body given arg) nobody k.as_many
           (λ b. runs_later q w.store.arrivals s.arrivals w.store.visits s.visits a g (actor_at w b) (activation_at w b) (k.runs b))
           (record { owned = given_owned given is; fits = given_fits given is; within = m });
@@ -240,7 +244,8 @@ module _ (q : Setting) (w : World) (k : Kept q w) where
       let visiting = record w.store { routes = set w.store.routes o (record (route_at w.store o) { position = Visiting }) } in
       let there = is_there w.store o (λ (r : Route). down r.position) f k.store.as_many refl (ap down at) in
       begins (with_visit visiting visit) (stays no_arrival w.store.arrivals) (pushed no_visit w.store.visits visit)
-      (visit_holds q visiting visit (route_still q w.store k.store o (record (route_at w.store o) { position = Visiting }) (k.store.framed o)).2)
+      (visit_holds q visiting visit
+      (route_still q w.store k.store o (record (route_at w.store o) { position = Visiting }) (k.store.framed o)).2)
       (record { filter = f; place = place.Pre kind; draining = false }) (body_for (is_pre_of kind) (callbacks_at q.filters f))
       (Some (length w.store.visits)) None (
         visit_owned w.store.arrivals w.store.visits visit there,
@@ -366,6 +371,7 @@ module _ (q : Setting) (w : World) (k : Kept q w) where
   present : (presences : List Presence) → Kept q (record w { store = record w.store { presences = presences } })
   present presences = shared _ (stays no_arrival w.store.arrivals) (stays no_visit w.store.visits) k.store
 
+  -- each move keeps a world as it has to stay
   pub make_stays : (x : Move) (s : Step) → make q.filters w x ≡ Some s → Stays s
   make_stays (Arrive kind mode file) s e =
       let arrival : Arrival = record { kind = kind; mode = mode; file = file } in

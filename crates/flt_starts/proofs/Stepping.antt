@@ -57,9 +57,11 @@ module _ (q : Setting) (w : World) (k : Kept q w) (a : ℕ) where
 
   module _ (asked : Condition) (granted refused : List Statement)
       (l : actor.filter ≡ q.own → (condition_within (callbacks q) q.may_start asked &&
-      (body_within (callbacks q) q.may_start actor.place granted && body_within (callbacks q) q.may_start actor.place refused)) ≡ true) where
+      (body_within (callbacks q) q.may_start actor.place granted && body_within (callbacks q) q.may_start actor.place refused)) ≡
+      true) where
     choice : actor.filter ≡ q.own → (condition_within (callbacks q) q.may_start asked ≡ true) ×
-        (body_within (callbacks q) q.may_start actor.place granted ≡ true) × (body_within (callbacks q) q.may_start actor.place refused ≡ true)
+        (body_within (callbacks q) q.may_start actor.place granted ≡ true) ×
+        (body_within (callbacks q) q.may_start actor.place refused ≡ true)
     choice own =
         choice_within (callbacks q) q.may_start actor.place (condition_within (callbacks q) q.may_start asked)
         (body_within (callbacks q) q.may_start actor.place granted) (body_within (callbacks q) q.may_start actor.place refused) (l own)
@@ -116,7 +118,8 @@ module _ (q : Setting) (w : World) (k : Kept q w) (a : ℕ) where
         (appended refused rest (refused_asks asked granted refused l) h) grant asked s (condition_asks asked granted refused l) e
     statement_stays rest grant (Statement-F.Repeat span turns block) s l h e = absurd (cc)
 
-    list_stays : (list : List Statement) (grant : Bool) (s : Step) → Remaining list → list_step q.filters t w a list grant ≡ Some s → Stays s
+    list_stays : (list : List Statement) (grant : Bool) (s : Step) →
+        Remaining list → list_step q.filters t w a list grant ≡ Some s → Stays s
     list_stays [] grant s h e =
         when_stays grant (Some (returns q.filters t w a None)) s
         (λ is.

@@ -96,6 +96,7 @@ module _ (q : Setting) where
     pub still : Still s
     still = (refl, refl, h)
 
+    -- a route may be replaced by one whose frames keep to the callbacks that may start
     pub route_still : (o : ℕ) (r : Route) → AreFramed q (arrival_at s o) r → Still (with_route s o r)
     route_still o r k = (
       refl,
@@ -108,6 +109,7 @@ module _ (q : Setting) where
       },
     )
 
+    -- a queue may be replaced by one whose entries all wait for callbacks that may start
     pub queue_still : (g : ℕ) (queue : List Entry) → All (Waits q s.arrivals s.visits g) queue → Still (with_queue s g queue)
     queue_still g queue k = (
       refl,
@@ -120,9 +122,11 @@ module _ (q : Setting) where
       },
     )
 
+    -- an entry that waits for a callback that may start may come to a queue
     pub entry_still : (g : ℕ) (e : Entry) → Waits q s.arrivals s.visits g e → Still (with_queue s g (queue_at s g ++ e ∷ []))
     entry_still g e k = queue_still g (queue_at s g ++ e ∷ []) (All-push (Waits q s.arrivals s.visits g) (queue_at s g) e (h.waiting g) k)
 
+    -- a work item whose routine may start may be queued
     pub item_still : (item : Item) → Queued q s.arrivals s.visits item → Still (record s { items = s.items ++ Some item ∷ [] })
     item_still item k = (
       refl,
@@ -135,6 +139,7 @@ module _ (q : Setting) where
       },
     )
 
+    -- a work item may be taken out when it starts
     pub started_still : (i : ℕ) → Still (record s { items = set s.items i None })
     started_still i = (
       refl,
@@ -173,6 +178,7 @@ module _ (q : Setting) where
               (led_framed (visit_at s v).filter x way (arrival_at s o) (route_at s o) m (h.framed o))
           by false = still
 
+      -- a visit may be settled
       pub settled_still : Still (settled_by s v x way)
       settled_still = by (settles_visit way)
         where

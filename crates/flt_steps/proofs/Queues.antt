@@ -17,6 +17,7 @@ use Rattle.flt_world.specs.Happening.{later, Happened}
 -- of a world, the one where the entry is out, and the one after the step; and of the events before the call, with it, and in all
 module _ {T E : Type 0} (r : Result T E) (w v x : World) (a f : ℕ) (o : RemovedVariable) (d : ContextVariable)
     (granted refused : List Statement) (t middle events : List Event) where
+  -- an empty queue gives nothing
   pub nothing_removed : f ≡ (actor_at w a).filter → queue_at w.store f ≡ [] → v ≡ w → middle ≡ t ++ Call a RemoveNextIo ∷ [] →
       OnOk r (Happened x middle events (gives_entry v a o d (refused ++ later v a) None)) →
       OnOk r (Happened x t events (remove_next w a o d (granted ++ later w a) (refused ++ later w a)))
@@ -24,6 +25,7 @@ module _ {T E : Type 0} (r : Result T E) (w v x : World) (a f : ℕ) (o : Remove
       rw (rw same at none) (on_ok_weaker r (λ h. (h.0, cc (h.1, append_assoc t (Call a RemoveNextIo ∷ []) [])))
       (rw (kept, pushed) at happened))
 
+  -- a queue gives its front entry
   pub entry_removed : (e : Entry) (left : List Entry) → f ≡ (actor_at w a).filter → queue_at w.store f ≡ e ∷ left →
       v ≡ record w { store = with_queue w.store f left } → middle ≡ t ++ Call a RemoveNextIo ∷ [] →
       OnOk r (Happened x middle events (gives_entry v a o d (granted ++ later v a) (Some e))) →

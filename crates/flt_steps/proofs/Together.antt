@@ -103,6 +103,7 @@ came n w a act new draining false within is goes_on flag made =
     let here : local_steps (actor_at w a).draining n (activation_at w a) ≡ None = rw (is, flag) made in
     together n a w within (ap (λ (x : Activation). x.ended) is ∙ goes_on) ∙ ap (option_map (with_act w a)) here
 
+-- local steps of an activation by itself are local steps in its world
 pub made_together : {E : Type 0} (r : Result Bool E) (n : ℕ) (w x : World) (a : ℕ) (act new : Activation) (draining : Bool) →
     a < length w.activations → activation_at w a ≡ act → act.ended ≡ false → (actor_at w a).draining ≡ draining →
     x ≡ with_act w a new → IfOk r (λ local. local_steps draining n act ≡ (if local then Some new else None)) →

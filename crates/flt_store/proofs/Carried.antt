@@ -33,16 +33,19 @@ context_there cs x = get_or-map context_of cs x ctx.no_context
 -- one context is changed
 changed : (f : ctx.Context → ctx.Context) (g : Context → Context) → ((c : ctx.Context) → context_of (f c) ≡ g (context_of c)) →
     (s : Store) (t : ctx.ContextTable) (x : ℕ) →
-    with_contexts s (ctx.with_context t x (f (ctx.context_at t x))) ≡ with_context (with_contexts s t) x (g (context_at (with_contexts s t) x))
+    with_contexts s (ctx.with_context t x (f (ctx.context_at t x))) ≡
+    with_context (with_contexts s t) x (g (context_at (with_contexts s t) x))
 changed f g same s t x =
     ap (λ (cs : List Context). record s { contexts = cs }) (map-set context_of t.contexts x (f (ctx.context_at t x))
     ∙ ap (λ (c : Context). set (map context_of t.contexts) x c) (same (ctx.context_at t x) ∙ ap g (sym (context_there t.contexts x))))
 
+-- a reference that is added among the contexts is added in the machine's store
 pub add_carried : (s : Store) (t : ctx.ContextTable) (x : ℕ) →
     with_contexts s (ctx.add_reference t x) ≡ add_reference (with_contexts s t) x
 add_carried s t x = changed (λ c. record c { references = if ctx.is_freed c then 0 else c.references + 1 })
     (λ c. record c { references = if is_freed c then 0 else c.references + 1 }) (λ c. refl) s t x
 
+-- a reference that is dropped among the contexts is dropped in the machine's store
 pub drop_carried : (s : Store) (t : ctx.ContextTable) (x : ℕ) →
     with_contexts s (ctx.drop_reference t x) ≡ drop_reference (with_contexts s t) x
 drop_carried s t x =
@@ -58,6 +61,7 @@ write_by : (s : Store) (t : ctx.ContextTable) (x value : ℕ) (b : Bool) →
 write_by s t x value true = refl
 write_by s t x value false = changed (λ c. record c { value = value }) (λ c. record c { value = value }) (λ c. refl) s t x
 
+-- a value that is put among the contexts is put in the machine's store
 pub write_carried : (s : Store) (t : ctx.ContextTable) (x value : ℕ) →
     with_contexts s (ctx.put_value t x value) ≡ put_value (with_contexts s t) x value
 write_carried s t x value =
@@ -68,6 +72,7 @@ write_carried s t x value =
 
 -- ---- links
 
+-- a link that is taken among the contexts is taken in the machine's store
 pub unlink_carried : (s : Store) (t : ctx.ContextTable) (x : ℕ) (old : Option ContextVariable) →
     with_contexts s (ctx.after_unlink t x (is_some old)) ≡ after_unlink (with_contexts s t) x old
 unlink_carried s t x None =
@@ -84,6 +89,7 @@ abbrev pub after_link : ctx.ContextTable → ℕ → at.Key → Option ℕ → B
 after_link t x k None wanted = ctx.put_link t x k
 after_link t x k (Some y) wanted = ctx.put_link (ctx.after_unlink t y wanted) x k
 
+-- a link that is put, over another one or over none, is the one after the call
 pub link_made : (t new : ctx.ContextTable) (x : ℕ) (k : at.Key) (over : Option ℕ) (wanted : Bool) → ctx.linked_at t k ≡ over →
     (ctx.linked_at t k ≡ None → new ≡ ctx.put_link t x k) →
     ((y : ℕ) → ctx.linked_at t k ≡ Some y → new ≡ ctx.put_link (ctx.after_unlink t y wanted) x k) → new ≡ after_link t x k over wanted
@@ -91,13 +97,16 @@ link_made t new x k None wanted is none some = none is
 link_made t new x k (Some y) wanted is none some = some y is
 
 -- no filter is closed by it
-pub closed_same : (t : ctx.ContextTable) (x : ℕ) (k : at.Key) (over : Option ℕ) (wanted : Bool) → (after_link t x k over wanted).closed ≡ t.closed
+pub closed_same : (t : ctx.ContextTable) (x : ℕ) (k : at.Key) (over : Option ℕ) (wanted : Bool) →
+    (after_link t x k over wanted).closed ≡ t.closed
 closed_same t x k None wanted = refl
 closed_same t x k (Some y) true = refl
 closed_same t x k (Some y) false = refl
 
+-- a link that is put over another one among the contexts is put so in the machine's store
 pub link_over_carried : (s : Store) (t : ctx.ContextTable) (x : ℕ) (k : at.Key) (over : Option ℕ) (old : Option ContextVariable) →
-    with_contexts s (after_link t x k over (is_some old)) ≡ after_change (with_contexts s t) (change.Link x k.filter (key_of k.target) over old)
+    with_contexts s (after_link t x k over (is_some old)) ≡
+    after_change (with_contexts s t) (change.Link x k.filter (key_of k.target) over old)
 link_over_carried s t x k None old = put_carried s t x k
 link_over_carried s t x k (Some y) old =
     put_carried s (ctx.after_unlink t y (is_some old)) x k ∙ ap (λ (r : Store). put_link r x (link_of k)) (unlink_carried s t y old)
@@ -132,6 +141,7 @@ queue_carried s q f es ds is =
     ap (λ (qs : List (List Entry)). record s { queues = qs }) (map-set (map entry_of) q.queues f es
     ∙ ap (λ (l : List Entry). set (map (map entry_of) q.queues) f l) is)
 
+-- an entry that is inserted into a queue is inserted in the machine's store
 pub insert_carried : (s : Store) (q : cbdq.Queueing) (f : ℕ) (e : kept.Entry) →
     with_queues s (cbdq.with_queue q f (cbdq.queue_of q f ++ e ∷ []))
     ≡ with_queue (with_queues s q) f (queue_at (with_queues s q) f ++ entry_of e ∷ [])
@@ -142,6 +152,7 @@ dropped : (q : List kept.Entry) → map entry_of (drop 1 q) ≡ drop 1 (map entr
 dropped [] = refl
 dropped (x ∷ q) = refl
 
+-- the first entry that is taken from a queue is taken in the machine's store
 pub next_carried : (s : Store) (q : cbdq.Queueing) (f : ℕ) →
     with_queues s (cbdq.with_queue q f (drop 1 (cbdq.queue_of q f)))
     ≡ with_queue (with_queues s q) f (drop 1 (queue_at (with_queues s q) f))
@@ -188,6 +199,7 @@ module _ (s : Store) (f o v : ℕ) where
   first_cut [] first = elim first [ ]
   first_cut (e ∷ q) first = cut_by e q (is_entry_of s o (entry_of e)) refl first (first_cut q)
 
+-- the first entry of an operation that is taken from a queue is taken in the machine's store
 pub first_carried : (s : Store) (q : cbdq.Queueing) (f o v : ℕ) →
     IsFirstOf (with_queues s q) f o v (find (is_entry_of (with_queues s q) o) (queue_at (with_queues s q) f)) →
     with_queues s (cbdq.with_queue q f (cbdq.without_first (cbdq.has_visit v) (cbdq.queue_of q f)))

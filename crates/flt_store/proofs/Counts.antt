@@ -17,7 +17,8 @@ count_pushed f [] x = omega arith
 count_pushed f (y ∷ items) x = let rest = count_pushed f items x in omega (arith, rest)
 
 -- one that is gone counts no more
-count_taken : (f : ℕ) (items : List (Option Item)) (i : ℕ) → waiting_of f (set items i None) + counted f (get_or items i None) ≡ waiting_of f items
+count_taken : (f : ℕ) (items : List (Option Item)) (i : ℕ) →
+    waiting_of f (set items i None) + counted f (get_or items i None) ≡ waiting_of f items
 count_taken f [] i = omega arith
 count_taken f (y ∷ items) zero = omega arith
 count_taken f (y ∷ items) (suc i) = let rest = count_taken f items i in omega (arith, rest)
@@ -70,7 +71,8 @@ module _ (items : List (Option Item)) (counts : List ℕ) (x : Item) (o : ℕ) (
         elim (cases_eq o f) [
           | inl same ↦ ap (λ (k : ℕ). get_or (set counts o m) k 0) (sym same) ∙ get_or-set_same counts o m 0 here ∙ own
               ∙ ap (λ (k : ℕ). waiting_of k new) same
-          | inr other ↦ get_or-set_other counts o f m 0 (λ same. other (sym same)) ∙ was f within ∙ sym (others f (λ same. other (sym same)))
+          | inr other ↦ get_or-set_other counts o f m 0 (λ same. other (sym same)) ∙ was f within ∙
+              sym (others f (λ same. other (sym same)))
         ]
 
   here_or : (n : ℕ) → o < length counts → n ≡ get_or counts o n → n ≡ waiting_of o items
@@ -94,7 +96,8 @@ module _ (items : List (Option Item)) (counts : List ℕ) (x : Item) (o : ℕ) (
         let old = here_or n here read in
         let one = of_itself o x (sym of) in
         let own : n + 1 ≡ waiting_of o new = omega (arith, old, one, more o) in
-        recounted new (n + 1) here own (λ f other. let none = of_another f x (λ same. other (sym (of ∙ same))) in omega (arith, none, more f))
+        recounted new (n + 1) here own (λ f other. let none = of_another f x (λ same. other (sym (of ∙ same))) in
+        omega (arith, none, more f))
 
     -- and where it has none
     pub pushed_past : length counts ≤ o → AreCounted new counts

@@ -33,7 +33,8 @@ weaker_by : (a b c d : Bool) → (a ≡ true → b ≡ true) → (c ≡ true →
 weaker_by true b c d here rest is = ap (λ (e : Bool). e || d) (here refl)
 weaker_by false b c d here rest is = ap (λ (e : Bool). b || e) (rest is) ∙ or_true b
 
-any_weaker : {X : Type 0} (p q : X → Bool) → ((x : X) → p x ≡ true → q x ≡ true) → (xs : List X) → list_any p xs ≡ true → list_any q xs ≡ true
+any_weaker : {X : Type 0} (p q : X → Bool) → ((x : X) → p x ≡ true → q x ≡ true) → (xs : List X) →
+    list_any p xs ≡ true → list_any q xs ≡ true
 any_weaker p q passes [] is = is
 any_weaker p q passes (x ∷ xs) is =
     weaker_by (p x) (q x) (list_any p xs) (list_any q xs) (passes x) (any_weaker p q passes xs) is
@@ -55,4 +56,5 @@ pub link_found : (s : Store) (f : ℕ) (r : Option Key) →
 link_found s f None linked none = sym none
 link_found s f (Some k) linked none =
     let test : Context → Bool = λ c. is_linked_to (record { filter = f; key = k }) c.link in
-    sym (any_weaker test (λ (c : Context). is_linked_by f c.link) (λ c. link_by f k c.link) s.contexts (sym (some_position test s.contexts) ∙ linked))
+    sym (any_weaker test (λ (c : Context). is_linked_by f c.link) (λ c. link_by f k c.link) s.contexts
+    (sym (some_position test s.contexts) ∙ linked))

@@ -15,11 +15,13 @@ use Rattle.flt_store.specs.Stores.{AreParts}
 -- no filter is closed, and all are attached
 opened : (n f : ℕ) → get_or (replicate n false) f true ≡ not (is_attached (get_or (replicate n Attached) f Detached))
 opened n f = elim (cases_lt f n) [
-  | inl low ↦ get_or-replicate n f false true low ∙ sym (ap (λ (p : Presence). not (is_attached p)) (get_or-replicate n f Attached Detached low))
+  | inl low ↦ get_or-replicate n f false true low ∙
+      sym (ap (λ (p : Presence). not (is_attached p)) (get_or-replicate n f Attached Detached low))
   | inr past ↦
       let long : length (replicate n false) ≤ f = omega (arith, past, length-replicate n false) in
       let all : length (replicate n Attached) ≤ f = omega (arith, past, length-replicate n Attached) in
-      get_or_past (replicate n false) f true long ∙ sym (ap (λ (p : Presence). not (is_attached p)) (get_or_past (replicate n Attached) f Detached all))
+      get_or_past (replicate n false) f true long ∙
+      sym (ap (λ (p : Presence). not (is_attached p)) (get_or_past (replicate n Attached) f Detached all))
 ]
 
 -- no queue has an entry
@@ -28,6 +30,7 @@ none_queued zero f = refl
 none_queued (suc n) zero = refl
 none_queued (suc n) (suc f) = none_queued n f
 
+-- before the first move all filters are attached, and there is nothing else
 pub fresh_parts : (presences : List Presence) (queues : cbdq.Queueing) (greatest : ℕ) (contexts : ctx.ContextTable) (operations : Operating)
     (holders : List (List (List Holder))) (n : ℕ) → presences ≡ replicate n Attached →
     queues ≡ record { queues = replicate n []; disabled = replicate n false } →

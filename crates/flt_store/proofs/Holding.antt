@@ -15,7 +15,8 @@ abbrev pub is_other : ℕ → Holder → Bool
 is_other a h = not (h.activation == a)
 
 -- an activation that stands nowhere is no holder
-pub none_of : (a : ℕ) (xs : List (Option Holder)) → ((q : ℕ) → is_of a (at_place xs q) ≡ false) → filter (is_other a) (standing xs) ≡ standing xs
+pub none_of : (a : ℕ) (xs : List (Option Holder)) → ((q : ℕ) → is_of a (at_place xs q) ≡ false) →
+    filter (is_other a) (standing xs) ≡ standing xs
 none_of a [] h = refl
 none_of a (None ∷ xs) h = none_of a xs (λ q. h (suc q))
 none_of a (Some x ∷ xs) h =
@@ -144,7 +145,8 @@ past_end [] = refl
 past_end (x ∷ xs) = past_end xs
 
 -- an activation that stands at a place
-pub stands : (xs : List (Option Holder)) (n : List (ℕ × ℕ)) (c k a p : ℕ) → AreNoted xs n c k → Some p ≡ place_in n a → is_of a (at_place xs p) ≡ true
+pub stands : (xs : List (Option Holder)) (n : List (ℕ × ℕ)) (c k a p : ℕ) → AreNoted xs n c k → Some p ≡ place_in n a →
+    is_of a (at_place xs p) ≡ true
 stands xs n c k a p h is = h.there a p ∙ ap (is_place p) (sym is) ∙ eqb_same p
 
 -- stands within the places
@@ -202,7 +204,8 @@ module _ (xs : List (Option Holder)) (n m : List (ℕ × ℕ)) (c k : ℕ) (x : 
       by_tests true own true last =
           let b_is = eq_of _ _ own in
           let q_is = eq_of _ _ last in
-          rw (← q_is) (ap (is_of b) (at_end xs (Some x)) ∙ own ∙ sym (ap (is_place (length xs)) (ap (place_in m) (sym b_is) ∙ here) ∙ eqb_same (length xs)))
+          rw (← q_is) (ap (is_of b) (at_end xs (Some x)) ∙ own ∙
+          sym (ap (is_place (length xs)) (ap (place_in m) (sym b_is) ∙ here) ∙ eqb_same (length xs)))
       by_tests true own false last =
           let b_is = eq_of _ _ own in
           ap (is_of b) (at_other xs (Some x) q (λ e. ne_of _ _ last (sym e))) ∙ h.there b q ∙
@@ -239,9 +242,11 @@ module _ (xs : List (Option Holder)) (n m : List (ℕ × ℕ)) (c k a p : ℕ) (
   pub others_stand : filter (is_other a) (standing xs) ≡ standing (set xs p None)
   others_stand = one_of a xs p only
 
+  -- a holder that leaves its place leaves one holder fewer
   pub count_less : c ≡ suc (length (standing (set xs p None)))
   count_less = h.all ∙ one_less xs p x holds
 
+  -- a holder that leaves its place leaves as many alone as there were, less itself if it was one
   pub alone_less : k ≡ weight x.access + length (filter is_alone (standing (set xs p None)))
   alone_less = h.lone ∙ lone_less xs p x holds
 
@@ -281,6 +286,7 @@ module _ (xs : List (Option Holder)) (n m : List (ℕ × ℕ)) (c k a p : ℕ) (
           lone = let l = less.lone in omega (arith, l, few, empty);
         }
 
+    -- where the count falls to 0, no holder stands
     pub none_stand : (d : ℕ) → d ≡ c - 1 → d ≡ 0 → standing (set xs p None) ≡ []
     none_stand d d_is zero_is = let l = count_less in empty_of (standing (set xs p None)) (omega (arith, l, d_is, zero_is))
       where
@@ -295,6 +301,7 @@ module _ (xs : List (Option Holder)) (n m : List (ℕ × ℕ)) (c k a p : ℕ) (
       ap (λ (i : ℕ). i == 1) l ∙ eqb_suc (length (standing (set xs p None))) 0 ∙ sym (free_split a Exclusive (standing xs) ∙
       ap (list_all (λ (y : Holder). are_compatible Exclusive y.access)) others_stand ∙ free_alone (standing (set xs p None)))
 
+  -- an activation that is the only one alone may share the lock
   pub free_own_shared : (k == weight x.access) ≡ is_free_for a Shared (standing xs)
   free_own_shared =
       ap (λ (i : ℕ). i == weight x.access) alone_less ∙ plus_same (weight x.access) _ ∙ sym (free_split a Shared (standing xs) ∙
@@ -306,14 +313,17 @@ module _ (xs : List (Option Holder)) (n m : List (ℕ × ℕ)) (c k a p : ℕ) (
 -- ---- an activation that doesn't hold the lock
 
 module _ (xs : List (Option Holder)) (n : List (ℕ × ℕ)) (c k a : ℕ) (h : AreNoted xs n c k) (old : None ≡ place_in n a) where
+  -- an activation that has no place leaves all holders others
   pub others_all : filter (is_other a) (standing xs) ≡ standing xs
   others_all = none_of a xs (λ q. h.there a q ∙ ap (is_place q) (sym old))
 
+  -- an activation without a place may hold the lock alone just where nobody holds it
   pub free_new_alone : (c == 0) ≡ is_free_for a Exclusive (standing xs)
   free_new_alone =
       ap (λ (i : ℕ). i == 0) h.all ∙ sym (free_split a Exclusive (standing xs) ∙
       ap (list_all (λ (y : Holder). are_compatible Exclusive y.access)) others_all ∙ free_alone (standing xs))
 
+  -- an activation without a place may share the lock just where nobody holds it alone
   pub free_new_shared : (k == 0) ≡ is_free_for a Shared (standing xs)
   free_new_shared =
       ap (λ (i : ℕ). i == 0) h.lone ∙ sym (free_split a Shared (standing xs) ∙
@@ -321,7 +331,9 @@ module _ (xs : List (Option Holder)) (n : List (ℕ × ℕ)) (c k a : ℕ) (h : 
 
 -- ---- where the holders are walked
 
-pub walk_others : (a : ℕ) (xs : List (Option Holder)) → standing (filter (λ (o : Option Holder). not (is_of a o)) xs) ≡ filter (is_other a) (standing xs)
+-- the holders of the places without an activation's are the other holders
+pub walk_others : (a : ℕ) (xs : List (Option Holder)) →
+    standing (filter (λ (o : Option Holder). not (is_of a o)) xs) ≡ filter (is_other a) (standing xs)
 walk_others a [] = refl
 walk_others a (None ∷ xs) = walk_others a xs
 walk_others a (Some x ∷ xs) = by_test (x.activation == a) refl (walk_others a xs)
@@ -332,6 +344,7 @@ walk_others a (Some x ∷ xs) = by_test (x.activation == a) refl (walk_others a 
     by_test true is rest = rw is rest
     by_test false is rest = rw is (ap (λ (ys : List Holder). x ∷ ys) rest)
 
+-- where each place is free to an activation, the lock is free to it
 pub walk_free : (a : ℕ) (access : Access) (xs : List (Option Holder)) → list_all (is_free a access) xs ≡ is_free_for a access (standing xs)
 walk_free a access [] = refl
 walk_free a access (None ∷ xs) = walk_free a access xs
@@ -357,7 +370,8 @@ stands_so a None is = absurd (cc)
 stands_so a (Some x) is = (x, refl)
 
 -- what is read at a place where the activation stands, whatever is read past the last place
-pub same_place : (a : ℕ) (xs : List (Option Holder)) (p : ℕ) (d : Option Holder) → is_of a (at_place xs p) ≡ true → get_or xs p d ≡ at_place xs p
+pub same_place : (a : ℕ) (xs : List (Option Holder)) (p : ℕ) (d : Option Holder) →
+    is_of a (at_place xs p) ≡ true → get_or xs p d ≡ at_place xs p
 same_place a [] p d so = absurd (cc)
 same_place a (x ∷ xs) zero d so = refl
 same_place a (x ∷ xs) (suc p) d so = same_place a xs p d so

@@ -44,7 +44,8 @@ linked_in : (h : ctx.ContextTable) (f : ℕ) (k : Key) → has_link h (record { 
 linked_in h f k is =
     let here : at.Key = record { filter = f; target = target_of k } in
     let there : is_some (ctx.linked_at h here) ≡ true =
-    sym (ap (λ (o : Option ℕ). is_some o) (linked_there h.contexts here)) ∙ ap (λ (l : Key). has_link h (record { filter = f; key = l })) (back k) ∙ is in
+    sym (ap (λ (o : Option ℕ). is_some o) (linked_there h.contexts here)) ∙
+    ap (λ (l : Key). has_link h (record { filter = f; key = l })) (back k) ∙ is in
     let found = some_is (ctx.linked_at h here) there in
     (found.0, found_key h here found.0 found.1)
 
@@ -61,7 +62,8 @@ module _ (h : ctx.ContextTable) (f : ℕ) where
       (other : Key) → has_link h (record { filter = f; key = other }) ≡ true → order_of r ≤ order_of other
   first_least t r is least other there =
       let found = linked_in h f other there in
-      let before : ctx.order_of t ≤ ctx.order_of (target_of other) = least found.0 (record { filter = f; target = target_of other }) found.1 refl in
+      let before : ctx.order_of t ≤ ctx.order_of (target_of other) =
+      least found.0 (record { filter = f; target = target_of other }) found.1 refl in
       let mine : order_of r ≡ ctx.order_of t = ap order_of is ∙ orders_same t in
       let others : ctx.order_of (target_of other) ≡ order_of other = sym (orders_same (target_of other)) ∙ ap order_of (back other) in
       subst (λ (n : ℕ). n ≤ order_of other) (sym mine) (subst (λ (n : ℕ). ctx.order_of t ≤ n) others before)

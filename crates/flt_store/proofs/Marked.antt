@@ -24,7 +24,8 @@ or_all true = refl
 or_all false = refl
 
 -- before the walk nothing is marked
-pub none_marked : (s : Store) (n : ℕ) (left : List cbdq.Entry) (o : ℕ) → is_marked s (replicate n false) left o ≡ list_any (is_entry_of s o) (map entry_of left)
+pub none_marked : (s : Store) (n : ℕ) (left : List cbdq.Entry) (o : ℕ) →
+    is_marked s (replicate n false) left o ≡ list_any (is_entry_of s o) (map entry_of left)
 none_marked s n left o = ap (λ (b : Bool). b || list_any (is_entry_of s o) (map entry_of left)) (unmarked n o)
   where
     unmarked : (n o : ℕ) → get_or (replicate n false) o false ≡ false
@@ -33,7 +34,8 @@ none_marked s n left o = ap (λ (b : Bool). b || list_any (is_entry_of s o) (map
     unmarked (suc n) (suc o) = unmarked n o
 
 -- after it an operation is marked where it has an entry
-pub all_marked : (s : Store) (marks : List Bool) (left : List cbdq.Entry) (o : ℕ) → None ≡ front_of left → is_marked s marks left o ≡ get_or marks o false
+pub all_marked : (s : Store) (marks : List Bool) (left : List cbdq.Entry) (o : ℕ) →
+    None ≡ front_of left → is_marked s marks left o ≡ get_or marks o false
 all_marked s marks [] o is = or_none (get_or marks o false)
 all_marked s marks (x ∷ left) o is = absurd (cc)
 
@@ -61,10 +63,13 @@ pub one_marked : (s : Store) (marks : List Bool) (left : List cbdq.Entry) (e : c
     (visit_at s e.visit).operation ≡ m → m < length marks → is_marked s (set marks m true) (drop 1 left) o ≡ is_marked s marks left o
 one_marked s marks left e m o is of here = elim (cases_eq m o) [
   | inl same ↦
-      let marked : get_or (set marks m true) o false ≡ true = ap (λ (k : ℕ). get_or (set marks m true) k false) (sym same) ∙ get_or-set_same marks m true false here in
-      ap (λ (b : Bool). b || list_any (is_entry_of s o) (map entry_of (drop 1 left))) marked ∙ sym (own_marked s marks left e o is (of ∙ same))
+      let marked : get_or (set marks m true) o false ≡ true =
+      ap (λ (k : ℕ). get_or (set marks m true) k false) (sym same) ∙ get_or-set_same marks m true false here in
+      ap (λ (b : Bool). b || list_any (is_entry_of s o) (map entry_of (drop 1 left))) marked ∙
+      sym (own_marked s marks left e o is (of ∙ same))
   | inr differs ↦
-      ap (λ (b : Bool). b || list_any (is_entry_of s o) (map entry_of (drop 1 left))) (get_or-set_other marks m o true false (λ it. differs (sym it))) ∙
+      ap (λ (b : Bool). b || list_any (is_entry_of s o) (map entry_of (drop 1 left)))
+      (get_or-set_other marks m o true false (λ it. differs (sym it))) ∙
       sym (other_marked s marks left e o is (λ it. differs (sym of ∙ it)))
 ]
 

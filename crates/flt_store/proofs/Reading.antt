@@ -27,13 +27,15 @@ pub links_same : (k : at.Key) (l : Option at.Key) → is_linked_to (link_of k) (
 links_same k None = refl
 links_same k (Some l) = ap (λ (b : Bool). (k.filter == l.filter) && b) (keys_same k.target l.target)
 
-length_there : {A B : Type 0} (f : A → B) (p : B → Bool) (q : A → Bool) → ((x : A) → p (f x) ≡ q x) → (xs : List A) → position_or_len p (map f xs) ≡ position_or_len q xs
+length_there : {A B : Type 0} (f : A → B) (p : B → Bool) (q : A → Bool) → ((x : A) → p (f x) ≡ q x) → (xs : List A) →
+    position_or_len p (map f xs) ≡ position_or_len q xs
 length_there f p q same [] = refl
 length_there f p q same (x ∷ xs) =
     ap (λ (b : Bool). cond (not b) (1 + position_or_len p (map f xs)) 0) (same x) ∙
     ap (λ (n : ℕ). cond (not (q x)) (1 + n) 0) (length_there f p q same xs)
 
-pub position_there : {A B : Type 0} (f : A → B) (p : B → Bool) (q : A → Bool) → ((x : A) → p (f x) ≡ q x) → (xs : List A) → position p (map f xs) ≡ position q xs
+pub position_there : {A B : Type 0} (f : A → B) (p : B → Bool) (q : A → Bool) → ((x : A) → p (f x) ≡ q x) → (xs : List A) →
+    position p (map f xs) ≡ position q xs
 position_there f p q same xs =
     ap (λ (n : ℕ). cond (nat_lt n (length (map f xs))) (Some n) None) (length_there f p q same xs) ∙
     ap (λ (m : ℕ). cond (nat_lt (position_or_len q xs) m) (Some (position_or_len q xs)) None) (length-map xs f)
@@ -42,7 +44,8 @@ position_there f p q same xs =
 pub linked_there : (cs : List ctx.Context) (k : at.Key) →
     position (λ (c : Context). is_linked_to (link_of k) c.link) (map context_of cs) ≡ position (λ (c : ctx.Context). ctx.is_key k c.link) cs
 linked_there cs k =
-    position_there context_of (λ (c : Context). is_linked_to (link_of k) c.link) (λ (c : ctx.Context). ctx.is_key k c.link) (λ c. links_same k c.link) cs
+    position_there context_of (λ (c : Context). is_linked_to (link_of k) c.link) (λ (c : ctx.Context). ctx.is_key k c.link)
+    (λ c. links_same k c.link) cs
 
 -- ---- queues
 
@@ -61,9 +64,11 @@ queue_there qs f = get_or-map (map entry_of) qs f []
 -- the front entry
 pub front_there : (qs : List (List cbdq.Entry)) (f : ℕ) (front : Option cbdq.Entry) → front ≡ slice_get (get_or qs f []) 0 →
     MatchOption front (get_or (map (map entry_of) qs) f [] ≡ [])
-    (λ e. get_or (map (map entry_of) qs) f [] ≡ record { visit = e.visit; context = e.context } ∷ drop 1 (get_or (map (map entry_of) qs) f []))
+    (λ e. get_or (map (map entry_of) qs) f [] ≡ record { visit = e.visit; context = e.context } ∷
+    drop 1 (get_or (map (map entry_of) qs) f []))
 front_there qs f None is = queue_there qs f ∙ none_there (get_or qs f []) is
-front_there qs f (Some e) is = subst (λ (q : List Entry). q ≡ entry_of e ∷ drop 1 q) (sym (queue_there qs f)) (first_there (get_or qs f []) e is)
+front_there qs f (Some e) is =
+    subst (λ (q : List Entry). q ≡ entry_of e ∷ drop 1 q) (sym (queue_there qs f)) (first_there (get_or qs f []) e is)
 
 -- ---- a walk along a queue
 
@@ -72,7 +77,8 @@ module _ (s : Store) (o : ℕ) where
   found_in left = find (is_entry_of s o) (map entry_of left)
 
   -- the walk has come to the operation's first entry
-  pub walk_found : (left : List cbdq.Entry) (e : cbdq.Entry) (visit : Visit) → Some e ≡ front_of left → visit ≡ visit_at s e.visit → visit.operation ≡ o →
+  pub walk_found : (left : List cbdq.Entry) (e : cbdq.Entry) (visit : Visit) →
+      Some e ≡ front_of left → visit ≡ visit_at s e.visit → visit.operation ≡ o →
       Some (entry_of e) ≡ found_in left
   walk_found [] e visit is there here = absurd (cc)
   walk_found (x ∷ left) e visit is there here =
@@ -82,7 +88,8 @@ module _ (s : Store) (o : ℕ) where
       ap (λ (b : Bool). cond b (Some (entry_of e)) (found_in left)) (sym hit) ∙ ap (λ (y : cbdq.Entry). found_in (y ∷ left)) same
 
   -- the walk passes an entry of another operation
-  pub walk_past : (left : List cbdq.Entry) (e : cbdq.Entry) (visit : Visit) → Some e ≡ front_of left → visit ≡ visit_at s e.visit → visit.operation ≢ o →
+  pub walk_past : (left : List cbdq.Entry) (e : cbdq.Entry) (visit : Visit) →
+      Some e ≡ front_of left → visit ≡ visit_at s e.visit → visit.operation ≢ o →
       found_in left ≡ found_in (drop 1 left)
   walk_past [] e visit is there other = absurd (cc)
   walk_past (x ∷ left) e visit is there other =

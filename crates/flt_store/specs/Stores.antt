@@ -38,7 +38,8 @@ AreUpTo greatest queues = (f : ℕ) → All (λ (e : Entry). e.visit ≤ greates
 
 -- what holds of the parts at all times: each has as many filters, closed are those that aren't attached, and the greatest visit that was
 -- queued is known
-pub record AreParts (presences : List Presence) (queues : cbdq.Queueing) (greatest : ℕ) (contexts : ctx.ContextTable) (operations : Operating) (holders : List (List (List Holder))) : Type 0 where
+pub record AreParts (presences : List Presence) (queues : cbdq.Queueing) (greatest : ℕ) (contexts : ctx.ContextTable)
+    (operations : Operating) (holders : List (List (List Holder))) : Type 0 where
   pub filters : operations.filters ≡ length presences
   pub locked : length holders ≡ length presences
   pub closed : AreClosed contexts.closed presences

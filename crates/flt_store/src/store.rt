@@ -226,7 +226,8 @@ impl Store {
     /// The front entry of a filter's queue.
     pub fn front(&self, filter: usize) -> Option<Entry>
         ensures { MatchOption result (spec.queue_at self.now filter ≡ [])
-            (λ e. spec.queue_at self.now filter ≡ record { visit = e.visit; context = e.context } ∷ drop 1 (spec.queue_at self.now filter)) }
+            (λ e. spec.queue_at self.now filter ≡ record { visit = e.visit; context = e.context } ∷
+            drop 1 (spec.queue_at self.now filter)) }
     {
         self.queues.entry(filter, 0).copied()
     }

@@ -367,7 +367,8 @@ mutual
   statement_again {scope = scope} {d = d} {r = r} {i = i} (s.return n p) f =
       at_simple scope (block scope d) r i (ap has_blocks (kind_is n)) ∙ word_at scope n refl
       ∙ then_again _ (ap optional_status (rest_is n) ∙ optional_status_again p f) refl
-  statement_again {scope = scope} {d = d} {r = r} {i = i} {o = o} (s.choice {b = b} {c = c} {granted = granted} {refused = refused} n p q x) f =
+  statement_again {scope = scope} {d = d} {r = r} {i = i} {o = o}
+      (s.choice {b = b} {c = c} {granted = granted} {refused = refused} n p q x) f =
       statement_at scope (block scope d) r n ∙
       then_again _ (ap (condition scope) (rest_is n) ∙ condition_again scope p (condition_over p (block_follows q)))
       (then_again _ (block_again q) (then_again _ (else_again x f)

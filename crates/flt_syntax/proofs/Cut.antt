@@ -398,7 +398,8 @@ token_first : (b last : ℕ) (at : Position) (off : ℕ) (z : Text) → is_blank
     ∷ (if is_fault (token (b ∷ z)).0.kind then [] else tokens_from ((token (b ∷ z)).1 - 1) false b (past last at) (off + 1) z)
 token_first b last at off z e h = rw (h, e) refl
 
-here_token : {text : Text} {found : Input} {line from : ℕ} {end : Position} (b : ℕ) (z : Text) (r : IsCut text found line from end (b ∷ z)) →
+here_token : {text : Text} {found : Input} {line from : ℕ} {end : Position} (b : ℕ) (z : Text)
+    (r : IsCut text found line from end (b ∷ z)) →
     let t = token (b ∷ z) in
     record { word = t.0; position = past r.last r.at; start = r.off; end = r.off + t.1 } ≡ token_here text line from (b ∷ z)
 here_token {text} {line = line} {from} b z r =
@@ -433,7 +434,8 @@ takes {text} {found} {line} {from} {end} b z r e h some fits good =
         ∷ (if is_fault (token (b ∷ z)).0.kind then [] else tokens_from ((token (b ∷ z)).1 - 1) false b (past r.last r.at) (r.off + 1) z)
         ≡ token_here text line from (b ∷ z) ∷ [] ++ tokens_from len false b (past r.last r.at) (r.off + 1) z
     stands len is =
-        ap (λ (t : Token). t ∷ (if is_fault (token (b ∷ z)).0.kind then [] else tokens_from ((token (b ∷ z)).1 - 1) false b (past r.last r.at) (r.off + 1) z))
+        ap (λ (t : Token). t ∷
+        (if is_fault (token (b ∷ z)).0.kind then [] else tokens_from ((token (b ∷ z)).1 - 1) false b (past r.last r.at) (r.off + 1) z))
         (here_token b z r)
         ∙ ap (λ (i : Input). token_here text line from (b ∷ z) ∷ i)
         (ap (λ x. if x then [] else tokens_from ((token (b ∷ z)).1 - 1) false b (past r.last r.at) (r.off + 1) z) good
@@ -461,9 +463,11 @@ faults {text} {found} {line} {from} {end} b z r e h bad =
     r.same
     ∙ ap (λ x. found ++ x)
     (token_first b r.last r.at r.off z e h
-    ∙ (ap (λ (t : Token). t ∷ (if is_fault (token (b ∷ z)).0.kind then [] else tokens_from ((token (b ∷ z)).1 - 1) false b (past r.last r.at) (r.off + 1) z))
+    ∙ (ap (λ (t : Token). t ∷
+    (if is_fault (token (b ∷ z)).0.kind then [] else tokens_from ((token (b ∷ z)).1 - 1) false b (past r.last r.at) (r.off + 1) z))
     (here_token b z r)
-    ∙ ap (λ x. token_here text line from (b ∷ z) ∷ (if x then [] else tokens_from ((token (b ∷ z)).1 - 1) false b (past r.last r.at) (r.off + 1) z)) bad))
+    ∙ ap (λ x. token_here text line from (b ∷ z) ∷
+    (if x then [] else tokens_from ((token (b ∷ z)).1 - 1) false b (past r.last r.at) (r.off + 1) z)) bad))
 
 end_is : {text : Text} {found : Input} {line from : ℕ} {end : Position} (r : IsCut text found line from end []) →
     one_column_on r.at ≡ end_of line from end
@@ -511,6 +515,7 @@ after_first b z = ap (λ n. take n z) (less_one (length z)) ∙ take-length z
 all_after : (n : ℕ) (z : Text) → take (length z - n) (drop n z) ≡ drop n z
 all_after n z = take_all (length z - n) (drop n z) (omega (arith, length-drop n z))
 
+-- a text is cut before its first byte, where no token has been found
 pub init_step : (text : Text) (found : Input) (end : Position) → found ≡ [] → end ≡ record { line = 1; column = 0 - 0 + 1 } →
     IsCut text found 1 (length text) end text
 init_step text found end e h =
@@ -529,7 +534,9 @@ feed_step text found line from end at (b ∷ z) r h e p =
     subst (λ (y : Text). IsCut text found (line + 1) (length y) at y) (sym same)
     (subst (λ (q : Position). IsCut text found (line + 1) (length z) q z) (sym place) (feeds b z r e))
 
-pub feed_spaces_step : (text : Text) (found : Input) (line from : ℕ) (end at : Position) (rest y : Text) → IsCut text found line from end rest →
+-- a line feed, and the blanks after it, begin a line
+pub feed_spaces_step : (text : Text) (found : Input) (line from : ℕ) (end at : Position) (rest y : Text) →
+    IsCut text found line from end rest →
     1 ≤ length rest → slice_index rest 0 ≡ 10 →
     at ≡ record { line = line; column = from - length (take (length rest - 1) (drop 1 rest)) + 1 } →
     y ≡ after_spaces (take (length rest - 1) (drop 1 rest)) →
@@ -538,6 +545,7 @@ feed_spaces_step text found line from end at rest y r h e p s =
     subst (IsCut text found (line + 1) (length (take (length rest - 1) (drop 1 rest))) at) (sym s)
     (spaces (take (length rest - 1) (drop 1 rest)) (feed_step text found line from end at rest r h e p))
 
+-- a blank, and the blanks after it, stay in the line
 pub blank_step : (text : Text) (found : Input) (line from : ℕ) (end : Position) (rest y : Text) → IsCut text found line from end rest →
     1 ≤ length rest → slice_index rest 0 ≢ 10 → is_blank (slice_index rest 0) ≡ true →
     y ≡ after_spaces (take (length rest - 1) (drop 1 rest)) →
@@ -546,12 +554,14 @@ blank_step text found line from end [] y r h n e s = absurd (omega arith)
 blank_step text found line from end (b ∷ z) y r h n e s =
     subst (IsCut text found line from end) (sym (s ∙ ap after_spaces (after_first b z))) (blanks b z r (not_equal b 10 n) e)
 
+-- a blank leaves fewer bytes to be read
 pub less_by_spaces : (rest y : Text) → 1 ≤ length rest → y ≡ after_spaces (take (length rest - 1) (drop 1 rest)) → length y < length rest
 less_by_spaces [] y h s = absurd (omega arith)
 less_by_spaces (b ∷ z) y h s =
     let e : length y ≡ length (after_spaces z) = ap length (s ∙ ap after_spaces (after_first b z)) in
     omega (arith, e, shorter_spaces z)
 
+-- a comment is read to the end of its line
 pub comment_step : (text : Text) (found : Input) (line from : ℕ) (end : Position) (rest y : Text) → IsCut text found line from end rest →
     1 ≤ length rest → slice_index rest 0 ≡ 35 →
     y ≡ after_comment (take (length rest - 1) (drop 1 rest)) →
@@ -560,6 +570,7 @@ comment_step text found line from end [] y r h e s = absurd (omega arith)
 comment_step text found line from end (b ∷ z) y r h e s =
     subst (IsCut text found line from end) (sym (s ∙ ap after_comment (after_first b z))) (comments b z r e)
 
+-- a comment leaves fewer bytes to be read
 pub less_by_comment : (rest y : Text) → 1 ≤ length rest → y ≡ after_comment (take (length rest - 1) (drop 1 rest)) → length y < length rest
 less_by_comment [] y h s = absurd (omega arith)
 less_by_comment (b ∷ z) y h s =
@@ -592,8 +603,8 @@ token_step text found more line from end [] len r h e n m is some fits = absurd 
 token_step text found more line from end (b ∷ z) len r h e n m is some fits =
     let t = token (b ∷ z) in
     subst (λ (i : Input). IsCut text i line from end (take (length (b ∷ z) - len) (drop len (b ∷ z)))) (sym m)
-    (subst (λ (n : ℕ). IsCut text (found ++ token_here text line from (b ∷ z) ∷ []) line from end (take (length (b ∷ z) - n) (drop n (b ∷ z))))
-    (sym (leads t len is some))
+    (subst (λ (n : ℕ). IsCut text (found ++ token_here text line from (b ∷ z) ∷ []) line from end
+    (take (length (b ∷ z) - n) (drop n (b ∷ z)))) (sym (leads t len is some))
     (subst (λ (y : Text). IsCut text (found ++ token_here text line from (b ∷ z) ∷ []) line from end y) (sym (all_after t.1 (b ∷ z)))
     (takes b z r e (not_equal b 35 n) fits.0 fits.1 (is_one t len is some))))
 
@@ -607,6 +618,7 @@ token_spaces_step text found more line from end rest y len r h e n m is some fit
     subst (IsCut text more line from end) (sym s)
     (spaces (take (length rest - len) (drop len rest)) (token_step text found more line from end rest len r h e n m is some fits))
 
+-- a token leaves fewer bytes to be read
 pub less_by_token : (rest y : Text) (len : ℕ) → len ≡ step_of (token rest) → len ≢ 0 → IsWithin rest (token rest) →
     y ≡ after_spaces (take (length rest - len) (drop len rest)) → length y < length rest
 less_by_token rest y len is some fits s =
@@ -614,6 +626,7 @@ less_by_token rest y len is some fits s =
     let n : len ≡ (token rest).1 = leads (token rest) len is some in
     omega (arith, e, n, fits.0, fits.1, shorter_spaces (drop len rest), length-drop len rest)
 
+-- a byte that begins no token is the last thing found, and ends the text's tokens
 pub fault_step : (text : Text) (found more : Input) (line from : ℕ) (end : Position) (rest : Text) (len : ℕ) →
     IsCut text found line from end rest → 1 ≤ length rest → is_blank (slice_index rest 0) ≡ false → slice_index rest 0 ≢ 35 →
     more ≡ found ++ token_here text line from rest ∷ [] → len ≡ step_of (token rest) → len ≡ 0 → IsWithin rest (token rest) →
@@ -622,6 +635,7 @@ fault_step text found more line from end [] len r h e n m is none fits = absurd 
 fault_step text found more line from end (b ∷ z) len r h e n m is none fits =
     m ∙ sym (faults b z r e (not_equal b 35 n) (is_none (token (b ∷ z)) len is none fits.0))
 
+-- where no byte is left, the end of the text is the last token
 pub end_step : (text : Text) (found more : Input) (line from : ℕ) (end at : Position) (rest : Text) (w : Word) →
     IsCut text found line from end rest → length rest < 1 → w ≡ word k.End → at ≡ end_of line from end →
     more ≡ found ++ record { word = w; position = at; start = length text; end = length text } ∷ [] →
@@ -629,5 +643,6 @@ pub end_step : (text : Text) (found more : Input) (line from : ℕ) (end at : Po
 end_step text found more line from end at [] w r h e p m =
     m
     ∙ (ap (λ (v : Word). found ++ record { word = v; position = at; start = length text; end = length text } ∷ []) e
-    ∙ (ap (λ (q : Position). found ++ record { word = word k.End; position = q; start = length text; end = length text } ∷ []) p ∙ sym (ends r)))
+    ∙ (ap (λ (q : Position). found ++ record { word = word k.End; position = q; start = length text; end = length text } ∷ []) p ∙
+    sym (ends r)))
 end_step text found more line from end at (b ∷ z) w r h e p m = absurd (omega arith)

@@ -46,16 +46,20 @@ use Rattle.flt_syntax.proofs.TokenBytes.{AreTokens, more}
 
 -- ---- tokens
 
+-- the tokens after one of a kind are tokens of the text
 pub next_on : {text : Text} {kd : Kind} {i o : Input} → Next kd i o → AreTokens text i → AreTokens text o
 next_on (words.next e) (more t h) = h
 
+-- the tokens after a word of a table are tokens of the text
 pub meant_on : {A : Type 0} {text : Text} {table : Kind → Option A} {i o : Input} {a : A} → Meant table i a o → AreTokens text i →
     AreTokens text o
 meant_on (words.meant e) (more t h) = h
 
+-- a name that is spelled is one, and the tokens after it are tokens of the text
 pub fine_name : {text name : Text} {i o : Input} → NameAt text i name o → AreTokens text i → (is_name name ≡ true) × AreTokens text o
 fine_name (words.name e) (more t h) = (t.named e, h)
 
+-- a number that is spelled is below 2^64, and the tokens after it are tokens of the text
 pub fine_number : {text : Text} {n : ℕ} {i o : Input} → NumberAt i n o → AreTokens text i → (n < 2 ^ 64) × AreTokens text o
 fine_number (words.number e) (more t h) = (t.fits, h)
 
@@ -72,6 +76,7 @@ status_on (calls.synchronize n p) h = optional_on p (next_on n h)
 status_on (calls.complete n p) h = meant_on p (next_on n h)
 status_on (calls.bare p) h = meant_on p h
 
+-- the tokens after a status, or after none, are tokens of the text
 pub optional_status_on : {text : Text} {i o : Input} {s : Option Status} → OptionalStatusAt i s o → AreTokens text i → AreTokens text o
 optional_status_on calls.no_status h = h
 optional_status_on (calls.some_status p) h = status_on p h
@@ -142,6 +147,7 @@ fine_locked locks (does.Acquire kind) l h = h
 fine_locked locks does.AcquireShared l h = h
 fine_locked locks (does.Release kind) l h = h
 
+-- a plain call that is spelled is well-formed, and the tokens after it are tokens of the text
 pub fine_plain : {scope : Scope} {i o : Input} {c : PlainCall} → PlainAt scope i c o → AreTokens scope.text i →
     IsPlain scope.locks c × AreTokens scope.text o
 fine_plain {scope = scope} (calls.end_context {e = e} {c = c} n p) h = (fine_ended scope.locks e c, meant_on p (meant_on n h))
@@ -162,6 +168,7 @@ fine_expression (actions.one p) h = fine_atom p h
 fine_expression (actions.sum p n q) h = let x = fine_atom p h in let y = fine_atom q (next_on n x.1) in ((x.0, y.0), y.1)
 fine_expression (actions.difference p n q) h = let x = fine_atom p h in let y = fine_atom q (next_on n x.1) in ((x.0, y.0), y.1)
 
+-- an action that is spelled is well-formed, and the tokens after it are tokens of the text
 pub fine_action : {text : Text} {i o : Input} {a : Action} → ActionAt i a o → AreTokens text i → IsAction a × AreTokens text o
 fine_action (actions.set_number p n q) h = fine_expression q (next_on n (meant_on p h))
 fine_action (actions.read_value p n m q) h = (tt, meant_on q (next_on m (next_on n (meant_on p h))))
@@ -178,6 +185,7 @@ fine_test (actions.less p n q) h = fine_atom q (next_on n (meant_on p h))
 fine_test (actions.is_irp n m) h = (tt, next_on m (next_on n h))
 fine_test (actions.is_draining n) h = (tt, next_on n h)
 
+-- a condition that is spelled is well-formed, and the tokens after it are tokens of the text
 pub fine_condition : {scope : Scope} {i o : Input} {c : Condition} → ConditionAt scope i c o → AreTokens scope.text i →
     IsCondition scope.queue c × AreTokens scope.text o
 fine_condition (actions.test p) h = fine_test p h

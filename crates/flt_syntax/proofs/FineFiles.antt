@@ -111,6 +111,7 @@ fine_file (g.file n m x p y q w end) h =
     let c = fine_locks y b.1 in
     record { name = a.0; lock_names = c.0; some = some_callbacks w; bodies = fine_callbacks w (queue_on q c.1) }
 
+-- each filter that a text spells is well-formed
 pub is_well_formed : SpelledIsWellFormed
 is_well_formed text f s =
     let p = fine_file s.grammar (are_tokens text) in

@@ -10,7 +10,8 @@ use Rattle.flt_syntax.specs.declared.token.Kind.{Kind}
 use Rattle.flt_tree.specs.Names.{Text, is_word}
 
 -- a table that has all words of the vocabulary with these four bytes in front has those of each text that begins with them
-pub found_by_four : (table : List (Text × Kind)) (d : ℕ) (name : Text) → 4 ≤ length name → slice_index name 0 ≡ 70 → slice_index name 1 ≡ 108 →
+pub found_by_four : (table : List (Text × Kind)) (d : ℕ) (name : Text) →
+    4 ≤ length name → slice_index name 0 ≡ 70 → slice_index name 1 ≡ 108 →
     slice_index name 2 ≡ 116 → d ≡ slice_index name 3 →
     ((rest : Text) → lookup table (70 ∷ 108 ∷ 116 ∷ d ∷ rest) ≡ lookup vocabulary (70 ∷ 108 ∷ 116 ∷ d ∷ rest)) →
     lookup table name ≡ lookup vocabulary name
@@ -39,6 +40,7 @@ short_run (a ∷ (b ∷ (c ∷ z))) kind some v last =
     let p = and_parts (is_word a) (is_word b) v.1 in
     rw (p.0, p.1, last, v.0, v.2) refl
 
+-- a word of two bytes that names a variable is a word where no more of it follows
 pub short_variable : (z : Text) (found : Option Kind) → 3 ≤ length z → IfSome found (IsVariable (slice_index z 0) (slice_index z 1)) →
     is_word (slice_index z 2) ≡ false → IfSome found (λ kind. (run z ≡ (word kind, 2)) × (2 ≤ length z))
 short_variable z None some v last = tt

@@ -70,6 +70,7 @@ bytes text pre w y t e s n =
 
 -- ---- a whole text
 
+-- one byte more lies behind the front of a text
 pub one_on : (pre : Text) (b off : ℕ) → off ≡ length pre → off + 1 ≡ length (pre ++ b ∷ [])
 one_on pre b off e = omega (arith, length-append pre (b ∷ []))
 
@@ -84,6 +85,7 @@ gap_read _ z last at off feed = refl
 along : (text : Text) (ws : List Text) (vs : List Word) (i j : Input) → i ≡ j → Lexed text ws vs j → Lexed text ws vs i
 along text ws vs i j e r = subst (Lexed text ws vs) (sym e) r
 
+-- one byte of a gap belongs to the front of the text
 pub lexed_gap : (text pre z : Text) (b : ℕ) → text ≡ pre ++ b ∷ z → text ≡ (pre ++ b ∷ []) ++ z
 lexed_gap text pre z b e = e ∙ sym (append_assoc pre (b ∷ []) z)
 
@@ -113,6 +115,7 @@ lexes text pre _ _ _ (said {b = b} {ws} {vs} {z} (piece {c} {w} {v} e1 e2 e3 e4)
     (off + 1 + length w + 1)
     (ap (λ n. n + 1) (plus_more off (length w)) ∙ some_on pre (c ∷ w) b off h)))
 
+-- words with gaps behind them are read back one by one
 pub reads_back : ReadsBackWords
 unfolding tokens
 reads_back text ws vs w = lexes text [] text ws vs w refl 0 (record { line = 1; column = 0 }) 0 refl

@@ -45,6 +45,7 @@ pub number_of : (name : List ℕ) (names : List (Bor (List ℕ))) →
     position (λ k. bytes_eq name k.now) names ≡ position (bytes_eq name) (map (λ k. k.now) names)
 number_of name names = sym (place_of (λ k. k.now) (bytes_eq name) names)
 
+-- a name is among some by its bytes just where it is among their bytes
 pub is_there : (name : List ℕ) (names : List (Bor (List ℕ))) →
     list_any (λ k. bytes_eq name k.now) names ≡ list_any (bytes_eq name) (map (λ k. k.now) names)
 is_there name names = sym (any_of (λ k. k.now) (bytes_eq name) names)
@@ -55,6 +56,7 @@ others : {X Y : Type 0} (f : X → Y) (eq : Y → Y → Bool) (x : Y) (xs : List
 others f eq x [] h = h
 others f eq x (y ∷ xs) h = (h.0, others f eq x xs h.1)
 
+-- elements are distinct by what a test reads of them where what it reads is distinct
 pub distinct_of : {X Y : Type 0} (f : X → Y) (eq : Y → Y → Bool) (xs : List X) → IsDistinct (λ a b. eq (f a) (f b)) xs →
     IsDistinct eq (map f xs)
 unfolding IsDistinct
@@ -66,6 +68,7 @@ distinct_of f eq (x ∷ xs) h = (others f eq (f x) xs h.0, distinct_of f eq xs h
 same_either_way : (a b : Text) → bytes_eq a b ≡ bytes_eq b a
 same_either_way = nat_list_eq_equiv.symm
 
+-- a lock's name is among the names of locks just where there is such a lock
 pub lock_is_there : (name : Text) (locks : List Lock) → has_name name (lock_names locks) ≡ has_lock name locks
 lock_is_there name [] = refl
 lock_is_there name (l ∷ ls) = rw (same_either_way name l.name, lock_is_there name ls) refl
@@ -139,12 +142,14 @@ module _ (kind : LockKind) (name : Text) where
       place_step Fits l ls ∙ chosen l ls _ refl d (place_by_name ls d.1)
       ∙ ap (of_kind kind (l ∷ ls)) (sym (place_step (bytes_eq name) l.name (lock_names ls)))
 
+-- one more lock has one more name
 pub one_lock_more : (locks : List Lock) (l : Lock) → lock_names (locks ++ l ∷ []) ≡ lock_names locks ++ l.name ∷ []
 one_lock_more [] l = refl
 one_lock_more (x ∷ locks) l = ap (λ ns. x.name ∷ ns) (one_lock_more locks l)
 
 -- ---- routines by their names
 
+-- one more callback has the routine's name that it has, if it is a routine
 pub one_callback_more : (callbacks : List Callback) (c : Callback) →
     routine_names (callbacks ++ c ∷ []) ≡ routine_names callbacks ++ names_of c.head
 one_callback_more [] c = append-nil (names_of c.head)
@@ -160,10 +165,12 @@ named_so name (Pre o) names = refl
 named_so name (Post o) names = refl
 named_so name Canceled names = refl
 
+-- a routine's name is among the names of routines just where there is such a routine
 pub routine_is_there : (name : Text) (callbacks : List Callback) → has_name name (routine_names callbacks) ≡ has_routine name callbacks
 routine_is_there name [] = refl
 routine_is_there name (c ∷ cs) = named_so name c.head (routine_names cs) ∙ ap (λ b. is_named name c.head || b) (routine_is_there name cs)
 
+-- no further names leave the names as they are
 pub and_no_name : (names more : List Text) → more ≡ [] → names ≡ names ++ more
 and_no_name names more e = rw e (sym (append-nil names))
 

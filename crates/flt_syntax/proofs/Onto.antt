@@ -60,6 +60,7 @@ pub below_more : {A : Type 0} (p : Parser A) (at : ℕ) (stack more : List A) (i
 below_more p at stack more i new fits e =
     let a = added p stack more i new e in ap (take at) a.is ∙ take_onto at stack a.item fits
 
+-- what is read onto a stack leaves at least what was on it before
 pub fits_more : {A : Type 0} (p : Parser A) (at : ℕ) (stack more : List A) (i new : Input) → at ≤ length stack →
     onto stack p i ≡ Ok (more, new) → at ≤ length more
 fits_more p at stack more i new fits e =

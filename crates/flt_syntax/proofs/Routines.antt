@@ -73,10 +73,12 @@ is_none_none : {A : Type 0} (m : Option A) → is_none m ≡ true → m ≡ None
 is_none_none None e = refl
 is_none_none (Some a) e = elim (differ e) [ ]
 
+-- where no routine is missing, each call finds its own
 pub finds_all : (cs : List Callback) (from : Head) (body : List Statement) → missing cs from body ≡ None →
     finds_routines cs from body ≡ true
 finds_all cs from body e = sym (body_same cs from body) ∙ ap is_none e
 
+-- where each call finds its own routine, none is missing
 pub none_missing : (cs : List Callback) (from : Head) (body : List Statement) → finds_routines cs from body ≡ true →
     missing cs from body ≡ None
 none_missing cs from body e = is_none_none (missing cs from body) (body_same cs from body ∙ e)

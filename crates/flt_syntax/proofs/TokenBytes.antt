@@ -191,6 +191,7 @@ tokens_along text pre (b ∷ z) zero false last at off e h =
     (more (is_token text pre (b ∷ z) t (past last at) off e h (token_front b z))
     (tokens_if (is_fault t.0.kind) _ _ none (on (t.1 - 1) false))))
 
+-- a text's tokens are tokens of the text
 pub are_tokens : (text : Text) → AreTokens text (tokens text)
 unfolding tokens
 are_tokens text = tokens_along text [] text zero false 0 (record { line = 1; column = 0 }) 0 refl refl

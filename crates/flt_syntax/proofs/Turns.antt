@@ -4,9 +4,11 @@ use Rattle.flt_syntax.specs.Cursor.{Input}
 use Rattle.flt_syntax.specs.Scope.{Scope}
 use Rattle.flt_syntax.specs.Statement.{block, braced}
 
+-- one turn is left where not all have been taken
 pub turn_left : (n at : ℕ) → at < n → n - at ≡ suc (n - (at + 1))
 turn_left n at below = omega arith
 
+-- no turn is left where all have been taken
 pub none_left : (n at : ℕ) → n ≤ at → n - at ≡ 0
 none_left n at done = omega arith
 

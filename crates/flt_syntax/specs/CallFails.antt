@@ -64,7 +64,8 @@ pub data FallibleFails (scope : Scope) : Input → SyntaxFault → Type 0 where
   set_old : {i a b l : Input} {x : Anchor} {e : Existing} {c : ContextVariable} {f : SyntaxFault} →
       Meant fallible_shape_of i (shapes.Set x) a → Meant existing_of a e b → ContextAt b c l → OtherOldFails c l f → FallibleFails scope i f
   -- [ "old" C ]
-  delete_context_of : {i a : Input} {x : Anchor} {f : SyntaxFault} → Meant fallible_shape_of i (shapes.Delete x) a → OptionalFails k.Old a f →
+  delete_context_of : {i a : Input} {x : Anchor} {f : SyntaxFault} →
+      Meant fallible_shape_of i (shapes.Delete x) a → OptionalFails k.Old a f →
       FallibleFails scope i f
   -- a call of the queue, an unknown name without `queue`
   queue_unknown : {i a : Input} {x : QueueCall} → Meant fallible_shape_of i (shapes.Queue x) a → scope.queue ≡ false →

@@ -76,11 +76,13 @@ pub data FallibleAt (scope : Scope) : Input → FallibleCall → Input → Type 
       FallibleAt scope i (fallible.InsertIo c) o
   -- "FltCbdqRemoveNextIo" O "context" C
   remove_next_io : {i a b l o : Input} {x : RemovedVariable} {c : ContextVariable} → scope.queue ≡ true →
-      Meant fallible_shape_of i (shapes.Queue queued.RemoveNext) a → Meant removed_variable_of a x b → Next k.Context b l → ContextAt l c o →
+      Meant fallible_shape_of i (shapes.Queue queued.RemoveNext) a → Meant removed_variable_of a x b →
+      Next k.Context b l → ContextAt l c o →
       FallibleAt scope i (fallible.RemoveNextIo x c) o
   -- "FltQueueDeferredIoWorkItem" "data" NAME [ "context" C ]
   queue_deferred : {i a b l o : Input} {r : Routine} {c : Option ContextVariable} → Meant fallible_shape_of i shapes.QueueDeferred a →
-      Next k.Data a b → RoutineAt scope.text b r l → OptionalAt k.Context l c o → FallibleAt scope i (fallible.QueueDeferredIoWorkItem r c) o
+      Next k.Data a b → RoutineAt scope.text b r l → OptionalAt k.Context l c o →
+      FallibleAt scope i (fallible.QueueDeferredIoWorkItem r c) o
   -- "FltQueueGenericWorkItem" NAME [ "context" C ]
   queue_generic : {i a b o : Input} {r : Routine} {c : Option ContextVariable} → Meant fallible_shape_of i shapes.QueueGeneric a →
       RoutineAt scope.text a r b → OptionalAt k.Context b c o → FallibleAt scope i (fallible.QueueGenericWorkItem r c) o

@@ -16,7 +16,8 @@ whole_le rows block = div-mul-le_self rows block
 
 -- ---- how far rows are alike
 
-cons_more : (told : List ℕ) (x y : Row) (xs ys : List Row) → tell_alike told x y ≡ true → alike told (x ∷ xs) (y ∷ ys) ≡ suc (alike told xs ys)
+cons_more : (told : List ℕ) (x y : Row) (xs ys : List Row) →
+    tell_alike told x y ≡ true → alike told (x ∷ xs) (y ∷ ys) ≡ suc (alike told xs ys)
 unfolding alike
 cons_more told x y xs ys e = rw e
 
@@ -127,6 +128,7 @@ pub fold_here : (told : List ℕ) (rows : List Row) (number left block : ℕ) �
 fold_here told rows number left block e some h =
     ap (fold_by told rows number) (sym (shortest_here told rows left block some h) ∙ e)
 
+-- a row that is like no later one is a fold of its own
 pub fold_alone : (told : List ℕ) (rows : List Row) (number : ℕ) → shortest told rows 24 1 ≡ None →
     record { first = number; block = 1; repeated = 0 } ≡ first_fold told number rows
 fold_alone told rows number e = sym (ap (fold_by told rows number) e)
@@ -187,7 +189,8 @@ folds_more told (r ∷ rs) folds all number f within e some so_far =
     (sym a) (λ h. next_fold told _ _ number f h some) e in
     let b : drop (f.block + f.repeated) (drop number rows) ≡ drop (number + f.block + f.repeated) rows
     = drop-drop (f.block + f.repeated) number rows ∙ ap (λ n. drop n rows) (omega arith) in
-    append_assoc folds (f ∷ []) _ ∙ ap (λ fs. folds ++ f ∷ folds_after told (number + f.block + f.repeated) 0 fs) (sym b) ∙ ap (λ fs. folds ++ fs) (sym step) ∙ so_far
+    append_assoc folds (f ∷ []) _ ∙ ap (λ fs. folds ++ f ∷ folds_after told (number + f.block + f.repeated) 0 fs) (sym b) ∙
+    ap (λ fs. folds ++ fs) (sym step) ∙ so_far
 
 -- no rows are left
 pub folds_end : (told : List ℕ) (rows : List Row) (folds all : List Fold) (number : ℕ) → length rows ≤ number →

@@ -34,7 +34,8 @@ module _ (p : List Filter) (a : ℕ) (grant : Bool) (end : ℕ) where
       [ None ↦ (λ h. ap (λ n. Stays (IsSeen n)) (omega (arith, at))) | Some s ↦ (λ h. absurd (cc)) ] none
   seen_early (suc steps) made (suc more) t w less some none at =
       elim (local [] [] w a)
-      as (λ x. is_some (option_and_then (λ s. unseen more s.world a) x) ≡ true → option_and_then (λ s. unseen (suc more) s.world a) x ≡ None →
+      as (λ x. is_some (option_and_then (λ s. unseen more s.world a) x) ≡ true →
+      option_and_then (λ s. unseen (suc more) s.world a) x ≡ None →
       unless_seen p a grant end made (go_from p a grant end (made + 1) steps) x ≡ Stays (IsSeen t))
       [ None ↦ (λ g h. absurd (cc)) | Some s ↦ (λ g h. seen_early steps (made + 1) more t s.world (omega (arith, less)) g h (omega (arith, at))) ]
       some none

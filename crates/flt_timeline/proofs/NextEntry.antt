@@ -26,7 +26,8 @@ module _ (p : List Filter) (v : Verdict) (number : ℕ) where
   told_going old s e es going = rw going refl
 
   refused_going : (old : Progress) (s : Scene) (e : JournalEntry) (es : List JournalEntry) → old.is_over ≡ false →
-      next_refused p v old number s (e ∷ es) ≡ refused_by (ends_at v number) (entry_of p s e) (λ after. refused_from p v (number + 1) after es)
+      next_refused p v old number s (e ∷ es) ≡ refused_by (ends_at v number) (entry_of p s e)
+      (λ after. refused_from p v (number + 1) after es)
   unfolding refused_from
   refused_going old s e es going = rw going refl
 
@@ -53,6 +54,7 @@ module _ (p : List Filter) (v : Verdict) (number : ℕ) where
       ∙ ap (λ (x : Entered). followed e old.alive es (ends_at v number) x (λ bits w. told_from p v (number + 1) bits w es)) (sym is)
       ∙ sym (told_going old s e es going)
 
+  -- where an entry can be made, the first refusal is looked for after it
   pub refused_goes : (old new : Progress) (s after : Scene) (e : JournalEntry) (es : List JournalEntry) (here : Told) →
       old.is_over ≡ false → entry_of p s e ≡ Goes here after →
       new ≡ record { is_over = ends_at v number; alive = here.telling.alive; refusal = None } →
@@ -64,7 +66,8 @@ module _ (p : List Filter) (v : Verdict) (number : ℕ) where
       ∙ sym (refused_going old s e es going)
 
   -- it isn't enabled
-  pub told_stops : (old new : Progress) (s after : Scene) (e : JournalEntry) (es : List JournalEntry) (why : Refusal) → old.is_over ≡ false →
+  pub told_stops : (old new : Progress) (s after : Scene) (e : JournalEntry) (es : List JournalEntry) (why : Refusal) →
+      old.is_over ≡ false →
       entry_of p s e ≡ Stops why → new ≡ record { is_over = true; alive = old.alive; refusal = Some why } →
       ending (aside old.alive (not_enabled e)) ∷ next_told p v new (number + 1) after es ≡ next_told p v old number s (e ∷ es)
   told_stops old new s after e es why going is changed =
@@ -72,6 +75,7 @@ module _ (p : List Filter) (v : Verdict) (number : ℕ) where
       ∙ ap (λ (x : Entered). followed e old.alive es (ends_at v number) x (λ bits w. told_from p v (number + 1) bits w es)) (sym is)
       ∙ sym (told_going old s e es going)
 
+  -- the first entry that can't be made is the first refusal
   pub refused_stops : (old new : Progress) (s after : Scene) (e : JournalEntry) (es : List JournalEntry) (why : Refusal) →
       old.is_over ≡ false → entry_of p s e ≡ Stops why → new ≡ record { is_over = true; alive = old.alive; refusal = Some why } →
       next_refused p v new (number + 1) after es ≡ next_refused p v old number s (e ∷ es)
@@ -100,7 +104,8 @@ pub one_more : (old new : Tellings) (told grown : List ℕ) (whos more : List Wh
     AreToldBy new grown more (heres ++ here ∷ [])
 one_more old new told grown whos more number here heres so_far kept is longer wider = record {
   each =
-      let a : map (told_by new) told ≡ map (λ (h : Told). Some h.telling) heres = still (told_by old) (told_by new) told heres kept so_far.each in
+      let a : map (told_by new) told ≡ map (λ (h : Told). Some h.telling) heres =
+      still (told_by old) (told_by new) told heres kept so_far.each in
       rw (longer, map-append, map-append, a, is) refl;
   on = rw (wider, so_far.on, map-append) refl;
 }
@@ -108,7 +113,8 @@ one_more old new told grown whos more number here heres so_far kept is longer wi
 -- ---- all entries
 
 -- what is told of one more entry, and what comes next
-pub told_on : (f g : ℕ → List JournalEntry → List Told) (so_far all : List Told) (here : Told) (es : List JournalEntry) (number place : ℕ) (d : JournalEntry) →
+pub told_on : (f g : ℕ → List JournalEntry → List Told) (so_far all : List Told) (here : Told) (es : List JournalEntry)
+    (number place : ℕ) (d : JournalEntry) →
     place < length es → number ≡ place → ((ws : List JournalEntry) → here ∷ f (number + 1) ws ≡ g number (get_or es place d ∷ ws)) →
     so_far ++ g place (drop place es) ≡ all → (so_far ++ here ∷ []) ++ f (place + 1) (drop (place + 1) es) ≡ all
 told_on f g so_far all here es number place d within at step so =
@@ -120,7 +126,8 @@ told_on f g so_far all here es number place d within at step so =
     ∙ so
 
 -- the same of why the last one isn't enabled
-pub refused_on : (f g : ℕ → List JournalEntry → Option Refusal) (all : Option Refusal) (es : List JournalEntry) (number place : ℕ) (d : JournalEntry) →
+pub refused_on : (f g : ℕ → List JournalEntry → Option Refusal) (all : Option Refusal) (es : List JournalEntry)
+    (number place : ℕ) (d : JournalEntry) →
     place < length es → number ≡ place → ((ws : List JournalEntry) → f (number + 1) ws ≡ g number (get_or es place d ∷ ws)) →
     g place (drop place es) ≡ all → f (place + 1) (drop (place + 1) es) ≡ all
 refused_on f g all es number place d within at step so =
@@ -129,7 +136,8 @@ refused_on f g all es number place d within at step so =
     ∙ ap (λ k. g place (get_or es place d ∷ drop k es)) (add-one place) ∙ ap (g place) (sym (drop-cons es place d within)) ∙ so
 
 -- the same, where the entries are lent
-pub told_on_lent : (f g : ℕ → List JournalEntry → List Told) (so_far all : List Told) (here : Told) (lent es : List JournalEntry) (number place : ℕ)
+pub told_on_lent : (f g : ℕ → List JournalEntry → List Told) (so_far all : List Told) (here : Told)
+    (lent es : List JournalEntry) (number place : ℕ)
     (d : JournalEntry) → lent ≡ es → place < length lent → number ≡ place →
     ((ws : List JournalEntry) → here ∷ f (number + 1) ws ≡ g number (get_or lent place d ∷ ws)) → so_far ++ g place (drop place es) ≡ all →
     (so_far ++ here ∷ []) ++ f (place + 1) (drop (place + 1) es) ≡ all
@@ -139,6 +147,7 @@ told_on_lent f g so_far all here lent es number place d same within at step so =
     (so_far ++ here ∷ []) ++ f (place + 1) (drop (place + 1) es) ≡ all in
     subst P (sym same) (λ w s. told_on f g so_far all here es number place d w at s so) within step
 
+-- one more entry of a borrowed list is looked at
 pub refused_on_lent : (f g : ℕ → List JournalEntry → Option Refusal) (all : Option Refusal) (lent es : List JournalEntry) (number place : ℕ)
     (d : JournalEntry) → lent ≡ es → place < length lent → number ≡ place →
     ((ws : List JournalEntry) → f (number + 1) ws ≡ g number (get_or lent place d ∷ ws)) → g place (drop place es) ≡ all →
@@ -149,7 +158,8 @@ refused_on_lent f g all lent es number place d same within at step so =
     subst P (sym same) (λ w s. refused_on f g all es number place d w at s so) within step
 
 module _ (p : List Filter) (v : Verdict) where
-  none_told : (over : Bool) (progress : Progress) (number : ℕ) (s : Scene) → progress.is_over ≡ over → next_told p v progress number s [] ≡ []
+  none_told : (over : Bool) (progress : Progress) (number : ℕ) (s : Scene) →
+      progress.is_over ≡ over → next_told p v progress number s [] ≡ []
   unfolding told_from
   none_told true progress number s e = rw e refl
   none_told false progress number s e = rw e refl
@@ -161,21 +171,26 @@ module _ (p : List Filter) (v : Verdict) where
   none_refused false progress number s e nothing = rw (e, nothing refl) refl
 
   -- no entry comes next
-  pub told_all : (so_far all : List Told) (progress : Progress) (number place : ℕ) (s : Scene) (es : List JournalEntry) → length es ≤ place →
+  pub told_all : (so_far all : List Told) (progress : Progress) (number place : ℕ) (s : Scene) (es : List JournalEntry) →
+      length es ≤ place →
       so_far ++ next_told p v progress number s (drop place es) ≡ all → so_far ≡ all
   told_all so_far all progress number place s es past so =
       sym (append-nil so_far)
       ∙ ap (λ z. so_far ++ z) (sym (none_told progress.is_over progress number s refl))
       ∙ ap (λ (rest : List JournalEntry). so_far ++ next_told p v progress number s rest) (sym (drop_all place es past)) ∙ so
 
-  pub refused_all : (all : Option Refusal) (progress : Progress) (number place : ℕ) (s : Scene) (es : List JournalEntry) → length es ≤ place →
-      (progress.is_over ≡ false → progress.refusal ≡ None) → next_refused p v progress number s (drop place es) ≡ all → progress.refusal ≡ all
+  -- after all entries the first refusal is the one that was found
+  pub refused_all : (all : Option Refusal) (progress : Progress) (number place : ℕ) (s : Scene) (es : List JournalEntry) →
+      length es ≤ place →
+      (progress.is_over ≡ false → progress.refusal ≡ None) →
+      next_refused p v progress number s (drop place es) ≡ all → progress.refusal ≡ all
   refused_all all progress number place s es past nothing so =
       sym (none_refused progress.is_over progress number s refl nothing)
       ∙ ap (λ (rest : List JournalEntry). next_refused p v progress number s rest) (sym (drop_all place es past)) ∙ so
 
 -- one more entry, where its last part is there
-pub one_added : {E : Type 0} (r : Result (Unit {0}) E) (old new : Tellings) (told grown : List ℕ) (whos more : List Who) (number : ℕ) (here : Told) →
+pub one_added : {E : Type 0} (r : Result (Unit {0}) E) (old new : Tellings) (told grown : List ℕ) (whos more : List Who)
+    (number : ℕ) (here : Told) →
     ((n : ℕ) (t : Telling) → told_by old n ≡ Some t → told_by new n ≡ Some t) → told_by new number ≡ Some here.telling →
     grown ≡ told ++ number ∷ [] → OnOk r (more ≡ whos ++ here.who ∷ []) →
     OnOk r ((heres : List Told) → AreToldBy old told whos heres → AreToldBy new grown more (heres ++ here ∷ []))

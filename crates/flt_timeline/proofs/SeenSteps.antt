@@ -30,7 +30,8 @@ module _ (p : List Filter) (a : ℕ) (grant : Bool) (end : ℕ) where
   -- it was made
   pub was_made : (w v x : World) (made : Bool) (line : ℕ) (sign : Option Sign) (outcome : Option Bool) → v ≡ w →
       LeadsTo (after_step p v [] (Board a grant)) made x → made ≡ true → line ≡ next_line end (activation_at w a).rest →
-      sign ≡ sign_of w a grant (activation_at w a).rest → outcome ≡ option_map (shows x a) sign → seen p a grant end w ≡ Comes x (Runs line outcome)
+      sign ≡ sign_of w a grant (activation_at w a).rest → outcome ≡ option_map (shows x a) sign →
+      seen p a grant end w ≡ Comes x (Runs line outcome)
   was_made w v x made line sign outcome same leads does at looked is =
       ap (λ (u : World). gone_by p a grant end w (after_step p u [] (Board a grant))) (sym same)
       ∙ ap (gone_by p a grant end w) (leads ∙ ap (λ (b : Bool). if b then Some x else None) does)

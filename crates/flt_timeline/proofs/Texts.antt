@@ -31,7 +31,8 @@ bars_more alive count =
 
 -- half of what is left
 pub halves : (alive count : ℕ) → alive / 2 ^ count / 2 ≡ alive / 2 ^ (count + 1)
-halves alive count = div-div-eq-div-mul alive (2 ^ count) 2 ∙ ap (λ n. alive / n) (let e : 2 ^ count * 2 ≡ 2 ^ (count + 1) = rw (add-one count, pow-suc 2 count) refl in e)
+halves alive count = div-div-eq-div-mul alive (2 ^ count) 2 ∙
+    ap (λ n. alive / n) (let e : 2 ^ count * 2 ≡ 2 ^ (count + 1) = rw (add-one count, pow-suc 2 count) refl in e)
 
 -- rows of one entry each, and one more
 pub singles_more : (count : ℕ) → map single (range_with_len 0 (count + 1)) ≡ map single (range_with_len 0 count) ++ single count ∷ []

@@ -164,7 +164,8 @@ pub(crate) fn course_of<'a>(
     verdict: Verdict,
 ) -> Result<Course, AllocError>
     requires { filters_behind stage.now.filters.now ≡ stage.now.stack.now }
-    ensures told { IfOk result (λ c. AreToldBy c.tellings c.told c.whos (spec.told_from stage.now.stack.now verdict 0 0 scene.old journal.now)) }
+    ensures told { IfOk result
+        (λ c. AreToldBy c.tellings c.told c.whos (spec.told_from stage.now.stack.now verdict 0 0 scene.old journal.now)) }
     ensures refused { IfOk result (λ c. c.progress.refusal ≡ spec.refused_from stage.now.stack.now verdict 0 scene.old journal.now) }
     ensures each { IfOk result (λ c. length c.told ≡ length journal.now) }
     ensures on { IfOk result (λ c. length c.whos ≡ length journal.now) }

@@ -73,7 +73,8 @@ impl Tellings {
     /// The number of a description.
     pub(crate) fn number(&mut self, telling: Telling) -> Result<usize, AllocError>
         ensures told { IfOk result (λ number. spec.told_by self.new number ≡ Some telling) }
-        ensures kept { OnOk result ((number : ℕ) (t : Saying) → spec.told_by self.old number ≡ Some t → spec.told_by self.new number ≡ Some t) }
+        ensures kept { OnOk result
+            ((number : ℕ) (t : Saying) → spec.told_by self.old number ≡ Some t → spec.told_by self.new number ≡ Some t) }
     {
         let chain = chain_of(&telling);
         if let Some(number) = self.find(chain, &telling) {

@@ -428,7 +428,8 @@ impl<'a> Timeline<'a> {
         told: &[usize],
         folds: &[Fold],
     ) -> Result<(), AllocError>
-        ensures { Puts result (string_bytes out.old) (string_bytes out.new) (spec.listed (spec.block_words self.now operation told.now) folds.now) }
+        ensures { Puts result (string_bytes out.old) (string_bytes out.new)
+            (spec.listed (spec.block_words self.now operation told.now) folds.now) }
     {
         let Some((first, rest)) = folds.split_first() else {
             return Ok(());
@@ -580,7 +581,8 @@ impl<'a> Timeline<'a> {
         indent: usize,
         field: usize,
     ) -> Result<(), AllocError>
-        ensures { Puts result (string_bytes out.old) (string_bytes out.new) (flat_map (spec.fold_lines self.now indent field) self.now.folds) }
+        ensures { Puts result (string_bytes out.old) (string_bytes out.new)
+            (flat_map (spec.fold_lines self.now indent field) self.now.folds) }
     {
         for fold in self.folds.as_slice() {
             self.put_fold(alloc, out, indent, field, *fold)?;

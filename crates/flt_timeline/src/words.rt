@@ -179,7 +179,8 @@ fn put_head(out: &mut String, head: &Head) -> Result<(), AllocError>
 
 /// The head of a filter's callback.
 fn put_head_of(out: &mut String, filter: &Filter, callback: usize) -> Result<(), AllocError>
-    ensures { spec.Puts result (string_bytes out.old) (string_bytes out.new) (spec.callback_head (slice_get filter.now.callbacks callback)) }
+    ensures { spec.Puts result (string_bytes out.old) (string_bytes out.new)
+        (spec.callback_head (slice_get filter.now.callbacks callback)) }
 {
     match filter.callbacks.get(callback) {
         Some(callback) => put_head(out, &callback.head),
@@ -214,7 +215,8 @@ pub fn put_callback(
 }
 
 fn put_start(out: &mut String, filters: &[&Filter], started: Started) -> Result<(), AllocError>
-    ensures { spec.Puts result (string_bytes out.old) (string_bytes out.new) (spec.callback_words filters.now started ++ spec.starts_word started.draining) }
+    ensures { spec.Puts result (string_bytes out.old) (string_bytes out.new)
+        (spec.callback_words filters.now started ++ spec.starts_word started.draining) }
 {
     put_callback(out, filters, started)?;
     out.push_str(if started.draining {

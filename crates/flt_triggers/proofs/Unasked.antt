@@ -340,6 +340,7 @@ module _ (f : Filter) (g : Graph) (k : ℕ) (c : Callback)
           row f.callbacks k c within (get_or_from_slice_get f.callbacks k c c there) d (callback_at g j) (graphs j d is) (at_point j d is)
           (points d.body) d.body (omega arith) _ _ _ In.top
 
+-- what isn't started by a point of the graph never starts
 pub never : ((f : Filter) (g : Graph) (k : ℕ) (c : Callback) → IsLowered f g → slice_get f.callbacks k ≡ Some c →
     IsGraphOf f.callbacks c (callback_at g k)) →
     ((cs : List Callback) (may_start : ℕ → Bool) (k : ℕ) → IsClosed cs may_start → may_start k ≡ false → NeverStarts cs k) →

@@ -13,7 +13,8 @@ use flt_starts::unasked_callbacks_never_start;
 /// No run of any filters starts a callback that neither the system nor a point of its filter starts. It does nothing at run time: its
 /// clause is a law.
 pub fn unstarted_callbacks_never_start()
-    ensures { (f : Filter) (g : Graph) (k : ℕ) → IsLowered f g → k < length f.callbacks → is_started g k ≡ false → NeverStarts f.callbacks k }
+    ensures { (f : Filter) (g : Graph) (k : ℕ) → IsLowered f g → k < length f.callbacks → is_started g k ≡ false →
+        NeverStarts f.callbacks k }
 {
     callbacks_have_graphs();
     unasked_callbacks_never_start();

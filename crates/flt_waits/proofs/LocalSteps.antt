@@ -37,7 +37,8 @@ pub one_more : (n : ℕ) (w v u : World) (a : ℕ) (on : Bool) → unseen n w a 
     unseen (n + 1) w a ≡ Some u
 one_more zero w v u a on is comes made =
     let same : w ≡ v = cc in
-    subst (λ x. option_and_then (λ s. unseen 0 s.world a) (local [] [] x a) ≡ Some u) (sym same) (then_one a (local [] [] v a) on u comes made)
+    subst (λ x. option_and_then (λ s. unseen 0 s.world a) (local [] [] x a) ≡ Some u) (sym same)
+    (then_one a (local [] [] v a) on u comes made)
 one_more (suc n) w v u a on is comes made =
     let next : suc n + 1 ≡ suc (n + 1) = omega arith in
     rw next (by (λ s led. one_more n s.world v u a on led comes made) (local [] [] w a) is)

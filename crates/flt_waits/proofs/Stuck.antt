@@ -132,6 +132,7 @@ module _ (p : List Filter) (m : Moment) where
   one_stuck a None is = All-nil (IsStuck p m)
   one_stuck a (Some b) is = All-cons (IsStuck p m) b [] (held_up p m a b is).stuck (All-nil (IsStuck p m))
 
+  -- each activation that waits for a lock can't go on
   pub all_stuck : (n : ℕ) → All (IsStuck p m) (waits_at m.world n)
   all_stuck zero = All-nil (IsStuck p m)
   all_stuck (suc a) =

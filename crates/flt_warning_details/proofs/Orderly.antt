@@ -1,4 +1,5 @@
--- Why a text of which no circle is warned takes its locks in an order: a circle comes first among the warnings, and its kind isn't left out.
+-- Why a text of which no circle is warned takes its locks in an order:
+-- a circle comes first among the warnings, and its kind isn't left out.
 use Rattle.std.proofs.Common.{◌≡◌, Bool, true, false, List, [], ◌∷◌, ◌++◌, Option, Some, None, sym, ap, refl, ◌∙◌, inl, inr}
 use Rattle.std.specs.Prelude.{◌⊎◌}
 use Rattle.flt_tree.specs.WellFormed.{IsWellFormed}
@@ -31,7 +32,8 @@ unfolding details
 circle_said x allowed comments c ws sought = rw sought refl
 
 -- where none is said there is an order
-in_order_by : (x : Parsed) (allowed : AllowedKinds) (comments : List Allowance) (g : Graph) (k : Certificate) (c : Option (List Acquisition)) →
+in_order_by : (x : Parsed) (allowed : AllowedKinds) (comments : List Allowance) (g : Graph) (k : Certificate)
+    (c : Option (List Acquisition)) →
     IsShown g k c → allows allowed W01 ≡ false → warns_of_circle (details x allowed comments (circle_warned c ++ warned g k)) ≡ false →
     TakesInOrder g k
 in_order_by x allowed comments g k None shown sought none = shown.ordered.0 refl

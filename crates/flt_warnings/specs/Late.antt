@@ -1,6 +1,6 @@
--- W07: after the last operation. An operation that isn't completed keeps the instance that it came through. In `canceled` and in the routine
--- of a deferred work item nothing else keeps it: once the callback holds no operation, the instance may be torn down. This project's own
--- check, by the certificate.
+-- W07: after the last operation. An operation that isn't completed keeps the instance that it came through.
+-- In `canceled` and in the routine of a deferred work item nothing else keeps it: once the callback holds no operation,
+-- the instance may be torn down. This project's own check, by the certificate.
 use Rattle.std.specs.Prelude.{Bool, true, false, not, ◌&&◌, if◌then◌else◌, Option, Some, None}
 use Rattle.std.specs.List.{list_any}
 use Rattle.flt_rules.specs.declared.call.Call.{Call}

@@ -374,7 +374,8 @@ either_grows false b d f h = f h
 
 -- what is found in a situation may be found in each state that means it
 pub breaks_above : Grows → (g : Graph) (f : Finding) (locks : Bool) (x : State) (t : Situation) →
-    (locks || not (reads_locks f.rule)) ≡ true → is_proper x ≡ true → Means x (seen locks t) → may_break g f (alone t) ≡ true → may_break g f x ≡ true
+    (locks || not (reads_locks f.rule)) ≡ true → is_proper x ≡ true → Means x (seen locks t) →
+    may_break g f (alone t) ≡ true → may_break g f x ≡ true
 breaks_above grows g f locks x t h p m e =
     let u = seen locks t in
     let here = seen_breaks g f locks t h e in

@@ -11,9 +11,11 @@ use Rattle.flt_ways.specs.Alone.{status_alone, mode_alone, draining_alone, alone
 
 -- ---- digits
 
+-- the bits 2 stand for held alone
 pub held_is : statuses 2 ≡ held_alone
 held_is = refl
 
+-- the bits 1 stand for null alone
 pub null_is : statuses 1 ≡ null_alone
 null_is = refl
 

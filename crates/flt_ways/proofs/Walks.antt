@@ -69,6 +69,7 @@ module _ (g : Graph) (k : ℕ) (locks : Bool) (ms : List Member) (closed : IsClo
       subst (λ q. LastStep q m) same
       (record { situation = t; step = s; among = r; may = may_step g k clean p t s h; after = after })
 
+  -- the last step of a path that comes to a point is there in each set that no step leads out of
   pub last_in : (clean : Bool) (p : ℕ) (t : Situation) (steps : List Step) (q : ℕ) (m : Moment) → IsIn locks ms p t →
       end_of g k clean p t steps ≡ Some m → is_last steps q ≡ true → LastStep q m
   last_in clean p t [] q m r e last = cc

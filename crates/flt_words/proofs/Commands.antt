@@ -13,12 +13,14 @@ use Rattle.flt_words.specs.Program.{IsCommand}
 -- ---- what a command says of itself
 
 module _ (old new : Command) (text : Option (Bor Text)) (a : App) (is : IsCommand old a) where
+  -- what a command says about itself changes nothing of how it takes words
   pub with_about : fields_of new ≡ record (fields_of old) { about = text } → IsCommand new a
   with_about set = (ap app_of_fields set ∙ is.0, ap (λ (f : Command-F Command). f.has_globals) set ∙ is.1)
 
   pub with_usage : fields_of new ≡ record (fields_of old) { usage_str = text } → IsCommand new a
   with_usage set = (ap app_of_fields set ∙ is.0, ap (λ (f : Command-F Command). f.has_globals) set ∙ is.1)
 
+  -- what a command says after its help changes nothing of how it takes words
   pub with_after_help : fields_of new ≡ record (fields_of old) { after_help = text } → IsCommand new a
   with_after_help set = (ap app_of_fields set ∙ is.0, ap (λ (f : Command-F Command). f.has_globals) set ∙ is.1)
 
@@ -32,6 +34,7 @@ with_texts new told used helped about usage help a is tells uses helps =
 -- ---- settings
 
 module _ (old new : Command) (a : App) (is : IsCommand old a) where
+  -- a command with a version has one
   pub with_version : (text : Bor Text) → fields_of new ≡ record (fields_of old) { version = Some text } →
       IsCommand new (record a { top = record a.top { has_version = true } })
   with_version text set = (
@@ -39,6 +42,7 @@ module _ (old new : Command) (a : App) (is : IsCommand old a) where
     ap (λ (f : Command-F Command). f.has_globals) set ∙ is.1,
   )
 
+  -- a command that requires a subcommand requires one
   pub with_subcommand_required : fields_of new ≡ record (fields_of old) { subcommand_required = true } →
       IsCommand new (record a { top = record a.top { subcommand_required = true } })
   with_subcommand_required set = (
@@ -46,6 +50,7 @@ module _ (old new : Command) (a : App) (is : IsCommand old a) where
     ap (λ (f : Command-F Command). f.has_globals) set ∙ is.1,
   )
 
+  -- the words of a command may come without the program's name
   pub with_no_binary_name : fields_of new ≡ record (fields_of old) { no_binary_name = true } →
       IsCommand new (record a { top = record a.top { no_binary_name = true } })
   with_no_binary_name set = (
@@ -63,6 +68,7 @@ module _ (old : Command) (arg : Arg) (a : App) (r : Rule) (one : IsCommand old a
       let globals : (fields_of new).has_globals ≡ false = rw (one.1, own) at adds.globals in
       (shapes, globals)
 
+  -- a command with one more argument has the rule of it
   pub with_last_argument : (result : Result Command AllocError) → IfOk result (λ new. AddsArg old arg new) →
       IfOk result (λ new. IsCommand new (with_rule a r))
   with_last_argument (Ok new) adds = with_argument new adds

@@ -12,7 +12,8 @@ use Rattle.flt_words.specs.Program.{analyse_app, app_for, check_app, compare_app
 -- ---- a walk that has met its command
 
 -- what follows is kept for the command, whatever the other commands are
-goes_on : (rules : List Rule) (names : Names) (rest : List Text) (w : Walk) (name : Text) (kept : List Text) → w.stopped ≡ Some (name, kept) →
+goes_on : (rules : List Rule) (names : Names) (rest : List Text) (w : Walk) (name : Text) (kept : List Text) →
+    w.stopped ≡ Some (name, kept) →
     fold (walked rules names) w rest ≡ record w { stopped = Some (name, kept ++ rest) }
 unfolding walked
 goes_on rules names [] w name kept stopped = rw (append-nil kept, ← stopped) refl

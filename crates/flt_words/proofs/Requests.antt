@@ -97,6 +97,7 @@ pub texts_or : (o : Option (Bor (List (Bor Text)))) (xs : List (Bor Text)) (s : 
     map (λ (v : Bor Text). v.now) xs ≡ unwrap_or (option_map (λ s. map (λ (v : Bor Text). v.now) s.now) o) []
 texts_or o xs s is copied = rw (is, copied) refl
 
+-- where there are no texts, the default is the empty list
 pub no_texts_or : (o : Option (Bor (List (Bor Text)))) (xs : List (Bor Text)) → o ≡ None → xs ≡ [] →
     map (λ (v : Bor Text). v.now) xs ≡ unwrap_or (option_map (λ s. map (λ (v : Bor Text). v.now) s.now) o) []
 no_texts_or o xs is none = rw (is, none) refl
@@ -123,9 +124,12 @@ texts_taken o s all (Ok v) is given items = texts_or o v.items s is items ∙ ap
 texts_taken o s all (Err e) is given items = tt
 
 -- what is made of the text behind a reference, or what stands for it where there is none
-module _ {A : Type 0} (f : Text → A) (other : A) (o : Option (Bor Text)) (first : Option Text) (given : option_map (λ s. s.now) o ≡ first) where
+module _ {A : Type 0} (f : Text → A) (other : A) (o : Option (Bor Text)) (first : Option Text)
+    (given : option_map (λ s. s.now) o ≡ first) where
+  -- where there is a value, it is what is asked for
   pub value_or : (s : Bor Text) → o ≡ Some s → f s.now ≡ option_map_or f first other
   value_or s is = rw (← given, is) refl
 
+  -- where there is no value, the other one is
   pub no_value_or : o ≡ None → other ≡ option_map_or f first other
   no_value_or none = rw (← given, none) refl

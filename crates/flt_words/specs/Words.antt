@@ -166,7 +166,8 @@ format_of rows = format_by (is_set (codes "check") rows) (is_set (codes "write")
 -- another number of workers than 1 to 16 asks for nothing
 abbrev pub run_of : List Row → Option Asked
 run_of rows =
-    option_map (λ workers. Run workers (is_set (codes "quiet") rows) (text_of (codes "SCRIPT") rows) (files_of rows)) (within (workers_of rows))
+    option_map (λ workers. Run workers (is_set (codes "quiet") rows) (text_of (codes "SCRIPT") rows) (files_of rows))
+    (within (workers_of rows))
 
 -- a journal that isn't shown is judged alone
 abbrev pub replay_by : Bool → Option Text → Text → List Text → Asked
@@ -191,10 +192,12 @@ explain_of Human colour states journal warnings files =
     if have_pages files then Pages files else Explain Human colour states journal warnings files
 explain_of form colour states journal warnings files = Explain form colour states journal warnings files
 
--- in a form, with colours at some time and with the file into which a journal is written; a kind of warning that there isn't asks for nothing
+-- in a form, with colours at some time and with the file into which a journal is written;
+-- a kind of warning that there isn't asks for nothing
 unfoldable pub explain_with : List Row → Form → Colour → Option Text → Option Asked
 explain_with rows form colour journal =
-    option_map (λ allowed. explain_of form colour (states_of rows) journal (record { strict = is_set (codes "strict") rows; allowed = allowed })
+    option_map (λ allowed. explain_of form colour (states_of rows) journal
+    (record { strict = is_set (codes "strict") rows; allowed = allowed })
     (files_of rows)) (allowed_of rows)
 
 -- in a form and with colours at some time; `-` is no file into which a journal is written, and asks for nothing

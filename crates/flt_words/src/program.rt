@@ -568,7 +568,8 @@ fn program_with<'a>(
     alloc: Global,
     command: Result<Command<'a>, AllocError>,
 ) -> Result<Command<'a>, AllocError>
-    ensures { (c : App) → IfOk command.entry (λ command. spec.IsCommand command c) → IfOk result (λ p. spec.IsCommand p (spec.program_with c)) }
+    ensures { (c : App) → IfOk command.entry (λ command. spec.IsCommand command c) →
+        IfOk result (λ p. spec.IsCommand p (spec.program_with c)) }
 {
     with_command(Ok(bare_program(alloc)), command)
 }

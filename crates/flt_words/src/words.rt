@@ -262,7 +262,8 @@ fn allowed_of<'a>(
     alloc: Global,
     matches: &ArgMatches<'a>,
 ) -> Result<Option<Vec<&'a str>>, AllocError>
-    ensures { IfOk result (λ o. option_map (λ kinds. map (λ name. name.now) kinds.items) o ≡ spec.allowed_of (rows_of (found_of matches.now))) }
+    ensures { IfOk result
+        (λ o. option_map (λ kinds. map (λ name. name.now) kinds.items) o ≡ spec.allowed_of (rows_of (found_of matches.now))) }
 {
     Ok(kinds_in(texts_of(alloc, matches, "allow")?))
 }
@@ -563,7 +564,8 @@ fn emit_with<'a>(emit: &ArgMatches<'a>, part: Part) -> Request<'a>
 
 /// The request of the matches of `emit`, of a part or of one that there isn't.
 fn emit_part<'a>(alloc: Global, emit: &ArgMatches<'a>) -> Result<Request<'a>, AllocError>
-    ensures { IfOk result (λ r. asked_of r ≡ option_map (spec.emit_with (rows_of (found_of emit.now))) (spec.part_of (rows_of (found_of emit.now)))) }
+    ensures { IfOk result
+        (λ r. asked_of r ≡ option_map (spec.emit_with (rows_of (found_of emit.now))) (spec.part_of (rows_of (found_of emit.now)))) }
 {
     let Some(part) = part_of(emit) else {
         return Ok(Request::Usage(String::from_str(alloc, NO_PART)?));

@@ -31,7 +31,8 @@ impl WorkerPlace {
         ensures pushed { OnOk result (hands_by self.new ≡ having_put ticket (own_hand self.old.tickets) ∷ other_hands self.old.tickets) }
         ensures back { IfErr result (λ t. t ≡ ticket) }
         ensures same { IfErr result (λ _. hands_by self.new ≡ hands_by self.old) }
-        ensures refused { IfErr result (λ _. (64 ≤ slots self.old.tickets) × (slots self.old.tickets ≤ length (own_hand self.old.tickets).put)) }
+        ensures refused { IfErr result
+            (λ _. (64 ≤ slots self.old.tickets) × (slots self.old.tickets ≤ length (own_hand self.old.tickets).put)) }
         ensures pass { self.new.tickets.pass ≡ self.old.tickets.pass }
         ensures deques { (own_deque self.new ≡ own_deque self.old) × (other_deques self.new ≡ other_deques self.old) }
         ensures requests { self.new.requests ≡ self.old.requests }

@@ -75,6 +75,7 @@ of_operation s o q vs h are =
 
 -- ---- the first entry of an operation is taken out of what waits
 
+-- what is taken out by the visits of an operation is taken out by the operation
 pub taken_out : (w : World) (f o : ℕ) (vs : List ℕ) (r : Option Entry) (new : List (List Entry) × List (Option Item)) →
     (find (is_of vs) (queue_at w.store f) ≡ find (is_entry_of w.store o) (queue_at w.store f))
     × (without_first (is_of vs) (queue_at w.store f) ≡ without_first (is_entry_of w.store o) (queue_at w.store f)) →

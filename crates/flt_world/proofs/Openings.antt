@@ -15,5 +15,6 @@ opened_is p = rw (
   all_the_same {X = List (List Holder)} (replicate 8 []) p,
 ) refl
 
+-- the world at the beginning for so many filters is that of these filters
 pub opened_of : (n : ℕ) (p : List Filter) → length p ≡ n → opened n ≡ opening p
 opened_of n p e = rw (← e) (opened_is p)

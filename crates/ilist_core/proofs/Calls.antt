@@ -46,6 +46,7 @@ empty-sound rows ends no_rows no_ends_there =
       listed = λ list node names. absurd (none-some list (sym (ap (λ slots. (row_in (get_or slots node None)).list) no_rows) ∙ names));
     }
 
+-- a table without slots has no nodes
 pub empty-nodes : (rows : Slab Row) → rows.slots ≡ [] → nodes_in rows ≡ finite.empty
 unfolding nodes_in
 empty-nodes rows no_rows = ap (λ slots. finite.from_list (keys_from 0 slots)) no_rows
@@ -63,6 +64,7 @@ pub if_some : (s : Sequences) (node : ℕ) (answer : Option ℕ) →
 if_some s node None exact = tt
 if_some s node (Some list) exact = (exact list).0 refl
 
+-- where the answer names no list, the node is in none
 pub if_none : (s : Sequences) (node : ℕ) (answer : Option ℕ) →
     ((list : ℕ) → (answer ≡ Some list) ↔ Contains (nodes_of s.lists list) node) → IfNone answer (IsUnlinked s node)
 if_none s node None exact = λ list found. none-some list ((exact list).1 found)
@@ -100,9 +102,11 @@ module _ (rows : Slab Row) (ends : List Ends) (now : Sequences) (inner : IsSound
   pub sound : IsSound rows ends now.lists
   sound = subst (IsSound rows ends) (ap (λ (s : Sequences). s.lists) view) inner
 
+  -- the nodes that have a row are the nodes of the model
   pub nodes-are : nodes_in rows ≡ now.nodes
   nodes-are = ap (λ (s : Sequences). s.nodes) view
 
+  -- the row that is vacant next is the next node
   pub next-is : rows.vacant_key ≡ now.next_node
   next-is = ap (λ (s : Sequences). s.next_node) view
 
@@ -110,13 +114,16 @@ module _ (rows : Slab Row) (ends : List Ends) (now : Sequences) (inner : IsSound
   pub contains-node : (node : ℕ) → finite.contains now.nodes node ≡ is_some (get rows node)
   contains-node node = ap (λ s. finite.contains s node) (sym nodes-are) ∙ contains-nodes_in rows node
 
+  -- a node has a row
   pub node-key : (node key : ℕ) → key ≡ node → IsNode now node → ContainsKey rows key
   node-key node key is there = subst (ContainsKey rows) (sym is) (sym (contains-node node) ∙ there)
 
+  -- a node in a list has a row
   pub linked-key : (node key : ℕ) → key ≡ node → IsLinked now node → ContainsKey rows key
   linked-key node key is linked = subst (ContainsKey rows) (sym is)
       (there-named rows node linked.0 (named rows ends now.lists sound linked.0 node linked.1))
 
+  -- no node is in two lists, or twice in one
   pub are_apart : AreApart now
   are_apart =
       record {
@@ -134,6 +141,7 @@ module _ (rows : Slab Row) (ends : List Ends) (now : Sequences) (inner : IsSound
         λ found. sym at ∙ named rows ends now.lists sound list node found,
       )
 
+  -- the next node that a row names is the one after it in its list
   pub next-exact : (node key : ℕ) (row : Row) → key ≡ node → get rows key ≡ Some row → (list : ℕ) (before after : List ℕ) →
       nodes_of now.lists list ≡ before ++ node ∷ after → row.next ≡ first_of after None
   next-exact node key row is read list before after cut =
@@ -143,6 +151,7 @@ module _ (rows : Slab Row) (ends : List Ends) (now : Sequences) (inner : IsSound
       same_Some _ _ (sym read ∙ ap (get rows) is ∙ right.0) in
       ap (λ (r : Row). r.next) same
 
+  -- the next node that a row names is in a list
   pub next-linked : (node key : ℕ) (row : Row) → key ≡ node → get rows key ≡ Some row → IsLinked now node → IfSome row.next (IsLinked now)
   next-linked node key row is read linked = by_case row.next (next-exact node key row is read linked.0 at.before at.after at.is)
     where
@@ -161,6 +170,7 @@ module _ (rows : Slab Row) (ends : List Ends) (now : Sequences) (inner : IsSound
   pub new_list-sound : IsSound rows (ends ++ no_ends ∷ []) (now.lists ++ [] ∷ [])
   new_list-sound = IsSound-new_list rows ends now.lists sound
 
+  -- one more list, with nothing in it, keeps the table sound
   pub listed-sound : (final : List Ends) → final ≡ ends ++ no_ends ∷ [] → IsSound rows final (now.lists ++ [] ∷ [])
   listed-sound final written = subst (λ es. IsSound rows es (now.lists ++ [] ∷ [])) (sym written) new_list-sound
 
@@ -169,26 +179,31 @@ module _ (rows : Slab Row) (ends : List Ends) (now : Sequences) (inner : IsSound
       get roomy node ≡ get rows node
   same-slots roomy capacity is node = ap (λ r. get r node) is
 
+  -- more room keeps the table sound
   pub roomy-sound : (roomy : Slab Row) (capacity : ℕ) → roomy ≡ record rows { capacity = capacity } → IsSound roomy ends now.lists
   roomy-sound roomy capacity is = IsSound-same rows ends now.lists sound roomy (same-slots roomy capacity is)
 
   pub roomy-nodes : (roomy : Slab Row) (capacity : ℕ) → roomy ≡ record rows { capacity = capacity } → nodes_in roomy ≡ now.nodes
   roomy-nodes roomy capacity is = nodes_in-kept rows roomy (λ node. ap is_some (same-slots roomy capacity is node)) ∙ nodes-are
 
+  -- more room changes nothing that is seen
   pub roomy-seen : (roomy : Slab Row) (capacity : ℕ) → roomy ≡ record rows { capacity = capacity } → seen roomy ends ≡ now
   roomy-seen roomy capacity is =
       seen-sound roomy ends now.lists now.nodes now.next_node (roomy-sound roomy capacity is) (roomy-nodes roomy capacity is)
       (ap (λ (r : Slab Row). r.vacant_key) is ∙ next-is)
 
+  -- a row that comes has a key that no node had
   pub fresh-key : (roomy : Slab Row) (capacity key : ℕ) → roomy ≡ record rows { capacity = capacity } → get roomy key ≡ None →
       finite.contains now.nodes key ≡ false
   fresh-key roomy capacity key is vacant = contains-node key ∙ ap is_some (sym (same-slots roomy capacity is key) ∙ vacant)
 
+  -- a row that comes free keeps the table sound
   pub added-sound : (roomy later : Slab Row) (capacity key : ℕ) → roomy ≡ record rows { capacity = capacity } →
       get roomy key ≡ None → Updates roomy later key (Some free_row) → IsSound later ends now.lists
   added-sound roomy later capacity key is vacant made =
       IsSound-add roomy ends now.lists (roomy-sound roomy capacity is) later key vacant made
 
+  -- a row that comes is one node more
   pub added-nodes : (roomy later : Slab Row) (capacity key : ℕ) → roomy ≡ record rows { capacity = capacity } →
       Updates roomy later key (Some free_row) → nodes_in later ≡ finite.insert now.nodes key
   added-nodes roomy later capacity key is made = nodes_in-insert roomy later key free_row made
@@ -201,6 +216,7 @@ module _ (rows : Slab Row) (ends : List Ends) (now : Sequences) (inner : IsSound
       IsSound-remove rows ends now.lists sound later key
       (λ list found. unlinked list (subst (λ n. Contains (nodes_of now.lists list) n) is found)) made
 
+  -- a row that goes is one node less
   pub removed-nodes : (later : Slab Row) (node key : ℕ) → key ≡ node → Updates rows later key None →
       nodes_in later ≡ finite.remove now.nodes node
   removed-nodes later node key is made = nodes_in-remove rows later key made ∙ (λ i. finite.remove (nodes-are i) (is i))
@@ -220,6 +236,7 @@ module _ (rows : Slab Row) (ends : List Ends) (now : Sequences) (inner : IsSound
         let inside : at < length ends = omega (arith, within, is, sound.as_many) in
         ap (λ (x : Ends). x.last) (get_or_read ends at e inside read no_ends ∙ ap (ends_at ends) is ∙ sound.ends_meet list)
 
+    -- the last node of the list has a row still after the new node's row is written
     pub last-there : (key : ℕ) (row : Row) (last : Option ℕ) → key ≡ node → last ≡ last_of None (nodes_of now.lists list) →
         IfSome last (ContainsKey (with_value rows key row))
     last-there key row last is last_is = by_case last last_is
@@ -246,6 +263,7 @@ module _ (rows : Slab Row) (ends : List Ends) (now : Sequences) (inner : IsSound
         final ≡ pushed_ends rows ends now.lists sound list node within (node-key node node refl there) unlinked
     ends_is final last last_is written = written ∙ (λ i. with_last (with_first ends list (last_is i) (Some node)) list (Some node) None)
 
+    -- a node that is put behind the last one of a list keeps the table sound
     pub pushed-sound : (later : Slab Row) (final : List Ends) (key : ℕ) (last : Option ℕ) → key ≡ node →
         last ≡ last_of None (nodes_of now.lists list) →
         later ≡ with_next (with_value rows key (linked_row list last None)) last (Some node) →
@@ -276,6 +294,7 @@ module _ (rows : Slab Row) (ends : List Ends) (now : Sequences) (inner : IsSound
         by_case None = refl
         by_case (Some m) = refl
 
+    -- a node that is put behind the last one of a list is the last in what is seen
     pub pushed-seen : (later : Slab Row) (final : List Ends) (key : ℕ) (last : Option ℕ) → key ≡ node →
         last ≡ last_of None (nodes_of now.lists list) →
         later ≡ with_next (with_value rows key (linked_row list last None)) last (Some node) →
@@ -306,9 +325,11 @@ module _ (rows : Slab Row) (ends : List Ends) (now : Sequences) (inner : IsSound
     next-is_read : row.next ≡ next rows ends now.lists sound linked.0 node linked.1
     next-is_read = ap (λ (r : Row). r.next) row-is
 
+    -- the row of a node that is unlinked names its list
     pub has-list : IsSome row.list
     has-list = ap is_some list-is
 
+    -- the previous node of one that is unlinked has a row
     pub has-previous : IfSome row.previous (ContainsKey rows)
     has-previous = subst (λ p. IfSome p (ContainsKey rows)) (sym previous-is)
         (previous-there rows ends now.lists sound linked.0 node linked.1)
@@ -317,11 +338,13 @@ module _ (rows : Slab Row) (ends : List Ends) (now : Sequences) (inner : IsSound
       same_list : list ≡ linked.0
       same_list = same_Some list linked.0 (sym unwrapped ∙ list-is)
 
+      -- the list of a node that is unlinked has its ends
       pub ends-there : list < length ends
       ends-there = subst (λ l. l < length ends) (sym same_list) (list-within rows ends now.lists sound linked.0 node linked.1)
 
       module _ (one : Slab Row) (first : List Ends) (one-is : one ≡ with_next rows row.previous row.next)
           (first-is : first ≡ with_first ends list row.previous row.next) where
+        -- the ends of the list are there still after the first one is changed
         pub ends-there_still : list < length first
         ends-there_still =
             let kept : length (with_first ends list row.previous row.next) ≡ length ends =
@@ -332,6 +355,7 @@ module _ (rows : Slab Row) (ends : List Ends) (now : Sequences) (inner : IsSound
             (next rows ends now.lists sound linked.0 node linked.1)
         one-is_at = one-is ∙ (λ i. with_next rows (previous-is i) (next-is_read i))
 
+        -- the next node of one that is unlinked has a row still after the previous one's is written
         pub has-next : IfSome row.next (ContainsKey one)
         has-next =
             let at = next-there_still rows ends now.lists sound linked.0 node linked.1 in
@@ -351,6 +375,7 @@ module _ (rows : Slab Row) (ends : List Ends) (now : Sequences) (inner : IsSound
               (next-is_read i))
 
           module _ (at : ℕ) (at-is : at ≡ node) where
+            -- a node that is unlinked has a row still after its neighbours' are written
             pub has-node : ContainsKey two at
             has-node = subst (ContainsKey two) (sym at-is)
                 (subst (λ r. ContainsKey r node) (sym two-is_at) (node-there rows ends now.lists sound linked.0 node linked.1))
@@ -358,6 +383,7 @@ module _ (rows : Slab Row) (ends : List Ends) (now : Sequences) (inner : IsSound
             rows-are : with_value two at free_row ≡ unlinked_rows rows ends now.lists sound linked.0 node linked.1
             rows-are = λ i. with_value (two-is_at i) (at-is i) free_row
 
+            -- a node that is taken out of its list keeps the table sound
             pub unlinked-sound : IsSound (with_value two at free_row) final (map (without node) now.lists)
             unlinked-sound =
                 subst (λ r. IsSound r final (map (without node) now.lists)) (sym rows-are)
@@ -365,6 +391,7 @@ module _ (rows : Slab Row) (ends : List Ends) (now : Sequences) (inner : IsSound
                 (map (without node) now.lists)) (sym final-is_at)
                 (IsSound-unlink rows ends now.lists sound linked.0 node linked.1))
 
+            -- a node that is taken out of its list is in none of what is seen, and the rest stays
             pub unlinked-seen : seen (with_value two at free_row) final
                 ≡ record { lists = map (without node) now.lists; nodes = now.nodes; next_node = now.next_node }
             unlinked-seen =
@@ -375,6 +402,7 @@ module _ (rows : Slab Row) (ends : List Ends) (now : Sequences) (inner : IsSound
                 (ap (λ (r : Slab Row). r.vacant_key) rows-are
                 ∙ (mended-keeps rows ends now.lists sound linked.0 node linked.1).next_node ∙ next-is)
 
+            -- a node that was taken out is in no list
             pub unlinked-free : (list' : ℕ) → Contains (nodes_of (lists_of (with_value two at free_row) final) list') node → ⊥
             unlinked-free list' found =
                 unlinked-none rows ends now.lists sound linked.0 node linked.1 list'

@@ -22,6 +22,7 @@ module _ {X : Type 0} (p : X → Bool) (xs : List X) (d : X) (past : p d ≡ fal
       let e = position_or_len_is p xs (length xs) d (omega arith) (λ k l. none k) (λ l. absurd (omega arith)) in
       rw e (grind (arith, nat_tests))
 
+  -- the place at which a test passes first is its position
   pub is_position : (r : Option ℕ) → MatchOption r ((c : ℕ) → p (get_or xs c d) ≡ false)
       (λ k. (p (get_or xs k d) ≡ true) × ((c : ℕ) → c < k → p (get_or xs c d) ≡ false)) → r ≡ position p xs
   is_position None h = sym (position_nowhere h)

@@ -8,6 +8,7 @@ use Rattle.flt_records.specs.Links.{AreLinks, key_code}
 use Rattle.flt_records.specs.Places.{has}
 use Rattle.flt_records.proofs.PlaceSets.First.{is_position}
 
+-- the least place of a link in the set is the first context with that link
 pub linked_first : (cs : List Context) (s : BTreeSet (ℕ × ℕ × ℕ)) (l : Link) (r : Option ℕ) → AreLinks cs s →
     MatchOption r ((c : ℕ) → has s l.filter (key_code l.key) c ≡ false)
     (λ k. (has s l.filter (key_code l.key) k ≡ true) × ((c : ℕ) → c < k → has s l.filter (key_code l.key) c ≡ false)) →

@@ -22,6 +22,7 @@ then_is Equal Equal z = refl
 then_is Equal Greater z = refl
 then_is Greater y z = refl
 
+-- two places compare as equal where all three numbers are equal
 pub cmp_is : (i j k a b c : ℕ) → is_eq (place_cmp (i, j, k) (a, b, c)) ≡ is_place i j k a b c
 cmp_is i j k a b c =
     then_is (nat_cmp i a) (nat_cmp j b) (nat_cmp k c) ∙ rw (nat_is i a, nat_is j b, nat_is k c) refl
@@ -100,6 +101,7 @@ module _ (s : BTreeSet (ℕ × ℕ × ℕ)) (i j l : ℕ) (r : List (ℕ × ℕ 
         (λ (q : ℕ × ℕ × ℕ). is_gt (place_cmp q (i, j, c)) ≡ false)) is (h.2 (i, j, c) (from_least i j l c k, tt) is_in) in
         not_after p.0 p.1 p.2 i j c upto
 
+    -- the least place from a bound on is one of the link, where its first two numbers are the link's
     pub least_here : p.0 ≡ i → p.1 ≡ j → (l ≤ p.2) × ((has s i j p.2 ≡ true) × ((c : ℕ) → l ≤ c → c < p.2 → has s i j c ≡ false))
     unfolding has
     least_here e f = (
@@ -110,6 +112,7 @@ module _ (s : BTreeSet (ℕ × ℕ × ℕ)) (i j l : ℕ) (r : List (ℕ × ℕ 
       ),
     )
 
+    -- where the least place from a bound on has other numbers, the link has no place from there on
     pub none_past : (p.0 ≡ i → p.1 ≡ j → ⊥) → (c : ℕ) → l ≤ c → has s i j c ≡ false
     unfolding has
     none_past other c k =
@@ -119,6 +122,7 @@ module _ (s : BTreeSet (ℕ × ℕ × ℕ)) (i j l : ℕ) (r : List (ℕ × ℕ 
         let e : p.0 ≡ i = omega (arith, m.first, n.first) in
         other e (omega (arith, m.second e, n.second (sym e))))
 
+  -- where no place comes from a bound on, the link has none from there on
   pub none_left : r ≡ [] → (c : ℕ) → l ≤ c → has s i j c ≡ false
   unfolding has
   none_left is c k = h.5 is (i, j, c) (from_least i j l c k, tt)

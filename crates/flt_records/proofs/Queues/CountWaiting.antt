@@ -10,14 +10,17 @@ use Rattle.flt_records.specs.Waiting.{AreWaiting}
 use Rattle.flt_records.specs.Tickets.{without_first}
 use Rattle.flt_records.proofs.Queues.QueueMiddle.{first_passes, first_fails}
 
+-- nothing of a visit waits in an empty queue
 pub in_none : (v : ℕ) → in_queue v [] ≡ 0
 unfolding in_queue
 in_none v = refl
 
+-- an entry that comes last counts for its visit
 pub in_push : (v : ℕ) (q : List Entry) (e : Entry) → in_queue v (q ++ e ∷ []) ≡ in_queue v q + one_if e.visit v
 unfolding in_queue
 in_push v q e = sum_by_push (λ (x : Entry). one_if x.visit v) q e
 
+-- an entry that stands first counts for its visit
 pub in_cons : (v : ℕ) (e : Entry) (q : List Entry) → in_queue v (e ∷ q) ≡ one_if e.visit v + in_queue v q
 unfolding in_queue
 in_cons v e q = sum_by-cons (λ (x : Entry). one_if x.visit v) e q
@@ -45,6 +48,7 @@ in_without v p (x ∷ q) e is = in_without_by v p x q e (p x) refl is (in_withou
 
 module _ (queues : List (List Entry)) (items : List (Option Item)) (cs ds : List ℕ) (was : AreWaiting queues items cs) where
   module _ (f : ℕ) (l : f < length queues) (old new : List Entry) (read : old ≡ get_or queues f []) where
+    -- a queue that stays keeps what waits
     pub same_queue : new ≡ old → ((v : ℕ) → count ds v ≡ count cs v) → AreWaiting (set queues f new) items ds
     same_queue is same = record {
       each = λ v.
@@ -55,6 +59,7 @@ module _ (queues : List (List Entry)) (items : List (Option Item)) (cs ds : List
           omega arith;
     }
 
+    -- an entry that comes last is counted once more for its visit
     pub entry_added : (e : Entry) → new ≡ old ++ e ∷ [] → ((v : ℕ) → count ds v ≡ count cs v + one_if e.visit v) →
         AreWaiting (set queues f new) items ds
     entry_added e is more = record {
@@ -68,6 +73,7 @@ module _ (queues : List (List Entry)) (items : List (Option Item)) (cs ds : List
     }
 
     module _ (e : Entry) (first : (v : ℕ) → in_queue v old ≡ one_if e.visit v + in_queue v new) where
+      -- an entry of a queue is counted
       pub entry_counted : 0 < count cs e.visit
       unfolding one_if
       entry_counted =
@@ -79,6 +85,7 @@ module _ (queues : List (List Entry)) (items : List (Option Item)) (cs ds : List
           let one : one_if e.visit e.visit ≡ 1 = grind (arith, nat_tests) in
           omega arith
 
+      -- an entry that is taken out is counted once less for its visit
       pub entry_taken : ((v : ℕ) → count cs v ≡ count ds v + one_if e.visit v) → AreWaiting (set queues f new) items ds
       entry_taken less = record {
         each = λ v.
@@ -90,9 +97,11 @@ module _ (queues : List (List Entry)) (items : List (Option Item)) (cs ds : List
             omega arith;
       }
 
+  -- items that stay keep what waits
   pub same_counts : (new : List (Option Item)) → new ≡ items → ((v : ℕ) → count ds v ≡ count cs v) → AreWaiting queues new ds
   same_counts new is same = record { each = λ v. let w = was.each v in let m = same v in rw is (omega arith) }
 
+  -- a queue more, with nothing in it, changes no count
   pub queue_added : AreWaiting (queues ++ [] ∷ []) items cs
   queue_added = record {
     each = λ v.
@@ -102,6 +111,7 @@ module _ (queues : List (List Entry)) (items : List (Option Item)) (cs ds : List
         omega arith;
   }
 
+  -- an item that comes is counted once more for its visit, if it has one
   pub item_added : (i : Item) → ((v : ℕ) → count ds v ≡ count cs v + in_some v i.visit) → AreWaiting queues (items ++ Some i ∷ []) ds
   item_added i more = record {
     each = λ v.
@@ -112,6 +122,7 @@ module _ (queues : List (List Entry)) (items : List (Option Item)) (cs ds : List
   }
 
   module _ (n : ℕ) (l : n < length items) (i : Item) (old : Option Item) (read : old ≡ get_or items n None) (is : old ≡ Some i) where
+    -- an item's visit is counted
     pub item_counted : (v : ℕ) → i.visit ≡ Some v → 0 < count cs v
     unfolding one_if
     item_counted v e =
@@ -121,6 +132,7 @@ module _ (queues : List (List Entry)) (items : List (Option Item)) (cs ds : List
         let one : one_if v v ≡ 1 = grind (arith, nat_tests) in
         omega arith
 
+    -- an item that is taken out is counted once less for its visit, if it has one
     pub item_taken : ((v : ℕ) → count cs v ≡ count ds v + in_some v i.visit) → AreWaiting queues (set items n None) ds
     item_taken less = record {
       each = λ v.

@@ -9,9 +9,11 @@ past_first : (x : Entry) (xs : List Entry) (n m : ℕ) → m ≡ suc n →
 past_first x xs n m e = rw (e, add-one, add-one) refl
 
 module _ (p : Entry → Bool) where
+  -- a first entry that passes is the one that is found, and the rest are the others
   pub first_passes : (x : Entry) (xs : List Entry) → p x ≡ true → (find p (x ∷ xs) ≡ Some x) × (xs ≡ without_first p (x ∷ xs))
   first_passes x xs h = (rw h refl, rw h refl)
 
+  -- a first entry that fails is kept, and the search continues after it
   pub first_fails : (x : Entry) (xs : List Entry) → p x ≡ false → (find p (x ∷ xs) ≡ find p xs)
       × (x ∷ without_first p xs ≡ without_first p (x ∷ xs))
   first_fails x xs h =
@@ -30,6 +32,7 @@ by_test p r x q false e f rest =
     let there = first_fails r x q e in
     (here.0 ∙ rest.0 ∙ sym there.0, sym here.1 ∙ ap (λ (l : List Entry). x ∷ l) rest.1 ∙ there.1)
 
+-- tests that agree on all entries find the same one, and leave the same others
 pub same_first : (p r : Entry → Bool) (q : List Entry) → AllByRecursion (λ e. p e ≡ r e) q → (find p q ≡ find r q)
     × (without_first p q ≡ without_first r q)
 same_first p r [] h = (refl, refl)

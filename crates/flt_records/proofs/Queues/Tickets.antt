@@ -25,9 +25,11 @@ present_append (Some e ∷ xs) ys = ap (λ (l : List Entry). e ∷ l) (present_a
 pub present_push : (xs : List (Option Entry)) (e : Entry) → present (xs ++ Some e ∷ []) ≡ present xs ++ e ∷ []
 present_push xs e = present_append xs (Some e ∷ [])
 
+-- where all entries before the front are gone and the front is the end, none is left
 pub nothing_left : (es : List (Option Entry)) (front : ℕ) → present (take front es) ≡ [] → front ≡ length es → present es ≡ []
 nothing_left es front h e = ap present (sym (take_all front es (omega arith))) ∙ h
 
+-- where an entry stands, something is left
 pub something_left : (es : List (Option Entry)) (t : ℕ) → is_some (get_or es t None) ≡ true → present es ≡ [] → ⊥
 something_left [] t h k = absurd (cc)
 something_left (None ∷ es) zero h k = absurd (cc)
@@ -41,6 +43,7 @@ taken_on es t l h =
     ap present (take_more es t None l ∙ ap (λ (o : Option Entry). take t es ++ o ∷ []) h) ∙ present_append (take t es) (None ∷ [])
     ∙ append-nil (present (take t es))
 
+-- the visits of the entries up to one ticket more
 pub listed_on : (es : List (Option Entry)) (t : ℕ) (vs : List ℕ) → t < length es →
     vs ≡ map (λ (e : Entry). e.visit) (present (take t es)) →
     vs ++ map (λ (e : Entry). e.visit) (present (get_or es t None ∷ [])) ≡ map (λ (e : Entry). e.visit) (present (take (t + 1) es))
@@ -75,6 +78,7 @@ none_for : (v : ℕ) (e : Entry) → (e.visit == v) ≡ false → one_if e.visit
 unfolding one_if
 none_for v e h = rw h refl
 
+-- a visit that isn't counted in a queue stands at no ticket
 pub not_counted : (v : ℕ) (es : List (Option Entry)) → in_queue v (present es) ≡ 0 → (t : ℕ) → stands es v t ≡ false
 unfolding stands
 not_counted v es h t = none_stands v es t h
@@ -91,6 +95,7 @@ pub first_found : (es : List (Option Entry)) (starts : List (Option ℕ)) (v sta
 first_found es starts v start n later is none t l =
     ⊎_elim (λ (k : t < start). starts_later es starts v start later is t k) (λ (k : start ≤ t). none t k l) (cases_lt t start)
 
+-- a visit that stands nowhere from its start on stands nowhere
 pub first_nowhere : (es : List (Option Entry)) (starts : List (Option ℕ)) (v start : ℕ) →
     ((u t : ℕ) → is_before t (get_or starts u None) ≡ true → stands es u t ≡ false) → Some start ≡ get_or starts v None →
     ((t : ℕ) → start ≤ t → t < length es → stands es v t ≡ false) → (t : ℕ) → stands es v t ≡ false
@@ -142,11 +147,13 @@ visit_there : (es : List (Option Entry)) (v k : ℕ) (y : Entry) → get_or es k
 unfolding stands
 visit_there es v k y is h = eqb-true y.visit v (ap (has_visit v) (sym is) ∙ h)
 
+-- where no visit of a list has a ticket, none of its entries is found
 pub none_of : (es : List (Option Entry)) (vs : List ℕ) → IsLeast es vs None → find (is_of vs) (present es) ≡ None
 none_of es vs h =
     nowhere (is_of vs) es
     (λ k y is. false_where_absurd (is_of vs y) (λ a. let t = stands_there es k y is in let f = h y.visit k a in cc))
 
+-- the entry with the least ticket is the one that is found, and taking it out leaves the others
 pub taken_of : (es : List (Option Entry)) (vs : List ℕ) (n : ℕ) → IsLeast es vs (Some n) → (e : Entry) → get_or es n None ≡ Some e →
     (find (is_of vs) (present es) ≡ Some e) × (present (set es n None) ≡ without_first (is_of vs) (present es))
 taken_of es vs n h e is =
@@ -176,7 +183,8 @@ less_of : (v : ℕ) (es : List (Option Entry)) (t : ℕ) (e : Entry) → get_or 
 less_of v [] t e is = absurd (cc)
 less_of v (None ∷ es) zero e is = absurd (cc)
 less_of v (None ∷ es) (suc t) e is = less_of v es t e is
-less_of v (Some x ∷ es) zero e is = let it : x ≡ e = cc in in_cons v x (present es) ∙ ap (λ (y : Entry). one_if y.visit v + in_queue v (present es)) it
+less_of v (Some x ∷ es) zero e is = let it : x ≡ e = cc in
+    in_cons v x (present es) ∙ ap (λ (y : Entry). one_if y.visit v + in_queue v (present es)) it
 less_of v (Some x ∷ es) (suc t) e is =
     let r = less_of v es t e is in
     let a = in_cons v x (present es) in
@@ -199,13 +207,15 @@ still_taken (None ∷ es) zero (suc front) h = h
 still_taken (None ∷ es) (suc t) (suc front) h = still_taken es t front h
 still_taken (Some e ∷ es) t (suc front) h = absurd (cc)
 
-still_none : (v k t : ℕ) (es : List (Option Entry)) → has_visit v (get_or es k None) ≡ false → has_visit v (get_or (set es t None) k None) ≡ false
+still_none : (v k t : ℕ) (es : List (Option Entry)) →
+    has_visit v (get_or es k None) ≡ false → has_visit v (get_or (set es t None) k None) ≡ false
 still_none v k t [] h = refl
 still_none v zero zero (x ∷ es) h = refl
 still_none v (suc k) zero (x ∷ es) h = h
 still_none v zero (suc t) (x ∷ es) h = h
 still_none v (suc k) (suc t) (x ∷ es) h = still_none v k t es h
 
+-- tickets where an entry is taken out
 pub tickets_without : (es new : List (Option Entry)) (front now : ℕ) (starts : List (Option ℕ)) (counts less : List ℕ) (t : ℕ) (e : Entry) →
     AreTickets es front starts counts → get_or es t None ≡ Some e → new ≡ set es t None →
     (0 < count counts e.visit → (v : ℕ) → count counts v ≡ count less v + one_if e.visit v) →
@@ -249,6 +259,7 @@ module _ (es : List (Option Entry)) (e : Entry) where
       (λ (k : length es ≤ front). ap is_some (get_or_push es (Some e) None front (let m = length_push es (Some e) in omega arith)))
       (cases_lt front (length es))
 
+  -- tickets where an entry comes last
   pub tickets_with : (front : ℕ) (starts now : List (Option ℕ)) (counts added : List ℕ) → AreTickets es front starts counts →
       ((v : ℕ) → count added v ≡ count counts v + one_if e.visit v) →
       ((v t : ℕ) → is_before t (get_or now v None) ≡ true → stands more v t ≡ false) → AreTickets more front now added
@@ -315,6 +326,7 @@ module _ (es : List (Option Entry)) (e : Entry) (front : ℕ) (starts now : List
     (are : AreTickets es front starts counts)
     (begun : count counts e.visit ≡ 0 → (v : ℕ) → get_or now v None ≡ (if e.visit == v then Some (length es) else get_or starts v None))
     (kept : (count counts e.visit ≡ 0 → ⊥) → now ≡ starts) where
+  -- an entry that comes last is at no ticket before its visit's start
   pub later_begun : (v t : ℕ) → is_before t (get_or now v None) ≡ true → stands (es ++ Some e ∷ []) v t ≡ false
   later_begun =
       ⊎_elim (λ (z : count counts e.visit ≡ 0).
@@ -327,6 +339,7 @@ module _ (es : List (Option Entry)) (e : Entry) (front : ℕ) (starts now : List
   same_by none v t true is h = subst (λ (u : ℕ). stands es u t ≡ false) (eqb-true e.visit v is) (none t)
   same_by none v t false is h = are.later v t h
 
+  -- tickets where a visit's start is noted, and its entry hasn't come yet
   pub tickets_begun : AreTickets es front now counts
   tickets_begun = record {
     within = are.within;
@@ -387,6 +400,7 @@ module _ (es : List (Option Entry)) (vs : List ℕ) (v : ℕ) where
     none_before n (λ u t a l. h.1 u t a (let j = ltb-false m n e in omega arith)) k,
   )
 
+  -- the least ticket with one visit more is the lesser of the two
   pub least_on : (least first : Option ℕ) → IsLeast es vs least → MatchOption first ((t : ℕ) → stands es v t ≡ false)
       (λ n. (stands es v n ≡ true) × ((t : ℕ) → t < n → stands es v t ≡ false)) → IsLeast es (vs ++ v ∷ []) (lesser least first)
   least_on None None h k = λ u t m. ⊎_elim (λ (a : list_any (nat_eq u) vs ≡ true). h u t a)

@@ -36,6 +36,7 @@ none_running : (ons : List Bool) (f : ℕ → ℕ) → ons ≡ [] → running_wi
 unfolding running_with
 none_running ons f e = ap (λ l. running_with l f 0) e
 
+-- a ledger that counts nothing agrees with the moment at which all begins
 pub agrees_blank : (c : Tally) (p : List Filter) → IsBlank c → Agrees (start p) c
 agrees_blank c p k = record {
   tells = tells_nothing c k;

@@ -163,6 +163,7 @@ fourth None b = if b then None else Some V4
 abbrev nothing : Option Violation
 nothing = None
 
+-- where there is no violation, it is `None`
 pub none_from : (o : Option Violation) → is_some o ≡ false → o ≡ None
 none_from None e = refl
 none_from (Some v) e = absurd (true≢false e)

@@ -37,11 +37,12 @@ module _ (w : World) (t : List Event) (tight once : Bool) where
 
   module _ (c : Tally) (was : List ℕ) (k : Tells t c) (counted : IsCounted c) where
     -- a use of what is held and isn't stale
-    pub taken_used : (a : ℕ) (o : Object) → is_fresh w t (event.Use a o) ≡ true → Taken w t (event.Use a o) c c was was tight once tight once
+    pub taken_used : (a : ℕ) (o : Object) → is_fresh w t (event.Use a o) ≡ true →
+        Taken w t (event.Use a o) c c was was tight once tight once
     taken_used a o fresh =
         taken_as (event.Use a o) c c was was fresh
-        (noted_other t c was k counted (event.Use a o) (λ b p e. absurd (cc)) (λ b p e. absurd (cc)) (λ x e. absurd (cc)) (λ v e. absurd (cc)))
-        refl refl
+        (noted_other t c was k counted (event.Use a o) (λ b p e. absurd (cc)) (λ b p e. absurd (cc))
+        (λ x e. absurd (cc)) (λ v e. absurd (cc))) refl refl
 
     -- an end, at which something may leak
     pub taken_ended : (a : ℕ) (tight_too once_too : Bool) → tight_too ≡ (tight && leaks_nothing t (event.End a)) → once_too ≡ once →

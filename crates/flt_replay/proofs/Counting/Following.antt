@@ -16,6 +16,7 @@ use Rattle.flt_replay.specs.Ledger.{Tally, Stopped, Halted, Started, Joined}
 
 -- ---- an activation more
 
+-- an activation that is new, and is counted as going on, joins the ledger
 pub joined_one : (n : ℕ) (old new : Tally) → length old.running < n → Started old new → Joined n old new
 joined_one n old new l s = record {
   only = s.only ∙ ap (λ (b : Bool). record old {
@@ -25,6 +26,7 @@ joined_one n old new l s = record {
   counted = s.counted;
 }
 
+-- where no activation is new, the ledger stays as it is
 pub joined_none : (n : ℕ) (c : Tally) → n ≤ length c.running → Joined n c c
 joined_none n c l = record {
   only = ap (λ (b : Bool). record c { running = (if b then c.running ++ true ∷ [] else c.running) }) (sym (le-ltb (length c.running) n l));
@@ -91,6 +93,7 @@ never_ends (event.Unlock a j) h b = refl
 never_ends (event.Use a j) h b = refl
 never_ends (event.Empty a) h b = refl
 
+-- events in which nobody ends leave the ledger and the list of visits as they are
 pub still : (es : List Event) (c : Tally) (was : List ℕ) → ((b : ℕ) → ends_in b es ≡ false) → Halted es c c was was
 still es c was h = record {
   only = refl;
@@ -128,6 +131,7 @@ module _ (es fs : List Event) (old mid new : Tally) (was now later : List ℕ) (
   released_by a v z (inl e) = h.released a v e (k.listed v z)
   released_by a v z (inr e) = sym (ap (λ (d : Tally). count_of d.visits a v) h.only) ∙ k.released a v e z
 
+  -- a ledger that follows events and then others follows them all
   pub halted_both : Halted (es ++ fs) old new was later
   halted_both = record {
     only = k.only ∙ ap (λ (d : Tally). record d { running = new.running; holders = new.holders }) h.only;

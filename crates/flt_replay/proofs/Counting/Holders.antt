@@ -128,6 +128,7 @@ unfolding one_when
 when_false b n e = ap (λ x. one_when x n) e
 
 module _ (c : Tally) (a v : ℕ) (rows : Counted) where
+  -- the first visit that an activation which goes on gains makes it a holder more
   pub gained_first : (holders : List ℕ) → ((b m : ℕ) → count_of rows b m ≡ count_of c.visits b m + of_actor a b (one_if v m)) →
       is_without (get_or c.running a false) (count_of c.visits a v) ≡ true → ((m : ℕ) → count holders m ≡ count c.holders m + one_if v m) →
       Turned c (record c { visits = rows; holders = holders })
@@ -144,6 +145,7 @@ module _ (c : Tally) (a v : ℕ) (rows : Counted) where
     };
   }
 
+  -- an activation that ended, or holds the visit already, gains it without a holder more
   pub gained_again : ((b m : ℕ) → count_of rows b m ≡ count_of c.visits b m + of_actor a b (one_if v m)) →
       is_without (get_or c.running a false) (count_of c.visits a v) ≡ false → Turned c (record c { visits = rows })
   gained_again one again = record {
@@ -158,6 +160,7 @@ module _ (c : Tally) (a v : ℕ) (rows : Counted) where
     };
   }
 
+  -- the last of a visit that an activation which goes on loses makes it a holder less
   pub lost_last : (holders : List ℕ) → ((b m : ℕ) → count_of c.visits b m ≡ count_of rows b m + of_actor a b (one_if v m)) →
       is_without (get_or c.running a false) (count_of rows a v) ≡ true → ((m : ℕ) → count c.holders m ≡ count holders m + one_if v m) →
       Turned c (record c { visits = rows; holders = holders })
@@ -174,6 +177,7 @@ module _ (c : Tally) (a v : ℕ) (rows : Counted) where
     };
   }
 
+  -- an activation that ended, or holds the visit still, loses it without a holder less
   pub lost_one : ((b m : ℕ) → count_of c.visits b m ≡ count_of rows b m + of_actor a b (one_if v m)) →
       is_without (get_or c.running a false) (count_of rows a v) ≡ false → Turned c (record c { visits = rows })
   lost_one one again = record {
@@ -237,6 +241,7 @@ module _ (c : Tally) (a : ℕ) (was now : List ℕ) (all : (v : ℕ) → occurs 
       let one = share_on (get_or c.running a false) (count_of c.visits a v) on in
       omega (arith, off, one, k.by_visit v)
 
+  -- an activation that went on stops, and the holders of what it holds become one less each
   pub stopped_on : (holders : List ℕ) → get_or c.running a false ≡ true →
       (((v : ℕ) → min 1 (count_of c.visits a v) ≤ count c.holders v) → (v : ℕ) →
       count c.holders v ≡ count holders v + min 1 (count_of c.visits a v)) →

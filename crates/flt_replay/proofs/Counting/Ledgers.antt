@@ -40,6 +40,7 @@ module _ (quiet : AreQuiet) (p : List Filter) (m : Moment) (a : ℕ) (s : Step) 
     released = λ b end. absurd (true≢false (sym end ∙ ap (ends_in b) none));
   }
 
+  -- after a step that others don't see, the ledger still agrees with the moment
   pub agrees_unseen : Agrees (after m s) c
   agrees_unseen =
       let later = tidy_after quiet p m (Local a) s e tidy in

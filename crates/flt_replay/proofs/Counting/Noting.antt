@@ -96,6 +96,7 @@ held_settled c counts v a (Visit u) = refl
 -- ---- each event
 
 module _ (t : List Event) (c : Tally) (was : List ℕ) (k : Tells t c) (counted : IsCounted c) where
+  -- a context that is gained is counted as held once more
   pub gained_context : (a x : ℕ) (rows : Counted) →
       ((b n : ℕ) → times_held rows b n ≡ times_held c.contexts b n + of_actor a b (one_if x n)) →
       Noted t (event.Gain a (Context x)) c (record c { contexts = rows }) was was
@@ -108,6 +109,7 @@ module _ (t : List Event) (c : Tally) (was : List ℕ) (k : Tells t c) (counted 
     apart = λ v z. refl;
   }
 
+  -- a context that is lost is counted as held once less
   pub lost_context : (a x : ℕ) (rows : Counted) →
       ((b n : ℕ) → times_held c.contexts b n ≡ times_held rows b n + of_actor a b (one_if x n)) →
       Noted t (event.Lose a (Context x)) c (record c { contexts = rows }) was was
@@ -120,6 +122,7 @@ module _ (t : List Event) (c : Tally) (was : List ℕ) (k : Tells t c) (counted 
     apart = λ v z. refl;
   }
 
+  -- a context that is freed is counted among the freed ones
   pub freed_context : (x : ℕ) (counts : List ℕ) → ((n : ℕ) → count counts n ≡ count c.freed n + one_if x n) →
       Noted t (event.Free x) c (record c { freed = counts }) was was
   freed_context x counts h = record {
@@ -141,6 +144,7 @@ module _ (t : List Event) (c : Tally) (was : List ℕ) (k : Tells t c) (counted 
     apart = λ v z. apart v;
   }
 
+  -- an event that neither gains, loses, frees nor settles leaves the ledger as it is
   pub noted_other : (e : Event) → ((a : ℕ) (o : Object) → e ≡ event.Gain a o → ⊥) → ((a : ℕ) (o : Object) → e ≡ event.Lose a o → ⊥) →
       ((x : ℕ) → e ≡ event.Free x → ⊥) → ((v : ℕ) → e ≡ event.Settle v → ⊥) → Noted t e c c was was
   noted_other (event.Gain a o) g l f s = absurd (g a o refl)
@@ -166,6 +170,7 @@ module _ (t : List Event) (c : Tally) (was : List ℕ) (k : Tells t c) (counted 
     keeps : (u : ℕ) → occurs u now ≡ 0 → occurs u was ≡ 0
     keeps u z = omega (arith, listed_more u)
 
+    -- a visit that is settled is counted among the settled ones, and listed
     pub settled_visit : (counts : List ℕ) → ((n : ℕ) → count counts n ≡ count c.settled n + one_if v n) →
         Noted t (event.Settle v) c (record c { settled = counts }) was now
     settled_visit counts h = record {
@@ -183,6 +188,7 @@ module _ (t : List Event) (c : Tally) (was : List ℕ) (k : Tells t c) (counted 
       same_settled : (u : ℕ) → count new.settled u ≡ count c.settled u
       same_settled u = ap (λ (d : Tally). count d.settled u) turned.only
 
+      -- a visit that is gained is counted as held once more, and listed
       pub gained_visit : ((b n : ℕ) → count_of new.visits b n ≡ count_of c.visits b n + of_actor a b (one_if v n)) →
           Noted t (event.Gain a (Visit v)) c new was now
       gained_visit h = record {
@@ -194,6 +200,7 @@ module _ (t : List Event) (c : Tally) (was : List ℕ) (k : Tells t c) (counted 
         apart = λ u z. apart_from_one v u (not_listed u z);
       }
 
+      -- a visit that is lost is counted as held once less, and listed
       pub lost_visit : ((b n : ℕ) → count_of c.visits b n ≡ count_of new.visits b n + of_actor a b (one_if v n)) →
           Noted t (event.Lose a (Visit v)) c new was now
       lost_visit h = record {

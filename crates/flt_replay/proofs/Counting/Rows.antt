@@ -29,6 +29,7 @@ pub once : (f : First) (n : ℕ) → 0 < f.times → min 1 (in_place f n) ≡ on
 unfolding in_place one_if
 once f n some = grind (arith, nat_tests)
 
+-- where nothing is in place, no number is counted there
 pub never : (f : First) (n : ℕ) → f.times ≡ 0 → in_place f n ≡ 0
 unfolding in_place
 never f n none = grind (arith, nat_tests)

@@ -80,6 +80,7 @@ module _ (w : World) (t : List Event) (old : Tally) (was : List ℕ) where
 
   -- ---- by place
 
+  -- one more event of a list is taken in after those before it, where it touches nothing stale
   pub judged_at : (events : List Event) (i : ℕ) (d : Event) → i < length events →
       (mid new : Tally) (now later : List ℕ) (tight once tight_too once_too : Bool) →
       Judged w t (take i events) old mid was now tight once → is_fresh w (t ++ take i events) (get_or events i d) ≡ true →
@@ -94,6 +95,7 @@ module _ (w : World) (t : List Event) (old : Tally) (was : List ℕ) where
       let second = subst (λ (x : Bool). Judged w t (take i events ++ get_or events i d ∷ []) old new was later tight_too x) (sym b) first in
       subst (λ (es : List Event). Judged w t es old new was later tight_too once_too) (sym (take_at_read events i d l).1) second
 
+  -- an event that touches something stale makes V1 the least violation of its step
   pub stale_at : (events : List Event) (i : ℕ) (d : Event) → i < length events →
       is_fresh w (t ++ take i events) (get_or events i d) ≡ false →
       Some V1 ≡ first_broken w t events

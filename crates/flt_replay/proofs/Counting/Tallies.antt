@@ -29,6 +29,7 @@ pub live_is : (t : List Event) (c : Tally) (x : ℕ) → Tells t c → (count c.
 unfolding is_live
 live_is t c x k = ap (λ n. n == 0) (sym (k.frees_are x))
 
+-- visits are live at all times
 pub live_visit : (t : List Event) (v : ℕ) → true ≡ is_live t (Visit v)
 unfolding is_live
 live_visit t v = refl

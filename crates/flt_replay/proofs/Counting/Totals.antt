@@ -97,6 +97,7 @@ module _ (a x : ℕ) (f g : ℕ → ℕ → ℕ) (h : (b y : ℕ) → g b y ≡ 
   nothing_beyond n l none b y beyond =
       omega (arith, h b y, none b y beyond, ap (of_actor a b) (one_elsewhere x y (λ e. omega (arith, e, l, beyond))), actor_none a b)
 
+-- an activation that holds one context once more holds contexts once more in all
 pub times_more : (c d : Counted) (a x : ℕ) → ((y b : ℕ) → count_of d y b ≡ count_of c y b + of_actor x y (one_if a b)) →
     (b y : ℕ) → times_held d b y ≡ times_held c b y + of_actor a b (one_if x y)
 unfolding times_held
@@ -104,6 +105,7 @@ times_more c d a x h b y = omega (arith, h y b, turned_round a b x y)
 
 -- ---- totals
 
+-- where nothing is counted, the totals are right and nothing is known
 pub none : (c : Counted) (totals : List ℕ) → ((x a : ℕ) → count_of c x a ≡ 0) → ((a : ℕ) → count totals a ≡ 0) → AreTotals c totals 0
 unfolding times_held sum_below
 none c totals h t = record { each = t; bounded = λ a x l. h x a }
@@ -139,7 +141,8 @@ pub less : (c d : Counted) (totals new : List ℕ) (known a x : ℕ) → AreTota
     (0 < count totals a → (b : ℕ) → count totals b ≡ count new b + one_if a b) → AreTotals d new known
 unfolding times_held
 less c d totals new known a x are some h t =
-    let within : x < known = ⊎_elim (λ (l : x < known). l) (λ (l : known ≤ x). absurd (omega (arith, are.bounded a x l, some))) (cases_lt x known) in
+    let within : x < known =
+    ⊎_elim (λ (l : x < known). l) (λ (l : known ≤ x). absurd (omega (arith, are.bounded a x l, some))) (cases_lt x known) in
     let total : 0 < count totals a = omega (arith, are.each a, sum_has known x (times_held c a) within, some) in
     record {
       each = λ b. omega (arith, t total b, are.each b, sum_of a x (times_held d) (times_held c) (times_more d c a x h) known b within);

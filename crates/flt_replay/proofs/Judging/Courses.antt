@@ -64,10 +64,12 @@ module _ (p : List Filter) (m : Moment) (s : Step) (monitor : Monitor) (found ru
   both : broken p m s ≡ option_or found rule
   both = least_of_both p m s ∙ rw (← holding, ← rules) refl
 
+  -- a violation of counts or of rules is what comes of the step
   pub fails : (v : Violation) → option_or found rule ≡ Some v →
       ComesTo (code.Fails v) monitor (unless_broken (broken p m s) (Reaches (after m s)))
   fails v e = rw (both, e) refl
 
+  -- where neither counts nor rules find a violation, the monitor stands where the step leads
   pub reaches : option_or found rule ≡ None → monitor.world ≡ s.world → (found ≡ None → Agrees (after m s) monitor.ledger) →
       ComesTo code.Reaches monitor (unless_broken (broken p m s) (Reaches (after m s)))
   reaches e world counts =
@@ -77,9 +79,11 @@ module _ (p : List Filter) (m : Moment) (s : Step) (monitor : Monitor) (found ru
 -- ---- one transition
 
 module _ (p : List Filter) (m : Moment) (x : Transition) where
+  -- where the next transition isn't enabled, the course stops
   pub stops : (monitor : Monitor) → next p m x ≡ None → ComesTo code.Stops monitor (course p m (x ∷ []))
   stops monitor e = rw e tt
 
+  -- what comes of a step that can be made comes of a course of this one transition
   pub goes_to : (c : Code) (monitor : Monitor) (s : Step) → next p m x ≡ Some s →
       ComesTo c monitor (unless_broken (broken p m s) (Reaches (after m s))) → ComesTo c monitor (course p m (x ∷ []))
   goes_to c monitor s e h = rw e h
@@ -95,6 +99,7 @@ pub record StayExclusive : Type 0 where
 
 -- ---- a move
 
+-- what comes of a move is what comes of a course of it, where it is enabled
 pub made : (p : List Filter) (m : Moment) (x : Move) (old new : Monitor) (u : World) (es : List Event) (enabled : Bool) (c : Code) →
     StayExclusive → IsAt old m → ComesOf (make p old.world x) enabled u [] es → enabled ≡ true →
     ((s : Step) → Follows p m (Make x) s u es → None ≡ first_of of_rules p m s →
@@ -107,6 +112,7 @@ made p m x old new u es enabled c stay at h is judges =
     goes_to p m (Make x) c new t.0 t.1
     (judges t.0 (record { is = t.1; world = sym t.2.0; events_are = sym t.2.1 }) (no_rule_of_move p m x t.0 t.1 exclusive))
 
+-- a move that isn't enabled stops the course
 pub not_made : (p : List Filter) (m : Moment) (x : Move) (old new : Monitor) (u : World) (es : List Event) (enabled : Bool) →
     IsAt old m → ComesOf (make p old.world x) enabled u [] es → enabled ≡ false → ComesTo code.Stops new (course p m (Make x ∷ []))
 not_made p m x old new u es enabled at h is =
@@ -129,6 +135,7 @@ module _ (p : List Filter) (m : Moment) (a : ℕ) (grant held : Bool) (old : Mon
       subst (λ w. ComesOf (board p m.trace w a grant) enabled u [] es) at.world
       (h m.trace (subst (λ w. held ≡ holds_given m.trace w a) (sym at.world) is_held))
 
+  -- where the call says that a step isn't enabled, the machine has none
   pub not_seen : enabled ≡ false → next p m (Board a grant) ≡ None
   not_seen is = not_enabled (board p m.trace m.world a grant) enabled u [] es is board_here
 
@@ -155,6 +162,7 @@ module _ (p : List Filter) (m : Moment) (a : ℕ) (grant held : Bool) (old : Mon
         read_after m.trace (is_held ∙ sym (held_after p m a grant s e)) (stepped p m.trace m.world a grant s e).framed.by_actor
         ∙ sym (rules_of_step p m a grant s e exclusive)
 
+  -- a step that others see is judged by the least rule that it breaks
   pub seen : (rule : Option Violation) (locks : List HeldLock) → StayExclusive → enabled ≡ true →
       locks ≡ (activation_at old.world a).locks → IsRule rule u es locks → IsJudgedBy p m (Board a grant) u es rule
   seen rule locks stay is are rules =
@@ -227,6 +235,7 @@ module _ (p : List Filter) (a : ℕ) (xs : List Transition) (quiet : AreQuiet) (
   one_and_more n all u lead m old at None e h = stops_there n all u m old at e h
   one_and_more n all u lead m old at (Some s) e h = goes_there n all u lead m old at s e h
 
+  -- any number of steps that others don't see leads where the machine's lead, or stops where one isn't enabled
   pub all_unseen : (n : ℕ) (all : Bool) (u : World) → Lead n all u
   all_unseen zero true u m old at h =
       let same : old.world ≡ u = cc h in
@@ -235,6 +244,7 @@ module _ (p : List Filter) (a : ℕ) (xs : List Transition) (quiet : AreQuiet) (
   all_unseen (suc n) all u m old at h =
       one_and_more n all u (all_unseen n all u) m old at (local [] [] old.world a) refl h
 
+-- where an entry's steps aren't 0, they are local ones and a last one that others see
 pub go_on_more : (a steps : ℕ) (grant : Bool) → (steps ≡ 0 → ⊥) →
     go_on a steps grant ≡ Some (replicate (steps - 1) (Local a) ++ Board a grant ∷ [])
 go_on_more a zero grant h = absurd (h refl)
@@ -248,11 +258,13 @@ stopped monitor (Reaches m) h = absurd h
 stopped monitor Stops h = refl
 stopped monitor (Fails v) h = absurd h
 
+-- where the monitor fails with a violation, so does the course
 pub failed : (monitor : Monitor) (v : Violation) (k : Course) → ComesTo (code.Fails v) monitor k → k ≡ Fails v
 failed monitor v (Reaches m) h = absurd h
 failed monitor v Stops h = absurd h
 failed monitor v (Fails u) h = rw h refl
 
+-- where the monitor reaches something, so does the course, at the moment at which the monitor stands
 pub reached : (monitor : Monitor) (k : Course) → ComesTo code.Reaches monitor k → (m : Moment) × IsAt monitor m × (k ≡ Reaches m)
 reached monitor (Reaches m) h = (m, h, refl)
 reached monitor Stops h = absurd h

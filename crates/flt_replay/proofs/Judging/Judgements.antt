@@ -21,6 +21,7 @@ use Rattle.flt_replay.proofs.Machine.Frames.{stepped}
 use Rattle.flt_replay.proofs.Machine.MoveRules.{moves_keep_rules}
 use Rattle.flt_replay.proofs.Judging.RulesAfter.{rules_alike, alike_after}
 
+-- the least violation of a step is the least of who holds what, else the least of rules
 pub least_of_both : (p : List Filter) (m : Moment) (s : Step) →
     broken p m s ≡ option_or (first_of of_holding p m s) (first_of of_rules p m s)
 least_of_both p m s = find-append (λ v. not (keeps p m s v)) of_holding of_rules

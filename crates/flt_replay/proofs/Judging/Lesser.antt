@@ -96,7 +96,8 @@ some_in_other_words P Q None f h = tt
 some_in_other_words P Q (Some v) f h = f v h
 
 -- what breaks a rule behind entries of a stack breaks it behind those of its filters
-pub breaks_rule : (filters p : List Filter) (entries before : List JournalEntry) (last : JournalEntry) (r : Result (Option Violation) AllocError) →
+pub breaks_rule : (filters p : List Filter) (entries before : List JournalEntry) (last : JournalEntry)
+    (r : Result (Option Violation) AllocError) →
     p ≡ by_altitude filters → entries ≡ before ++ last ∷ [] →
     IfOk r (λ o. IfSome o (λ v. (m : Moment) × (moment_after p (start p) before ≡ Some m) × EndsBy p m (expansion last) v)) →
     IfOk r (λ o. IfSome o (BreaksRule filters entries))

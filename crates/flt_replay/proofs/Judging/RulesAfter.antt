@@ -98,6 +98,7 @@ all_alike test f g h (e ∷ es) k =
     let parts = and_parts (test e) (list_all test es) k in
     ap (λ b. b && list_all f es) (h e parts.0) ∙ ap (λ b. g e && b) (all_alike test f g h es parts.1)
 
+-- rules can't tell worlds apart that are alike for the activation whose events are judged
 pub rules_alike : (p : List Filter) (t : List Event) (u w : World) (a : ℕ) → Alike u w a → (es : List Event) →
     list_all (is_by a) es ≡ true →
     (v : Violation) → keeps_rule p u t es v ≡ keeps_rule p w t es v
@@ -131,6 +132,7 @@ module _ (w : World) (a : ℕ) (s : Step) (h : Stepped w a s) where
     data_after =
         ap (λ act. operation_in act Data) with_locks_at ∙ (ap (λ act. operation_in act Data) activation_after ∙ h.framed.same_data)
 
+  -- the world after a step, with the locks that the activation had, is like the world before it
   pub alike_after : Alike (with_locks s.world a (activation_at w a).locks) w a
   alike_after = record {
     actors = h.framed.same_actors;

@@ -4,11 +4,13 @@ use Rattle.std.specs.List.{slice_get}
 use Rattle.flt_rules.specs.declared.held.HeldLock.{HeldLock}
 use Rattle.flt_model.specs.World.{Activation, nobody}
 
+-- what was put at a place that is there is read there
 pub found_set : {X : Type 0} (xs : List X) (i : ℕ) (x y d : X) → slice_get xs i ≡ Some x → get_or (set xs i y) i d ≡ y
 found_set [] i x y d e = absurd (cc)
 found_set (z ∷ xs) zero x y d e = refl
 found_set (z ∷ xs) (suc i) x y d e = found_set xs i x y d e
 
+-- what was put at a place that isn't there isn't read
 pub missing_set : {X : Type 0} (xs : List X) (i : ℕ) (y d : X) → slice_get xs i ≡ None → get_or (set xs i y) i d ≡ d
 missing_set [] i y d e = refl
 missing_set (z ∷ xs) zero y d e = absurd (cc)

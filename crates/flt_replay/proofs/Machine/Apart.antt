@@ -20,9 +20,11 @@ pub not_true : (b : Bool) → not b ≡ true → b ≡ false
 not_true true h = absurd (cc)
 not_true false h = refl
 
+-- numbers that a test finds different are different
 pub apart_numbers : (u v : ℕ) → not (u == v) ≡ true → v ≢ u
 apart_numbers u v h e = true≢false (sym (eq-eqb u v (sym e)) ∙ not_true (u == v) h)
 
+-- a number that a test finds different isn't counted
 pub one_if_apart : (u v : ℕ) → not (u == v) ≡ true → one_if u v ≡ 0
 unfolding one_if
 one_if_apart u v h = ap (λ (b : Bool). if b then 1 else 0) (not_true (u == v) h)
@@ -98,9 +100,11 @@ pub record Unmoved (v : ℕ) (old new : Store) : Type 0 where
   pub in_items : sum_by (in_item v) new.items ≡ sum_by (in_item v) old.items
   pub settled : is_settled new v ≡ is_settled old v
 
+-- a store that stays leaves a visit where it is
 pub unmoved_itself : (v : ℕ) (s : Store) → Unmoved v s s
 unmoved_itself v s = record { in_queues = refl; in_items = refl; settled = refl }
 
+-- whichever of two stores comes, a visit that both leave alone stays where it is
 pub unmoved_if : (b : Bool) (v : ℕ) (s t u : Store) → Unmoved v u s → Unmoved v u t → Unmoved v u (if b then s else t)
 unmoved_if true v s t u h k = h
 unmoved_if false v s t u h k = k
@@ -111,13 +115,16 @@ pub record SameParts (s u : Store) : Type 0 where
   pub items : s.items ≡ u.items
   pub settled : s.settled ≡ u.settled
 
+-- a store has the same parts as itself
 pub same_itself : (s : Store) → SameParts s s
 same_itself s = record { queues = refl; items = refl; settled = refl }
 
+-- whichever of two stores comes, the parts are those that both have
 pub parts_if : (b : Bool) (s t u : Store) → SameParts s u → SameParts t u → SameParts (if b then s else t) u
 parts_if true s t u h k = h
 parts_if false s t u h k = k
 
+-- stores with the same parts leave a visit where it is
 pub unmoved_same : (v : ℕ) (s u : Store) → SameParts s u → Unmoved v u s
 unmoved_same v s u h = record {
   in_queues = ap (sum_by (in_queue v)) h.queues;
@@ -128,11 +135,13 @@ unmoved_same v s u h = record {
 -- ---- sums over changed lists
 
 module _ {X : Type 0} (f : X → ℕ) where
+  -- a sum stays where an element is replaced by one that counts the same
   pub sum_set : (xs : List X) (i : ℕ) (y d : X) → f y ≡ f (get_or xs i d) → sum_by f (set xs i y) ≡ sum_by f xs
   sum_set [] i y d h = refl
   sum_set (x ∷ xs) zero y d h = omega (arith, sum_by-cons f y xs, sum_by-cons f x xs, h)
   sum_set (x ∷ xs) (suc i) y d h = omega (arith, sum_by-cons f x (set xs i y), sum_by-cons f x xs, sum_set xs i y d h)
 
+  -- a sum stays where an element that counts nothing comes last
   pub sum_push : (xs : List X) (y : X) → f y ≡ 0 → sum_by f (xs ++ y ∷ []) ≡ sum_by f xs
   sum_push [] y h = omega (arith, sum_by-cons f y [], h)
   sum_push (x ∷ xs) y h = omega (arith, sum_by-cons f x (xs ++ y ∷ []), sum_by-cons f x xs, sum_push xs y h)
@@ -142,6 +151,7 @@ pub queue_push : (v : ℕ) (queue : List Entry) (e : Entry) → not (e.visit == 
 unfolding in_queue
 queue_push v queue e h = sum_push (λ (e : Entry). one_if e.visit v) queue e (one_if_apart e.visit v h)
 
+-- an entry of another visit in front of a queue doesn't count
 pub queue_front : (v : ℕ) (queue : List Entry) (e : Entry) → not (e.visit == v) ≡ true → in_queue v (e ∷ queue) ≡ in_queue v queue
 unfolding in_queue
 queue_front v queue e h =

@@ -65,6 +65,7 @@ pub record Framed (w : World) (a : ℕ) (s : Step) : Type 0 where
 
 -- ---- events of an activation
 
+-- an activation is itself by the test
 pub self_by : (a : ℕ) → (a == a) ≡ true
 self_by a = eq-eqb a a refl
 
@@ -99,6 +100,7 @@ loses_by a (Some x) = refl
 
 -- ---- either of two
 
+-- what both sides of a choice give is given by the choice
 pub if_same : {X Y : Type 0} (f : X → Y) (b : Bool) (x y : X) (u : Y) → f x ≡ u → f y ≡ u → f (if b then x else y) ≡ u
 if_same f true x y u h k = h
 if_same f false x y u h k = k
@@ -569,6 +571,7 @@ pub record Stepped (w : World) (a : ℕ) (s : Step) : Type 0 where
   pub goes : (activation_at w a).ended ≡ false
   pub within : a < length w.activations
 
+-- an activation that hasn't ended is there
 pub there_from : (acts : List Activation) (a : ℕ) → (get_or acts a nobody).ended ≡ false → a < length acts
 there_from acts a e =
     elim (cases_lt a (length acts)) [
@@ -587,5 +590,6 @@ module _ (p : List Filter) (t : List Event) (w : World) (a : ℕ) (grant : Bool)
     within = there_from w.activations a h;
   }
 
+  -- a step that others see is of an activation that is there and goes on, and changes nothing else
   pub stepped : board p t w a grant ≡ Some s → Stepped w a s
   stepped e = stepped_by (activation_at w a).ended refl e

@@ -673,5 +673,6 @@ module _ (p : List Filter) (t : List Event) (w : World) (a : ℕ) (grant : Bool)
   handed_by true e = absurd (cc)
   handed_by false e = of_list p t w a (λ r. Handed w a r) (each_handed w a p t) (activation_at w a).rest grant s e
 
+  -- what a step that others see does with visits is what its events name
   pub handed : board p t w a grant ≡ Some s → Handed w a s
   handed e = handed_by (activation_at w a).ended e

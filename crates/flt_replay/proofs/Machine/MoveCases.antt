@@ -92,6 +92,7 @@ module _ (R : Step → Type 0) (p : List Filter) (w : World) (h : EachMove R w) 
   unlink_context None s e = absurd (cc)
   unlink_context (Some x) s e = some_move _ s (h.unlinks x) e
 
+  -- what holds of every change of the store and every callback that starts holds of each move's step
   pub each_move : (x : Move) (s : Step) → make p w x ≡ Some s → R s
   each_move (Arrive kind mode file) s e = if_move (fits_mode kind mode && nat_lt file 1024) _ s (h.arrives _) e
   each_move (Pre o) s e = pre_move o (arrival_at w.store o).kind (route_at w.store o).position s e

@@ -43,6 +43,7 @@ start_gains a v x =
     ∙ and_from (list_all is_gain_or_free (gains_visit a v)) (list_all is_gain_or_free (gains_context a x)) (visit_gains a v)
     (context_gains a x)
 
+-- a move has no events but gains and frees
 pub gains_and_frees : (p : List Filter) (w : World) (x : Move) (s : Step) → make p w x ≡ Some s → list_all is_gain_or_free s.events ≡ true
 gains_and_frees p w =
     let a = length w.activations in
@@ -59,6 +60,7 @@ gains_and_frees p w =
 
 -- ---- so each rule is kept, in any world
 
+-- a weaker test passes where a stronger one passes everywhere
 pub all_pass : (test f : Event → Bool) → ((e : Event) → test e ≡ true → f e ≡ true) → (es : List Event) → list_all test es ≡ true →
     list_all f es ≡ true
 all_pass test f h [] k = refl

@@ -120,7 +120,8 @@ module _ (w : World) (a : ℕ) (act : Activation) (within : a < length w.activat
 quiet_onward : (w : World) (a : ℕ) (s : Step) → GoesOnAlone w a s.world → s.events ≡ [] → Onward w s
 quiet_onward w a s h none =
     let there : World = record w { activations = set w.activations a h.act } in
-    let from : Onward w (record { world = there; events = [] }) = moved_onward w a h.act (there_from w.activations a h.went_on) (h.goes_on ∙ sym h.went_on) in
+    let from : Onward w (record { world = there; events = [] }) =
+    moved_onward w a h.act (there_from w.activations a h.went_on) (h.goes_on ∙ sym h.went_on) in
     let second : Onward w (record { world = there; events = s.events }) =
     subst (λ (es : List Event). Onward w (record { world = there; events = es })) (sym none) from in
     subst (λ (u : World). Onward w (record { world = u; events = s.events })) (sym h.changes) second
@@ -155,7 +156,9 @@ module _ (w : World) (s : Step) where
     paired = h.paired;
   }
 
+-- what any transition does with activations and visits, if local steps are quiet
 pub onward : AreQuiet → (p : List Filter) (m : Moment) (x : Transition) (s : Step) → next p m x ≡ Some s → Onward m.world s
 onward quiet p m (Make x) s e = move_onward m.world s (gains_and_frees p m.world x s e) (moved p m.world x s e)
 onward quiet p m (Local a) s e = quiet_onward m.world a s (quiet.alone p m a s e) (quiet.events p m a s e)
-onward quiet p m (Board a grant) s e = board_onward m.world a s (stepped p m.trace m.world a grant s e) (handed p m.trace m.world a grant s e)
+onward quiet p m (Board a grant) s e =
+    board_onward m.world a s (stepped p m.trace m.world a grant s e) (handed p m.trace m.world a grant s e)

@@ -27,6 +27,7 @@ pub record Tidy (m : Moment) : Type 0 where
   pub paired : length m.world.store.settled ≡ length m.world.store.visits
   pub strangers : (a v : ℕ) → length m.world.activations ≤ a → is_held m.trace a (Visit v) ≡ false
 
+-- at the beginning each visit has its own mark and nobody holds one
 pub tidy_start : (p : List Filter) → Tidy (start p)
 unfolding is_held gains loses
 tidy_start p = record { paired = refl; strangers = λ a v h. refl }
@@ -44,6 +45,7 @@ tidy_onward m s h tidy = record {
       ∙ tidy.strangers a v (omega (arith, past, no_fewer m.world s.world h.peopled));
 }
 
+-- a transition keeps each visit's mark, and no activation that isn't there holds a visit
 pub tidy_after : AreQuiet → (p : List Filter) (m : Moment) (x : Transition) (s : Step) → next p m x ≡ Some s → Tidy m → Tidy (after m s)
 tidy_after quiet p m x s e tidy = tidy_onward m s (onward quiet p m x s e) tidy
 
@@ -194,6 +196,7 @@ module _ (quiet : AreQuiet) (p : List Filter) (m : Moment) (x : Transition) (s :
       (λ spared.
       below_at (length m.world.store.visits) (is_owned m.world m.trace) before v (visit_before v spared within)))
 
+  -- where the test of one owner passes, each visit that is there is owned once
   pub one_owner_at : one_owner s.world (m.trace ++ s.events) ≡ true → (v : ℕ) → v < length s.world.store.visits →
       is_owned s.world (m.trace ++ s.events) v ≡ true
   one_owner_at h v within = below_at (length s.world.store.visits) (is_owned s.world (m.trace ++ s.events)) h v within

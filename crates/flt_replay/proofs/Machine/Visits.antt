@@ -50,6 +50,7 @@ pub differ : (b : Bool) → (b ≡ true → ⊥) → not b ≡ true
 differ true h = absurd (h refl)
 differ false h = refl
 
+-- numbers that are different are found different
 pub numbers_apart : (u v : ℕ) → v ≢ u → not (u == v) ≡ true
 numbers_apart u v h = differ (u == v) (λ e. h (sym (eqb-true u v e)))
 
@@ -202,5 +203,6 @@ module _ (w : World) where
     items = item_moved;
   }
 
+-- what a move does with visits and activations, whichever it is
 pub moved : (p : List Filter) (w : World) (x : Move) (s : Step) → make p w x ≡ Some s → Moved w s
 moved p w = each_move (Moved w) p w (each_moved w)

@@ -67,7 +67,8 @@ impl Others {
         ensures ok { OnOk result ((a n : ℕ) → spec.count_among self.new a n ≡ spec.count_among self.old a n + of_actor activation a
             (one_if number n)) }
         ensures err { OnErr result ((a n : ℕ) → spec.count_among self.new a n ≡ spec.count_among self.old a n) }
-        ensures rest { (a n : ℕ) → of_actor activation a (one_if number n) ≡ 0 → spec.count_among self.new a n ≡ spec.count_among self.old a n }
+        ensures rest { (a n : ℕ) → of_actor activation a (one_if number n) ≡ 0 →
+            spec.count_among self.new a n ≡ spec.count_among self.old a n }
     {
         if let Some(row) = self.rows.get_mut(&activation) {
             return row.add(number);
@@ -86,7 +87,8 @@ impl Others {
     pub(crate) fn take(&mut self, activation: usize, number: usize)
         ensures some { 0 < spec.count_among self.old activation number → (a n : ℕ) →
             spec.count_among self.old a n ≡ spec.count_among self.new a n + of_actor activation a (one_if number n) }
-        ensures rest { (a n : ℕ) → of_actor activation a (one_if number n) ≡ 0 → spec.count_among self.new a n ≡ spec.count_among self.old a n }
+        ensures rest { (a n : ℕ) → of_actor activation a (one_if number n) ≡ 0 →
+            spec.count_among self.new a n ≡ spec.count_among self.old a n }
     {
         let Some(row) = self.rows.get_mut(&activation) else {
             return;

@@ -285,7 +285,8 @@ module _ {p : List Filter} {m : Moment} {a : ℕ} {s : Shadow} (at : IsAt p m a 
   own_paired : (setting at).all_registered ≡ true → are_paired (callbacks_at p (own_filter at)) ≡ true
   own_paired h =
       let q = spot at in
-      rw (callbacks_there p (own_filter at) q.filter q.there) (sym (q.laws.pairs q.filter.callbacks q.graph.callbacks q.lowered.callbacks) ∙ h)
+      rw (callbacks_there p (own_filter at) q.filter q.there)
+      (sym (q.laws.pairs q.filter.callbacks q.graph.callbacks q.lowered.callbacks) ∙ h)
 
   -- the machine's test of the status follows
   hand_legal : (d : OperationVariable) (v : ℕ) (st : Status) → operation_slot s d ≡ Owns v →

@@ -1,5 +1,5 @@
--- All can come to rest, and so all operations to their ends. All filters are unloaded, one after the other; then nothing of them is left: no
--- filter keeps an operation and none is owed a post callback, and each operation passes all filters and is carried out.
+-- All can come to rest, and so all operations to their ends. All filters are unloaded, one after the other; then nothing of them is left:
+-- no filter keeps an operation and none is owed a post callback, and each operation passes all filters and is carried out.
 -- Here p is the program, m, n are moments, f, g are filters, o, q are operations, Q says something of a moment.
 use Rattle.std.proofs.Common.{◌≡◌, ◌≢◌, ℕ, zero, suc, ◌+◌, ◌<◌, ◌≤◌, Bool, true, false, List, [], ◌∷◌, ◌++◌, length, Some, None, ap, sym, refl, ◌∙◌, arith, inl, inr, sum_by}
 use Rattle.std.specs.Prelude.{not, ◌&&◌, ◌==◌, if◌then◌else◌, nat_lt, option_and_then}

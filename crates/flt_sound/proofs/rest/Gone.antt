@@ -265,6 +265,7 @@ module _ (laws : Laws) (p : List Filter) (ok : AreAccepted p) where
       let pass = at_step (λ s. Passes f m.world s.world) (next p m x) s (step_passes p m r.kept f x) is in
       record { rests = l.rests; stays = λ d. l.stays (pass.stays d) }
 
+  -- all three parts hold for one filter after any further transitions that lead from such a moment
   pub later : (f : ℕ) (xs : List Transition) (m last : Moment) → Rests p m → run_from p m xs ≡ Some last → Later f m last
   later f [] m last r e = let same : m ≡ last = cc in subst (λ n. Later f m n) same (record { rests = r; stays = λ d. d })
   later f (x ∷ xs) m last r e = on_one f xs m last r x (next p m x) refl (λ s k h. later f xs (after m s) last k h) e

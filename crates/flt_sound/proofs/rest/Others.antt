@@ -402,6 +402,7 @@ module _ (w : World) (a f : ℕ) (ne : (actor_at w a).filter ≢ f) (on : a < le
   -- ---- completion and the end: the visit must be the filter's own
 
   module _ (p : List Filter) where
+    -- a pre completion of another filter's visit, or of none, leaves the filter as it is
     pub complete_apart : (d : OperationVariable) (st : Status) (rest : List Statement) (v : Option ℕ) (c : Option (Option ℕ)) →
         ((u : ℕ) → v ≡ Some u → (visit_at w.store u).filter ≢ f) → LeavesIt (complete_by w a p d st rest v c)
     complete_apart d st rest None c h = still _ refl
@@ -412,6 +413,7 @@ module _ (w : World) (a f : ℕ) (ne : (actor_at w a).filter ≢ f) (on : a < le
     complete_apart d st rest (Some v) None h = goes _ _ (settled_apart f w.store v None
         (way_of p w.store v (CompletesPre (whose d) v st)) (h v refl)) (settled_holders w.store v _ _) refl (settled_visited w.store v _ _)
 
+    -- a post completion of another filter's visit, or of none, leaves the filter as it is
     pub complete_post_apart : (rest : List Statement) (v : Option ℕ) → ((u : ℕ) → v ≡ Some u → (visit_at w.store u).filter ≢ f) →
         LeavesIt (complete_post_by w a p rest v)
     complete_post_apart rest None h = still _ refl
@@ -426,10 +428,12 @@ module _ (w : World) (a f : ℕ) (ne : (actor_at w a).filter ≢ f) (on : a < le
       returned_apart st true None h = still _ refl
       returned_apart st false v h = still _ refl
 
+      -- a return leaves the filter as it is where `data` names no visit of it
       pub returns_apart : (st : Option Status) → ((u : ℕ) → operation_in here Data ≡ Some u → (visit_at w.store u).filter ≢ f) →
           LeavesIt (returns p t w a st)
       returns_apart st h = returned_apart st (answers (actor_at w a).place) (operation_in here Data) h
 
+      -- each call that can fail leaves the filter as it is, granted or refused
       pub fallible_apart : (grant : Bool) (granted refused : List Statement) (c : FallibleCall) →
           LeavesIt (fallible_step p t w a grant granted refused c)
       fallible_apart grant granted refused (fallible.AllocateContext d) = allocate_apart d grant granted refused

@@ -49,10 +49,12 @@ pub record Passes (f : ℕ) (w u : World) : Type 0 where
 -- ---- where a test holds, or doesn't
 
 module _ (P : Step → Type 0) where
+  -- a step that is made only under a condition: what holds of it need hold only where the condition does
   pub when : (b : Bool) (o : Option Step) → (b ≡ true → AfterStep o P) → AfterStep (if b then o else None) P
   when true o h = h refl
   when false o h = tt
 
+  -- a step that is made only without a condition: what holds of it need hold only where the condition doesn't
   pub unless : (b : Bool) (o : Option Step) → (b ≡ false → AfterStep o P) → AfterStep (if b then None else o) P
   unless true o h = tt
   unless false o h = h refl

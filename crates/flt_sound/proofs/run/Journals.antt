@@ -1,5 +1,5 @@
--- Filters stay accepted when they are put in the order of their altitudes, as the machine takes them, and so with all that holds of each; so
--- no journal of accepted ones breaks anything.
+-- Filters stay accepted when they are put in the order of their altitudes, as the machine takes them, and so with all that holds of each;
+-- so no journal of accepted ones breaks anything.
 use Rattle.std.proofs.Common.{◌≡◌, ℕ, Bool, true, false, List, [], ◌∷◌, Option, Some, None}
 use Rattle.std.proofs.lemmas.Bool.{cond_both}
 use Rattle.std.proofs.lemmas.List.Elements.{All-cons, All-head, All-nil, All-tail}

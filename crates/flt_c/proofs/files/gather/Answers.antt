@@ -6,7 +6,8 @@ use Rattle.flt_c.proofs.files.gather.Goals as goal
 pub returns-in-Err : goal.returns-in-Err
 returns-in-Err c =
     sym c.loop-number.invariant
-    ∙ file_on c.args.files.now c.loop-number.number (text_in c.loop-number.found) c.index-files-number.result c.as_slice.result.now (Err c.in-Err.flaw)
+    ∙ file_on c.args.files.now c.loop-number.number (text_in c.loop-number.found) c.index-files-number.result
+    c.as_slice.result.now (Err c.in-Err.flaw)
     c.loop-number-test.true c.index-files-number.is c.as_slice.ensures.value (rw c.in-Err.is at c.in_ok-flaw.ensures)
 
 pub loop-number-preserved : goal.loop-number-preserved

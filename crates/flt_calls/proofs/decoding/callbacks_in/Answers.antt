@@ -5,4 +5,5 @@ use Rattle.flt_frame.proofs.Filters.{no_graph_at}
 use Rattle.flt_calls.proofs.decoding.callbacks_in.Goals as goal
 
 pub returns-in-None : goal.returns-in-None
-returns-in-None c = sym (ap (λ (g : Graph). length g.callbacks) (no_graph_at c.args.loaded.now.graphs c.args.filter (sym c.get.ensures.value ∙ ap (λ o. option_copied o) c.in-None.is)))
+returns-in-None c = sym (ap (λ (g : Graph). length g.callbacks)
+    (no_graph_at c.args.loaded.now.graphs c.args.filter (sym c.get.ensures.value ∙ ap (λ o. option_copied o) c.in-None.is)))

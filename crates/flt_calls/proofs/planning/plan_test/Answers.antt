@@ -18,7 +18,8 @@ returns-in-IsIrp-clause-planned c = λ p t actors acts granted refused step h is
     (λ (plan : Plan). Plans s c.args.caller.now plan (λ w granted refused. reads.test_irp w a granted refused))
     (λ (plan : Plan). IsPlanned w a plan [] granted refused step)
     (λ plan held. subst (IsPlanned w a plan [] granted refused)
-    (same_Some (reads.test_irp w a granted refused) step (subst (λ (x : Test). steps.test_step p t w a granted refused x ≡ Some step) c.in-IsIrp.is is))
+    (same_Some (reads.test_irp w a granted refused) step
+    (subst (λ (x : Test). steps.test_step p t w a granted refused x ≡ Some step) c.in-IsIrp.is is))
     (held actors acts granted refused h))
     c.test_irp.ensures.planned
 
@@ -29,8 +30,8 @@ returns-in-IsIrp-clause-lasts c =
     IfOk-weaker c.test_irp.result
     (λ (plan : Plan). Plans s caller plan (λ w granted refused. reads.test_irp w caller.activation granted refused))
     (λ (plan : Plan). is_end plan.write ≡ false)
-    (λ plan held. not_ended s caller plan (λ w granted refused. reads.test_irp w caller.activation granted refused) held (λ w lives. test_lasts w caller.activation lives [] []))
-    c.test_irp.ensures.planned
+    (λ plan held. not_ended s caller plan (λ w granted refused. reads.test_irp w caller.activation granted refused) held
+    (λ w lives. test_lasts w caller.activation lives [] [])) c.test_irp.ensures.planned
 
 pub returns-in-IsIrp-clause-takes : goal.returns-in-IsIrp-clause-takes
 returns-in-IsIrp-clause-takes c =
@@ -39,5 +40,5 @@ returns-in-IsIrp-clause-takes c =
     IfOk-weaker c.test_irp.result
     (λ (plan : Plan). Plans s caller plan (λ w granted refused. reads.test_irp w caller.activation granted refused))
     (λ (plan : Plan). TakesNone caller.standing.locks plan.write)
-    (λ plan held. takes_none s caller plan (λ w granted refused. reads.test_irp w caller.activation granted refused) held (λ w lives. test_lasts w caller.activation lives [] []))
-    c.test_irp.ensures.planned
+    (λ plan held. takes_none s caller plan (λ w granted refused. reads.test_irp w caller.activation granted refused) held
+    (λ w lives. test_lasts w caller.activation lives [] [])) c.test_irp.ensures.planned

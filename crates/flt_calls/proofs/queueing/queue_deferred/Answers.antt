@@ -18,7 +18,8 @@ returns-clause-own c =
     let v = c.handed-handed.result.visit in
     let x = c.handed-handed.result.context in
     let needs : List (Option Object) = operation v ∷ optional x in
-    let effect : World → List Statement → List Statement → _ = λ w granted refused. calls.defer_by w a c.args.routine c.args.grant granted refused v x in
+    let effect : World → List Statement → List Statement → _ =
+    λ w granted refused. calls.defer_by w a c.args.routine c.args.grant granted refused v x in
     IfOk-weaker c.defer_by.result
     (λ plan. (s : _) → Follows s c.args.caller.now c.need_named.new.events.items plan effect) (λ plan. AreOwn a plan.events)
     (λ plan planned.

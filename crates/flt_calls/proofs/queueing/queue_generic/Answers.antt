@@ -15,7 +15,8 @@ pub returns-clause-own : goal.returns-clause-own
 returns-clause-own c =
     let a = c.args.caller.now.activation in
     let x = c.named-named.result in
-    let effect : World → List Statement → List Statement → _ = λ w granted refused. calls.queue_by w a c.args.routine c.args.grant granted refused x in
+    let effect : World → List Statement → List Statement → _ =
+    λ w granted refused. calls.queue_by w a c.args.routine c.args.grant granted refused x in
     IfOk-weaker c.queue_by.result
     (λ plan. (s : _) → Follows s c.args.caller.now c.need_optional.new.events.items plan effect) (λ plan. AreOwn a plan.events)
     (λ plan planned.

@@ -13,7 +13,8 @@ pub returns-clause-own : goal.returns-clause-own
 returns-clause-own c =
     let a = c.args.caller.now.activation in
     let queue = queue_at c.args.store.now c.args.caller.now.filter in
-    let effect : World → List Statement → List Statement → _ = λ w granted refused. calls.removed w a c.args.operation c.args.output granted refused queue in
+    let effect : World → List Statement → List Statement → _ =
+    λ w granted refused. calls.removed w a c.args.operation c.args.output granted refused queue in
     IfOk-weaker c.removed.result
     (λ plan. Follows c.args.store.now c.args.caller.now c.push.new.list.items plan effect) (λ plan. AreOwn a plan.events)
     (λ plan planned.

@@ -24,11 +24,13 @@ returns-clause-planned c =
     let s = c.args.store.now in
     let a = c.args.caller.now.activation in
     let named : Named = record { visit = c.operation.result; context = None } in
-    let completion : Completion = record { call = call.CompletePendedPostOperation; answer = c.post_answer-answer.result; named = named; settled = c.settled_by.result } in
+    let completion : Completion = record
+    { call = call.CompletePendedPostOperation; answer = c.post_answer-answer.result; named = named; settled = c.settled_by.result } in
     IfOk-weaker c.plan_completion.result
     (λ (plan : Plan). (actors : List machine.Actor) (acts : List machine.Activation) (granted refused : List Statement) →
     IsPlanned (world_of s actors acts) a plan [] granted refused (completes (world_of s actors acts) a completion granted))
-    (λ (plan : Plan). (p : List Filter) → AreLoaded p c.args.loaded.now → Plans s c.args.caller.now plan (λ w granted refused. calls.complete_post w a p granted))
+    (λ (plan : Plan). (p : List Filter) → AreLoaded p c.args.loaded.now →
+    Plans s c.args.caller.now plan (λ w granted refused. calls.complete_post w a p granted))
     (λ plan held p loaded actors acts granted refused h.
     let w = world_of s actors acts in
     subst (IsPlanned w a plan [] granted refused)
@@ -43,7 +45,8 @@ returns-clause-own c =
     let s = c.args.store.now in
     let a = c.args.caller.now.activation in
     let named : Named = record { visit = c.operation.result; context = None } in
-    let completion : Completion = record { call = call.CompletePendedPostOperation; answer = c.post_answer-answer.result; named = named; settled = c.settled_by.result } in
+    let completion : Completion = record
+    { call = call.CompletePendedPostOperation; answer = c.post_answer-answer.result; named = named; settled = c.settled_by.result } in
     IfOk-weaker c.plan_completion.result
     (λ (plan : Plan). (actors : List machine.Actor) (acts : List machine.Activation) (granted refused : List Statement) →
     IsPlanned (world_of s actors acts) a plan [] granted refused (completes (world_of s actors acts) a completion granted))

@@ -29,13 +29,17 @@ returns-clause-planned c =
     IfOk-weaker c.plan_completion.result
     (λ (plan : Plan). (actors : List machine.Actor) (acts : List machine.Activation) (granted refused : List Statement) →
     IsPlanned (world_of s actors acts) a plan [] granted refused (completes (world_of s actors acts) a completion granted))
-    (λ (plan : Plan). (p : List Filter) → AreLoaded p c.args.loaded.now → Plans s c.args.caller.now plan (λ w granted refused. calls.complete_pre w a p c.args.operation c.args.status granted))
+    (λ (plan : Plan). (p : List Filter) → AreLoaded p c.args.loaded.now →
+    Plans s c.args.caller.now plan (λ w granted refused. calls.complete_pre w a p c.args.operation c.args.status granted))
     (λ plan held p loaded actors acts granted refused h.
     let w = world_of s actors acts in
     subst (IsPlanned w a plan [] granted refused)
-    (pre_is p w a granted c.args.operation c.args.status c.whose.result c.operation.result c.named_in.result c.pre_answer-answer.result c.settled_by.result
-    c.whose.ensures (read_is (λ act. operation_in act c.args.operation) c.args.caller.now actors acts c.operation.result h (λ rest. sym c.operation.ensures))
-    (read_is (λ act. named_in act (context_of c.args.status)) c.args.caller.now actors acts c.named_in.result h (λ rest. sym (c.named_in.ensures ∙ ap (λ v. named_in (activation_with c.args.caller.now.standing []) v) c.context.ensures)))
+    (pre_is p w a granted c.args.operation c.args.status c.whose.result c.operation.result c.named_in.result
+    c.pre_answer-answer.result c.settled_by.result
+    c.whose.ensures (read_is (λ act. operation_in act c.args.operation) c.args.caller.now actors acts c.operation.result h
+    (λ rest. sym c.operation.ensures))
+    (read_is (λ act. named_in act (context_of c.args.status)) c.args.caller.now actors acts c.named_in.result h
+    (λ rest. sym (c.named_in.ensures ∙ ap (λ v. named_in (activation_with c.args.caller.now.standing []) v) c.context.ensures)))
     c.pre_answer-answer.ensures (c.settled_by.ensures p loaded))
     (held actors acts granted refused))
     c.plan_completion.ensures.planned

@@ -12,7 +12,8 @@ returns-in-Check-clause-answers g c =
     (g.P.Pictures.tried c.args.pictures.now) in
     answers_of c.covered_texts_break_nothing.ensures c.driven_texts_break_nothing.ensures
     c.fails_exactly_where_nothing_is_spelled.ensures.nowhere _ _ _ does _ request _ _ _
-    (rw c.in-Check.is at c.in_ok-text.ensures) (rw c.last_of.ensures at c.check_files-said.ensures) refl (those_of _ _ c.report_on.ensures.texts)
+    (rw c.in-Check.is at c.in_ok-text.ensures) (rw c.last_of.ensures at c.check_files-said.ensures) refl
+    (those_of _ _ c.report_on.ensures.texts)
     c.report_on.ensures.reported (remarked_after request _ _ _ c.new.ensures.items c.report_on.ensures.remarked)
 
 pub returns-in-Analyse-clause-answers : goal.returns-in-Analyse-clause-answers
@@ -24,7 +25,8 @@ returns-in-Analyse-clause-answers g c =
     answers_of c.covered_texts_break_nothing.ensures c.driven_texts_break_nothing.ensures
     c.fails_exactly_where_nothing_is_spelled.ensures.nowhere _ _ _ does _ request _ _ _
     (rw c.in-Analyse.is at c.in_ok-text.ensures) c.analyse_file-said.ensures refl (those_of _ _ c.report_on-in-Analyse.ensures.texts)
-    c.report_on-in-Analyse.ensures.reported (remarked_after request _ _ _ c.new-in-Analyse.ensures.items c.report_on-in-Analyse.ensures.remarked)
+    c.report_on-in-Analyse.ensures.reported
+    (remarked_after request _ _ _ c.new-in-Analyse.ensures.items c.report_on-in-Analyse.ensures.remarked)
 
 pub returns-in-Thin-clause-answers : goal.returns-in-Thin-clause-answers
 returns-in-Thin-clause-answers g c =
@@ -34,12 +36,14 @@ returns-in-Thin-clause-answers g c =
     (g.P.Pictures.tried c.args.pictures.now) in
     answers_of c.covered_texts_break_nothing.ensures c.driven_texts_break_nothing.ensures
     c.fails_exactly_where_nothing_is_spelled.ensures.nowhere _ _ _ does _ request _ _ _
-    (rw c.in-Thin.is at c.in_ok-text.ensures) (rw c.last_of-in-Thin.ensures at c.thin_files-said.ensures) refl (those_of _ _ c.report_on-in-Thin.ensures.texts)
+    (rw c.in-Thin.is at c.in_ok-text.ensures) (rw c.last_of-in-Thin.ensures at c.thin_files-said.ensures) refl
+    (those_of _ _ c.report_on-in-Thin.ensures.texts)
     c.report_on-in-Thin.ensures.reported (remarked_after request _ _ _ c.new-in-Thin.ensures.items c.report_on-in-Thin.ensures.remarked)
 
 pub returns-in-Run-default-true-default-default-clause-answers : goal.returns-in-Run-default-true-default-default-clause-answers
 returns-in-Run-default-true-default-default-clause-answers g c =
-    let request = Run c.in-Run-default-true-default-default.workers.count c.in-Run-default-true-default-default.quiet c.in-Run-default-true-default-default.script.now (map (λ name. name.now) c.in-Run-default-true-default-default.files.items) in
+    let request = Run c.in-Run-default-true-default-default.workers.count c.in-Run-default-true-default-default.quiet
+    c.in-Run-default-true-default-default.script.now (map (λ name. name.now) c.in-Run-default-true-default-default.files.items) in
     let does =
     Does (c.args.pictures.now ≡ c.args.pictures.now) (g.P.Pictures.tried c.args.pictures.now)
     (g.P.Pictures.tried c.args.pictures.now) in
@@ -48,7 +52,8 @@ returns-in-Run-default-true-default-default-clause-answers g c =
     _ (rw c.in-Run-default-true-default-default.is at c.in_ok-text.ensures)
     (rw c.as_slice-files.ensures.value at c.run_files-said.ensures) refl
     (those_of _ _ c.report_on-in-Run-default-true-default-default.ensures.texts)
-    c.report_on-in-Run-default-true-default-default.ensures.reported (remarked_after request _ _ _ c.new-in-Run-default-true-default-default.ensures.items c.report_on-in-Run-default-true-default-default.ensures.remarked)
+    c.report_on-in-Run-default-true-default-default.ensures.reported (remarked_after request _ _ _
+    c.new-in-Run-default-true-default-default.ensures.items c.report_on-in-Run-default-true-default-default.ensures.remarked)
 
 pub returns-in_ok-tell_deadlock-in-Run-clause-answers : goal.returns-in_ok-tell_deadlock-in-Run-clause-answers
 returns-in_ok-tell_deadlock-in-Run-clause-answers g c =
@@ -59,7 +64,8 @@ returns-in_ok-tell_deadlock-in-Run-clause-answers g c =
     answers_of c.covered_texts_break_nothing.ensures c.driven_texts_break_nothing.ensures
     c.fails_exactly_where_nothing_is_spelled.ensures.nowhere _ _ _ does _ request _ _
     _ (rw c.in-Run.is at c.in_ok-text.ensures) (rw c.as_slice.ensures.value at c.run_files-said-in-Run.ensures) refl
-    (those_of _ _ c.report_on-in-Run.ensures.texts) c.report_on-in-Run.ensures.reported (remarked_after request _ _ _ c.new-in-Run.ensures.items c.report_on-in-Run.ensures.remarked)
+    (those_of _ _ c.report_on-in-Run.ensures.texts) c.report_on-in-Run.ensures.reported
+    (remarked_after request _ _ _ c.new-in-Run.ensures.items c.report_on-in-Run.ensures.remarked)
 
 pub returns-in-Replay-clause-answers : goal.returns-in-Replay-clause-answers
 returns-in-Replay-clause-answers g c =
@@ -72,11 +78,13 @@ returns-in-Replay-clause-answers g c =
     c.fails_exactly_where_nothing_is_spelled.ensures.nowhere _ _ _ does _ request _ _
     _ (rw c.in-Replay.is at c.in_ok-text.ensures) said.1 refl
     (those_after _ _ _ _ _ c.report_on-in-Replay.ensures.texts c.report_on-in-Replay.ensures.journal said.2)
-    c.report_on-in-Replay.ensures.reported (remarked_after request _ _ _ c.new-in-Replay.ensures.items c.report_on-in-Replay.ensures.remarked)
+    c.report_on-in-Replay.ensures.reported
+    (remarked_after request _ _ _ c.new-in-Replay.ensures.items c.report_on-in-Replay.ensures.remarked)
 
 pub returns-in_ok-before-in-Show-clause-answers : goal.returns-in_ok-before-in-Show-clause-answers
 returns-in_ok-before-in-Show-clause-answers g c =
-    let request = Show c.in-Show.timeline (option_map (λ name. name.now) c.in-Show.picture) c.in-Show.journal.now (map (λ name. name.now) c.in-Show.files.items) in
+    let request = Show c.in-Show.timeline (option_map (λ name. name.now) c.in-Show.picture) c.in-Show.journal.now
+    (map (λ name. name.now) c.in-Show.files.items) in
     let said = rw c.as_slice-files-in-Show.ensures.value at c.show_files-said.ensures.said in
     let does =
     Does (c.show_files-said.new.pictures ≡ c.args.pictures.now) (g.P.Pictures.tried c.args.pictures.now)
@@ -111,8 +119,10 @@ returns-in-Pages-clause-answers g c =
     answers_of c.covered_texts_break_nothing.ensures c.driven_texts_break_nothing.ensures
     c.fails_exactly_where_nothing_is_spelled.ensures.nowhere _ _ _ does _ request _ _ _
     (rw c.in-Pages.is at c.in_ok-text.ensures)
-    (says_of_pages _ _ _ _ (ap (map (λ t. t.items)) c.new-contents.ensures.texts) (rw c.as_slice-in-Pages.ensures.value at c.pages_of-said.ensures)) refl
-    (those_of _ _ c.report_on-in-Pages.ensures.texts) c.report_on-in-Pages.ensures.reported (remarked_after request _ _ _ c.new-in-Pages.ensures.items c.report_on-in-Pages.ensures.remarked)
+    (says_of_pages _ _ _ _ (ap (map (λ t. t.items)) c.new-contents.ensures.texts)
+    (rw c.as_slice-in-Pages.ensures.value at c.pages_of-said.ensures)) refl
+    (those_of _ _ c.report_on-in-Pages.ensures.texts) c.report_on-in-Pages.ensures.reported
+    (remarked_after request _ _ _ c.new-in-Pages.ensures.items c.report_on-in-Pages.ensures.remarked)
 
 pub returns-in-Emit-clause-answers : goal.returns-in-Emit-clause-answers
 returns-in-Emit-clause-answers g c =
@@ -161,7 +171,8 @@ returns-in-Explain-clause-answers g c =
 pub returns-in-Explain-clause-quiet : goal.returns-in-Explain-clause-quiet
 returns-in-Explain-clause-quiet g c =
     quiet_asked _ _ (rw c.in-Explain.is at c.in_ok-text.ensures) _
-    (rw c.as_slice-files-in-Explain.ensures.value at (c.report_on_files.ensures.quiet c.in-Explain.colour (choice_of c.in-Explain.warnings)))
+    (rw c.as_slice-files-in-Explain.ensures.value at
+    (c.report_on_files.ensures.quiet c.in-Explain.colour (choice_of c.in-Explain.warnings)))
 
 pub returns-in-Explain-clause-memory : goal.returns-in-Explain-clause-memory
 returns-in-Explain-clause-memory g c =

@@ -5,7 +5,8 @@ use Rattle.flt_commands.specs.declared.fault.CommandFault.TheVariants.{OutOfMemo
 use Rattle.flt_commands.proofs.explain.explain_files.Goals as goal
 
 pub explain_read-requires : goal.explain_read-requires
-explain_read-requires g c = rw (c.as_slice-3.ensures.value, c.as_slice-2.ensures.value) (read_many _ _ c.in_ok-read.read c.in_ok-read.ensures)
+explain_read-requires g c =
+    rw (c.as_slice-3.ensures.value, c.as_slice-2.ensures.value) (read_many _ _ c.in_ok-read.read c.in_ok-read.ensures)
 
 pub returns-in_err-told-clause-memory : goal.returns-in_err-told-clause-memory
 returns-in_err-told-clause-memory g c =

@@ -6,7 +6,8 @@ use Rattle.flt_commands.proofs.explain.explain_read.Goals as goal
 
 pub returns-clause-told : goal.returns-clause-told
 returns-clause-told g c =
-    let named : names_in c.in_ok-sources.sources.items ≡ map (told_name c.args.asked.form) (map (λ (n : Bor (List ℕ)). n.now) c.args.names.now) =
+    let named : names_in c.in_ok-sources.sources.items ≡
+    map (told_name c.args.asked.form) (map (λ (n : Bor (List ℕ)). n.now) c.args.names.now) =
     c.in_ok-sources.ensures.names ∙ ap (λ ns. map string_bytes ns) c.as_slice.ensures.value ∙ c.in_ok-names.ensures
     ∙ sym (mapped_twice (λ (n : Bor (List ℕ)). n.now) (told_name c.args.asked.form) c.args.names.now) in
     told_under _ _ _ _ _ _ _ _ named c.in_ok-sources.ensures.texts (rw c.as_slice-sources.ensures.value at c.told.ensures.told)
@@ -15,7 +16,8 @@ returns-clause-told g c =
 
 pub returns-clause-memory : goal.returns-clause-memory
 returns-clause-memory g c =
-    let named : names_in c.in_ok-sources.sources.items ≡ map (told_name c.args.asked.form) (map (λ (n : Bor (List ℕ)). n.now) c.args.names.now) =
+    let named : names_in c.in_ok-sources.sources.items ≡
+    map (told_name c.args.asked.form) (map (λ (n : Bor (List ℕ)). n.now) c.args.names.now) =
     c.in_ok-sources.ensures.names ∙ ap (λ ns. map string_bytes ns) c.as_slice.ensures.value ∙ c.in_ok-names.ensures
     ∙ sym (mapped_twice (λ (n : Bor (List ℕ)). n.now) (told_name c.args.asked.form) c.args.names.now) in
     cut_some _ _ _ _ _ _ _ _ _ named c.in_ok-sources.ensures.texts (rw c.as_slice-sources.ensures.value at c.told.ensures.memory)

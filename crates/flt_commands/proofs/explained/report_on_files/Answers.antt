@@ -27,8 +27,8 @@ returns-clause-answered g c =
 
 pub returns-clause-quiet : goal.returns-clause-quiet
 returns-clause-quiet g c =
-    λ colour warnings. quiet_for c.args.asked.form colour c.args.asked.states _ warnings _ _ _ _ c.in_ok-before.ensures.found c.report_on_explanation.ensures.reported
-    c.report_on_explanation.ensures.quiet
+    λ colour warnings. quiet_for c.args.asked.form colour c.args.asked.states _ warnings _ _ _ _ c.in_ok-before.ensures.found
+    c.report_on_explanation.ensures.reported c.report_on_explanation.ensures.quiet
 
 pub returns-clause-sent : goal.returns-clause-sent
 returns-clause-sent g c =

@@ -12,7 +12,8 @@ returns-clause-answered g c =
     c.fails_exactly_where_nothing_is_spelled.ensures.nowhere shown _ _ _ request _ _ _ (refl, c.in_ok-found.ensures.said)
     c.in_ok-found.ensures.kept
     (those_of _ _ c.report_on.ensures.texts) c.report_on.ensures.reported
-    (remarked_after request c.in_ok-before.before.items (Ok (Formatted c.args.mode c.in_ok-found.found)) _ c.in_ok-before.ensures c.report_on.ensures.remarked)
+    (remarked_after request c.in_ok-before.before.items
+    (Ok (Formatted c.args.mode c.in_ok-found.found)) _ c.in_ok-before.ensures c.report_on.ensures.remarked)
 
 pub returns-clause-quiet : goal.returns-clause-quiet
 returns-clause-quiet g c =

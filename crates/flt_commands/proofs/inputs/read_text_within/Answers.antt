@@ -37,7 +37,8 @@ loop-preserved g c =
     c.in_ok-extend_from_slice.ensures.items
     ∙ rw room (kept_more_of held.0 c.take.new.buffer c.loop.kept.items c.in-Ok.n c.in-Ok.ensures.bound.0 held.2) in
     record {
-      so_far = (held.0 ++ piece, Consumes-trans _ _ _ held.0 piece held.1 c.in-Ok.ensures.bytes.0, more, omega (arith, count, whole, held.3));
+      so_far =
+          (held.0 ++ piece, Consumes-trans _ _ _ held.0 piece held.1 c.in-Ok.ensures.bytes.0, more, omega (arith, count, whole, held.3));
       few = few;
       room = rw (more, length-take 65537 (held.0 ++ piece)) (omega arith);
       fine = c.in-Ok.ensures.fine ∙ c.loop.invariant.fine;

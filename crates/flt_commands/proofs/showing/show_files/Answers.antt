@@ -17,7 +17,8 @@ returns-in_err-extend_from_slice g c =
 pub returns-in_err-written : goal.returns-in_err-written
 returns-in_err-written g c =
     let fails : c.from_residual-in_err-written.result ≡ Err c.in_err-written.field-0.0 = search rules in
-    rw fails (record { said = ([], unread _ c.in_err-written.ensures.err, refl); drawn = no_picture _ c.args.name _ _; untouched = λ none. refl })
+    rw fails
+    (record { said = ([], unread _ c.in_err-written.ensures.err, refl); drawn = no_picture _ c.args.name _ _; untouched = λ none. refl })
 
 pub returns : goal.returns
 returns g c = record {

@@ -29,7 +29,8 @@ pub loop-answer-preserved : goal.loop-answer-preserved
 loop-answer-preserved c =
     let next = split_last (IsAnswer c.args.graph.now) (IsShown c.args.graph.now) c.args.found.now c.pop.new.self c.loop-answer.answers
     c.in-Some.answer c.loop-answer.all.items c.in-Some.ensures c.loop-answer.invariant in
-    split_more (IsAnswer c.args.graph.now) (IsShown c.args.graph.now) c.args.found.now c.pop.new.self c.in-Some.answer c.loop-answer.all.items
+    split_more (IsAnswer c.args.graph.now) (IsShown c.args.graph.now) c.args.found.now c.pop.new.self
+    c.in-Some.answer c.loop-answer.all.items
     c.push.new.self.items c.in_ok-shown_by.field-0 c.len-number.result c.finding_at-finding.result.now c.len-number.ensures
     c.finding_at-finding.ensures next c.in_ok-shown_by.ensures c.in_ok-push.ensures.items
 

@@ -4,7 +4,8 @@ use Rattle.flt_emit.specs.Callbacks.{number_declaration}
 use Rattle.flt_emit.proofs.callbacks.declare_numbers.Given as goal
 
 abbrev pub invariant-loop-variables : goal.invariant-loop-variables
-invariant-loop-variables l = l.out.items ++ flat_map (number_declaration l.body) l.variables ≡ l.initial.out.items ++ flat_map (number_declaration l.body) l.initial.variables
+invariant-loop-variables l = l.out.items ++ flat_map (number_declaration l.body) l.variables ≡
+    l.initial.out.items ++ flat_map (number_declaration l.body) l.initial.variables
 
 abbrev pub decreases-loop-variables : goal.decreases-loop-variables
 decreases-loop-variables l = length l.variables

@@ -45,7 +45,8 @@ pub statement-returns-in_ok-write-in-Return-clause-text : goal.statement-returns
 statement-returns-in_ok-write-in-Return-clause-text t c =
     left _ _ _ _ (label c.args.point c.in-Return.at.line) c.in_ok-leave-in-Return.ensures c.in_ok-write-in-Return.ensures
     ∙ ap (λ (l : List ℕ). c.args.out.now.items ++ l)
-    (sym (returning (scope_of c.args.scope.now) c.args.level c.args.point c.args.statement.now c.in-Return.at c.in-Return.status c.in-Return.is))
+    (sym (returning (scope_of c.args.scope.now) c.args.level c.args.point c.args.statement.now c.in-Return.at
+    c.in-Return.status c.in-Return.is))
 
 pub statement-returns-in-empty-clause-text : goal.statement-returns-in-empty-clause-text
 statement-returns-in-empty-clause-text t c =

@@ -11,7 +11,8 @@ returns c =
     let help : c.in_ok-help.help.items ≡ help_of c.in-Some.trouble =
     c.in_ok-help.ensures ∙ ap help_in c.in_ok-told.ensures.notes in
     let line : IsFaultLine c.args.source.name.now c.args.source.text.now
-    (line_of (fault c.args.source.name.now c.args.source.text.now c.in-Some.trouble c.in_ok-told.told.title.items c.in_ok-help.help.items)) = record {
+    (line_of (fault c.args.source.name.now c.args.source.text.now c.in-Some.trouble c.in_ok-told.told.title.items
+    c.in_ok-help.help.items)) = record {
       trouble = c.in-Some.trouble;
       described = described;
       line = λ i. line_of (fault c.args.source.name.now c.args.source.text.now c.in-Some.trouble (c.in_ok-told.ensures.title i) (help i));

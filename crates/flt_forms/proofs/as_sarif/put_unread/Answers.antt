@@ -12,9 +12,11 @@ returns c =
     let help : c.in_ok-help.help.items ≡ help_of c.in-Some.trouble =
     c.in_ok-help.ensures ∙ ap help_in c.in_ok-told.ensures.notes in
     let is : IsFaultResult c.args.file.now c.args.text.now
-    (fault_result c.args.file.now c.in-Some.trouble.spot.fault c.in-Some.trouble.spot.bytes.now c.in_ok-told.told.title.items c.in_ok-help.help.items) = record {
+    (fault_result c.args.file.now c.in-Some.trouble.spot.fault c.in-Some.trouble.spot.bytes.now c.in_ok-told.told.title.items
+    c.in_ok-help.help.items) = record {
       trouble = c.in-Some.trouble;
       described = described;
-      result = λ i. fault_result c.args.file.now c.in-Some.trouble.spot.fault c.in-Some.trouble.spot.bytes.now (c.in_ok-told.ensures.title i) (help i);
+      result = λ i. fault_result c.args.file.now c.in-Some.trouble.spot.fault c.in-Some.trouble.spot.bytes.now
+          (c.in_ok-told.ensures.title i) (help i);
     } in
     (_, is, c.in_ok-put_fault_result.ensures.ok)

@@ -8,7 +8,8 @@ unfolding IsSarif
 returns c =
     let shown = c.in_ok-status.ensures in
     let names = c.in_ok-names.ensures in
-    let run = rw (c.as_slice-3.ensures.value, c.as_slice-2.ensures.value, c.in_ok-files.ensures, c.as_slice.ensures.value, names) at shown.1 in
+    let run = rw (c.as_slice-3.ensures.value, c.as_slice-2.ensures.value, c.in_ok-files.ensures, c.as_slice.ensures.value, names)
+    at shown.1 in
     let none = c.new-writer.ensures.before ∙ c.new.ensures.items in (
       shown.0,
       run,

@@ -6,4 +6,5 @@ pub returns : goal.returns
 returns c =
     let last : c.args.region.end.column - 1 ≡ c.saturating_sub.result = omega arith in
     rw last
-    (behind c.in_ok-put_number.ensures.ok (behind c.in_ok-put_number-2.ensures.ok (behind c.in_ok-put_number-3.ensures.ok c.put_number-4.ensures)))
+    (behind c.in_ok-put_number.ensures.ok
+    (behind c.in_ok-put_number-2.ensures.ok (behind c.in_ok-put_number-3.ensures.ok c.put_number-4.ensures)))

@@ -8,8 +8,8 @@ loop-number-preserved c = record {
   before = c.in_ok-put_thread_of.ensures.ok.before ∙ c.loop-number.invariant.before;
   tokens =
       one_counted_more (thread_of c.args.files.now c.args.run.now) c.args.activations.now c.loop-number.number
-      c.index-activations-number.result (omega (arith, c.loop-number-test.true)) c.index-activations-number.is _ _ _ c.loop-number.invariant.tokens
-      c.in_ok-put_thread_of.ensures.ok.tokens;
+      c.index-activations-number.result (omega (arith, c.loop-number-test.true)) c.index-activations-number.is _ _ _
+      c.loop-number.invariant.tokens c.in_ok-put_thread_of.ensures.ok.tokens;
 }
 
 pub returns : goal.returns

@@ -10,6 +10,7 @@ returns c =
     (fault_line c.args.source.name.now c.in-Some.trouble.spot.fault c.as_slice.result.now) = record {
       trouble = c.in-Some.trouble;
       described = described;
-      line = λ i. fault_line c.args.source.name.now c.in-Some.trouble.spot.fault ((c.as_slice.ensures.value ∙ c.in_ok-told.ensures.title) i);
+      line = λ i. fault_line c.args.source.name.now c.in-Some.trouble.spot.fault
+          ((c.as_slice.ensures.value ∙ c.in_ok-told.ensures.title) i);
     } in
     (_, line, c.in_ok-written.ensures)

@@ -3,4 +3,6 @@ use Rattle.flt_forms.proofs.warning.put_warning.Goals as goal
 
 pub returns : goal.returns
 returns c =
-    behind c.in_ok-open_object.ensures.ok (behind c.in_ok-put_preface.ensures.ok (behind c.in_ok-put_place.ensures.ok (behind c.in_ok-put_words.ensures.ok (behind c.in_ok-put_related.ensures.ok (behind c.in_ok-put_suppressed.ensures.ok c.close_object.ensures)))))
+    behind c.in_ok-open_object.ensures.ok
+    (behind c.in_ok-put_preface.ensures.ok (behind c.in_ok-put_place.ensures.ok (behind c.in_ok-put_words.ensures.ok
+    (behind c.in_ok-put_related.ensures.ok (behind c.in_ok-put_suppressed.ensures.ok c.close_object.ensures)))))

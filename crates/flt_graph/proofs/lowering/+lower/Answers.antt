@@ -51,8 +51,8 @@ add_statement-returns-in_default t c =
         length-append {A = Point},
         points_plain c.args.callbacks.now c.args.statement.now (length c.args.found.now.items) c.args.after plain,
       );
-      points = added_plain c.args.callbacks.now c.args.statement.now c.args.found.now.items c.push_statement.new.found.items c.args.after plain
-          c.in_ok-push_statement.ensures;
+      points = added_plain c.args.callbacks.now c.args.statement.now c.args.found.now.items
+          c.push_statement.new.found.items c.args.after plain c.in_ok-push_statement.ensures;
     }
 
 pub add_block-loop-statement-preserved : goal.add_block-loop-statement-preserved

@@ -6,5 +6,6 @@ use Rattle.flt_hints.proofs.choices.choices_in.Goals as goal
 
 pub returns : goal.returns
 returns c =
-    are_choices c.the_fault_is_the_one_told.ensures (gap_of c.args.gap) c.args.text.now _ c.in_ok-expected.ensures c.in_ok-takes_number.ensures
+    are_choices c.the_fault_is_the_one_told.ensures (gap_of c.args.gap) c.args.text.now _ c.in_ok-expected.ensures
+    c.in_ok-takes_number.ensures
     c.in_ok-takes_name.ensures (c.in_ok-names.ensures ∙ ap (possible_names (gap_of c.args.gap)) c.requires.names)

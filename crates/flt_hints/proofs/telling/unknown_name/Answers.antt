@@ -6,4 +6,5 @@ use Rattle.flt_hints.proofs.telling.unknown_name.Goals as goal
 pub returns : goal.returns
 unfolding unknown_name
 returns c =
-    two_pieces c.found.result c.args.out.now.items _ _ (codes "unknown name ") (found c.args.trouble.now) c.in_ok-text.ensures c.found.ensures
+    two_pieces c.found.result c.args.out.now.items _ _ (codes "unknown name ")
+    (found c.args.trouble.now) c.in_ok-text.ensures c.found.ensures

@@ -13,13 +13,15 @@ returns c =
       spot = refl;
       choices = record {
         choices = c.in_ok-choices.ensures;
-        meant = subst (λ g. IfSome c.in_ok-meant.meant (λ (w : Bor Text). MayStand g w.now)) c.gap_at-gap.ensures c.in_ok-meant.ensures.stands;
+        meant = subst (λ g. IfSome c.in_ok-meant.meant (λ (w : Bor Text). MayStand g w.now)) c.gap_at-gap.ensures
+            c.in_ok-meant.ensures.stands;
         explained = record {
           meant = c.in_ok-meant.ensures.word
               ∙ ap (λ g. meant_by g s.fault.kind t.word.kind s.bytes.now c.in_ok-choices.choices) c.gap_at-gap.ensures;
           open_call = c.open_call-open_call.ensures ∙ ap (λ ts. open_call s.fault.kind ts t c.in_ok-choices.choices) c.requires.tokens;
           hint = c.in_ok-hint.ensures
-              ∙ ap (λ ts. hint_at c.args.text.now ts s.fault.kind t s.bytes.now c.in_ok-choices.choices c.in_ok-meant.meant) c.requires.tokens;
+              ∙ ap (λ ts. hint_at c.args.text.now ts s.fault.kind t s.bytes.now c.in_ok-choices.choices c.in_ok-meant.meant)
+              c.requires.tokens;
         };
       };
       left_out = record { none = c.in_ok-meant.ensures.left_out };

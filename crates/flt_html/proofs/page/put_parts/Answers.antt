@@ -20,7 +20,8 @@ returns c =
     let whole = c.put-3.new.out.items in
     text_after c.args.out.now.items c.put_opening.new.out.items whole first (links ++ (second ++ (texts ++ (third ++ (reports ++ last)))))
     (rw c.last_row.ensures at c.in_ok-put_opening.ensures)
-    (text_after c.put_opening.new.out.items c.put_links.new.out.items whole links (second ++ (texts ++ (third ++ (reports ++ last)))) c.in_ok-put_links.ensures
+    (text_after c.put_opening.new.out.items c.put_links.new.out.items whole links
+    (second ++ (texts ++ (third ++ (reports ++ last)))) c.in_ok-put_links.ensures
     (text_after c.put_links.new.out.items c.put.new.out.items whole second (texts ++ (third ++ (reports ++ last))) c.in_ok-put.ensures
     (text_after c.put.new.out.items c.put_texts.new.out.items whole texts (third ++ (reports ++ last)) c.in_ok-put_texts.ensures
     (text_after c.put_texts.new.out.items c.put-2.new.out.items whole third (reports ++ last) c.in_ok-put-2.ensures

@@ -12,4 +12,5 @@ returns c =
     let picture = c.args.picture.now in
     let whole = c.put-2.new.out.items in
     text_after c.args.out.now.items c.put.new.out.items whole first (picture ++ last) c.in_ok-put.ensures
-    (text_after c.put.new.out.items c.extend_from_slice.new.self.items whole picture last c.in_ok-extend_from_slice.ensures.items c.in_ok-put-2.ensures)
+    (text_after c.put.new.out.items c.extend_from_slice.new.self.items whole picture last
+    c.in_ok-extend_from_slice.ensures.items c.in_ok-put-2.ensures)

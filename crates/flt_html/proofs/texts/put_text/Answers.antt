@@ -17,8 +17,10 @@ returns c =
     let third = codes "</h2><pre>" in
     let last = codes "</pre></section>" in
     let whole = c.put-4.new.out.items in
-    text_after c.args.out.now.items c.put.new.out.items whole first (number ++ (second ++ (name ++ (third ++ (lines ++ last))))) c.in_ok-put.ensures
-    (text_after c.put.new.out.items c.put_number.new.out.items whole number (second ++ (name ++ (third ++ (lines ++ last)))) c.in_ok-put_number.ensures
+    text_after c.args.out.now.items c.put.new.out.items whole first
+    (number ++ (second ++ (name ++ (third ++ (lines ++ last))))) c.in_ok-put.ensures
+    (text_after c.put.new.out.items c.put_number.new.out.items whole number
+    (second ++ (name ++ (third ++ (lines ++ last)))) c.in_ok-put_number.ensures
     (text_after c.put_number.new.out.items c.put-2.new.out.items whole second (name ++ (third ++ (lines ++ last))) c.in_ok-put-2.ensures
     (text_after c.put-2.new.out.items c.put_escaped.new.out.items whole name (third ++ (lines ++ last))
     (rw c.as_slice.ensures at c.in_ok-put_escaped.ensures)

@@ -23,12 +23,12 @@ loop-open-preserved c =
     let visited = c.in_ok-open.ensures.visited in
     let value = c.in_ok-open.ensures.value in
     record {
-      sized = sized_next c.args.graph.now c.args.anchor c.loop-open.cells.items c.round_on.new.cells.items c.in_ok-open.open c.requires sized
-          visited value;
+      sized = sized_next c.args.graph.now c.args.anchor c.loop-open.cells.items c.round_on.new.cells.items
+          c.in_ok-open.open c.requires sized visited value;
       just = just_next c.args.graph.now c.args.anchor c.loop-open.cells.items c.round_on.new.cells.items c.in_ok-open.open c.requires sized
           visited value c.loop-open.invariant.just;
-      closed = closed_next c.args.graph.now c.args.anchor c.loop-open.cells.items c.round_on.new.cells.items c.in_ok-open.open c.requires sized
-          visited value;
+      closed = closed_next c.args.graph.now c.args.anchor c.loop-open.cells.items c.round_on.new.cells.items
+          c.in_ok-open.open c.requires sized visited value;
     }
 
 pub returns : goal.returns

@@ -12,7 +12,8 @@ continued-requires c = record {
 pub returns-in_default : goal.returns-in_default
 returns-in_default c =
     let on = goes c.args.plan.now.write c.in_default.not-End in record {
-      later = λ cs a rest remains own. (on, (c.continued.ensures.written cs rest on (c.requires.leads on) remains, c.continued.ensures.counted a own));
-      small = λ entries small. written_small entries c.args.plan.now.write c.args.caller.now.standing c.continued.result on c.requires.free (c.continued.ensures.variables on)
-          c.continued.ensures.few_gained c.continued.ensures.few_lost small;
+      later = λ cs a rest remains own.
+          (on, (c.continued.ensures.written cs rest on (c.requires.leads on) remains, c.continued.ensures.counted a own));
+      small = λ entries small. written_small entries c.args.plan.now.write c.args.caller.now.standing c.continued.result on c.requires.free
+          (c.continued.ensures.variables on) c.continued.ensures.few_gained c.continued.ensures.few_lost small;
     }

@@ -9,8 +9,10 @@ pub loop-filter-preserved-in-Continue-1 : goal.loop-filter-preserved-in-Continue
 loop-filter-preserved-in-Continue-1 c = (
   omega (arith, c.loop-filter.invariant.0),
   (rw (c.as_slice-altitudes.ensures) at c.in_ok-push.ensures.items) ∙
-      walked c.args.store.now c.args.serial (uncancelled_yet (is_done c.args.store.now c.args.serial) (route_at c.args.store.now c.args.serial).cancelled c.requires.possible)
-      c.args.loaded.now.altitudes c.args.next.now.items c.loop-filter.next.items c.loop-filter.filter true (omega (arith, c.loop-filter-test.true)) c.loop-filter.invariant.0
+      walked c.args.store.now c.args.serial
+      (uncancelled_yet (is_done c.args.store.now c.args.serial) (route_at c.args.store.now c.args.serial).cancelled c.requires.possible)
+      c.args.loaded.now.altitudes c.args.next.now.items c.loop-filter.next.items c.loop-filter.filter true
+      (omega (arith, c.loop-filter-test.true)) c.loop-filter.invariant.0
       (sym c.if-is_cancelled_at.true ∙ c.is_cancelled_at.ensures) c.loop-filter.invariant.1,
   c.in_ok-push.ensures.granted ∙ c.loop-filter.invariant.2,
 )
@@ -19,8 +21,10 @@ pub loop-filter-preserved : goal.loop-filter-preserved
 loop-filter-preserved c = (
   omega (arith, c.loop-filter.invariant.0),
   sym (append-nil c.loop-filter.next.items) ∙
-      walked c.args.store.now c.args.serial (uncancelled_yet (is_done c.args.store.now c.args.serial) (route_at c.args.store.now c.args.serial).cancelled c.requires.possible)
-      c.args.loaded.now.altitudes c.args.next.now.items c.loop-filter.next.items c.loop-filter.filter false (omega (arith, c.loop-filter-test.true)) c.loop-filter.invariant.0
+      walked c.args.store.now c.args.serial
+      (uncancelled_yet (is_done c.args.store.now c.args.serial) (route_at c.args.store.now c.args.serial).cancelled c.requires.possible)
+      c.args.loaded.now.altitudes c.args.next.now.items c.loop-filter.next.items c.loop-filter.filter false
+      (omega (arith, c.loop-filter-test.true)) c.loop-filter.invariant.0
       (sym c.if-is_cancelled_at.false ∙ c.is_cancelled_at.ensures) c.loop-filter.invariant.1,
   c.loop-filter.invariant.2,
 )

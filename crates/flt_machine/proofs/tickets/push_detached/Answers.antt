@@ -13,6 +13,7 @@ returns-in_default-clause-next c =
 
 pub returns-clause-next : goal.returns-clause-next
 returns-clause-next c =
-    rw (detached_some c.args.store.now c.args.filter c.requires.possible c.args.loaded.now.altitudes _ c.as_slice.result.now _ (sym c.in-Some.ensures.value)
-    (ap (λ (l : List Bool). length l) c.as_slice.ensures.value ∙ c.in_ok-marks.ensures.length)
-    (λ k less. ap (λ (l : List Bool). get_or l k false) c.as_slice.ensures.value ∙ c.in_ok-marks.ensures.marked k less)) c.push_marked.ensures.next
+    rw (detached_some c.args.store.now c.args.filter c.requires.possible c.args.loaded.now.altitudes _ c.as_slice.result.now _
+    (sym c.in-Some.ensures.value) (ap (λ (l : List Bool). length l) c.as_slice.ensures.value ∙ c.in_ok-marks.ensures.length)
+    (λ k less. ap (λ (l : List Bool). get_or l k false) c.as_slice.ensures.value ∙ c.in_ok-marks.ensures.marked k less))
+    c.push_marked.ensures.next

@@ -10,12 +10,16 @@ returns-then-not-is_led c x =
 
 pub returns-then-leads_on : goal.returns-then-leads_on
 returns-then-leads_on c x =
-    settled_read c.args.store.now c.args.visit x (way_of c.args.way) _ _ _ c.is_spent_after-spent.result true (sym c.is_led.ensures ∙ c.if-not-is_led.false)
-    (ap (λ (v : Visit). v.operation) (c.seen.view_is ∙ c.visit-seen.ensures)) (ap (λ (v : Visit). v.filter) (c.seen.view_is ∙ c.visit-seen.ensures))
+    settled_read c.args.store.now c.args.visit x (way_of c.args.way) _ _ _ c.is_spent_after-spent.result true
+    (sym c.is_led.ensures ∙ c.if-not-is_led.false)
+    (ap (λ (v : Visit). v.operation) (c.seen.view_is ∙ c.visit-seen.ensures))
+    (ap (λ (v : Visit). v.filter) (c.seen.view_is ∙ c.visit-seen.ensures))
     c.position-from.ensures c.is_spent_after-spent.ensures (sym c.if-leads_on.true ∙ c.leads_on.ensures)
 
 pub returns-else-leads_on : goal.returns-else-leads_on
 returns-else-leads_on c x =
-    settled_read c.args.store.now c.args.visit x (way_of c.args.way) _ _ _ c.is_spent_after-spent.result false (sym c.is_led.ensures ∙ c.if-not-is_led.false)
-    (ap (λ (v : Visit). v.operation) (c.seen.view_is ∙ c.visit-seen.ensures)) (ap (λ (v : Visit). v.filter) (c.seen.view_is ∙ c.visit-seen.ensures))
+    settled_read c.args.store.now c.args.visit x (way_of c.args.way) _ _ _ c.is_spent_after-spent.result false
+    (sym c.is_led.ensures ∙ c.if-not-is_led.false)
+    (ap (λ (v : Visit). v.operation) (c.seen.view_is ∙ c.visit-seen.ensures))
+    (ap (λ (v : Visit). v.filter) (c.seen.view_is ∙ c.visit-seen.ensures))
     c.position-from.ensures c.is_spent_after-spent.ensures (sym c.if-leads_on.false ∙ c.leads_on.ensures)

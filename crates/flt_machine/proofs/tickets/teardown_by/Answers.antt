@@ -8,7 +8,8 @@ use Rattle.flt_machine.proofs.tickets.teardown_by.Goals as goal
 pub returns-in-Some : goal.returns-in-Some
 returns-in-Some c s possible =
     rw (c.in-Detach.is)
-    (torn_down s c.in-Detach.filter (subst (IsPossible s) c.in-Detach.is possible) c.args.loaded.now.altitudes _ (sym c.in-Some.ensures.value))
+    (torn_down s c.in-Detach.filter (subst (IsPossible s) c.in-Detach.is possible) c.args.loaded.now.altitudes _
+    (sym c.in-Some.ensures.value))
 
 pub returns-in-None : goal.returns-in-None
 returns-in-None c s possible =

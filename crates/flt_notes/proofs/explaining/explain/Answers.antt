@@ -12,7 +12,8 @@ put_all-requires-clause-parsed g c = rw (c.as_slice.ensures, c.as_slice-2.ensure
 
 pub returns-clause-reports : goal.returns-clause-reports
 returns-clause-reports g c =
-    let texts : texts_read c.in_ok-readings.readings.each.items ≡ texts_of c.args.sources.now = ap texts_of c.in_ok-readings.ensures.sources in
+    let texts : texts_read c.in_ok-readings.readings.each.items ≡ texts_of c.args.sources.now =
+    ap texts_of c.in_ok-readings.ensures.sources in
     record {
       filters = filters_of c.as_slice.result.now;
       parsed = rw c.as_slice.ensures (rw texts at c.in_ok-readings.ensures.readings.filters);
@@ -22,7 +23,8 @@ returns-clause-reports g c =
 
 pub returns-clause-noted : goal.returns-clause-noted
 returns-clause-noted g c =
-    let texts : texts_read c.in_ok-readings.readings.each.items ≡ texts_of c.args.sources.now = ap texts_of c.in_ok-readings.ensures.sources in
+    let texts : texts_read c.in_ok-readings.readings.each.items ≡ texts_of c.args.sources.now =
+    ap texts_of c.in_ok-readings.ensures.sources in
     record {
       trees = c.as_slice.result.now;
       parsed = rw c.as_slice.ensures (rw texts at c.in_ok-readings.ensures.readings.filters);
@@ -32,7 +34,8 @@ returns-clause-noted g c =
 
 pub returns-clause-said : goal.returns-clause-said
 returns-clause-said g c =
-    let texts : texts_read c.in_ok-readings.readings.each.items ≡ texts_of c.args.sources.now = ap texts_of c.in_ok-readings.ensures.sources in
+    let texts : texts_read c.in_ok-readings.readings.each.items ≡ texts_of c.args.sources.now =
+    ap texts_of c.in_ok-readings.ensures.sources in
     record {
       trees = c.as_slice.result.now;
       parsed = rw c.as_slice.ensures (rw texts at c.in_ok-readings.ensures.readings.filters);
@@ -41,7 +44,8 @@ returns-clause-said g c =
 
 pub returns-clause-print : goal.returns-clause-print
 returns-clause-print g c =
-    let texts : texts_read c.in_ok-readings.readings.each.items ≡ texts_of c.args.sources.now = ap texts_of c.in_ok-readings.ensures.sources in
+    let texts : texts_read c.in_ok-readings.readings.each.items ≡ texts_of c.args.sources.now =
+    ap texts_of c.in_ok-readings.ensures.sources in
     record {
       trees = c.as_slice.result.now;
       parsed = rw c.as_slice.ensures (rw texts at c.in_ok-readings.ensures.readings.filters);

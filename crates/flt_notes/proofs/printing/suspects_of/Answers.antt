@@ -10,6 +10,6 @@ finding_at-finding-requires c = record {
 
 pub loop-report-preserved : goal.loop-report-preserved
 loop-report-preserved c =
-    suspects_more c.args.found.now c.args.reports.now c.loop-report.report-index c.report-item.result c.loop-report.all.items c.push.new.self.items
-    _ c.loop-report-test.true c.report-item.is c.loop-report.invariant
+    suspects_more c.args.found.now c.args.reports.now c.loop-report.report-index c.report-item.result
+    c.loop-report.all.items c.push.new.self.items _ c.loop-report-test.true c.report-item.is c.loop-report.invariant
     (record { number = refl; is = c.finding_at-finding.ensures }) c.in_ok-push.ensures.items

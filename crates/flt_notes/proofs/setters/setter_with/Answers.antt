@@ -5,8 +5,8 @@ use Rattle.flt_notes.proofs.setters.setter_with.Goals as goal
 
 pub returns : goal.returns
 returns c =
-    setter_is c.args.text.now c.extend_from_slice.new.self.items (string_bytes c.args.added) (c.line_ends-line.result + 1) c.in_ok-judged.judged
-    c.in_ok-setter.setter
+    setter_is c.args.text.now c.extend_from_slice.new.self.items (string_bytes c.args.added)
+    (c.line_ends-line.result + 1) c.in_ok-judged.judged c.in_ok-setter.setter
     (goes_more c.args.text.now c.in_ok-whole.whole.items c.extend_from_slice.new.self.items c.as_bytes.result.now c.in_ok-whole.ensures.on
     c.in_ok-extend_from_slice.ensures.items)
     (c.in_ok-extend_from_slice.ensures.items ∙ ap (λ z. z ++ c.as_bytes.result.now) c.in_ok-whole.ensures.ended

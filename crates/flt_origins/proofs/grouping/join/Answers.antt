@@ -11,8 +11,8 @@ returns-in-Some c =
     let g = c.in-Some.group.now in
     on_ok_weaker c.push.result
     (λ e. ap (λ os. slice_set gs c.args.place (group g.first os)) e
-    ∙ written gs c.args.place g c.args.traced (subst (λ n. c.args.place < n) c.args.groups.now.ok.0 (c.in-Some.ensures.variant.0 refl)) c.in-Some.ensures.value)
-    c.push.ensures.ok
+    ∙ written gs c.args.place g c.args.traced (subst (λ n. c.args.place < n) c.args.groups.now.ok.0 (c.in-Some.ensures.variant.0 refl))
+    c.in-Some.ensures.value) c.push.ensures.ok
 
 pub returns-in-None : goal.returns-in-None
 returns-in-None c =

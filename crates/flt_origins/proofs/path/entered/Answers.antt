@@ -6,6 +6,7 @@ use Rattle.flt_origins.proofs.path.entered.Goals as goal
 
 pub returns : goal.returns
 returns c =
-    entered_searched c.args.graph.now c.args.callback c.args.fact c.args.point c.points.result c.may_be_at_entry.result c.in_ok-search.search
+    entered_searched c.args.graph.now c.args.callback c.args.fact c.args.point c.points.result
+    c.may_be_at_entry.result c.in_ok-search.search
     c.enter.new.self c.points.ensures (c.may_be_at_entry.ensures ∙ ap (λ place. may_be (entry place) c.args.fact) c.place.ensures)
     c.in_ok-search.ensures c.in_ok-enter.ensures

@@ -4,8 +4,8 @@ use Rattle.flt_origins.proofs.path.reach.Goals as goal
 
 pub returns-in_default-clause-none : goal.returns-in_default-clause-none
 returns-in_default-clause-none c =
-    λ e. nothing_left c.args.graph.now c.args.callback c.args.fact c.args.point c.loop-number.search c.loop-number.number c.loop-number.invariant
-    (sym c.in_default.ensures.value)
+    λ e. nothing_left c.args.graph.now c.args.callback c.args.fact c.args.point c.loop-number.search
+    c.loop-number.number c.loop-number.invariant (sym c.in_default.ensures.value)
 
 pub returns-then-is_sought-clause-found : goal.returns-then-is_sought-clause-found
 returns-then-is_sought-clause-found c = record {
@@ -29,5 +29,5 @@ loop-number-preserved c =
 
 pub returns-clause-none : goal.returns-clause-none
 returns-clause-none c =
-    λ e. all_followed c.args.graph.now c.args.callback c.args.fact c.args.point c.loop-number.search c.loop-number.number c.loop-number.invariant
-    (subst (λ n. n ≤ c.loop-number.number) c.len.ensures c.loop-number-test.false)
+    λ e. all_followed c.args.graph.now c.args.callback c.args.fact c.args.point c.loop-number.search
+    c.loop-number.number c.loop-number.invariant (subst (λ n. n ≤ c.loop-number.number) c.len.ensures c.loop-number-test.false)

@@ -5,7 +5,8 @@ use Rattle.flt_origins.proofs.path.traced.Goals as goal
 pub returns-in_default-arrival : goal.returns-in_default-arrival
 returns-in_default-arrival c = λ p h.
     entry_origin c.args.graph.now c.args.callback c.args.fact c.args.found.now c.requires p c.loop-one.number c.loop-one.later.items
-    (c.loop-one.invariant p h) c.in-Some.one.now (sym c.in-Some.ensures.value) c.origin_back.result c.in_default-arrival.is c.origin_back.ensures
+    (c.loop-one.invariant p h) c.in-Some.one.now (sym c.in-Some.ensures.value) c.origin_back.result
+    c.in_default-arrival.is c.origin_back.ensures
 
 pub returns-then-is_made_by : goal.returns-then-is_made_by
 returns-then-is_made_by c = λ p h.
@@ -27,5 +28,5 @@ loop-one-preserved c = λ p h.
 
 pub returns : goal.returns
 returns c = λ p h.
-    nothing_traced c.args.graph.now c.args.callback c.args.fact c.args.found.now p c.loop-one.number c.loop-one.later.items c.origin_back-2.result
-    (sym c.in_default.ensures.value) (c.loop-one.invariant p h)
+    nothing_traced c.args.graph.now c.args.callback c.args.fact c.args.found.now p c.loop-one.number
+    c.loop-one.later.items c.origin_back-2.result (sym c.in_default.ensures.value) (c.loop-one.invariant p h)

@@ -7,7 +7,8 @@ loop-end-preserved c = record {
   end = c.line_length-end-in-loop-end.ensures.value;
   within = c.line_length-end-in-loop-end.ensures.within;
   lines =
-      one_line_more c.loop-end.lines.items c.push.new.self.items c.line_up_to.result c.loop-end.end c.loop-end.rest.now c.after_line-rest.result.now
+      one_line_more c.loop-end.lines.items c.push.new.self.items c.line_up_to.result c.loop-end.end c.loop-end.rest.now
+      c.after_line-rest.result.now
       c.args.text.now c.loop-end.invariant.end c.loop-end-test.true c.line_up_to.ensures c.after_line-rest.ensures
       c.in_ok-push.ensures.items c.loop-end.invariant.lines;
 }

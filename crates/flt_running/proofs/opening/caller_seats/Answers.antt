@@ -15,5 +15,6 @@ seats-preserved g c =
       no_fulls = omega arith;
       fulls = all_more _ _ _ pushed (λ seat. (seat.fulls.parts ≡ 1) × (seat.fulls.amount ≡ 0)) i.fulls (omega arith, omega arith);
       receipts = all_more _ _ _ pushed (λ seat. seat.receipts.list.items ≡ []) i.receipts (search rules);
-      shares = all_more _ _ _ pushed (λ seat. (seat.receipts.share.parts ≡ 1) × (seat.receipts.share.amount ≡ 0)) i.shares (search rules, search rules);
+      shares = all_more _ _ _ pushed (λ seat. (seat.receipts.share.parts ≡ 1) × (seat.receipts.share.amount ≡ 0)) i.shares
+          (search rules, search rules);
     }

@@ -14,7 +14,8 @@ loop-rest-smaller-then-b-eq10 c =
 
 pub loop-rest-preserved-then-b-eq10 : goal.loop-rest-preserved-then-b-eq10
 loop-rest-preserved-then-b-eq10 c =
-    feed_spaces_step c.args.text.now c.loop-rest.found.items c.loop-rest.number c.loop-rest.from c.loop-rest.end c.place-end-then-b-eq10.result
+    feed_spaces_step c.args.text.now c.loop-rest.found.items c.loop-rest.number c.loop-rest.from c.loop-rest.end
+    c.place-end-then-b-eq10.result
     c.loop-rest.rest.now c.after_spaces-rest.result.now c.loop-rest.invariant c.in-len1-up.len_at_least c.if-b-eq10.true
     c.place-end-then-b-eq10.ensures c.after_spaces-rest.ensures
 
@@ -46,8 +47,8 @@ returns-then-len-eq0 c =
     c.loop-rest.rest.now c.token-len.result c.loop-rest.invariant c.in-len1-up.len_at_least
     (sym c.is_blank.ensures ∙ c.if-is_blank.false) c.if-b-eq35.false
     (c.token-len.ensures.found
-    ∙ ap (λ i. i ++ token_here c.args.text.now c.loop-rest.number c.loop-rest.from c.loop-rest.rest.now ∷ []) c.in_ok-reserve-2.ensures.items)
-    c.token-len.ensures.step c.if-len-eq0.true c.token-len.ensures.within
+    ∙ ap (λ i. i ++ token_here c.args.text.now c.loop-rest.number c.loop-rest.from c.loop-rest.rest.now ∷ [])
+    c.in_ok-reserve-2.ensures.items) c.token-len.ensures.step c.if-len-eq0.true c.token-len.ensures.within
 
 pub loop-rest-smaller : goal.loop-rest-smaller
 loop-rest-smaller c =
@@ -56,11 +57,13 @@ loop-rest-smaller c =
 
 pub loop-rest-preserved : goal.loop-rest-preserved
 loop-rest-preserved c =
-    token_spaces_step c.args.text.now c.loop-rest.found.items c.token-len.new.found.items c.loop-rest.number c.loop-rest.from c.loop-rest.end
+    token_spaces_step c.args.text.now c.loop-rest.found.items c.token-len.new.found.items c.loop-rest.number
+    c.loop-rest.from c.loop-rest.end
     c.loop-rest.rest.now c.after_spaces-rest-in-len1-up.result.now c.token-len.result c.loop-rest.invariant c.in-len1-up.len_at_least
     (sym c.is_blank.ensures ∙ c.if-is_blank.false) c.if-b-eq35.false
     (c.token-len.ensures.found
-    ∙ ap (λ i. i ++ token_here c.args.text.now c.loop-rest.number c.loop-rest.from c.loop-rest.rest.now ∷ []) c.in_ok-reserve-2.ensures.items)
+    ∙ ap (λ i. i ++ token_here c.args.text.now c.loop-rest.number c.loop-rest.from c.loop-rest.rest.now ∷ [])
+    c.in_ok-reserve-2.ensures.items)
     c.token-len.ensures.step c.if-len-eq0.false c.token-len.ensures.within c.after_spaces-rest-in-len1-up.ensures
 
 pub returns : goal.returns
@@ -70,5 +73,6 @@ returns c =
     c.end_of.result
     c.loop-rest.rest.now c.word.result c.loop-rest.invariant c.in_default.len_below c.word.ensures c.end_of.ensures
     (c.push_reserved.ensures.items
-    ∙ ap (λ (i : Input). i ++ record { word = c.word.result; position = c.end_of.result; start = length c.args.text.now; end = length c.args.text.now } ∷ [])
+    ∙ ap (λ (i : Input). i ++
+    record { word = c.word.result; position = c.end_of.result; start = length c.args.text.now; end = length c.args.text.now } ∷ [])
     c.in_ok-reserve-3.ensures.items)

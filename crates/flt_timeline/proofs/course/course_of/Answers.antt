@@ -11,7 +11,8 @@ pub loop-entry-init : goal.loop-entry-init
 loop-entry-init c = record {
   so_far = [];
   told = c.new-course.ensures.told;
-  all = ap (λ (q : Progress). next_told c.args.stage.now.stack.now c.args.verdict q 0 c.args.scene.now c.args.journal.now) c.new-course.ensures.starts;
+  all = ap (λ (q : Progress). next_told c.args.stage.now.stack.now c.args.verdict q 0 c.args.scene.now c.args.journal.now)
+      c.new-course.ensures.starts;
   refused =
       ap (λ (q : Progress). next_refused c.args.stage.now.stack.now c.args.verdict q 0 c.args.scene.now c.args.journal.now)
       c.new-course.ensures.starts;
@@ -30,7 +31,8 @@ loop-entry-preserved c = record {
       (drop (c.loop-entry.entry-index + 1) c.args.journal.now)) c.in_ok-add.ensures.same
       ∙ told_on_lent
       (λ (n : ℕ) (ws : List JournalEntry). next_told c.args.stage.now.stack.now c.args.verdict c.next.new.self n c.next.new.scene ws)
-      (λ (n : ℕ) (ws : List JournalEntry). next_told c.args.stage.now.stack.now c.args.verdict c.loop-entry.course.progress n c.loop-entry.scene ws)
+      (λ (n : ℕ) (ws : List JournalEntry). next_told c.args.stage.now.stack.now c.args.verdict c.loop-entry.course.progress
+      n c.loop-entry.scene ws)
       c.loop-entry.invariant.so_far _ c.in_ok-here.here c.entries-entry-items.result.now c.args.journal.now c.len-number.result
       c.loop-entry.entry-index _ c.entries-entry-items.ensures c.loop-entry-test.true
       (omega (arith, c.len-number.ensures, c.loop-entry.invariant.each)) c.in_ok-here.ensures.told c.loop-entry.invariant.all;
@@ -39,7 +41,8 @@ loop-entry-preserved c = record {
       (drop (c.loop-entry.entry-index + 1) c.args.journal.now)) c.in_ok-add.ensures.same
       ∙ refused_on_lent
       (λ (n : ℕ) (ws : List JournalEntry). next_refused c.args.stage.now.stack.now c.args.verdict c.next.new.self n c.next.new.scene ws)
-      (λ (n : ℕ) (ws : List JournalEntry). next_refused c.args.stage.now.stack.now c.args.verdict c.loop-entry.course.progress n c.loop-entry.scene ws)
+      (λ (n : ℕ) (ws : List JournalEntry). next_refused c.args.stage.now.stack.now c.args.verdict c.loop-entry.course.progress
+      n c.loop-entry.scene ws)
       _ c.entries-entry-items.result.now c.args.journal.now c.len-number.result c.loop-entry.entry-index _ c.entries-entry-items.ensures
       c.loop-entry-test.true (omega (arith, c.len-number.ensures, c.loop-entry.invariant.each)) c.in_ok-here.ensures.refused
       c.loop-entry.invariant.refused;
@@ -53,10 +56,12 @@ loop-entry-preserved c = record {
 pub returns : goal.returns
 returns c = record {
   told =
-      let P : List Told → Type 0 = λ heres. AreToldBy c.loop-entry.course.tellings c.loop-entry.course.told c.loop-entry.course.whos heres in
+      let P : List Told → Type 0 =
+      λ heres. AreToldBy c.loop-entry.course.tellings c.loop-entry.course.told c.loop-entry.course.whos heres in
       subst P (told_all c.args.stage.now.stack.now c.args.verdict c.loop-entry.invariant.so_far _ c.loop-entry.course.progress
       c.loop-entry.entry-index c.loop-entry.entry-index c.loop-entry.scene c.args.journal.now
-      (omega (arith, c.loop-entry-test.false, ap length c.entries-entry-items.ensures)) c.loop-entry.invariant.all) c.loop-entry.invariant.told;
+      (omega (arith, c.loop-entry-test.false, ap length c.entries-entry-items.ensures)) c.loop-entry.invariant.all)
+      c.loop-entry.invariant.told;
   refused =
       refused_all c.args.stage.now.stack.now c.args.verdict _ c.loop-entry.course.progress c.loop-entry.entry-index c.loop-entry.entry-index
       c.loop-entry.scene c.args.journal.now (omega (arith, c.loop-entry-test.false, ap length c.entries-entry-items.ensures))

@@ -15,5 +15,6 @@ loop-alike-preserved c =
     record {
       repeats = search rules;
       within = omega arith;
-      rest = omega (arith, alike_more c.args.told.now c.args.rows.now i j m n hi hj (sym c.are_alike.ensures.exact ∙ c.if-not-are_alike.false) p q);
+      rest = omega
+          (arith, alike_more c.args.told.now c.args.rows.now i j m n hi hj (sym c.are_alike.ensures.exact ∙ c.if-not-are_alike.false) p q);
     }

@@ -8,4 +8,5 @@ returns-then-joins-clause-exact c =
 
 pub returns-clause-exact : goal.returns-clause-exact
 returns-clause-exact c = λ whos.
-    cut c.args.rows.now c.push.new.self c.args.row c.args.last c.args.next whos (sym c.joins.ensures ∙ c.if-joins.false) c.in_ok-push.ensures.ok
+    cut c.args.rows.now c.push.new.self c.args.row c.args.last c.args.next whos
+    (sym c.joins.ensures ∙ c.if-joins.false) c.in_ok-push.ensures.ok

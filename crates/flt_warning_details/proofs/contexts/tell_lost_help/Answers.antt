@@ -9,4 +9,5 @@ returns-in-Some c =
 pub returns-in-None : goal.returns-in-None
 unfolding lost_help
 returns-in-None c =
-    rw (← c.instruction-instruction.ensures, ← c.worked_on.ensures, ← c.context_part-own.ensures, ← c.found_in.ensures, c.in-None.is) c.say-in-None.ensures
+    rw (← c.instruction-instruction.ensures, ← c.worked_on.ensures, ← c.context_part-own.ensures, ← c.found_in.ensures, c.in-None.is)
+    c.say-in-None.ensures

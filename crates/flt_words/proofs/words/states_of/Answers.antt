@@ -9,8 +9,8 @@ use Rattle.flt_words.proofs.words.states_of.Goals as goal
 pub returns-in-Some : goal.returns-in-Some
 returns-in-Some c =
     let found = found_of c.args.matches.now in
-    c.unwrap_or.ensures ∙ count_read c.in-Some.text.now c.parse.result c.parse.ensures.value.0 ∙ value_or count_or_zero 40000 c.get_str.result _
-    (c.get_str.ensures ∙ first_value-rows found (codes "states")) _ c.in-Some.is
+    c.unwrap_or.ensures ∙ count_read c.in-Some.text.now c.parse.result c.parse.ensures.value.0 ∙
+    value_or count_or_zero 40000 c.get_str.result _ (c.get_str.ensures ∙ first_value-rows found (codes "states")) _ c.in-Some.is
 
 pub returns-in-None : goal.returns-in-None
 returns-in-None c =

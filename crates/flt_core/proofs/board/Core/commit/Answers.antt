@@ -8,7 +8,8 @@ pub invariant_of-self : goal.invariant_of-self
 invariant_of-self g c =
     let trees = g.N.StackName.trees in
     let counted = counted_step trees c.args.loaded.now c.self.inside.board c.commit.new.self c.args.advanced.now c.args.grant
-    c.in-Committed.events.list c.requires.loaded c.self.invariant.0 (c.commit.ensures.committed c.in-Committed.events c.in-Committed.is) in (
+    c.in-Committed.events.list c.requires.loaded c.self.invariant.0
+    (c.commit.ensures.committed c.in-Committed.events c.in-Committed.is) in (
       c.commit.ensures.own trees c.requires.loaded c.self.invariant.0,
       c.self.invariant.1 ∙ sym counted.0,
       omega (arith, c.add.ensures.total, c.self.invariant.2, counted.1),

@@ -10,7 +10,8 @@ returns-in-None c =
 
 pub loop-entry-preserved : goal.loop-entry-preserved
 loop-entry-preserved c =
-    ran_on c.args.stage.now.stack.now c.loop-entry.self c.take.new.self c.loop-entry.all c.push.new.self c.in_ok-taken.field-0 c.in-Some.taken _
+    ran_on c.args.stage.now.stack.now c.loop-entry.self c.take.new.self c.loop-entry.all c.push.new.self
+    c.in_ok-taken.field-0 c.in-Some.taken _
     c.entries-entry-items.result.now c.args.journal.now c.loop-entry.entry-index _ c.entries-entry-items.ensures c.loop-entry-test.true
     c.in_ok-taken.ensures c.in-Some.is c.in_ok-push-in-Some.ensures.ok c.loop-entry.invariant
 

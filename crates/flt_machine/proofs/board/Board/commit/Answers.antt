@@ -7,7 +7,8 @@ pub returns-then-is_blocked-clause-blocked : goal.returns-then-is_blocked-clause
 returns-then-is_blocked-clause-blocked c = (
   λ same. (
     (c.is_fresh.ensures.0 c.if-not-is_fresh.false),
-    (is_blocked_so c.args.loaded.now c.args.self.now c.args.advanced.now c.args.grant c.caller-caller.result c.instruction-instruction.result c.standings_have_points.ensures.told c.requires.own c.requires.advance
+    (is_blocked_so c.args.loaded.now c.args.self.now c.args.advanced.now c.args.grant c.caller-caller.result
+        c.instruction-instruction.result c.standings_have_points.ensures.told c.requires.own c.requires.advance
         (c.is_fresh.ensures.0 c.if-not-is_fresh.false) c.caller-caller.ensures c.instruction-instruction.ensures c.if-is_blocked.ensures),
   ),
   λ h. refl,
@@ -17,7 +18,8 @@ pub returns-then-is_blocked-clause-full : goal.returns-then-is_blocked-clause-fu
 returns-then-is_blocked-clause-full c = (
   λ same. absurd (cc),
   λ h. absurd (h.1.0
-      (is_blocked_so c.args.loaded.now c.args.self.now c.args.advanced.now c.args.grant c.caller-caller.result c.instruction-instruction.result c.standings_have_points.ensures.told c.requires.own c.requires.advance
+      (is_blocked_so c.args.loaded.now c.args.self.now c.args.advanced.now c.args.grant c.caller-caller.result
+      c.instruction-instruction.result c.standings_have_points.ensures.told c.requires.own c.requires.advance
       (c.is_fresh.ensures.0 c.if-not-is_fresh.false) c.caller-caller.ensures c.instruction-instruction.ensures c.if-is_blocked.ensures)),
 )
 
@@ -25,7 +27,8 @@ pub returns-then-len-ge-MAX_ENTRIES-clause-blocked : goal.returns-then-len-ge-MA
 returns-then-len-ge-MAX_ENTRIES-clause-blocked c = (
   λ same. absurd (cc),
   λ h. absurd
-      (not_blocked c.args.loaded.now c.args.self.now c.args.advanced.now c.args.grant c.caller-caller.result c.instruction-instruction.result c.standings_have_points.ensures.told c.requires.own c.requires.advance
+      (not_blocked c.args.loaded.now c.args.self.now c.args.advanced.now c.args.grant c.caller-caller.result
+      c.instruction-instruction.result c.standings_have_points.ensures.told c.requires.own c.requires.advance
       (c.is_fresh.ensures.0 c.if-not-is_fresh.false) c.caller-caller.ensures c.instruction-instruction.ensures c.if-is_blocked.ensures h.1),
 )
 
@@ -34,7 +37,8 @@ returns-then-len-ge-MAX_ENTRIES-clause-full c = (
   λ same. (
     (c.is_fresh.ensures.0 c.if-not-is_fresh.false),
     (
-      (not_blocked c.args.loaded.now c.args.self.now c.args.advanced.now c.args.grant c.caller-caller.result c.instruction-instruction.result c.standings_have_points.ensures.told c.requires.own c.requires.advance
+      (not_blocked c.args.loaded.now c.args.self.now c.args.advanced.now c.args.grant c.caller-caller.result
+          c.instruction-instruction.result c.standings_have_points.ensures.told c.requires.own c.requires.advance
           (c.is_fresh.ensures.0 c.if-not-is_fresh.false) c.caller-caller.ensures c.instruction-instruction.ensures c.if-is_blocked.ensures),
       all_entries c.args.self.now _ c.len.result c.self.view_is c.self.invariant.bounded c.len.ensures c.if-len-ge-MAX_ENTRIES.true,
     ),
@@ -44,13 +48,15 @@ returns-then-len-ge-MAX_ENTRIES-clause-full c = (
 
 pub returns-in-Ok-clause-own : goal.returns-in-Ok-clause-own
 returns-in-Ok-clause-own c =
-    λ p loaded own. commits_own p c.args.self.now c.go_on.new.self c.args.advanced.now c.args.grant c.in-Ok.events.list own (c.in-Ok.ensures.committed p loaded own.moment own.at)
+    λ p loaded own. commits_own p c.args.self.now c.go_on.new.self c.args.advanced.now c.args.grant c.in-Ok.events.list own
+    (c.in-Ok.ensures.committed p loaded own.moment own.at)
 
 pub returns-in-Ok-clause-blocked : goal.returns-in-Ok-clause-blocked
 returns-in-Ok-clause-blocked c = (
   λ same. absurd (cc),
   λ h. absurd
-      (not_blocked c.args.loaded.now c.args.self.now c.args.advanced.now c.args.grant c.caller-caller.result c.instruction-instruction.result c.standings_have_points.ensures.told c.requires.own c.requires.advance
+      (not_blocked c.args.loaded.now c.args.self.now c.args.advanced.now c.args.grant c.caller-caller.result
+      c.instruction-instruction.result c.standings_have_points.ensures.told c.requires.own c.requires.advance
       (c.is_fresh.ensures.0 c.if-not-is_fresh.false) c.caller-caller.ensures c.instruction-instruction.ensures c.if-is_blocked.ensures h.1),
 )
 
@@ -62,6 +68,7 @@ pub returns-in-Err-clause-blocked : goal.returns-in-Err-clause-blocked
 returns-in-Err-clause-blocked c = (
   λ same. absurd (cc),
   λ h. absurd
-      (not_blocked c.args.loaded.now c.args.self.now c.args.advanced.now c.args.grant c.caller-caller.result c.instruction-instruction.result c.standings_have_points.ensures.told c.requires.own c.requires.advance
+      (not_blocked c.args.loaded.now c.args.self.now c.args.advanced.now c.args.grant c.caller-caller.result
+      c.instruction-instruction.result c.standings_have_points.ensures.told c.requires.own c.requires.advance
       (c.is_fresh.ensures.0 c.if-not-is_fresh.false) c.caller-caller.ensures c.instruction-instruction.ensures c.if-is_blocked.ensures h.1),
 )

@@ -11,5 +11,6 @@ pub returns : goal.returns
 returns c p loaded m at =
     c.is_some.ensures ∙
     enabled_there p m.world c.decide.result (make p m.world c.args.step)
-    (there (λ (w : World). Decides p w c.decide.result (make p w c.args.step)) p _ m (subst (λ (b : Situation). IsAt p b m) (sym c.self.view_is) at)
+    (there (λ (w : World). Decides p w c.decide.result (make p w c.args.step)) p _ m
+    (subst (λ (b : Situation). IsAt p b m) (sym c.self.view_is) at)
     (λ same. c.decide.ensures.decided p m.world.actors m.world.activations loaded same (c.is_active_for.ensures p loaded m at)))

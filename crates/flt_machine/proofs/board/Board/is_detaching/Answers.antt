@@ -8,5 +8,6 @@ use Rattle.flt_machine.proofs.board.Board.is_detaching.Goals as goal
 
 pub returns : goal.returns
 returns c p loaded m at =
-    there (λ (w : World). c.is_detaching.result ≡ is_detaching (presence_at w.store (filter_of p c.args.altitude))) p _ m (subst (λ (b : Situation). IsAt p b m) (sym c.self.view_is) at)
+    there (λ (w : World). c.is_detaching.result ≡ is_detaching (presence_at w.store (filter_of p c.args.altitude))) p _ m
+    (subst (λ (b : Situation). IsAt p b m) (sym c.self.view_is) at)
     (λ same. rw (sym (c.number.ensures p loaded)) c.is_detaching.ensures)

@@ -9,5 +9,5 @@ invariant_of-self c =
       standings = c.self.inside.standings.items;
       store = c.self.inside.store;
       entries = c.self.inside.journal;
-    }) c.args.self.now c.self.inside.active.items c.args.activation c.self.view_is c.requires.there c.self.invariant c.args.later c.in-Some.standing
-    c.renew.new.standings.items c.in-Some.is c.requires.small c.renew.ensures
+    }) c.args.self.now c.self.inside.active.items c.args.activation c.self.view_is c.requires.there c.self.invariant
+    c.args.later c.in-Some.standing c.renew.new.standings.items c.in-Some.is c.requires.small c.renew.ensures

@@ -13,7 +13,8 @@ count_start-requires-clause-few c =
 
 pub invariant_of-self-2 : goal.invariant_of-self-2
 invariant_of-self-2 c = record {
-  bounded = bounded_after c.args.self.now _ c.args.step c.args.decision.now (subst IsBounded c.self.view_is c.self.invariant.bounded) c.requires.room c.requires.possible
+  bounded = bounded_after c.args.self.now _ c.args.step c.args.decision.now
+      (subst IsBounded c.self.view_is c.self.invariant.bounded) c.requires.room c.requires.possible
       (seen _ c.args.self.now _ c.args.step c.args.decision.now c.self.view_is
       (starts _ c.args.step c.args.decision.now c.args.start c.in_ok-kept.kept _ _ _ _ c.requires.start
       (rw (c.reserve.ensures.items) at c.push_reserved.ensures.items) (rw (c.reserve-2.ensures.items) at c.push_reserved-2.ensures.items)
@@ -22,7 +23,8 @@ invariant_of-self-2 c = record {
   counted = started_so (record { actors = c.self.inside.actors.items; standings = c.self.inside.standings.items; store = c.self.inside.store; entries = c.self.inside.journal })
       c.self.inside.active.items c.make_room.new.counts.items c.self.invariant c.make_room.ensures.same
       _ c.in_ok-kept.kept c.args.start.filter _ _ _ refl c.in_ok-make_room.ensures.room
-      (rw (c.reserve.ensures.items) at c.push_reserved.ensures.items) (rw (c.reserve-2.ensures.items) at c.push_reserved-2.ensures.items) c.count_start.ensures;
+      (rw (c.reserve.ensures.items) at c.push_reserved.ensures.items)
+      (rw (c.reserve-2.ensures.items) at c.push_reserved-2.ensures.items) c.count_start.ensures;
 }
 
 pub returns-clause-made : goal.returns-clause-made

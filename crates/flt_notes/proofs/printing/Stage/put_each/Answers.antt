@@ -74,8 +74,10 @@ returns-in_err-put_part-clause-memory g c =
     let states = c.args.self.now.states in
     let options = c.args.self.now.options in
     let texts = texts_read c.args.each.now in
-    rw fails (λ e. subst (λ o. IsCut options texts states (g.O.Sink.taken c.args.out.now) (g.O.Sink.taken o)) (sym (c.in_err-put_part.ensures.memory e))
-    (cut_here (look_of c.args.self.now) c.args.self.now.trees.now c.args.each.now (length c.args.each.now - 1) c.loop-studied.studied-index c.loop-studied.printed
+    rw fails (λ e. subst (λ o. IsCut options texts states (g.O.Sink.taken c.args.out.now) (g.O.Sink.taken o))
+    (sym (c.in_err-put_part.ensures.memory e))
+    (cut_here (look_of c.args.self.now) c.args.self.now.trees.now c.args.each.now
+    (length c.args.each.now - 1) c.loop-studied.studied-index c.loop-studied.printed
     c.args.is_held (g.O.Sink.taken c.args.out.now) (g.O.Sink.taken c.loop-studied.out) c.requires.parsed c.loop-studied.invariant.printed
     (λ h. ap g.O.Sink.taken (c.loop-studied.invariant.held h)) c.loop-studied.invariant.out))
 

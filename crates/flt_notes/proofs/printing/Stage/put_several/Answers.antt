@@ -17,7 +17,8 @@ returns-clause-reports g c = record {
   are = c.in_ok-printed.ensures.printed.parts;
   whole = summed c.in_ok-printed.printed.output.bytes.items c.as_bytes.result.now c.lines.new.self.bytes.items _ _ _ _
       c.in_ok-lines.ensures.bytes (c.as_bytes.ensures.value ∙ c.in_ok-line.ensures.ok)
-      (sym (length-map (sources_read c.args.each.now) (λ (s : Source). s.text.now) ∙ length-map c.args.each.now (λ (s : Studied). s.source)));
+      (sym (length-map (sources_read c.args.each.now) (λ (s : Source). s.text.now) ∙
+      length-map c.args.each.now (λ (s : Studied). s.source)));
 }
 
 pub returns-clause-notes : goal.returns-clause-notes
@@ -25,8 +26,8 @@ returns-clause-notes g c = rw c.in_ok-lines.ensures.noted c.in_ok-printed.ensure
 
 pub returns-clause-said : goal.returns-clause-said
 returns-clause-said g c =
-    said_more _ _ c.in_ok-printed.printed.output c.lines.new.self c.as_bytes.result.now c.in_ok-printed.ensures.printed.said c.in_ok-lines.ensures.bytes
-    c.in_ok-lines.ensures.noted
+    said_more _ _ c.in_ok-printed.printed.output c.lines.new.self c.as_bytes.result.now c.in_ok-printed.ensures.printed.said
+    c.in_ok-lines.ensures.bytes c.in_ok-lines.ensures.noted
 
 pub returns-clause-print : goal.returns-clause-print
 returns-clause-print g c =

@@ -8,8 +8,8 @@ pub loop-self-preserved : goal.loop-self-preserved
 loop-self-preserved c =
     record {
       rest =
-          goes_on_with c.loop-self.self.block.now c.loop-self.self.outer.now _ (contents c.loop-self.kept).after (contents c.resume.new.self).after
-          c.in_default.len_below c.in_default-outer.len_below c.loop-self.invariant.rest
+          goes_on_with c.loop-self.self.block.now c.loop-self.self.outer.now _ (contents c.loop-self.kept).after
+          (contents c.resume.new.self).after c.in_default.len_below c.in_default-outer.len_below c.loop-self.invariant.rest
           (Block c.in-Some-Block.block) (cc (c.in-Some-Block.ensures.0, c.in-Some-Block.field-0-is));
       others =
           c.in-Some-Block.ensures.1

@@ -11,7 +11,8 @@ loop-latest-preserved-in-Some-get c =
     let here : is_visit_of o visits n ≡ true = rw c.in-Some.is at c.loop-latest.invariant.there in
     let next = c.get-latest-in-Some-get.result in
     let is : next ≡ get_or c.self.inside.before.items n None =
-    c.get-latest-in-Some-get.ensures ∙ c.in-Some-get.ensures.lookup.3.1 None ∙ ap (λ (xs : List (Option ℕ)). get_or xs n None) c.deref.ensures.value in
+    c.get-latest-in-Some-get.ensures ∙ c.in-Some-get.ensures.lookup.3.1 None ∙
+    ap (λ (xs : List (Option ℕ)). get_or xs n None) c.deref.ensures.value in
     let latest : IsLatest visits o n next =
     rw is (latest_before visits c.self.inside.settled.items c.self.inside.before.items c.self.inside.last c.self.inside.unsettled o n
     c.self.invariant here) in

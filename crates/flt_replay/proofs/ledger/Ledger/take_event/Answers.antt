@@ -103,6 +103,7 @@ returns-in-End-clause-taken c = λ fresh t k counted.
 
 pub returns-in_default-clause-taken : goal.returns-in_default-clause-taken
 returns-in_default-clause-taken c = λ fresh t k counted.
-    taken_other c.args.world.now t c.args.kept.now.tight c.args.kept.now.once c.args.self.now c.args.touched.now.items k counted c.args.event
+    taken_other c.args.world.now t c.args.kept.now.tight c.args.kept.now.once c.args.self.now
+    c.args.touched.now.items k counted c.args.event
     c.in_default.not-Use c.in_default.not-Lose c.in_default.not-Gain c.in_default.not-Empty c.in_default.not-Free c.in_default.not-Settle
     c.in_default.not-End

@@ -3,7 +3,8 @@ use Rattle.flt_replay.proofs.Judging.Courses.{in_other_words, goes_to, stops}
 use Rattle.flt_replay.proofs.monitor.Monitor.go_seen.Goals as goal
 
 pub returns-in-None : goal.returns-in-None
-returns-in-None c m at = stops c.args.stack.now m (Board c.args.a c.args.grant) c.step_seen.new.self (c.in_ok-rule.ensures.stops c.in-None.is m at)
+returns-in-None c m at =
+    stops c.args.stack.now m (Board c.args.a c.args.grant) c.step_seen.new.self (c.in_ok-rule.ensures.stops c.in-None.is m at)
 
 pub returns-in-Some : goal.returns-in-Some
 returns-in-Some c =

@@ -8,7 +8,8 @@ use Rattle.flt_store.proofs.holders.Holders.is_free_for.Goals as goal
 
 pub returns-then-self : goal.returns-then-self
 returns-then-self c =
-    rw (← c.self.view_is) (c.let_all.ensures ∙ ap (list_all (is_free c.args.activation c.args.access)) c.as_slice.ensures.value ∙ walk_free c.args.activation c.args.access c.self.inside.places.items)
+    rw (← c.self.view_is) (c.let_all.ensures ∙ ap (list_all (is_free c.args.activation c.args.access)) c.as_slice.ensures.value ∙
+    walk_free c.args.activation c.args.access c.self.inside.places.items)
 
 pub returns-in-Shared : goal.returns-in-Shared
 returns-in-Shared c =
@@ -32,7 +33,8 @@ returns-in-Shared-Some c =
     let so : is_of c.args.activation (at_place c.self.inside.places.items c.in-Some.place) ≡ true =
     stands c.self.inside.places.items c.self.inside.noted c.self.inside.count c.self.inside.alone c.args.activation c.in-Some.place
     (c.self.invariant c.if-self.false) (sym c.in-Some.is ∙ c.get.ensures) in
-    let read : get_or c.self.inside.places.items c.in-Some.place (Some c.in-Shared-Some.holder) ≡ Some c.in-Shared-Some.holder = search rules in
+    let read : get_or c.self.inside.places.items c.in-Some.place (Some c.in-Shared-Some.holder) ≡ Some c.in-Shared-Some.holder =
+    search rules in
     let holds = sym (same_place c.args.activation c.self.inside.places.items c.in-Some.place (Some c.in-Shared-Some.holder) so) ∙ read in
     let heavy : c.alone.result ≡ weight c.in-Shared-Some.holder.access =
     c.alone.ensures ∙ ap (λ (h : Holder). weight h.access) c.holder.view_is in

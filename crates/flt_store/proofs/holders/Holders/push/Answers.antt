@@ -11,13 +11,15 @@ returns-in_default-clause-ok c =
 
 pub overflow_add-self : goal.overflow_add-self
 overflow_add-self c =
-    let few = fits_more c.self.inside.places.items c.self.inside.noted c.self.inside.count c.self.inside.alone (c.self.invariant c.in-false-None.is-0) in
+    let few = fits_more c.self.inside.places.items c.self.inside.noted c.self.inside.count c.self.inside.alone
+    (c.self.invariant c.in-false-None.is-0) in
     let items : length c.reserve.new.list.items ≡ length c.self.inside.places.items = ap length c.reserve.ensures.items in
     omega (arith, few.0, items, c.reserve.new.list.ok.0, c.reserve.new.list.small)
 
 pub overflow_add-self-2 : goal.overflow_add-self-2
 overflow_add-self-2 c =
-    let few = fits_more c.self.inside.places.items c.self.inside.noted c.self.inside.count c.self.inside.alone (c.self.invariant c.in-false-None.is-0) in
+    let few = fits_more c.self.inside.places.items c.self.inside.noted c.self.inside.count c.self.inside.alone
+    (c.self.invariant c.in-false-None.is-0) in
     let items : length c.reserve.new.list.items ≡ length c.self.inside.places.items = ap length c.reserve.ensures.items in
     let light = light_one c.holder.inside.access in
     omega (arith, few.1, items, c.alone.ensures, light, c.reserve.new.list.ok.0, c.reserve.new.list.small)

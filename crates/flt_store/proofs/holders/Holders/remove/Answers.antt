@@ -41,7 +41,8 @@ overflow_sub-self c =
     let so : is_of c.args.activation (at_place c.self.inside.places.items c.in-Some.place) ≡ true =
     stands c.self.inside.places.items c.self.inside.noted c.self.inside.count c.self.inside.alone c.args.activation c.in-Some.place
     (c.self.invariant c.if-self.false) (sym c.in-Some.is ∙ c.get.ensures) in
-    let read : get_or c.self.inside.places.items c.in-Some.place (Some c.in-Some-index.holder) ≡ Some c.in-Some-index.holder = search rules in
+    let read : get_or c.self.inside.places.items c.in-Some.place (Some c.in-Some-index.holder) ≡ Some c.in-Some-index.holder =
+    search rules in
     let holds = sym (same_place c.args.activation c.self.inside.places.items c.in-Some.place (Some c.in-Some-index.holder) so) ∙ read in
     let l = count_less c.self.inside.places.items c.self.inside.noted c.self.inside.noted c.self.inside.count c.self.inside.alone
     c.args.activation c.in-Some.place c.in-Some-index.holder (c.self.invariant c.if-self.false) (sym c.in-Some.is ∙ c.get.ensures) holds in
@@ -52,7 +53,8 @@ overflow_sub-self-2 c =
     let so : is_of c.args.activation (at_place c.self.inside.places.items c.in-Some.place) ≡ true =
     stands c.self.inside.places.items c.self.inside.noted c.self.inside.count c.self.inside.alone c.args.activation c.in-Some.place
     (c.self.invariant c.if-self.false) (sym c.in-Some.is ∙ c.get.ensures) in
-    let read : get_or c.self.inside.places.items c.in-Some.place (Some c.in-Some-index.holder) ≡ Some c.in-Some-index.holder = search rules in
+    let read : get_or c.self.inside.places.items c.in-Some.place (Some c.in-Some-index.holder) ≡ Some c.in-Some-index.holder =
+    search rules in
     let holds = sym (same_place c.args.activation c.self.inside.places.items c.in-Some.place (Some c.in-Some-index.holder) so) ∙ read in
     let heavy : c.alone.result ≡ weight c.in-Some-index.holder.access =
     c.alone.ensures ∙ ap (λ (h : Holder). weight h.access) c.holder.view_is in
@@ -65,12 +67,14 @@ invariant_of-self-then-self-eq0 c = λ f.
     let so : is_of c.args.activation (at_place c.self.inside.places.items c.in-Some.place) ≡ true =
     stands c.self.inside.places.items c.self.inside.noted c.self.inside.count c.self.inside.alone c.args.activation c.in-Some.place
     (c.self.invariant c.if-self.false) (sym c.in-Some.is ∙ c.get.ensures) in
-    let read : get_or c.self.inside.places.items c.in-Some.place (Some c.in-Some-index.holder) ≡ Some c.in-Some-index.holder = search rules in
+    let read : get_or c.self.inside.places.items c.in-Some.place (Some c.in-Some-index.holder) ≡ Some c.in-Some-index.holder =
+    search rules in
     let holds = sym (same_place c.args.activation c.self.inside.places.items c.in-Some.place (Some c.in-Some-index.holder) so) ∙ read in
     let heavy : c.alone.result ≡ weight c.in-Some-index.holder.access =
     c.alone.ensures ∙ ap (λ (h : Holder). weight h.access) c.holder.view_is in
     rw (c.clear.ensures.items) (noted_none c.self.inside.places.items c.self.inside.noted c.remove.new.self c.self.inside.count
-    c.self.inside.alone c.args.activation c.in-Some.place c.in-Some-index.holder (c.self.invariant f) (sym c.in-Some.is ∙ c.get.ensures) holds
+    c.self.inside.alone c.args.activation c.in-Some.place c.in-Some-index.holder (c.self.invariant f)
+    (sym c.in-Some.is ∙ c.get.ensures) holds
     c.remove.ensures.here c.remove.ensures.others _ _ refl (ap (λ (w : _). c.self.inside.alone - w) heavy) c.if-self-eq0.true)
 
 pub invariant_of-self-else-self-eq0 : goal.invariant_of-self-else-self-eq0
@@ -78,12 +82,14 @@ invariant_of-self-else-self-eq0 c = λ f.
     let so : is_of c.args.activation (at_place c.self.inside.places.items c.in-Some.place) ≡ true =
     stands c.self.inside.places.items c.self.inside.noted c.self.inside.count c.self.inside.alone c.args.activation c.in-Some.place
     (c.self.invariant c.if-self.false) (sym c.in-Some.is ∙ c.get.ensures) in
-    let read : get_or c.self.inside.places.items c.in-Some.place (Some c.in-Some-index.holder) ≡ Some c.in-Some-index.holder = search rules in
+    let read : get_or c.self.inside.places.items c.in-Some.place (Some c.in-Some-index.holder) ≡ Some c.in-Some-index.holder =
+    search rules in
     let holds = sym (same_place c.args.activation c.self.inside.places.items c.in-Some.place (Some c.in-Some-index.holder) so) ∙ read in
     let heavy : c.alone.result ≡ weight c.in-Some-index.holder.access =
     c.alone.ensures ∙ ap (λ (h : Holder). weight h.access) c.holder.view_is in
     noted_less c.self.inside.places.items c.self.inside.noted c.remove.new.self c.self.inside.count
-    c.self.inside.alone c.args.activation c.in-Some.place c.in-Some-index.holder (c.self.invariant f) (sym c.in-Some.is ∙ c.get.ensures) holds
+    c.self.inside.alone c.args.activation c.in-Some.place c.in-Some-index.holder (c.self.invariant f)
+    (sym c.in-Some.is ∙ c.get.ensures) holds
     c.remove.ensures.here c.remove.ensures.others _ _ refl (ap (λ (w : _). c.self.inside.alone - w) heavy)
 
 pub returns-then-self-eq0 : goal.returns-then-self-eq0
@@ -91,7 +97,8 @@ returns-then-self-eq0 c =
     let so : is_of c.args.activation (at_place c.self.inside.places.items c.in-Some.place) ≡ true =
     stands c.self.inside.places.items c.self.inside.noted c.self.inside.count c.self.inside.alone c.args.activation c.in-Some.place
     (c.self.invariant c.if-self.false) (sym c.in-Some.is ∙ c.get.ensures) in
-    let read : get_or c.self.inside.places.items c.in-Some.place (Some c.in-Some-index.holder) ≡ Some c.in-Some-index.holder = search rules in
+    let read : get_or c.self.inside.places.items c.in-Some.place (Some c.in-Some-index.holder) ≡ Some c.in-Some-index.holder =
+    search rules in
     let holds = sym (same_place c.args.activation c.self.inside.places.items c.in-Some.place (Some c.in-Some-index.holder) so) ∙ read in
     rw (c.clear.ensures.items, ← c.self.view_is) (sym (others_stand c.self.inside.places.items c.self.inside.noted c.remove.new.self
     c.self.inside.count c.self.inside.alone c.args.activation c.in-Some.place c.in-Some-index.holder (c.self.invariant c.if-self.false)
@@ -104,7 +111,8 @@ returns-else-self-eq0 c =
     let so : is_of c.args.activation (at_place c.self.inside.places.items c.in-Some.place) ≡ true =
     stands c.self.inside.places.items c.self.inside.noted c.self.inside.count c.self.inside.alone c.args.activation c.in-Some.place
     (c.self.invariant c.if-self.false) (sym c.in-Some.is ∙ c.get.ensures) in
-    let read : get_or c.self.inside.places.items c.in-Some.place (Some c.in-Some-index.holder) ≡ Some c.in-Some-index.holder = search rules in
+    let read : get_or c.self.inside.places.items c.in-Some.place (Some c.in-Some-index.holder) ≡ Some c.in-Some-index.holder =
+    search rules in
     let holds = sym (same_place c.args.activation c.self.inside.places.items c.in-Some.place (Some c.in-Some-index.holder) so) ∙ read in
     rw (← c.self.view_is) (sym (others_stand c.self.inside.places.items c.self.inside.noted c.remove.new.self
     c.self.inside.count c.self.inside.alone c.args.activation c.in-Some.place c.in-Some-index.holder (c.self.invariant c.if-self.false)

@@ -5,4 +5,5 @@ use Rattle.flt_store.proofs.store.Store.has_frame.Goals as goal
 
 pub returns : goal.returns
 returns c =
-    c.is_some.ensures ∙ ap (λ (o : Option ℕ). is_some o) c.least_frame.ensures ∙ some_position (has_frame c.args.filter) c.args.self.now.routes
+    c.is_some.ensures ∙ ap (λ (o : Option ℕ). is_some o) c.least_frame.ensures ∙
+    some_position (has_frame c.args.filter) c.args.self.now.routes

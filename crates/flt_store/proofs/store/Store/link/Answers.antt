@@ -10,7 +10,8 @@ use Rattle.flt_store.specs.contracts.store.Store.{the_view}
 use Rattle.flt_store.proofs.store.Store.link.Goals as goal
 
 -- what `set` makes of the contexts
-linked : (c : goal.In_ok-set) → c.set.new.self ≡ after_link c.self.inside.contexts c.args.context c.key_at.result c.args.over (is_some c.args.old)
+linked : (c : goal.In_ok-set) →
+    c.set.new.self ≡ after_link c.self.inside.contexts c.args.context c.key_at.result c.args.over (is_some c.args.old)
 linked c =
     let s = the_view c.self.inside in
     let t = c.self.inside.contexts in

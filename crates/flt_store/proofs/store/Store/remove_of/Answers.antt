@@ -14,7 +14,8 @@ invariant_of-self c = rw c.remove.ensures.rest (record {
   locked = c.self.invariant.locked;
   closed = c.self.invariant.closed;
   disabled = c.self.invariant.disabled;
-  queued = first_up_to c.self.inside.greatest_queued (has_visit c.args.visit) c.self.inside.queues.queues c.args.filter c.self.invariant.queued;
+  queued = first_up_to c.self.inside.greatest_queued
+      (has_visit c.args.visit) c.self.inside.queues.queues c.args.filter c.self.invariant.queued;
 })
 
 pub returns : goal.returns

@@ -17,8 +17,8 @@ returns-then-visit-serial c =
     let visit_is : c.visit.result ≡ visit_at c.args.self.now c.in-Some.entry.visit =
     c.visit.ensures ∙ ap (λ (s : Store). visit_at s c.in-Some.entry.visit) c.self.view_is in
     let here = ap (λ (v : Visit). v.operation) (sym c.visit-in-Some.view_is) ∙ c.if-visit-serial.true in
-    walk_found c.args.self.now c.args.serial c.loop-entry.left c.in-Some.entry c.visit.result (sym c.in-Some.is ∙ c.next_entry.ensures.first)
-    visit_is here ∙ sym c.loop-entry.invariant
+    walk_found c.args.self.now c.args.serial c.loop-entry.left c.in-Some.entry c.visit.result
+    (sym c.in-Some.is ∙ c.next_entry.ensures.first) visit_is here ∙ sym c.loop-entry.invariant
 
 pub loop-entry-smaller : goal.loop-entry-smaller
 loop-entry-smaller c =
@@ -29,7 +29,8 @@ pub loop-entry-preserved : goal.loop-entry-preserved
 loop-entry-preserved c =
     let visit_is : c.visit.result ≡ visit_at c.args.self.now c.in-Some.entry.visit =
     c.visit.ensures ∙ ap (λ (s : Store). visit_at s c.in-Some.entry.visit) c.self.view_is in
-    let other : c.visit.result.operation ≢ c.args.serial = λ is. c.if-visit-serial.false (ap (λ (v : Visit). v.operation) c.visit-in-Some.view_is ∙ is) in
+    let other : c.visit.result.operation ≢ c.args.serial =
+    λ is. c.if-visit-serial.false (ap (λ (v : Visit). v.operation) c.visit-in-Some.view_is ∙ is) in
     c.loop-entry.invariant ∙
     walk_past c.args.self.now c.args.serial c.loop-entry.left c.in-Some.entry c.visit.result (sym c.in-Some.is ∙ c.next_entry.ensures.first)
     visit_is other ∙
@@ -37,4 +38,5 @@ loop-entry-preserved c =
 
 pub returns : goal.returns
 returns c =
-    walk_over c.args.self.now c.args.serial c.loop-entry.left (sym c.in_default.is ∙ c.next_entry.ensures.first) ∙ sym c.loop-entry.invariant
+    walk_over c.args.self.now c.args.serial c.loop-entry.left (sym c.in_default.is ∙ c.next_entry.ensures.first) ∙
+    sym c.loop-entry.invariant
