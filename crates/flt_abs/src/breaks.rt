@@ -316,12 +316,13 @@ pub(crate) fn first_of_action(state: &Abs, action: Action) -> Option<Rule>
     }
 }
 
-/// The least rule that a test breaks.
+/// The least rule that a test breaks. No test asks which callbacks are registered.
+#[tactic(auto, using(crate::proofs::Unasked::same_least_of_test))]
 #[inline(always)]
 pub(crate) fn first_of_test(graph: &Graph, callback: usize, state: &Abs, test: Test) -> Option<Rule>
     ensures { result ≡ find (spec.test_breaks (setting_of graph.now callback state.now) state.now test) spec.rules }
 {
-    let setting = setting_of(graph, callback, state);
+    let setting = standing_of(graph, callback, state);
     if test_breaks(&setting, state, test, Rule::R04) {
         Some(Rule::R04)
     } else if test_breaks(&setting, state, test, Rule::R08) {

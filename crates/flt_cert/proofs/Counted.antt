@@ -2,14 +2,14 @@
 use Rattle.std.proofs.Common.{◌≡◌, ◌<◌, ◌≤◌, ◌+◌, ℕ, Bool, true, false, List, length, set, get_or, sym, ap, ◌∙◌, arith, inl, inr, take_all}
 use Rattle.std.specs.Prelude.{◌⊎◌, ◌==◌, nat_lt, sum_by, is_some, Option, Some, None}
 use Rattle.std.proofs.lemmas.Bool.{cond-true, cond-false, cases_eq, cases_lt, lt-ltb, le-ltb, eq-eqb, ne_eqb}
-use Rattle.std.proofs.lemmas.List.{get_or-set_same, get_or-set_other}
+use Rattle.std.proofs.lemmas.List.{get_or-set_same, get_or-set_other, get_or_past}
 use Rattle.std.proofs.lemmas.List.Sums.{sum_by_more}
 use Rattle.flt_rules.specs.declared.columns.Effects.{Effects}
 use Rattle.flt_graph.specs.Graph.{callback_at, points_at, instruction_at, no_point}
 use Rattle.flt_graph.specs.declared.graph.Graph.{Graph}
 use Rattle.flt_graph.specs.declared.graph.Point.{Point}
 use Rattle.flt_cert.specs.Counts.{capped, AreCounts, edges_so_far}
-use Rattle.flt_graph.specs.Kept.{edge, failing, edges_of, edges_into}
+use Rattle.flt_graph.specs.Kept.{edge, failing, edges_of, edges_into, is_repeat}
 
 small : (n : ℕ) → n < 2 → capped n ≡ n
 small n h = cond-true (nat_lt n 2) n 2 (lt-ltb n 2 h)
@@ -139,6 +139,11 @@ more_than_one n = by (cases_lt n 2)
 pub counted_kept : (edges : List ℕ) (g : Graph) (callback p : ℕ) → AreCounts edges (edges_into g callback) → p < 512 →
     nat_lt 1 (get_or edges p 0) ≡ nat_lt 1 (edges_into g callback p)
 counted_kept edges g callback p counts below = ap (nat_lt 1) (counts p below) ∙ more_than_one (edges_into g callback p)
+
+-- no point beyond the last one is a `repeat`
+pub beyond_is_no_repeat : (g : Graph) (callback p : ℕ) → points_at g callback ≤ p → is_repeat (instruction_at g callback p) ≡ false
+beyond_is_no_repeat g callback p beyond =
+    ap (λ (q : Point). is_repeat q.instruction) (get_or_past (callback_at g callback).points p no_point beyond)
 
 -- which points are kept, one point after the other
 pub kept_next : (kept : List Bool) (keeps : ℕ → Bool) (n : ℕ) (b : Bool) → n < length kept → b ≡ keeps n →

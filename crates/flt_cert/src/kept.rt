@@ -65,15 +65,19 @@ fn is_repeat(instruction: &Instruction) -> bool
     matches!(instruction, Instruction::Repeat(_, _, _))
 }
 
-/// Whether a point is kept, by the counts of edges.
-#[tactic(auto, using(crate::proofs::Counted::counted_kept))]
+/// Whether a point is kept, by the counts of edges. Most points are beyond the last one of a short callback, and none of them is a `repeat`.
+#[tactic(auto, using(crate::proofs::Counted::counted_kept, crate::proofs::Counted::beyond_is_no_repeat))]
+#[inline(always)]
 fn is_kept(graph: &Graph, edges: &[u8], callback: usize, point: usize) -> bool
     requires counts { AreCounts edges.now (spec.edges_into graph.now callback) }
     requires long { length edges.now ≡ 512 }
     requires few { point < 512 }
     ensures { result ≡ spec.is_kept graph.now callback point }
 {
-    point == 0 || is_repeat(graph.instruction_ref(callback, point)) || 1 < edges[point]
+    if point < graph.points(callback) && is_repeat(graph.instruction_ref(callback, point)) {
+        return true;
+    }
+    point == 0 || 1 < edges[point]
 }
 
 /// Whether each point of a callback is kept, up to 512 points: the first one, each `repeat`, and each one into which two edges or more

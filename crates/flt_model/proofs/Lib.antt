@@ -3,6 +3,7 @@ pub mod CleanRuns
 pub mod FirstFaults
 pub mod LocalLaws
 pub mod LockLaws
+mod DecimalDigits
 mod JournalLaws
 mod LineEnds
 mod LinePartLaws

@@ -1,6 +1,6 @@
 //! The text of journals.
 
-ghost use Rattle.std.specs.Prelude.{◌≡◌, ◌≢◌, ◌++◌, OnOk, OnErr};
+ghost use Rattle.std.specs.Prelude.{◌≡◌, ◌≢◌, ◌+◌, ◌%◌, ◌++◌, OnOk, OnErr};
 ghost use Rattle.std.specs.Fmt.{decimal};
 ghost use Rattle.std.specs.Io.KnownBytes.{Appends};
 ghost use Rattle.flt_model.specs.JournalText as spec;
@@ -24,15 +24,45 @@ fn put_decimal<W: Sink>(writer: &mut W, number: u32) -> Result<(), WriteFault>
     put_all(writer, &[digit])
 }
 
-/// Writes a number, and a byte after it.
-#[tactic(auto, using(crate::proofs::WritingSteps::two_parts))]
+/// The last digit of a number.
+fn last_digit(number: u32) -> u8
+    ensures { result ≡ 48 + number % 10 }
+{
+    b'0' + (number % 10) as u8
+}
+
+/// Writes a number, and a byte after it. Its last five digits are written at once.
 fn put_number<W: Sink>(writer: &mut W, number: u32, end: u8) -> Result<(), WriteFault>
     ensures ok { OnOk result (Appends (W.taken writer.old) (W.taken writer.new) (spec.number_text number end)) }
     ensures fine { OnOk result (W.failures writer.new ≡ W.failures writer.old) }
     ensures err { OnErr result (W.failures writer.new ≢ W.failures writer.old) }
 {
-    put_decimal(writer, number)?;
-    put_all(writer, &[end])
+    let tens = number / 10;
+    let a = last_digit(number);
+    if tens == 0 {
+        return put_all(writer, &[a, end]);
+    }
+    let hundreds = tens / 10;
+    let b = last_digit(tens);
+    if hundreds == 0 {
+        return put_all(writer, &[b, a, end]);
+    }
+    let thousands = hundreds / 10;
+    let c = last_digit(hundreds);
+    if thousands == 0 {
+        return put_all(writer, &[c, b, a, end]);
+    }
+    let others = thousands / 10;
+    let d = last_digit(thousands);
+    if others == 0 {
+        return put_all(writer, &[d, c, b, a, end]);
+    }
+    let e = last_digit(others);
+    if others < 10 {
+        return put_all(writer, &[e, d, c, b, a, end]);
+    }
+    put_decimal(writer, others / 10)?;
+    put_all(writer, &[e, d, c, b, a, end])
 }
 
 /// Writes a word, a number and a byte after it.
