@@ -13,7 +13,7 @@ use std::alloc::{AllocError, Global};
 /// The most locks that a text may have.
 const MAX_LOCKS: usize = 8;
 
-/// What is known of a lock that is declared with an expression.
+/// A lock that is declared with an expression, without its name.
 #[derive(Clone, Copy)]
 pub(crate) struct Known {
     /// The place of the first lock that is declared with the same expression among the declared ones, from 0.
@@ -41,7 +41,7 @@ pub(crate) enum Argument {
     Open(usize, usize),
 }
 
-/// The locks that annotations declare with expressions, and what is being read of another one and of an argument.
+/// The locks that annotations declare with expressions, and the parts of another one and of an argument that are read.
 #[derive(Drop)]
 pub(crate) struct Locks {
     alloc: Global,
@@ -203,7 +203,7 @@ impl Locks {
         None
     }
 
-    /// What is known of the lock of a name, if it is declared with an expression.
+    /// The lock of a name, if it is declared with an expression.
     fn known(&self, name: &[u8]) -> Option<Known>
         ensures { result ≡ spec.known_of (spec.locks_in self.now).declared name.now }
     {
@@ -217,7 +217,7 @@ impl Locks {
 
     // ---- annotations
 
-    /// What is known of the lock that a line declares, which ends at a place.
+    /// The lock that a line declares, which ends at a place.
     fn new_lock(&self, at: usize) -> Known
         ensures { result ≡ spec.new_lock at (spec.locks_in self.now) }
     {
@@ -370,7 +370,7 @@ impl Locks {
         Ok(())
     }
 
-    /// Goes on from an argument to another one, before which there are so many marks.
+    /// Replaces the argument by another one, before which so many marks were made.
     fn go_on(&mut self, argument: Argument, marks: usize)
         ensures { spec.locks_in self.new ≡ spec.gone_on argument marks (spec.locks_in self.old) }
     {
@@ -381,7 +381,7 @@ impl Locks {
         self.argument = argument;
     }
 
-    /// Takes one more letter of the file, as one of code, where there are so many marks.
+    /// Takes one more letter of the file, as one of code, after so many marks.
     #[tactic(auto, unfolding(crate::specs::Locks::coded))]
     fn code(&mut self, at: usize, part: Part, b: u8, marks: usize) -> Result<(), AllocError>
         ensures { OnOk result (spec.locks_in self.new ≡ spec.coded at part b marks (spec.locks_in self.old)) }
@@ -394,7 +394,7 @@ impl Locks {
 
     // ---- both
 
-    /// Takes one more letter of the file, where there are so many marks.
+    /// Takes one more letter of the file, after so many marks.
     pub(crate) fn read(
         &mut self,
         at: usize,
