@@ -6,7 +6,7 @@
 
 /*@flt
 filter ctx altitude 370070
-lock push resource */
+lock push resource = &stream->Resource */
 
 /* The stream's context. Each has a lock of its own; the text's lock `resource` is any of them. */
 typedef struct _STREAM_CONTEXT {

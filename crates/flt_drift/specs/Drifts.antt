@@ -12,6 +12,7 @@ use Rattle.flt_drift.specs.declared.drift.Span.{Span}
 use Rattle.flt_drift.specs.declared.mark.Mark.{Mark}
 use Rattle.flt_drift.specs.declared.mark.MarkKind.{MarkKind}
 use Rattle.flt_drift.specs.declared.mark.MarkKind.TheVariants as k
+use Rattle.flt_drift.specs.declared.mark.Take.{Take}
 
 -- ---- what a mark says
 
@@ -62,6 +63,27 @@ is_head (k.HeadsPre operation) = true
 is_head (k.HeadsPost operation) = true
 is_head _ = false
 
+-- an entry of a table registers a callback of another major function
+abbrev pub is_other_registration : MarkKind → Bool
+is_other_registration k.RegistersOther = true
+is_other_registration _ = false
+
+-- the same lock, or none
+abbrev pub same_lock : Option ℕ → Option ℕ → Bool
+same_lock None None = true
+same_lock (Some lock) (Some other) = lock == other
+same_lock _ _ = false
+
+-- an annotation takes or releases this lock by this call
+abbrev pub guards : Take → MarkKind → Bool
+guards take (k.Guards other) = other.call == take.call && same_lock other.lock take.lock
+guards take _ = false
+
+-- or any lock
+abbrev pub guards_any : ℕ → MarkKind → Bool
+guards_any call (k.Guards other) = other.call == call
+guards_any call _ = false
+
 -- a line has an annotation
 abbrev pub is_noted : MarkKind → Bool
 is_noted k.Noted = true
@@ -104,6 +126,34 @@ abbrev pub first_answer : List Mark → Option Span
 first_answer [] = None
 first_answer (mark ∷ marks) = or_else (answer_of mark mark.kind) (first_answer marks)
 
+-- ---- the locks of a stretch
+
+-- the marks of locks that annotations take and release, each call with each lock once, after some of them
+abbrev pub with_guard : List Mark → Mark → MarkKind → List Mark
+with_guard found mark (k.Guards take) = if list_any (λ other. guards take other.kind) found then found else found ++ (mark ∷ [])
+with_guard found mark _ = found
+
+abbrev pub guards_from : List Mark → List Mark → List Mark
+guards_from found [] = found
+guards_from found (mark ∷ marks) = guards_from (with_guard found mark mark.kind) marks
+
+-- those of a stretch
+abbrev pub guards_of : List Mark → List Mark
+guards_of stretch = guards_from [] stretch
+
+-- one of them is this call with this lock
+abbrev pub is_guarded : Take → List Mark → Bool
+is_guarded take marks = list_any (λ mark. guards take mark.kind) marks
+
+-- the bytes of a mark of this call
+abbrev pub guard_in : ℕ → Mark → Option Span
+guard_in call mark = if guards_any call mark.kind then Some (record { start = mark.start; length = mark.length }) else None
+
+-- those of the first
+abbrev pub first_guard : ℕ → List Mark → Option Span
+first_guard call [] = None
+first_guard call (mark ∷ marks) = or_else (guard_in call mark) (first_guard call marks)
+
 -- ---- the callbacks of a file
 
 -- an entry registers a pre callback of this operation
@@ -128,6 +178,23 @@ has_table all = list_any (λ mark. is_registration mark.kind) all
 abbrev pub has_heads : List Mark → Bool
 has_heads all = list_any (λ mark. is_head mark.kind) all
 
+-- where the first entry that registers a callback of another major function has its name
+abbrev pub other_in : Mark → Option ℕ
+other_in mark = if is_other_registration mark.kind then Some mark.start else None
+
+abbrev pub or_start : Option ℕ → Option ℕ → Option ℕ
+or_start None second = second
+or_start (Some first) second = Some first
+
+abbrev pub first_other : List Mark → Option ℕ
+first_other [] = None
+first_other (mark ∷ marks) = or_start (other_in mark) (first_other marks)
+
+-- this is there
+abbrev pub is_at : Option ℕ → ℕ → Bool
+is_at None start = false
+is_at (Some first) start = first == start
+
 -- ---- drifts
 
 -- a drift where a mark is
@@ -148,12 +215,27 @@ other_status mark (Some other) = at drift.OtherStatus mark (Some other)
 abbrev pub return_drift : List Mark → Mark → ℕ → List Drift
 return_drift stretch mark status = if is_answered status stretch then [] else other_status mark (first_answer stretch)
 
--- C04: a callback is registered that no annotation begins, though some begin callbacks; or the other way round, where there is a table
+-- any of some locks of a call, which may be one without an expression
+abbrev pub unknown : ℕ → Take
+unknown call = record { call = call; lock = None }
+
+abbrev pub other_lock : Mark → Option Span → List Drift
+other_lock mark None = []
+other_lock mark (Some other) = at drift.OtherLock mark (Some other)
+
+-- C05: code takes or releases a lock by a call with which the annotations name locks, but none of this expression, and each has one
+abbrev pub lock_drift : List Mark → Mark → Take → List Drift
+lock_drift marks mark take =
+    if is_guarded take marks || is_guarded (unknown take.call) marks then [] else other_lock mark (first_guard take.call marks)
+
+-- C04: a callback is registered that no annotation begins, though some begin callbacks; or the other way round, where there is a table. Of
+-- the callbacks of other major functions the first is noted
 abbrev pub callback_drift : List Mark → Mark → MarkKind → List Drift
 callback_drift all mark (k.RegistersPre operation) = unless (is_pre_headed operation all || not (has_heads all)) drift.NotAnnotated mark
 callback_drift all mark (k.RegistersPost operation) = unless (is_post_headed operation all || not (has_heads all)) drift.NotAnnotated mark
 callback_drift all mark (k.HeadsPre operation) = unless (is_pre_registered operation all || not (has_table all)) drift.NotRegistered mark
 callback_drift all mark (k.HeadsPost operation) = unless (is_post_registered operation all || not (has_table all)) drift.NotRegistered mark
+callback_drift all mark k.RegistersOther = unless (not (is_at (first_other all) mark.start)) drift.OtherOperation mark
 callback_drift all mark _ = []
 
 -- the drift of what a mark of a stretch says, of a file that has all these marks
@@ -163,6 +245,7 @@ abbrev pub drift_by : List Mark → List Mark → Mark → MarkKind → List Dri
 drift_by all stretch mark (k.Names call) = unless (is_called call stretch) drift.NotCalled mark
 drift_by all stretch mark (k.Calls call) = unless (is_named call stretch || not (is_annotated stretch)) drift.NotNamed mark
 drift_by all stretch mark (k.Returns status) = return_drift stretch mark status
+drift_by all stretch mark (k.Takes take) = lock_drift (guards_of stretch) mark take
 drift_by all stretch mark k.Malformed = at drift.Malformed mark None
 drift_by all stretch mark kind = callback_drift all mark kind
 

@@ -1,6 +1,9 @@
 pub mod Drifts
 pub mod Flags
+pub mod Locks
 pub mod Marks
 pub mod Names
+pub mod Parts
 pub mod Reading
+pub mod Tokens
 pub mod Wrappers

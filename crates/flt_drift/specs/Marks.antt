@@ -1,7 +1,7 @@
 -- What a word says: of code, or of an annotation. This project's own rule.
 use Rattle.std.specs.Prelude.{ℕ, Bool, true, false, ◌||◌, if◌then◌else◌, List, [], ◌∷◌, codes, Option, Some, None}
 use Rattle.std.specs.Str.{bytes_eq}
-use Rattle.flt_drift.specs.Names.{c_operation_of, c_status_of, call_of, operation_of, status_of}
+use Rattle.flt_drift.specs.Names.{c_status_of, call_of, lock_call_of, operation_of, status_of}
 use Rattle.flt_drift.specs.Wrappers.{Wrapping, call_in}
 use Rattle.flt_drift.specs.declared.mark.MarkKind.{MarkKind}
 use Rattle.flt_drift.specs.declared.mark.MarkKind.TheVariants as k
@@ -11,10 +11,15 @@ use Rattle.flt_drift.specs.declared.word.Entry.{Entry}
 use Rattle.flt_drift.specs.declared.word.Entry.TheVariants as entry
 
 -- what a word is to the word after it
+abbrev pub lock_before : Option ℕ → Before
+lock_before None = before.Nothing
+lock_before (Some call) = before.Lock call
+
 abbrev pub before_of : List ℕ → Before
 before_of word =
     if bytes_eq word (codes "return") then before.Return
-    else (if bytes_eq word (codes "pre") then before.Pre else (if bytes_eq word (codes "post") then before.Post else before.Nothing))
+    else (if bytes_eq word (codes "pre") then before.Pre
+    else (if bytes_eq word (codes "post") then before.Post else lock_before (lock_call_of word)))
 
 -- ---- code
 
@@ -24,8 +29,10 @@ is_null word = bytes_eq word (codes "NULL") || bytes_eq word (codes "0")
 
 -- what a word of an entry of a table registers
 abbrev pub registered : Entry → Option MarkKind
-registered (entry.Pre operation) = Some (k.RegistersPre operation)
-registered (entry.Post operation) = Some (k.RegistersPost operation)
+registered (entry.Pre (Some operation)) = Some (k.RegistersPre operation)
+registered (entry.Post (Some operation)) = Some (k.RegistersPost operation)
+registered (entry.Pre None) = Some k.RegistersOther
+registered (entry.Post None) = Some k.RegistersOther
 registered _ = None
 
 -- the status that a word is, where it stands after `return`
@@ -74,6 +81,7 @@ said_after before.Nothing word = None
 said_after before.Return word = answered (status_of word)
 said_after before.Pre word = pre_headed (operation_of word)
 said_after before.Post word = post_headed (operation_of word)
+said_after (before.Lock call) word = None
 
 -- what a word of an annotation says; one of the text alone says nothing
 abbrev pub said_by_note : Bool → Before → List ℕ → Option MarkKind

@@ -1,5 +1,6 @@
 -- The names that annotations and C have in common. The driver kit's routines and statuses, as far as the language knows them.
-use Rattle.std.specs.Prelude.{ℕ, ◌+◌, List, [], ◌∷◌, Option, Some, None, codes, if◌then◌else◌}
+use Rattle.std.specs.Prelude.{ℕ, ◌+◌, Bool, List, [], ◌∷◌, Option, Some, None, codes, if◌then◌else◌, nat_eq}
+use Rattle.std.specs.List.{starts_with}
 use Rattle.std.specs.Str.{bytes_eq}
 
 -- the calls
@@ -36,6 +37,12 @@ unfoldable pub c_operations : List (List ℕ)
 c_operations =
     codes "IRP_MJ_CREATE" ∷ codes "IRP_MJ_READ" ∷ codes "IRP_MJ_WRITE" ∷ codes "IRP_MJ_CLEANUP" ∷ []
 
+-- the calls that take and release locks
+unfoldable pub lock_calls : List (List ℕ)
+lock_calls =
+    codes "KeAcquireSpinLock" ∷ codes "KeReleaseSpinLock" ∷ codes "ExAcquireFastMutex" ∷ codes "ExReleaseFastMutex"
+    ∷ codes "FltAcquirePushLockExclusive" ∷ codes "FltAcquirePushLockShared" ∷ codes "FltReleasePushLock" ∷ []
+
 -- the place of a word among others of which so many stand before these
 abbrev pub place_from : ℕ → List (List ℕ) → List ℕ → Option ℕ
 place_from n [] word = None
@@ -64,3 +71,11 @@ operation_of word = place_among operations word
 -- the operation of a word of C, by the same place
 unfoldable pub c_operation_of : List ℕ → Option ℕ
 c_operation_of word = place_among c_operations word
+
+-- the lock's call of a word, by its place among these
+unfoldable pub lock_call_of : List ℕ → Option ℕ
+lock_call_of word = place_among lock_calls word
+
+-- a word of C is the name of a major function
+abbrev pub is_major_function : List ℕ → Bool
+is_major_function word = starts_with nat_eq word (codes "IRP_MJ_")

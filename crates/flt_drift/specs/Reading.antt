@@ -1,12 +1,13 @@
 -- How the marks of a file are found, letter by letter. This project's own rule.
-use Rattle.std.specs.Prelude.{ℕ, ◌+◌, Bool, true, false, not, ◌&&◌, ◌||◌, if◌then◌else◌, ◌==◌, List, [], ◌∷◌, ◌++◌, length, codes, Option, Some, None}
-use Rattle.std.specs.Char.{is_ascii_alphanumeric}
+use Rattle.std.specs.Prelude.{ℕ, ◌+◌, Bool, true, false, not, ◌&&◌, ◌||◌, if◌then◌else◌, ◌==◌, List, [], ◌∷◌, ◌++◌, length, codes, Option, Some, None, is_some}
 use Rattle.std.specs.Str.{bytes_eq}
 use Rattle.flt_c.specs.declared.letter.Letter.{Letter}
 use Rattle.flt_c.specs.declared.letter.Part.{Part}
 use Rattle.flt_c.specs.declared.letter.Part.TheVariants as part
+use Rattle.flt_drift.specs.Locks.{LockState, called, guard, locks_in, no_locks, read, taken as argument_taken}
 use Rattle.flt_drift.specs.Marks.{before_of, said_by_code, said_by_note}
-use Rattle.flt_drift.specs.Names.{c_operation_of, call_of}
+use Rattle.flt_drift.specs.Names.{c_operation_of, call_of, is_major_function, lock_call_of}
+use Rattle.flt_drift.specs.Parts.{is_aside, is_blank, is_code, is_note, is_of_word, same_part}
 use Rattle.flt_drift.specs.Wrappers.{Wrapping, with_wrapping}
 use Rattle.flt_drift.specs.declared.mark.Mark.{Mark}
 use Rattle.flt_drift.specs.declared.mark.MarkKind.{MarkKind}
@@ -23,7 +24,7 @@ use Rattle.flt_drift.specs.declared.word.Entry.{Entry}
 use Rattle.flt_drift.specs.declared.word.Entry.TheVariants as entry
 
 -- where reading is: the word that is being read and what is known of it, of its line and of the code; of a comment `@flt-call` how far
--- it is read, where it began, and its function; the functions that make calls, and the marks so far
+-- it is read, where it began, and its function; the functions that make calls, the locks, and the marks so far
 pub record State : Type 0 where
   pub word : List ℕ
   pub spoken : Spoken
@@ -33,6 +34,7 @@ pub record State : Type 0 where
   pub opened : ℕ
   pub function : List ℕ
   pub wrappings : List Wrapping
+  pub locks : LockState
   pub marks : List Mark
 
 -- that of a reader
@@ -46,41 +48,11 @@ state_in r = record {
   opened = r.opened;
   function = r.function.items;
   wrappings = r.wrappers;
+  locks = locks_in r.locks;
   marks = r.marks.items;
 }
 
--- ---- parts
-
-abbrev pub is_code : Part → Bool
-is_code part.Code = true
-is_code _ = false
-
-abbrev pub is_note : Part → Bool
-is_note part.Note = true
-is_note _ = false
-
-abbrev pub is_aside : Part → Bool
-is_aside part.Aside = true
-is_aside _ = false
-
-abbrev pub same_part : Part → Part → Bool
-same_part part.Code second = is_code second
-same_part part.Note second = is_note second
-same_part part.Aside second = is_aside second
-same_part part.Other second = false
-
 -- ---- words
-
--- a space, a tab, a line feed or a carriage return
-abbrev pub is_blank : ℕ → Bool
-is_blank b = b == 32 || b == 9 || b == 10 || b == 13
-
--- letters, digits and `_`; the `-` after a marker belongs to the word that says which kind of comment it is
-abbrev pub is_of_word : Part → ℕ → Bool
-is_of_word part.Code b = is_ascii_alphanumeric b || b == 95
-is_of_word part.Note b = is_ascii_alphanumeric b || b == 95
-is_of_word part.Aside b = is_ascii_alphanumeric b || (b == 95 || b == 45)
-is_of_word part.Other b = false
 
 -- what a letter is read as: a `#` in an annotation begins a remark, which goes to the line's end
 abbrev pub seen : Line → Letter → Part
@@ -106,16 +78,18 @@ line_after p word line = record {
   closing = line.closing;
 }
 
-abbrev pub named_entry : Option ℕ → Entry → Entry
-named_entry None at = at
-named_entry (Some operation) at = entry.Name operation
+-- an entry of one of the operations, or of another major function
+abbrev pub named_entry : Bool → Option ℕ → Entry → Entry
+named_entry major (Some operation) at = entry.Name (Some operation)
+named_entry major None at = if major then entry.Name None else at
 
--- an entry of a table begins with a `{` and the name of an operation
+-- an entry of a table begins with a `{` and the name of a major function
 abbrev pub code_after : Spoken → List ℕ → Code → Code
 code_after spoken word code =
     record {
       brace = code.brace;
-      entry = if is_code spoken.part && spoken.opens then named_entry (c_operation_of word) code.entry else code.entry;
+      entry = if is_code spoken.part && spoken.opens then named_entry (is_major_function word) (c_operation_of word) code.entry
+          else code.entry;
     }
 
 -- what a word says
@@ -140,8 +114,57 @@ say s = record {
   opened = s.opened;
   function = s.function;
   wrappings = s.wrappings;
+  locks = s.locks;
   marks = with_mark s.marks s.spoken.begin (length s.word) (said_by s s.spoken.part);
 }
+
+-- with these locks
+abbrev pub with_locks : LockState → State → State
+with_locks locks s = record {
+  word = s.word;
+  spoken = s.spoken;
+  line = s.line;
+  code = s.code;
+  stage = s.stage;
+  opened = s.opened;
+  function = s.function;
+  wrappings = s.wrappings;
+  locks = locks;
+  marks = s.marks;
+}
+
+-- with this mark
+abbrev pub with_one : Mark → State → State
+with_one mark s = record {
+  word = s.word;
+  spoken = s.spoken;
+  line = s.line;
+  code = s.code;
+  stage = s.stage;
+  opened = s.opened;
+  function = s.function;
+  wrappings = s.wrappings;
+  locks = s.locks;
+  marks = s.marks ++ (mark ∷ []);
+}
+
+-- the first argument of a lock's call comes after its name in code
+abbrev pub call_named : State → State
+call_named s = if is_code s.spoken.part then with_locks (called (lock_call_of s.word) s.locks) s else s
+
+-- the call of a lock after which a word stands
+abbrev pub lock_call_before : Before → Option ℕ
+lock_call_before (before.Lock call) = Some call
+lock_call_before _ = None
+
+abbrev pub guarded_by : Option ℕ → State → State
+guarded_by None s = s
+guarded_by (Some call) s = with_one (guard s.locks call s.word s.spoken.begin) s
+
+-- a word of an annotation is the name of a lock after a call, unless it is a call itself; in one of the text alone it says nothing
+abbrev pub guarded : State → State
+guarded s =
+    if is_note s.spoken.part && not (s.line.alone || is_some (call_of s.word)) then guarded_by (lock_call_before (before_word s.spoken)) s else s
 
 -- the word ends
 abbrev pub forget : State → State
@@ -154,6 +177,7 @@ forget s = record {
   opened = s.opened;
   function = s.function;
   wrappings = s.wrappings;
+  locks = s.locks;
   marks = s.marks;
 }
 
@@ -174,6 +198,7 @@ at_stage to opened function s = record {
   opened = opened;
   function = function;
   wrappings = s.wrappings;
+  locks = s.locks;
   marks = s.marks;
 }
 
@@ -188,6 +213,7 @@ wrapped call s = record {
   opened = s.opened;
   function = s.function;
   wrappings = with_wrapping s.wrappings s.function call;
+  locks = s.locks;
   marks = s.marks;
 }
 
@@ -202,6 +228,7 @@ refused start length s = record {
   opened = s.opened;
   function = s.function;
   wrappings = s.wrappings;
+  locks = s.locks;
   marks = s.marks ++ (mark_at k.Malformed start length ∷ []);
 }
 
@@ -233,7 +260,7 @@ aside s = if is_aside s.spoken.part then aside_by s.stage s else s
 
 -- what a word says is said where it ends
 abbrev pub end_word : State → State
-end_word s = forget (aside (say s))
+end_word s = forget (call_named (aside (guarded (say s))))
 
 abbrev pub is_empty : List ℕ → Bool
 is_empty [] = true
@@ -275,6 +302,7 @@ grown at p b s =
       opened = s.opened;
       function = s.function;
       wrappings = s.wrappings;
+      locks = s.locks;
       marks = s.marks;
     }
     else s
@@ -312,6 +340,7 @@ marked line kind at s = record {
   opened = s.opened;
   function = s.function;
   wrappings = s.wrappings;
+  locks = s.locks;
   marks = s.marks ++ (mark_at kind at 1 ∷ []);
 }
 
@@ -365,14 +394,26 @@ passed p b s = record {
   opened = s.opened;
   function = s.function;
   wrappings = s.wrappings;
+  locks = s.locks;
   marks = s.marks;
 }
+
+-- ---- locks
+
+abbrev pub with_option : Option Mark → State → State
+with_option None s = s
+with_option (Some mark) s = with_one mark s
+
+-- the locks after a letter, and the mark of an argument that ends before it
+abbrev pub locked : ℕ → Part → ℕ → State → State
+locked at p b s =
+    with_locks (read at p b (length s.marks) s.locks) (with_option (argument_taken at p b (length s.marks) s.locks) s)
 
 -- ---- a file
 
 -- one letter more, as this part
 unfoldable pub taken_as : ℕ → Part → ℕ → State → State
-taken_as at p b s = passed p b (grown at p b (noted at p b (cut at p b (left p (ended p b s)))))
+taken_as at p b s = passed p b (grown at p b (locked at p b (noted at p b (cut at p b (left p (ended p b s))))))
 
 -- one letter more
 abbrev pub taken : ℕ → Letter → State → State
@@ -389,6 +430,7 @@ start = record {
   opened = 0;
   function = [];
   wrappings = [];
+  locks = no_locks;
   marks = [];
 }
 

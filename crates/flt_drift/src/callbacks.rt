@@ -20,11 +20,13 @@ pub(crate) struct Callbacks<'a> {
     post_headed: Vec<bool>,
     registers: bool,
     heads: bool,
+    /// The place of the first callback of another major function that an entry registers.
+    other: Option<usize>,
 }
 
 impl<'a> Model for Callbacks<'a> {
     ghost use Rattle.std.specs.Prelude.{◌≡◌, List};
-    ghost use Rattle.flt_drift.specs.Drifts.{has_table, has_heads};
+    ghost use Rattle.flt_drift.specs.Drifts.{first_other, has_table, has_heads};
     ghost use Rattle.flt_drift.specs.Flags.{flags_of};
     ghost use Rattle.flt_drift.specs.declared.flags.Question.TheVariants as ask;
     ghost use Rattle.flt_drift.specs.declared.mark.Mark.{Mark};
@@ -39,7 +41,8 @@ impl<'a> Model for Callbacks<'a> {
         × (c.pre_headed.items ≡ flags_of ask.PreHeaded c.marks.now)
         × (c.post_headed.items ≡ flags_of ask.PostHeaded c.marks.now)
         × (c.registers ≡ has_table c.marks.now)
-        × (c.heads ≡ has_heads c.marks.now) };
+        × (c.heads ≡ has_heads c.marks.now)
+        × (c.other ≡ first_other c.marks.now) };
 }
 
 fn is_registration(kind: MarkKind) -> bool
@@ -68,6 +71,28 @@ fn has_heads(all: &[Mark]) -> bool
     all.iter().any(|mark| is_head(mark.kind))
 }
 
+/// The place of a callback of another major function, if a mark is one.
+fn other_in(mark: Mark) -> Option<usize>
+    ensures { result ≡ spec.other_in mark }
+{
+    match mark.kind {
+        MarkKind::RegistersOther => Some(mark.start),
+        _ => None,
+    }
+}
+
+/// The place of the first callback of another major function that an entry registers.
+fn first_other(all: &[Mark]) -> Option<usize>
+    ensures { result ≡ spec.first_other all.now }
+{
+    for mark in all {
+        if let Some(start) = other_in(*mark) {
+            return Some(start);
+        }
+    }
+    None
+}
+
 impl<'a> Callbacks<'a> {
     /// The callbacks of a file that has these marks.
     pub(crate) fn new(alloc: Global, marks: &'a [Mark]) -> Result<Callbacks<'a>, AllocError>
@@ -85,6 +110,7 @@ impl<'a> Callbacks<'a> {
             post_headed,
             registers: has_table(marks),
             heads: has_heads(marks),
+            other: first_other(marks),
         })
     }
 
@@ -132,5 +158,15 @@ impl<'a> Callbacks<'a> {
         ensures { result ≡ spec.has_heads self.now }
     {
         self.heads
+    }
+
+    /// Whether the first callback of another major function that an entry registers is at a place.
+    pub(crate) fn is_first_other(&self, start: usize) -> bool
+        ensures { result ≡ spec.is_at (spec.first_other self.now) start }
+    {
+        match self.other {
+            Some(first) => first == start,
+            None => false,
+        }
     }
 }

@@ -5,7 +5,7 @@ ghost use Rattle.flt_drift.specs.Drifts as spec;
 ghost use Rattle.flt_drift.specs.Reading as reading;
 
 use crate::callbacks::Callbacks;
-use crate::mark::{Mark, MarkKind};
+use crate::mark::{Mark, MarkKind, Take};
 use crate::reader::marks;
 use crate::stretch::Stretch;
 use flt_c::{Flaw, letters};
@@ -26,6 +26,12 @@ pub enum DriftKind {
     NotAnnotated,
     /// C04: an annotation begins a callback, and no table registers one. The place is that of the operation in the annotation.
     NotRegistered,
+    /// A note, and no difference: a table registers callbacks of other major functions, which no text has. The place is that of the first
+    /// one's name.
+    OtherOperation,
+    /// C05: code takes or releases a lock, and the annotations about it name only locks of other expressions. The place is that of the call's
+    /// first argument, the other place that of the first of these expressions, in the lock's declaration.
+    OtherLock,
     /// A comment `@flt-call` is malformed: it ends too early, or its second word is no call. The place is that of `-call` or of this word.
     Malformed,
 }
@@ -89,6 +95,16 @@ fn put_other_status(
     Ok(())
 }
 
+/// Adds the drift of a lock that the annotations don't name, if they name another one.
+fn put_other_lock(out: &mut Vec<Drift>, mark: Mark, other: Option<Span>) -> Result<(), AllocError>
+    ensures { OnOk result (out.new.items ≡ out.old.items ++ spec.other_lock mark other) }
+{
+    if let Some(other) = other {
+        put(out, DriftKind::OtherLock, mark, Some(other))?;
+    }
+    Ok(())
+}
+
 /// Adds a drift at the place of a mark, unless this holds.
 fn put_unless(
     out: &mut Vec<Drift>,
@@ -129,6 +145,10 @@ fn put_callback(
             let holds = callbacks.is_post_registered(operation) || !callbacks.has_table();
             put_unless(out, holds, DriftKind::NotRegistered, mark)
         }
+        MarkKind::RegistersOther => {
+            let holds = !callbacks.is_first_other(mark.start);
+            put_unless(out, holds, DriftKind::OtherOperation, mark)
+        }
         _ => Ok(()),
     }
 }
@@ -144,6 +164,25 @@ fn put_return(
 {
     if !stretch.is_answered(status) {
         put_other_status(out, mark, stretch.first_answer())?;
+    }
+    Ok(())
+}
+
+/// Adds the drift of a lock that code takes or releases, if it has one.
+fn put_lock(
+    out: &mut Vec<Drift>,
+    stretch: &Stretch<'_>,
+    mark: Mark,
+    take: Take,
+) -> Result<(), AllocError>
+    ensures { OnOk result (out.new.items ≡ out.old.items ++ spec.lock_drift (spec.guards_of stretch.now) mark take) }
+{
+    let unknown = Take {
+        call: take.call,
+        lock: None,
+    };
+    if !(stretch.is_guarded(take) || stretch.is_guarded(unknown)) {
+        put_other_lock(out, mark, stretch.first_guard(take.call))?;
     }
     Ok(())
 }
@@ -166,6 +205,7 @@ fn put_drift(
             put_unless(out, holds, DriftKind::NotNamed, mark)
         }
         MarkKind::Returns(status) => put_return(out, stretch, mark, status),
+        MarkKind::Takes(take) => put_lock(out, stretch, mark, take),
         MarkKind::Malformed => put(out, DriftKind::Malformed, mark, None),
         _ => put_callback(out, callbacks, mark),
     }

@@ -1,4 +1,13 @@
-//! The marks of a C file: its calls, returns and callbacks, in code and in annotations.
+//! The marks of a C file: its calls, returns, callbacks and locks, in code and in annotations.
+
+/// A call with a lock.
+#[derive(Clone, Copy)]
+pub struct Take {
+    /// The call's place among those that take and release locks, from 0.
+    pub call: usize,
+    /// The place of the first lock that is declared with its expression, among the declared ones from 0, if there is one.
+    pub lock: Option<usize>,
+}
 
 /// The statement that a mark makes.
 #[derive(Clone, Copy)]
@@ -15,10 +24,16 @@ pub enum MarkKind {
     RegistersPre(usize),
     /// The same for a post callback.
     RegistersPost(usize),
+    /// An entry of a table registers a callback of another major function.
+    RegistersOther,
     /// An annotation begins a pre callback of this one of the operations.
     HeadsPre(usize),
     /// The same for a post callback.
     HeadsPost(usize),
+    /// Code takes or releases a lock: the bytes are the first argument of the call.
+    Takes(Take),
+    /// An annotation does: the bytes are the expression with which the lock is declared, or else its name.
+    Guards(Take),
     /// A comment `@flt-call` is malformed.
     Malformed,
     /// A line has an annotation.

@@ -60,6 +60,16 @@ const C_OPERATIONS: [&[u8]; 4] = [
     b"IRP_MJ_CLEANUP",
 ];
 
+const LOCK_CALLS: [&[u8]; 7] = [
+    b"KeAcquireSpinLock",
+    b"KeReleaseSpinLock",
+    b"ExAcquireFastMutex",
+    b"ExReleaseFastMutex",
+    b"FltAcquirePushLockExclusive",
+    b"FltAcquirePushLockShared",
+    b"FltReleasePushLock",
+];
+
 /// The place of a word among others, from 0.
 fn place_among(names: &[&[u8]], word: &[u8]) -> Option<usize>
     ensures { result ≡ spec.place_among (map (λ name. name.now) names.now) word.now }
@@ -110,4 +120,19 @@ pub(crate) fn c_operation_of(word: &[u8]) -> Option<usize>
     ensures { result ≡ spec.c_operation_of word.now }
 {
     place_among(C_OPERATIONS.as_slice(), word)
+}
+
+/// The call of a word, by its place among those that take and release locks.
+#[tactic(auto, unfolding(crate::specs::Names::lock_calls, crate::specs::Names::lock_call_of))]
+pub(crate) fn lock_call_of(word: &[u8]) -> Option<usize>
+    ensures { result ≡ spec.lock_call_of word.now }
+{
+    place_among(LOCK_CALLS.as_slice(), word)
+}
+
+/// Whether a word of C is the name of a major function.
+pub(crate) fn is_major_function(word: &[u8]) -> bool
+    ensures { result ≡ spec.is_major_function word.now }
+{
+    word.starts_with(b"IRP_MJ_")
 }

@@ -1,7 +1,7 @@
 //! The parts of a file that letters belong to, and the letters that make words.
 
 ghost use Rattle.std.specs.Prelude.{◌≡◌};
-ghost use Rattle.flt_drift.specs.Reading as spec;
+ghost use Rattle.flt_drift.specs.Parts as spec;
 
 use flt_c::Part;
 
@@ -40,12 +40,19 @@ pub(crate) fn is_blank(b: u8) -> bool
     b == b' ' || b == b'\t' || b == b'\n' || b == b'\r'
 }
 
+/// Whether a byte is a letter, a digit or `_`.
+pub(crate) fn is_word_byte(b: u8) -> bool
+    ensures { result ≡ spec.is_word_byte b }
+{
+    b.is_ascii_alphanumeric() || b == b'_'
+}
+
 /// Whether a byte belongs to a word.
 pub(crate) fn is_of_word(part: Part, b: u8) -> bool
     ensures { result ≡ spec.is_of_word part b }
 {
     match part {
-        Part::Code | Part::Note => b.is_ascii_alphanumeric() || b == b'_',
+        Part::Code | Part::Note => is_word_byte(b),
         Part::Aside => b.is_ascii_alphanumeric() || b == b'_' || b == b'-',
         Part::Other => false,
     }

@@ -3,8 +3,9 @@
 ghost use Rattle.std.specs.Prelude.{◌≡◌, ◌++◌, [], ◌∷◌, IfOk, OnOk};
 ghost use Rattle.flt_drift.specs.Reading as spec;
 
+use crate::lock::Locks;
 use crate::mark::{Mark, MarkKind};
-use crate::names::{c_operation_of, call_of};
+use crate::names::{c_operation_of, call_of, is_major_function, lock_call_of};
 use crate::part::{is_aside, is_blank, is_code, is_note, is_of_word, same_part};
 use crate::word::{Before, Entry, before_of, said_by_code, said_by_note};
 use crate::wrapper::Wrappers;
@@ -77,6 +78,7 @@ pub(crate) struct Reader {
     /// Its function.
     function: Vec<u8>,
     wrappers: Wrappers,
+    locks: Locks,
     marks: Vec<Mark>,
 }
 
@@ -102,6 +104,16 @@ fn before_word(spoken: Spoken) -> Before
     }
 }
 
+/// The call of a lock, if a word comes after its name.
+fn lock_call_before(before: Before) -> Option<usize>
+    ensures { result ≡ spec.lock_call_before before }
+{
+    match before {
+        Before::Lock(call) => Some(call),
+        _ => None,
+    }
+}
+
 /// The state of reading a word, after a word.
 fn spoken_after(spoken: Spoken, word: &[u8]) -> Spoken
     ensures { result ≡ spec.spoken_after spoken word.now }
@@ -123,13 +135,13 @@ fn line_after(part: Part, word: &[u8], line: Line) -> Line
     }
 }
 
-/// The entry after a word that may be the name of an operation: that begins an entry of a table.
-fn named_entry(operation: Option<usize>, entry: Entry) -> Entry
-    ensures { result ≡ spec.named_entry operation entry }
+/// The entry after a word that may be the name of an operation, or of another major function: that begins an entry of a table.
+fn named_entry(major: bool, operation: Option<usize>, entry: Entry) -> Entry
+    ensures { result ≡ spec.named_entry major operation entry }
 {
     match operation {
-        Some(operation) => Entry::Name(operation),
-        None => entry,
+        Some(operation) => Entry::Name(Some(operation)),
+        None => { if major { Entry::Name(None) } else { entry } }
     }
 }
 
@@ -138,7 +150,7 @@ fn code_after(spoken: Spoken, word: &[u8], code: Code) -> Code
     ensures { result ≡ spec.code_after spoken word.now code }
 {
     let entry = if is_code(spoken.part) && spoken.opens {
-        named_entry(c_operation_of(word), code.entry)
+        named_entry(is_major_function(word), c_operation_of(word), code.entry)
     } else {
         code.entry
     };
@@ -245,6 +257,7 @@ impl Reader {
             opened: 0,
             function: Vec::new(alloc),
             wrappers: Wrappers::new(alloc),
+            locks: Locks::new(alloc),
             marks: Vec::new(alloc),
         }
     }
@@ -278,6 +291,41 @@ impl Reader {
             })?;
         }
         Ok(())
+    }
+
+    /// Adds the mark of a lock that an annotation takes or releases by a call, whose name the word is.
+    fn guard_by(&mut self, call: Option<usize>) -> Result<(), AllocError>
+        ensures { OnOk result (spec.state_in self.new ≡ spec.guarded_by call (spec.state_in self.old)) }
+    {
+        if let Some(call) = call {
+            let mark = self
+                .locks
+                .guard(call, self.word.as_slice(), self.spoken.begin);
+            self.marks.push(mark)?;
+        }
+        Ok(())
+    }
+
+    /// Adds the mark of a lock whose name the word is, if an annotation takes or releases it.
+    fn guard(&mut self) -> Result<(), AllocError>
+        ensures { OnOk result (spec.state_in self.new ≡ spec.guarded (spec.state_in self.old)) }
+    {
+        if is_note(self.spoken.part)
+            && !(self.line.alone || call_of(self.word.as_slice()).is_some())
+        {
+            self.guard_by(lock_call_before(before_word(self.spoken)))?;
+        }
+        Ok(())
+    }
+
+    /// Begins to look for an argument, if the word is a lock's call in code.
+    fn name_call(&mut self)
+        ensures { spec.state_in self.new ≡ spec.call_named (spec.state_in self.old) }
+    {
+        if is_code(self.spoken.part) {
+            let call = lock_call_of(self.word.as_slice());
+            self.locks.name_call(call);
+        }
     }
 
     /// Forgets the word, which has ended.
@@ -364,9 +412,11 @@ impl Reader {
         ensures { OnOk result (spec.state_in self.new ≡ spec.end_word (spec.state_in self.old)) }
     {
         self.say()?;
+        self.guard()?;
         if is_aside(self.spoken.part) {
             self.read_aside()?;
         }
+        self.name_call();
         self.forget();
         Ok(())
     }
@@ -422,6 +472,19 @@ impl Reader {
         Ok(())
     }
 
+    /// Takes a letter for the locks, and adds the mark of an argument that ends before it.
+    fn lock(&mut self, at: usize, part: Part, b: u8) -> Result<(), AllocError>
+        ensures { OnOk result (spec.state_in self.new ≡ spec.locked at part b (spec.state_in self.old)) }
+    {
+        let marks = self.marks.len();
+        let taken = self.locks.taken(at, part, b, marks);
+        self.locks.read(at, part, b, marks)?;
+        if let Some(mark) = taken {
+            self.marks.push(mark)?;
+        }
+        Ok(())
+    }
+
     /// Adds a letter to the word, if it belongs to one.
     fn grow(&mut self, at: usize, part: Part, b: u8) -> Result<(), AllocError>
         ensures { OnOk result (spec.state_in self.new ≡ spec.grown at part b (spec.state_in self.old)) }
@@ -446,6 +509,7 @@ impl Reader {
         self.leave(part)?;
         self.cut(at, part, b)?;
         self.note(at, part, b)?;
+        self.lock(at, part, b)?;
         self.grow(at, part, b)?;
         self.line = lined(part, b, self.line);
         self.code = coded(part, b, self.code);

@@ -1,11 +1,11 @@
 //! A stretch: some code, and then the annotations about it.
 
-ghost use Rattle.std.specs.Prelude.{◌≡◌, IfOk};
+ghost use Rattle.std.specs.Prelude.{◌≡◌, IfOk, OnOk};
 ghost use Rattle.flt_drift.specs.Drifts as spec;
 
 use crate::drift::Span;
 use crate::flags::{Question, flags, is_noted};
-use crate::mark::{Mark, MarkKind};
+use crate::mark::{Mark, MarkKind, Take};
 use std::alloc::{AllocError, Global};
 use std::marker::Model;
 
@@ -21,11 +21,13 @@ pub(crate) struct Stretch<'a> {
     answered: Vec<bool>,
     has_note: bool,
     answer: Option<Span>,
+    /// The locks that annotations take and release, each with each call once.
+    guards: Vec<Mark>,
 }
 
 impl<'a> Model for Stretch<'a> {
     ghost use Rattle.std.specs.Prelude.{◌≡◌, List};
-    ghost use Rattle.flt_drift.specs.Drifts.{is_annotated, first_answer};
+    ghost use Rattle.flt_drift.specs.Drifts.{is_annotated, first_answer, guards_of};
     ghost use Rattle.flt_drift.specs.Flags.{flags_of};
     ghost use Rattle.flt_drift.specs.declared.flags.Question.TheVariants as ask;
     ghost use Rattle.flt_drift.specs.declared.mark.Mark.{Mark};
@@ -39,7 +41,8 @@ impl<'a> Model for Stretch<'a> {
         × (s.named.items ≡ flags_of ask.Named s.marks.now)
         × (s.answered.items ≡ flags_of ask.Answered s.marks.now)
         × (s.has_note ≡ is_annotated s.marks.now)
-        × (s.answer ≡ first_answer s.marks.now) };
+        × (s.answer ≡ first_answer s.marks.now)
+        × (s.guards.items ≡ guards_of s.marks.now) };
 }
 
 fn notes(kind: MarkKind) -> bool
@@ -80,6 +83,92 @@ fn first_answer(stretch: &[Mark]) -> Option<Span>
     None
 }
 
+fn same_lock(lock: Option<usize>, other: Option<usize>) -> bool
+    ensures { result ≡ spec.same_lock lock other }
+{
+    match (lock, other) {
+        (None, None) => true,
+        (Some(lock), Some(other)) => lock == other,
+        _ => false,
+    }
+}
+
+/// Whether an annotation takes or releases this lock by this call.
+fn guards(take: Take, kind: MarkKind) -> bool
+    ensures { result ≡ spec.guards take kind }
+{
+    match kind {
+        MarkKind::Guards(other) => other.call == take.call && same_lock(other.lock, take.lock),
+        _ => false,
+    }
+}
+
+/// Whether an annotation takes or releases any lock by this call.
+fn guards_any(call: usize, kind: MarkKind) -> bool
+    ensures { result ≡ spec.guards_any call kind }
+{
+    match kind {
+        MarkKind::Guards(other) => other.call == call,
+        _ => false,
+    }
+}
+
+/// Whether one of some marks is this call with this lock, in an annotation.
+fn is_guarded(take: Take, marks: &[Mark]) -> bool
+    ensures { result ≡ spec.is_guarded take marks.now }
+{
+    marks.iter().any(|mark| guards(take, mark.kind))
+}
+
+/// Adds a mark, if it is a call with a lock in an annotation, and none of the others is the same.
+fn put_guard(found: &mut Vec<Mark>, mark: Mark) -> Result<(), AllocError>
+    ensures { OnOk result (found.new.items ≡ spec.with_guard found.old.items mark mark.kind) }
+{
+    if let MarkKind::Guards(take) = mark.kind {
+        if !is_guarded(take, found.as_slice()) {
+            found.push(mark)?;
+        }
+    }
+    Ok(())
+}
+
+/// The locks that the annotations of a stretch take and release, each with each call once.
+fn guards_of(alloc: Global, stretch: &[Mark]) -> Result<Vec<Mark>, AllocError>
+    ensures { IfOk result (λ found. found.items ≡ spec.guards_of stretch.now) }
+{
+    let mut found = Vec::new(alloc);
+    for mark in stretch {
+        put_guard(&mut found, *mark)?;
+    }
+    Ok(found)
+}
+
+/// The bytes of a call with a lock in an annotation.
+fn guard_in(call: usize, mark: Mark) -> Option<Span>
+    ensures { result ≡ spec.guard_in call mark }
+{
+    if guards_any(call, mark.kind) {
+        Some(Span {
+            start: mark.start,
+            length: mark.length,
+        })
+    } else {
+        None
+    }
+}
+
+/// Those of the first one.
+fn first_guard(call: usize, marks: &[Mark]) -> Option<Span>
+    ensures { result ≡ spec.first_guard call marks.now }
+{
+    for mark in marks {
+        if let Some(guard) = guard_in(call, *mark) {
+            return Some(guard);
+        }
+    }
+    None
+}
+
 impl<'a> Stretch<'a> {
     /// The stretch of some marks.
     pub(crate) fn new(alloc: Global, marks: &'a [Mark]) -> Result<Stretch<'a>, AllocError>
@@ -88,6 +177,7 @@ impl<'a> Stretch<'a> {
         let called = flags(alloc, Question::Called, marks)?;
         let named = flags(alloc, Question::Named, marks)?;
         let answered = flags(alloc, Question::Answered, marks)?;
+        let guards = guards_of(alloc, marks)?;
         Ok(Stretch {
             marks,
             called,
@@ -95,6 +185,7 @@ impl<'a> Stretch<'a> {
             answered,
             has_note: has_note(marks),
             answer: first_answer(marks),
+            guards,
         })
     }
 
@@ -136,5 +227,19 @@ impl<'a> Stretch<'a> {
         ensures { result ≡ spec.first_answer self.now }
     {
         self.answer
+    }
+
+    /// Whether its annotations take or release a lock by a call.
+    pub(crate) fn is_guarded(&self, take: Take) -> bool
+        ensures { result ≡ spec.is_guarded take (spec.guards_of self.now) }
+    {
+        is_guarded(take, self.guards.as_slice())
+    }
+
+    /// The bytes of the first lock that its annotations take or release by a call.
+    pub(crate) fn first_guard(&self, call: usize) -> Option<Span>
+        ensures { result ≡ spec.first_guard call (spec.guards_of self.now) }
+    {
+        first_guard(call, self.guards.as_slice())
     }
 }

@@ -4,7 +4,7 @@ ghost use Rattle.std.specs.Prelude.{◌≡◌};
 ghost use Rattle.flt_drift.specs.Marks as spec;
 
 use crate::mark::MarkKind;
-use crate::names::{c_operation_of, c_status_of, call_of, operation_of, status_of};
+use crate::names::{c_status_of, call_of, lock_call_of, operation_of, status_of};
 use crate::wrapper::Wrappers;
 
 /// The role of a word for the word after it.
@@ -14,21 +14,33 @@ pub(crate) enum Before {
     Return,
     Pre,
     Post,
+    /// A call that takes or releases a lock, by its place among these calls. The lock's name comes next.
+    Lock(usize),
 }
 
 /// The position in an entry of a table of callbacks, `{ IRP_MJ_READ, 0, PreRead, PostRead }`.
 #[derive(Clone, Copy)]
 pub(crate) enum Entry {
-    /// In no entry of one of the operations.
+    /// In no entry.
     Nothing,
-    /// After its name. The number is the operation's place among the operations, from 0.
-    Name(usize),
+    /// After its name. The number is the operation's place among the operations, from 0; another major function has none.
+    Name(Option<usize>),
     /// At its flags.
-    Flags(usize),
+    Flags(Option<usize>),
     /// At its pre callback.
-    Pre(usize),
+    Pre(Option<usize>),
     /// At its post callback.
-    Post(usize),
+    Post(Option<usize>),
+}
+
+/// The role of a word that may be a lock's call for the word after it.
+fn lock_before(call: Option<usize>) -> Before
+    ensures { result ≡ spec.lock_before call }
+{
+    match call {
+        Some(call) => Before::Lock(call),
+        None => Before::Nothing,
+    }
 }
 
 /// The role of a word for the word after it.
@@ -42,7 +54,7 @@ pub(crate) fn before_of(word: &[u8]) -> Before
     } else if word == b"post".as_slice() {
         Before::Post
     } else {
-        Before::Nothing
+        lock_before(lock_call_of(word))
     }
 }
 
@@ -57,8 +69,9 @@ fn registered(entry: Entry) -> Option<MarkKind>
     ensures { result ≡ spec.registered entry }
 {
     match entry {
-        Entry::Pre(operation) => Some(MarkKind::RegistersPre(operation)),
-        Entry::Post(operation) => Some(MarkKind::RegistersPost(operation)),
+        Entry::Pre(Some(operation)) => Some(MarkKind::RegistersPre(operation)),
+        Entry::Post(Some(operation)) => Some(MarkKind::RegistersPost(operation)),
+        Entry::Pre(None) | Entry::Post(None) => Some(MarkKind::RegistersOther),
         _ => None,
     }
 }
@@ -119,7 +132,7 @@ fn said_after(before: Before, word: &[u8]) -> Option<MarkKind>
     ensures { result ≡ spec.said_after before word.now }
 {
     match before {
-        Before::Nothing => None,
+        Before::Nothing | Before::Lock(_) => None,
         Before::Return => match status_of(word) {
             Some(status) => Some(MarkKind::Answers(status)),
             None => None,

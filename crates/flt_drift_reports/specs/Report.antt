@@ -1,11 +1,13 @@
 -- The reports of drifts. This project's own program.
-use Rattle.std.specs.Prelude.{ℕ, zero, suc, ◌-◌, ◌==◌, ◌||◌, List, [], ◌∷◌, ◌++◌, codes, decimal, drop, flat_map, length, map, nat_lt, take, if◌then◌else◌, Option, Some, None}
+use Rattle.std.specs.List.{list_any}
+use Rattle.std.specs.Prelude.{ℕ, zero, suc, Bool, ◌-◌, ◌==◌, ◌||◌, List, [], ◌∷◌, ◌++◌, codes, decimal, drop, flat_map, length, map, nat_lt, take, if◌then◌else◌, Option, Some, None}
 use Rattle.flt_drift.specs.declared.drift.Drift.{Drift}
+use Rattle.flt_drift.specs.declared.drift.DriftKind.{DriftKind}
 use Rattle.flt_drift.specs.declared.drift.Span.{Span}
 use Rattle.flt_places.specs.Places.{first_line, place_in}
 use Rattle.flt_tree.specs.Names.{Text}
 use Rattle.flt_tree.specs.declared.filter.Position.{Position}
-use Rattle.flt_drift_reports.specs.Words.{code, help, opening}
+use Rattle.flt_drift_reports.specs.Words.{code, heading, help, is_difference, joint, opening}
 
 -- ---- bytes
 
@@ -28,14 +30,14 @@ word_at file start length = take length (drop start file)
 -- ---- a report
 
 -- the words on the word that the annotations have in its place, if there is one
-abbrev pub beside : Text → Option Span → Text
-beside file None = []
-beside file (Some other) = codes "`, and its annotation returns `" ++ shown (word_at file other.start other.length)
+abbrev pub beside : Text → DriftKind → Option Span → Text
+beside file kind None = []
+beside file kind (Some other) = joint kind ++ shown (word_at file other.start other.length)
 
 -- what is wrong
 unfoldable pub message : Text → Drift → Text
-message file d = codes "warning[" ++ (code d.kind ++ (codes "]: " ++ (opening d.kind ++ (shown (word_at file d.start d.length)
-    ++ (beside file d.other ++ codes "`\n")))))
+message file d = heading d.kind ++ (code d.kind ++ (codes "]: " ++ (opening d.kind ++ (shown (word_at file d.start d.length)
+    ++ (beside file d.kind d.other ++ codes "`\n")))))
 
 -- where it is
 unfoldable pub place_line : Text → Position → Text
@@ -78,5 +80,13 @@ abbrev pub drift_report : Text → Text → Drift → Text
 drift_report name file d = report_at name file (place_in file d.start) d
 
 -- the reports of drifts, one below the other
+abbrev pub reports_of : Text → Text → List Drift → Text
+reports_of name file drifts = flat_map (drift_report name file) drifts
+
+-- one of them is a difference, and not a note
+abbrev pub has_difference : List Drift → Bool
+has_difference drifts = list_any (λ drift. is_difference drift.kind) drifts
+
+-- the reports of drifts; notes alone have none
 abbrev pub drift_reports : Text → Text → List Drift → Text
-drift_reports name file drifts = flat_map (drift_report name file) drifts
+drift_reports name file drifts = if has_difference drifts then reports_of name file drifts else []

@@ -4,8 +4,8 @@ ghost use Rattle.std.specs.Prelude.{◌≡◌, ◌<◌, ◌++◌, [], ◌∷◌,
 ghost use Rattle.flt_drift_reports.specs.Report as spec;
 ghost use Rattle.flt_places.specs.Places.{first_line, place_in};
 
-use crate::words::{code, help, opening};
-use flt_drift::{Drift, Span};
+use crate::words::{code, heading, help, is_difference, joint, opening};
+use flt_drift::{Drift, DriftKind, Span};
 use flt_places::Lines;
 use flt_tree::Position;
 use std::alloc::{AllocError, Global};
@@ -105,11 +105,16 @@ fn digits(alloc: Global, number: usize) -> Result<Vec<u8>, AllocError>
 // ---- a report
 
 /// Adds the words on the word that the annotations have in its place, if there is one.
-fn put_beside(out: &mut Vec<u8>, file: &[u8], other: Option<Span>) -> Result<(), AllocError>
-    ensures { OnOk result (out.new.items ≡ out.old.items ++ spec.beside file.now other) }
+fn put_beside(
+    out: &mut Vec<u8>,
+    file: &[u8],
+    kind: DriftKind,
+    other: Option<Span>,
+) -> Result<(), AllocError>
+    ensures { OnOk result (out.new.items ≡ out.old.items ++ spec.beside file.now kind other) }
 {
     if let Some(other) = other {
-        put(out, b"`, and its annotation returns `")?;
+        put(out, joint(kind))?;
         put_shown(out, word_at(file, other.start, other.length))?;
     }
     Ok(())
@@ -120,12 +125,12 @@ fn put_beside(out: &mut Vec<u8>, file: &[u8], other: Option<Span>) -> Result<(),
 fn put_message(out: &mut Vec<u8>, file: &[u8], drift: Drift) -> Result<(), AllocError>
     ensures { OnOk result (out.new.items ≡ out.old.items ++ spec.message file.now drift) }
 {
-    put(out, b"warning[")?;
+    put(out, heading(drift.kind))?;
     put(out, code(drift.kind).as_bytes())?;
     put(out, b"]: ")?;
     put(out, opening(drift.kind))?;
     put_shown(out, word_at(file, drift.start, drift.length))?;
-    put_beside(out, file, drift.other)?;
+    put_beside(out, file, drift.kind, drift.other)?;
     put(out, b"`\n")
 }
 
@@ -251,8 +256,33 @@ fn put_report(
     put_help(out, drift)
 }
 
+/// Whether code and annotations differ in one of some drifts, which may be notes.
+fn has_difference(drifts: &[Drift]) -> bool
+    ensures { result ≡ spec.has_difference drifts.now }
+{
+    drifts.iter().any(|drift| is_difference(drift.kind))
+}
+
+/// The reports of drifts, one below the other.
+fn reports_of(
+    alloc: Global,
+    name: &str,
+    file: &[u8],
+    drifts: &[Drift],
+) -> Result<Vec<u8>, AllocError>
+    ensures { IfOk result (λ reports. reports.items ≡ spec.reports_of name.now file.now drifts.now) }
+{
+    let lines = Lines::of(alloc, file)?;
+    let mut out = Vec::new(alloc);
+    for drift in drifts {
+        let place = lines.place(drift.start);
+        put_report(alloc, &mut out, name, file, place, *drift)?;
+    }
+    Ok(out)
+}
+
 /// The reports of drifts of the C file of a name, one below the other: the code of each, its message and place, the first thousand bytes of
-/// its line, and how to fix it. They are whole lines. Bytes that a terminal would obey are shown as blanks.
+/// its line, and how to fix it. They are whole lines. Bytes that a terminal would obey are shown as blanks. Notes alone have no report.
 ///
 /// # Errors
 ///
@@ -265,11 +295,9 @@ pub fn report_drifts(
 ) -> Result<Vec<u8>, AllocError>
     ensures { IfOk result (λ reports. reports.items ≡ spec.drift_reports name.now file.now drifts.now) }
 {
-    let lines = Lines::of(alloc, file)?;
-    let mut out = Vec::new(alloc);
-    for drift in drifts {
-        let place = lines.place(drift.start);
-        put_report(alloc, &mut out, name, file, place, *drift)?;
+    if has_difference(drifts) {
+        reports_of(alloc, name, file, drifts)
+    } else {
+        Ok(Vec::new(alloc))
     }
-    Ok(out)
 }

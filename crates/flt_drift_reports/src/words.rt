@@ -5,7 +5,7 @@ ghost use Rattle.flt_drift_reports.specs.Words as spec;
 
 use flt_drift::DriftKind;
 
-/// The code of a kind: `C00` to `C04`.
+/// The code of a kind: `C00` to `C05`.
 pub(crate) fn code(kind: DriftKind) -> &'static str
     ensures { result.now ≡ spec.code kind }
 {
@@ -15,6 +15,26 @@ pub(crate) fn code(kind: DriftKind) -> &'static str
         DriftKind::NotNamed => "C02",
         DriftKind::OtherStatus => "C03",
         DriftKind::NotAnnotated | DriftKind::NotRegistered => "C04",
+        DriftKind::OtherOperation => "C04",
+        DriftKind::OtherLock => "C05",
+    }
+}
+
+/// Whether code and annotations differ. If not, it is a note.
+pub(crate) fn is_difference(kind: DriftKind) -> bool
+    ensures { result ≡ spec.is_difference kind }
+{
+    !matches!(kind, DriftKind::OtherOperation)
+}
+
+/// The beginning of a report, up to its code.
+pub(crate) fn heading(kind: DriftKind) -> &'static [u8]
+    ensures { result.now ≡ spec.heading kind }
+{
+    if is_difference(kind) {
+        b"warning["
+    } else {
+        b"note["
     }
 }
 
@@ -29,6 +49,20 @@ pub(crate) fn opening(kind: DriftKind) -> &'static [u8]
         DriftKind::OtherStatus => b"the code returns `",
         DriftKind::NotAnnotated => b"no annotation begins the registered callback `",
         DriftKind::NotRegistered => b"no table registers the annotated callback of `",
+        DriftKind::OtherOperation => {
+            b"callbacks of other operations aren't compared, beginning with `"
+        }
+        DriftKind::OtherLock => b"the code's lock is `",
+    }
+}
+
+/// The words before the word that the annotations have in its place.
+pub(crate) fn joint(kind: DriftKind) -> &'static [u8]
+    ensures { result.now ≡ spec.joint kind }
+{
+    match kind {
+        DriftKind::OtherLock => b"`, and its annotation's is `",
+        _ => b"`, and its annotation returns `",
     }
 }
 
@@ -45,5 +79,9 @@ pub(crate) fn help(kind: DriftKind) -> &'static str
         DriftKind::OtherStatus => "return the same status in both",
         DriftKind::NotAnnotated => "annotate the callback, or take it out of the table",
         DriftKind::NotRegistered => "register the callback, or delete its annotation",
+        DriftKind::OtherOperation =>
+            "a text has callbacks of creates, reads, writes and cleanups alone",
+        DriftKind::OtherLock =>
+            "take the same lock in both, or declare one for each expression: `lock KIND NAME = EXPRESSION`",
     }
 }

@@ -19,7 +19,7 @@ const LEAKING: &str =
     "static STATUS\nPreCleanup(DATA Data)\n{                                  //@flt pre cleanup {\n    CONTEXT context = NULL;\n\n    status = FltGetStreamContext(Instance, File, &context);\n    if (NT_SUCCESS(status)) {      //@flt   if FltGetStreamContext c0 {\n                                   //@flt     FltReleaseContext c0\n    }                              //@flt   }\n    return FLT_PREOP_SUCCESS_NO_CALLBACK; //@flt   return NO_CALLBACK\n}                                  //@flt }\n";
 
 /// Files that agree with their annotations.
-static AGREEING: [&str; 16] = [
+static AGREEING: [&str; 23] = [
     "",
     "/* no annotation */ int f(void) { FltReleaseContext(c); return FLT_PREOP_COMPLETE; }\n",
     "f(c); FltReleaseContext(c); //@flt FltReleaseContext c0\n",
@@ -29,17 +29,51 @@ static AGREEING: [&str; 16] = [
     "//@flt # FltReleaseContext comes later\nx = 1;\n",
     "int g(void) {\nFltReleaseContext(c);\n}\nint h(void) { //@flt pre read {\n} //@flt }\n",
     "//@flt-call MyRelease FltReleaseContext\nMyRelease(c); //@flt FltReleaseContext c0\n",
-    "//@flt pre read { }\nT Callbacks[] = { { IRP_MJ_READ, 0, PreRead, NULL }, { IRP_MJ_PNP, 0, PrePnp } };\n",
+    "//@flt pre read { }\nT Callbacks[] = { { IRP_MJ_READ, 0, PreRead, NULL }, { IRP_MJ_PNP, 0, NULL, 0 }, { IRP_MJ_OPERATION_END } };\n",
     "T Callbacks[] = { { IRP_MJ_READ, 0, PreRead, PostRead } };\n",
     "//@flt pre read { }\n",
     CLEANUP,
     "#if 0\nx; //@flt FltReleaseContext c0\n#endif\n",
     "return (FLT_PREOP_COMPLETE); //@flt return COMPLETE STATUS_SUCCESS\n",
     "return status; //@flt return NO_CALLBACK\n",
+    "//@flt lock spin q = &E->Lock\nKeAcquireSpinLock(&E->Lock, &level); //@flt KeAcquireSpinLock q\n",
+    "/*@flt lock push r = & (s) ->Resource */\nFltReleasePushLock( ( & /* the stream's */ (s)->\n Resource ) ); //@flt FltReleasePushLock r\n",
+    "//@flt lock fast f\nExAcquireFastMutex(&Mutex); //@flt ExAcquireFastMutex f\n",
+    "//@flt lock spin a = &A\n//@flt lock spin b\nKeAcquireSpinLock(&B, &i); //@flt KeAcquireSpinLock a KeAcquireSpinLock b\n",
+    "//@flt lock spin q = &E # the queue's\nKeReleaseSpinLock(&E, i); //@flt KeReleaseSpinLock q\n",
+    "//@flt lock spin q = &E\n//@flt-call Take KeAcquireSpinLock\nTake(D); //@flt KeAcquireSpinLock q\n",
+    "//@flt lock spin q = &E\nKeAcquireSpinLock(Of(FltReleaseContext(c)), &i); //@flt KeAcquireSpinLock q FltReleaseContext c0\n",
 ];
 
 /// Files that drift from their annotations.
-static DRIFTING: [Case; 16] = [
+static DRIFTING: [Case; 22] = [
+    (
+        "//@flt lock spin q = &E->Lock\nKeAcquireSpinLock(&E->Other, &level); //@flt KeAcquireSpinLock q\n",
+        &[(DriftKind::OtherLock, "&E->Other", "&E->Lock")],
+    ),
+    (
+        "/*@flt lock spin q = &E->Lock */\nKeReleaseSpinLock( E -> Lock , level); //@flt KeReleaseSpinLock q\n",
+        &[(DriftKind::OtherLock, "E -> Lock", "&E->Lock")],
+    ),
+    (
+        "//@flt lock push a = &A\n//@flt lock push b = &B\nFltAcquirePushLockShared(&C); //@flt FltAcquirePushLockShared b FltAcquirePushLockShared a\n",
+        &[(DriftKind::OtherLock, "&C", "&B")],
+    ),
+    (
+        "/*@flt lock spin q = ab */ KeAcquireSpinLock(a b, &i); //@flt KeAcquireSpinLock q\n",
+        &[(DriftKind::OtherLock, "a b", "ab")],
+    ),
+    (
+        "//@flt pre read { }\nT Callbacks[] = { { IRP_MJ_READ, 0, PreRead, NULL }, { IRP_MJ_PNP, 0, PrePnp, PostPnp } };\n",
+        &[(DriftKind::OtherOperation, "PrePnp", "")],
+    ),
+    (
+        "//@flt pre read { }\nT Callbacks[] = { { IRP_MJ_PNP, 0, NULL, PostPnp }, { IRP_MJ_READ, 0, PreRead, PostRead }, { IRP_MJ_SHUTDOWN, 0, Down } };\n",
+        &[
+            (DriftKind::OtherOperation, "PostPnp", ""),
+            (DriftKind::NotAnnotated, "PostRead", ""),
+        ],
+    ),
     (
         "f(c); //@flt FltReleaseContext c0\n",
         &[(DriftKind::NotCalled, "FltReleaseContext", "")],
@@ -134,6 +168,8 @@ fn is_kind(one: DriftKind, other: DriftKind) -> bool {
             | (DriftKind::OtherStatus, DriftKind::OtherStatus)
             | (DriftKind::NotAnnotated, DriftKind::NotAnnotated)
             | (DriftKind::NotRegistered, DriftKind::NotRegistered)
+            | (DriftKind::OtherOperation, DriftKind::OtherOperation)
+            | (DriftKind::OtherLock, DriftKind::OtherLock)
             | (DriftKind::Malformed, DriftKind::Malformed)
     )
 }
@@ -233,7 +269,25 @@ fn repeated(alloc: Global, part: &str, times: usize, end: &str) -> Result<Vec<u8
 }
 
 /// Of a part of a file, how often it is repeated, and the file's end: how many drifts there are.
-static REPEATED: [(&str, usize, &str, usize); 8] = [
+static REPEATED: [(&str, usize, &str, usize); 11] = [
+    (
+        "KeAcquireSpinLock(&B, &i);\n",
+        80,
+        "//@flt KeAcquireSpinLock a\n",
+        0,
+    ),
+    (
+        "KeAcquireSpinLock(&B, &i);\n",
+        80,
+        "//@flt lock spin a = &A\n//@flt KeAcquireSpinLock a\n",
+        80,
+    ),
+    (
+        "//@flt lock spin a = &A\nKeAcquireSpinLock(&B, &i); //@flt KeAcquireSpinLock a\n",
+        80,
+        "",
+        80,
+    ),
     (
         "FltReleaseContext(c);\n",
         80,
