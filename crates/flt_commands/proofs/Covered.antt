@@ -268,21 +268,21 @@ module _ (law : Law) (runs : LawOfRuns) (nowhere : SpelledFailsNowhere) where
   in_document options sources missed runs printed status (run, is, same) good =
       in_results options _ _ 0 sources is.results status is.found good
 
-  told_well : (form : Form) (options : WarningOptions) (sources : List Source) (missed : List UnreadFile) (t : Told) →
-      IsTold form options sources missed t → t.explained.status ≡ 0 → EachBreaksNothing (texts_of sources)
-  told_well Human options sources missed t told good =
+  told_well : (form : Form) (options : WarningOptions) (drifts : Text) (sources : List Source) (missed : List UnreadFile) (t : Told) →
+      IsTold form options drifts sources missed t → t.explained.status ≡ 0 → EachBreaksNothing (texts_of sources)
+  told_well Human options drifts sources missed t told good =
       all_reported options told.filters (texts_of sources) t.explained.output.items t.explained.status told.are good
-  told_well Short options sources missed t told good =
+  told_well Short options drifts sources missed t told good =
       in_lines Sentence options no_member 0 sources [] t.explained.output.items t.explained.status told good
-  told_well Lines options sources missed t told good =
+  told_well Lines options drifts sources missed t told good =
       in_lines Object options no_member 0 sources [] t.explained.output.items t.explained.status told good
-  told_well Sarif options sources missed t told good =
+  told_well Sarif options drifts sources missed t told good =
       in_document options sources missed [] t.explained.output.items t.explained.status told good
-  told_well LinesWithRuns options sources missed t told good =
+  told_well LinesWithRuns options drifts sources missed t told good =
       in_lines Object options (own_member sources told.runs.now) 0 sources [] t.explained.output.items t.explained.status told.lines good
-  told_well SarifWithRuns options sources missed t told good =
+  told_well SarifWithRuns options drifts sources missed t told good =
       in_document options sources missed told.runs t.explained.output.items t.explained.status told.document good
-  told_well Html options sources missed t told good =
+  told_well Html options drifts sources missed t told good =
       all_reported options told.reports.filters (texts_of sources) told.printed t.explained.status told.reports.are good
 
   -- where a file isn't read, the status isn't 0
@@ -292,10 +292,12 @@ module _ (law : Law) (runs : LawOfRuns) (nowhere : SpelledFailsNowhere) where
 
   explained : (gives : Giving) (form : Form) (colour : Colour) (states : ℕ) (look : Look) (journal : Option Text) (warnings : Choice)
       (files texts : List Text) (answer : Answer) →
-      IsExplained gives form look journal files texts (Ok answer) → status_of answer ≡ 0 → IsClean (Explain form colour states journal warnings files) texts
+      IsExplained gives form look warnings.allowed journal files texts (Ok answer) → status_of answer ≡ 0 →
+      IsClean (Explain form colour states journal warnings files) texts
   explained gives form colour states look journal warnings files texts (Explained e missed) said good =
-      subst EachBreaksNothing said.told.given
-      (told_well form look.options said.told.sources missed.items e said.told.told (own_zero e.explained.status missed.items good))
+      let zeros = both_zero said.told.own.explained.status _ (sym said.told.after.status ∙ own_zero e.explained.status missed.items good) in
+      subst EachBreaksNothing said.told.told.given
+      (told_well form look.options _ said.told.told.sources missed.items said.told.own said.told.told.told zeros.0)
   explained gives form colour states look journal warnings files texts (Shown rows v) said good = absurd said
   explained gives form colour states look journal warnings files texts (has_text b) said good = absurd said
   explained gives form colour states look journal warnings files texts (has_layouts mode outcomes) said good = absurd said
@@ -343,8 +345,8 @@ module _ (law : Law) (runs : LawOfRuns) (nowhere : SpelledFailsNowhere) where
       holds answer said (sym reported.1 ∙ good)
 
   explains_clean : (gives : Giving) (form : Form) (colour : Colour) (states : ℕ) (look : Look) (journal : Option Text) (warnings : Choice)
-      (files texts : List Text) (said : Result Answer Failure) (bytes : List ℕ) (status : ℕ) → IsExplained gives form look journal files texts said → IsReported said bytes status →
-      status ≡ 0 → IsClean (Explain form colour states journal warnings files) texts
+      (files texts : List Text) (said : Result Answer Failure) (bytes : List ℕ) (status : ℕ) →
+      IsExplained gives form look warnings.allowed journal files texts said → IsReported said bytes status → status ≡ 0 → IsClean (Explain form colour states journal warnings files) texts
   explains_clean gives form colour states look journal warnings files texts (Ok answer) bytes status said reported good =
       explained gives form colour states look journal warnings files texts answer said (sym reported.1 ∙ good)
   explains_clean gives form colour states look journal warnings files texts (Err f) bytes status said reported good =

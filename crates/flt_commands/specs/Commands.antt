@@ -4,7 +4,6 @@ use Rattle.std.specs.Io.KnownBytes.{Appends}
 use Rattle.std.specs.Prelude.{◌≡◌, ◌≢◌, ℕ, Bool, List, [], ◌∷◌, ◌++◌, Option, Some, None, Result, Ok, Err, IfOk, OnOk, codes, drop, map, unwrap_or, ⊤}
 use Rattle.flt_commands.specs.Allowed.{options_of}
 use Rattle.flt_commands.specs.Analyse.{IsAnalysed}
-use Rattle.flt_commands.specs.Annotated.{gives_annotations}
 use Rattle.flt_commands.specs.Answer.{ending_of, output, remark, status_of}
 use Rattle.flt_commands.specs.Attempts.{Attempt}
 use Rattle.flt_commands.specs.Check.{IsChecked}
@@ -36,7 +35,7 @@ use Rattle.flt_commands.specs.declared.report.Report.{Report}
 -- ---- what is said
 
 -- what the names may give: all their bytes, and of a name that is a text alone what is kept of them. `explain` reads all, since a FILE may
--- be a journal, and of C files their annotations; so does `check` of a text and its certificate in one input
+-- be a journal or C; so does `check` of a text and its certificate in one input
 abbrev pub giving_for : Asked → Giving → Giving
 giving_for (Check file cert) = gives_but (Some (unwrap_or cert file))
 giving_for (Analyse file) = gives_but None
@@ -44,7 +43,6 @@ giving_for (Thin file cert) = gives_but (Some (unwrap_or cert file))
 giving_for (Run workers quiet script files) = gives_but (Some script)
 giving_for (Replay journal files) = gives_but (Some journal)
 giving_for (Show timeline picture journal files) = gives_but (Some journal)
-giving_for (Explain form colour states journal warnings files) = gives_annotations
 giving_for (Emit part file cert) = gives_but cert
 giving_for (EmitInto folder file cert) = gives_but cert
 giving_for request = λ gives. gives
@@ -64,7 +62,8 @@ IsSaid shown gives (Run workers quiet script files) = Says gives (names_of (Run 
 IsSaid shown gives (Replay journal files) = Says gives (names_of (Replay journal files)) IsReplayed
 IsSaid shown gives (Show timeline picture journal files) =
     Says gives (names_of (Show timeline picture journal files)) (IsShown timeline picture)
-IsSaid shown gives (Explain form colour states journal warnings files) = IsExplained gives form (look_in colour shown states warnings) journal files
+IsSaid shown gives (Explain form colour states journal warnings files) =
+    IsExplained gives form (look_in colour shown states warnings) warnings.allowed journal files
 IsSaid shown gives (Extract of_map files) = Says gives (names_of (Extract of_map files)) (IsExtracted of_map files)
 IsSaid shown gives (Format mode files) = IsFormatSaid gives mode files
 IsSaid shown gives (Pages names) = Says gives (names_of (Pages names)) (λ texts. ArePaged names)
@@ -114,7 +113,7 @@ HoldsBack request = Unit {0}
 -- where memory runs out, nothing went out, or of `explain` what is told of the first files that are read
 abbrev pub IsCutShort : Giving → Option Asked → Option Text → Option Text → Type 0
 IsCutShort gives (Some (Explain form colour states journal warnings files)) old new =
-    explain.IsCutShort (gives_annotations gives) form (options_of warnings) states files old new
+    explain.IsCutShort gives form (options_of warnings) states warnings.allowed files old new
 IsCutShort gives request old new = Appends old new []
 
 -- no file is named for the journal of a finding, and no folder for a driver

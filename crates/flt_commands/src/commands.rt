@@ -185,6 +185,7 @@ fn report_of<'a, R: Threads + Wait + Sync, I: Inputs, P: Pictures, O: Sink, W: W
                 states,
                 journal,
                 options: options_of(&warnings),
+                allowed: warnings.allowed.as_slice(),
             };
             let mut search = Search {
                 watch,

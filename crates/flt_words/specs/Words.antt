@@ -109,12 +109,13 @@ part_named name =
 abbrev pub part_of : List Row → Option Part
 part_of rows = option_map_or part_named (first_of (codes "part") rows) (Some Source)
 
--- the name of a kind of warning
+-- the name of a kind of warning, of a text or of a C file
 abbrev pub is_kind : Text → Bool
 is_kind name =
     bytes_eq name (codes "W00") || (bytes_eq name (codes "W01") || (bytes_eq name (codes "W02") || (bytes_eq name (codes "W03")
-    || (bytes_eq name (codes "W04") || (bytes_eq name (codes "W05") || (bytes_eq name (codes "W06")
-    || bytes_eq name (codes "W07")))))))
+    || (bytes_eq name (codes "W04") || (bytes_eq name (codes "W05") || (bytes_eq name (codes "W06") || (bytes_eq name (codes "W07")
+    || (bytes_eq name (codes "C00") || (bytes_eq name (codes "C01") || (bytes_eq name (codes "C02") || (bytes_eq name (codes "C03")
+    || bytes_eq name (codes "C04"))))))))))))
 
 -- some names of kinds; none at all where one isn't the name of a kind
 abbrev pub kinds_in : List Text → Option (List Text)
