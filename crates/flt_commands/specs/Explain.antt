@@ -148,12 +148,12 @@ IsToldWith drifts worth form look journal names texts unread e =
 
 -- the same of those of these files that are read: they give these texts, those that are C have these drifts but for kinds of these names,
 -- and these others aren't read
-pub record IsToldOf (gives : Giving) (form : Form) (look : Look) (allowed : List Text) (journal : Option Text) (files texts : List Text)
+pub record IsToldOf (gives : Giving) (is_c : Bool) (form : Form) (look : Look) (allowed : List Text) (journal : Option Text) (files texts : List Text)
     (unread : List UnreadFile) (e : Told) : Type 0 where
   pub names : List Text
   pub codes : List (Option Text)
-  pub read : AreRead (gives_annotations gives) files names texts (unread_names unread)
-  pub found : AreFound gives names texts codes
+  pub read : AreRead (gives_annotations is_c gives) files names texts (unread_names unread)
+  pub found : AreFound is_c gives names texts codes
   pub told : IsToldWith (drifts_told form allowed names codes) (drifts_status look.options.is_strict allowed codes) form look journal names texts
       unread e
 
@@ -165,13 +165,13 @@ pub record GiveTexts (gives : Giving) (files texts : List Text) : Type 0 where
 
 -- what is said of the bytes of each FILE that is read, of a C file by its annotations, after the drifts of all C files but for kinds of these
 -- names; a journal may not be written
-abbrev pub IsExplained : Giving → Form → Look → List Text → Option Text → List Text → List Text → Result Answer Failure → Type 0
-IsExplained gives form look allowed journal files texts (Ok (Explained e unread)) =
-    IsToldOf gives form look allowed journal files texts unread.items e
-IsExplained gives form look allowed journal files texts (Ok _) = ⊥
-IsExplained gives form look allowed journal files texts (Err (CannotWrite name why)) =
-    (journal ≡ Some name.now) × GiveTexts (gives_annotations gives) files texts
-IsExplained gives form look allowed journal files texts (Err _) = ⊥
+abbrev pub IsExplained : Giving → Bool → Form → Look → List Text → Option Text → List Text → List Text → Result Answer Failure → Type 0
+IsExplained gives is_c form look allowed journal files texts (Ok (Explained e unread)) =
+    IsToldOf gives is_c form look allowed journal files texts unread.items e
+IsExplained gives is_c form look allowed journal files texts (Ok _) = ⊥
+IsExplained gives is_c form look allowed journal files texts (Err (CannotWrite name why)) =
+    (journal ≡ Some name.now) × GiveTexts (gives_annotations is_c gives) files texts
+IsExplained gives is_c form look allowed journal files texts (Err _) = ⊥
 
 -- whether there are colours: as the words say, or where these leave it to the terminal, whether it shows them
 abbrev pub is_coloured : Colour → Bool → Bool
@@ -256,12 +256,12 @@ pub data IsCutAfter (drifts : Text) (form : Form) (options : WarningOptions) (st
       IsCutAfter drifts form options states names texts old new
 
 -- the same of those of these files that are read
-pub data IsCutShort (gives : Giving) (form : Form) (options : WarningOptions) (states : ℕ) (allowed files : List Text) (old new : Option Text) :
+pub data IsCutShort (gives : Giving) (is_c : Bool) (form : Form) (options : WarningOptions) (states : ℕ) (allowed files : List Text) (old new : Option Text) :
     Type 0 where
-  none_read : Appends old new [] → IsCutShort gives form options states allowed files old new
-  some_read : (names texts missing : List Text) (codes : List (Option Text)) → AreRead (gives_annotations gives) files names texts missing →
-      AreFound gives names texts codes → IsCutAfter (first_in form (drifts_told form allowed names codes)) form options states names texts old new →
-      IsCutShort gives form options states allowed files old new
+  none_read : Appends old new [] → IsCutShort gives is_c form options states allowed files old new
+  some_read : (names texts missing : List Text) (codes : List (Option Text)) → AreRead (gives_annotations is_c gives) files names texts missing →
+      AreFound is_c gives names texts codes → IsCutAfter (first_in form (drifts_told form allowed names codes)) form options states names texts old new →
+      IsCutShort gives is_c form options states allowed files old new
 
 -- ---- pages
 

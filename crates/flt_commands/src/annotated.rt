@@ -33,6 +33,13 @@ fn is_c_file(name: &str) -> bool
     is_plain_c_file(name) || is_cpp_file(name)
 }
 
+/// Whether a file is taken for C: by the ending of its name, or since all are.
+fn is_taken_for_c(all: bool, name: &str) -> bool
+    ensures { result ≡ spec.is_taken_for_c all name.now }
+{
+    all || is_c_file(name)
+}
+
 /// The text of a file, and the C file in which it is, if it is one's annotations.
 #[derive(Drop)]
 struct Found {
@@ -56,21 +63,22 @@ fn laid(alloc: Global, file: Vec<u8>) -> Result<Result<Found, Unread>, AllocErro
     }
 }
 
-/// What the bytes of a name give, or why these are the bytes of a C file whose annotations make no text.
+/// What a name gives, of a file that is taken for C its annotations, or why these are the bytes of a C file whose annotations make no text.
 #[tactic(auto, using(crate::proofs::FoundFiles::found_in_c, crate::proofs::FoundFiles::unlaid))]
 fn found_in<I: Inputs>(
     alloc: Global,
     inputs: &I,
+    all: bool,
     name: &str,
 ) -> Result<Result<Found, Unread>, AllocError>
     ensures found { IfOk result (λ done. IfOk done (λ f.
-        spec.GivesFound (I.gives inputs.now) name.now f.text.items (option_map (λ code. code.items) f.code))) }
-    ensures missing { IfOk result (λ done. OnErr done (spec.gives_annotations (I.gives inputs.now) name.now None)) }
+        spec.GivesFound all (I.gives inputs.now) name.now f.text.items (option_map (λ code. code.items) f.code))) }
+    ensures missing { IfOk result (λ done. OnErr done (spec.gives_annotations all (I.gives inputs.now) name.now None)) }
 {
     let Some(file) = inputs.read(alloc, name)? else {
         return Ok(Err(inputs.why(name)));
     };
-    if is_c_file(name) {
+    if is_taken_for_c(all, name) {
         return laid(alloc, file);
     }
     let code = None;
@@ -82,19 +90,20 @@ fn found_in<I: Inputs>(
 fn find_one<I: Inputs>(
     alloc: Global,
     inputs: &I,
+    all: bool,
     is_used: bool,
     name: &str,
 ) -> Result<Result<Found, Unread>, AllocError>
     ensures found { IfOk result (λ done. IfOk done (λ f.
-        spec.GivesFound (I.gives inputs.now) name.now f.text.items (option_map (λ code. code.items) f.code))) }
+        spec.GivesFound all (I.gives inputs.now) name.now f.text.items (option_map (λ code. code.items) f.code))) }
     ensures once { IfOk result (λ done. OnOk done (is_standard_name name.now && is_used ≡ false)) }
     ensures missing { IfOk result (λ done. OnErr done
-        ((is_standard_name name.now && is_used ≡ true) ⊎ spec.gives_annotations (I.gives inputs.now) name.now None)) }
+        ((is_standard_name name.now && is_used ≡ true) ⊎ spec.gives_annotations all (I.gives inputs.now) name.now None)) }
 {
     if is_used && is_standard(name) {
         return Ok(Err(Unread::Again));
     }
-    found_in(alloc, inputs, name)
+    found_in(alloc, inputs, all, name)
 }
 
 /// The names of some files that are read, their texts, the C files in which these are, and the files that aren't read.
@@ -113,14 +122,15 @@ impl<'a> FoundFiles<'a> {
         &mut self,
         alloc: Global,
         inputs: &I,
+        all: bool,
         is_used: bool,
         name: &'a str,
     ) -> Result<(), AllocError>
-        ensures { (before : List (List ℕ)) → spec.AreFoundIn (I.gives inputs.now) before self.old →
+        ensures { (before : List (List ℕ)) → spec.AreFoundIn all (I.gives inputs.now) before self.old →
             is_used ≡ list_any is_standard_name before →
-            OnOk result (spec.AreFoundIn (I.gives inputs.now) (before ++ name.entry.now ∷ []) self.new) }
+            OnOk result (spec.AreFoundIn all (I.gives inputs.now) (before ++ name.entry.now ∷ []) self.new) }
     {
-        match find_one(alloc, inputs, is_used, name)? {
+        match find_one(alloc, inputs, all, is_used, name)? {
             Ok(found) => {
                 self.names.push(name)?;
                 self.texts.push(found.text)?;
@@ -139,9 +149,10 @@ impl<'a> FoundFiles<'a> {
 pub(crate) fn find_each<'a, I: Inputs>(
     alloc: Global,
     inputs: &I,
+    all: bool,
     names: &[&'a str],
 ) -> Result<FoundFiles<'a>, AllocError>
-    ensures { IfOk result (spec.AreFoundIn (I.gives inputs.now) (map (λ name. name.now) names.now)) }
+    ensures { IfOk result (spec.AreFoundIn all (I.gives inputs.now) (map (λ name. name.now) names.now)) }
 {
     let mut found = FoundFiles {
         names: Vec::new(alloc),
@@ -151,7 +162,7 @@ pub(crate) fn find_each<'a, I: Inputs>(
     };
     let mut is_used = false;
     for name in names {
-        found.add(alloc, inputs, is_used, name)?;
+        found.add(alloc, inputs, all, is_used, name)?;
         is_used = is_used || is_standard(name);
     }
     Ok(found)

@@ -97,6 +97,8 @@ pub struct Asked<'a> {
     pub options: WarningOptions,
     /// The names of the kinds that are left out, of which those of drifts count here.
     pub allowed: &'a [&'a str],
+    /// Whether each file is taken for C, whatever its name ends with.
+    pub is_c: bool,
 }
 
 /// The same options, for reports for people.
@@ -435,7 +437,7 @@ pub fn explain_files<'a, I: Inputs, P: Pictures, O: Sink, W: SearchWatch>(
     contents: &mut Contents,
     remark: &mut Vec<u8>,
 ) -> Result<Explanation<'a>, CommandFault>
-    ensures said { IfOk result (λ said. spec.IsExplained (I.gives inputs.now) asked.entry.form (spec.look_of asked.entry)
+    ensures said { IfOk result (λ said. spec.IsExplained (I.gives inputs.now) asked.entry.is_c asked.entry.form (spec.look_of asked.entry)
         (map (λ name. name.now) asked.entry.allowed.now) (option_map (λ name. name.now) asked.entry.journal) (map (λ name. name.now) files.now)
         (map (λ text. text.items) contents.new.texts.items) (spec.said_of said)) }
     ensures unread { IfOk result (λ said. IfOk (spec.said_of said) (λ answer. remark.new.items ≡ unread_in answer)) }
@@ -446,10 +448,10 @@ pub fn explain_files<'a, I: Inputs, P: Pictures, O: Sink, W: SearchWatch>(
     ensures fine { OnOk result (O.failures out.new ≡ O.failures out.old) }
     ensures write { IfErr result (λ e. e ≡ CommandFault.Write → O.failures out.new ≢ O.failures out.old) }
     ensures memory { IfErr result (λ e. e ≡ CommandFault.OutOfMemory →
-        spec.IsCutShort (I.gives inputs.now) asked.entry.form asked.entry.options asked.entry.states
+        spec.IsCutShort (I.gives inputs.now) asked.entry.is_c asked.entry.form asked.entry.options asked.entry.states
         (map (λ name. name.now) asked.entry.allowed.now) (map (λ name. name.now) files.now) (O.taken out.old) (O.taken out.new)) }
 {
-    let found = find_each(alloc, inputs, files)?;
+    let found = find_each(alloc, inputs, asked.is_c, files)?;
     let names = found.names;
     let codes = found.codes;
     let unread = found.unread;

@@ -187,16 +187,16 @@ have_pages [] = false
 have_pages names = list_all has_page names
 
 -- for people names that have pages ask for these, all else for reports
-abbrev pub explain_of : Form → Colour → ℕ → Option Text → Choice → List Text → Asked
-explain_of Human colour states journal warnings files =
-    if have_pages files then Pages files else Explain Human colour states journal warnings files
-explain_of form colour states journal warnings files = Explain form colour states journal warnings files
+abbrev pub explain_of : Form → Colour → ℕ → Option Text → Choice → Bool → List Text → Asked
+explain_of Human colour states journal warnings is_c files =
+    if have_pages files then Pages files else Explain Human colour states journal warnings is_c files
+explain_of form colour states journal warnings is_c files = Explain form colour states journal warnings is_c files
 
 -- in a form, with colours at some time and with the file into which a journal is written; a kind of warning that there isn't asks for nothing
 unfoldable pub explain_with : List Row → Form → Colour → Option Text → Option Asked
 explain_with rows form colour journal =
     option_map (λ allowed. explain_of form colour (states_of rows) journal (record { strict = is_set (codes "strict") rows; allowed = allowed })
-    (files_of rows)) (allowed_of rows)
+    (is_set (codes "c") rows) (files_of rows)) (allowed_of rows)
 
 -- in a form and with colours at some time; `-` is no file into which a journal is written, and asks for nothing
 unfoldable pub explain_in : List Row → Form → Colour → Option Asked

@@ -109,6 +109,8 @@ pub enum Request<'a> {
         /// The file into which the journal of the first finding that has one is written.
         journal: Option<&'a str>,
         warnings: WarningChoice<'a>,
+        /// Whether each file is taken for C, whatever its name ends with.
+        is_c: bool,
         files: Vec<&'a str>,
     },
     /// Print the text of the annotations of some C files.

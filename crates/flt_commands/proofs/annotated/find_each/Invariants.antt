@@ -6,6 +6,6 @@ use Rattle.flt_commands.proofs.annotated.find_each.Given as goal
 
 abbrev pub invariant-loop-name : goal.invariant-loop-name
 invariant-loop-name g l = record {
-  found : AreFoundIn (g.I.Inputs.gives l.inputs) (map (λ name. name.now) (take l.name-index l.names)) l.found;
+  found : AreFoundIn l.all (g.I.Inputs.gives l.inputs) (map (λ name. name.now) (take l.name-index l.names)) l.found;
   used : l.is_used ≡ list_any is_standard (map (λ name. name.now) (take l.name-index l.names));
 }
