@@ -15,12 +15,12 @@ use std::alloc::{AllocError, Global};
 use std::cmp::{max, min};
 
 /// What is told of texts, after drifts that are worth this status, when so many bytes of all that are written already.
-fn after(drifts: Vec<u8>, worth: u8, sent: usize, own: Told) -> Result<Told, AllocError>
-    ensures after { IfOk result (spec.IsAfter drifts.items worth own) }
+fn told_after(first: Vec<u8>, worth: u8, sent: usize, own: Told) -> Result<Told, AllocError>
+    ensures after { IfOk result (spec.IsAfter first.items worth own) }
     ensures sent { IfOk result (λ e. e.sent ≡ sent) }
 {
     let status = max(own.explained.status, worth);
-    let mut output = drifts;
+    let mut output = first;
     output.extend_from_slice(own.explained.output.as_slice())?;
     Ok(Told {
         explained: Explained { output, status },
@@ -65,7 +65,7 @@ fn explain_held<O: Sink, W: SearchWatch>(
     ensures err { IfErr result (λ e. e ≡ CommandFault.OutOfMemory) }
 {
     let own = explain_read(alloc, asked, within, names, texts, unread, out, watch)?;
-    let told = after(first, worth, 0, own)?;
+    let told = told_after(first, worth, 0, own)?;
     Ok(told)
 }
 
@@ -96,7 +96,7 @@ fn explain_early<O: Sink, W: SearchWatch>(
     let before = first.len();
     let own = explain_read(alloc, asked, within, names, texts, unread, out, watch)?;
     let sent = before + min(own.sent, own.explained.output.len());
-    let told = after(first, worth, sent, own)?;
+    let told = told_after(first, worth, sent, own)?;
     Ok(told)
 }
 
