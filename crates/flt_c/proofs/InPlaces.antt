@@ -1,5 +1,5 @@
 -- Each byte of the annotations of a file, where they are laid, is in the file at the same line and column.
-use Rattle.std.proofs.Common.{◌≡◌, inl, inr, ℕ, zero, suc, ◌+◌, ◌-◌, ◌≤◌, ◌<◌, Bool, true, false, List, [], ◌∷◌, ◌++◌, length, refl, sym, ap, subst, ◌∙◌, arith, append_assoc, append-nil, eq-eqb}
+use Rattle.std.proofs.Common.{◌≡◌, ◌⊎◌, inl, inr, ℕ, zero, suc, ◌+◌, ◌-◌, ◌≤◌, ◌<◌, Bool, true, false, List, [], ◌∷◌, ◌++◌, length, refl, sym, ap, subst, ◌∙◌, arith, append_assoc, append-nil, eq-eqb}
 use Rattle.std.specs.Prelude.{◌==◌, if◌then◌else◌, nat_lt, map, replicate, Option, Some, None, Result, Ok, Err}
 use Rattle.flt_c.proofs.Beside.{Chain, chained}
 use Rattle.flt_c.proofs.Follow.{differ}
@@ -7,15 +7,18 @@ use Rattle.flt_c.specs.declared.fault.Fault.{Fault}
 use Rattle.flt_c.specs.declared.files.FileFlaw.{FileFlaw}
 use Rattle.flt_c.specs.declared.files.Flaw.TheVariants.{Large, Bare, Long}
 use Rattle.flt_c.specs.declared.laying.PlaceFlaw.{PlaceFlaw}
+use Rattle.flt_c.specs.declared.lock.LockLine.{LockLine}
+use Rattle.flt_c.specs.declared.lock.LockLine.TheVariants as l
 use Rattle.flt_c.specs.declared.place.Place.{Place}
 use Rattle.flt_c.specs.declared.place.Placed.{Placed}
 use Rattle.flt_c.specs.declared.text.Line.{Line}
-use Rattle.flt_c.specs.Files.{flawed, grown, with_files, ◌>>=◌}
+use Rattle.flt_c.specs.Files.{flawed, grown, with_files, without_expressions, ◌>>=◌}
 use Rattle.flt_c.specs.InPlace.{AreInC, EachByteIsInItsPlace, IsInC, crowded, gap, laid, laid_of, laid_unless}
 use Rattle.flt_c.specs.Laws.{IsAt, beside}
+use Rattle.flt_c.specs.Locks.{after as after_byte, plain, plain_byte, plain_from}
 use Rattle.flt_c.specs.Places.{first_place, past, place_from, place_of}
 use Rattle.flt_c.specs.Scan.{annotations}
-use Rattle.flt_c.specs.Texts.{Text, after, empty, put, put_all}
+use Rattle.flt_c.specs.Texts.{Text, after, empty, plain_text, put, put_all}
 
 -- ---- places of a file
 
@@ -133,23 +136,65 @@ uncrowded : (x : Bool) (at : Place) (o : Option Place) → (if x then Some at el
 uncrowded true at o e = elim (differ (ap is_none e)) [ ]
 uncrowded false at o e = (refl, e)
 
-laid_on : (file : List ℕ) (ps : List Placed) (fresh : Bool) (at here : Place) (last : ℕ) → Chain file at fresh ps →
+-- ---- blanks for the expressions of locks
+
+-- a byte of the text is itself, or such a blank
+plain_is : (line : LockLine) (b : ℕ) → (plain_byte line b ≡ 32) ⊎ (plain_byte line b ≡ b)
+plain_is l.Expression b = inl refl
+plain_is l.Nothing b = inr refl
+plain_is (l.Word word read) b = inr refl
+plain_is l.Kind b = inr refl
+plain_is l.Name b = inr refl
+plain_is l.Letters b = inr refl
+plain_is l.Equals b = inr refl
+plain_is l.Other b = inr refl
+
+-- no such blank ends a line
+same_end : (line : LockLine) (b : ℕ) → (plain_byte (after_byte line b) b == 10) ≡ (b == 10)
+same_end line b = by (b == 10) refl
+  where
+    other : (on : LockLine) → (b == 10) ≡ false → (plain_byte on b == 10) ≡ (b == 10)
+    other on e = elim (plain_is on b) [ inl is ↦ ap (λ c. c == 10) is ∙ sym e | inr is ↦ ap (λ c. c == 10) is ]
+
+    by : (x : Bool) → (b == 10) ≡ x → (plain_byte (after_byte line b) b == 10) ≡ (b == 10)
+    by true e = ap (λ on. plain_byte on b == 10) (ended e)
+      where
+        ended : (b == 10) ≡ true → after_byte line b ≡ l.Nothing
+        ended e = rw e refl
+    by false e = other (after_byte line b) e
+
+-- the place after a byte that ends a line, or after another one
+abbrev past_by : Place → Bool → Place
+past_by at x =
+    if x then record { line = at.line + 1; column = 1; start = at.start + 1 }
+    else record { line = at.line; column = at.column + 1; start = at.start + 1 }
+
+-- a byte of the text, and what is laid after it
+plain_on : (file : List ℕ) (here : Place) (on : LockLine) (b last : ℕ) (z : List ℕ) (lines : List Line) → (plain_byte on b == 10) ≡ (b == 10) →
+    IsInC file here b → AreInC file (past here b) (laid last (b == 10) z lines) →
+    AreInC file here (plain_byte on b ∷ laid last (plain_byte on b == 10) z lines)
+plain_on file here on b last z lines e i r = (
+  elim (plain_is on b) [ inl is ↦ inl (inl is) | inr is ↦ inr (subst (IsInC file here) (sym is) i) ],
+  subst (λ x. AreInC file (past_by here x) (laid last x z lines)) (sym e) r,
+)
+
+laid_on : (file : List ℕ) (ps : List Placed) (line : LockLine) (fresh : Bool) (at here : Place) (last : ℕ) → Chain file at fresh ps →
     crowded last (lines_of 0 fresh ps) ≡ None → IsOn file at last → Meets fresh last at here →
-    AreInC file here (laid last fresh (bytes_of ps) (lines_of 0 fresh ps))
-laid_on file [] true at here last c w on m = tt
-laid_on file [] false at here last c w on m = tt
-laid_on file (p ∷ ps) false at here last c w on m =
+    AreInC file here (laid last fresh (plain_from line (bytes_of ps)) (lines_of 0 fresh ps))
+laid_on file [] line true at here last c w on m = tt
+laid_on file [] line false at here last c w on m = tt
+laid_on file (p ∷ ps) line false at here last c w on m =
     let same = c.0 in
     let o : last ≡ p.place.line = m.0 ∙ ap (λ (q : Place). q.line) same in
     let l : here.line ≡ p.place.line = m.1.0 ∙ ap (λ (q : Place). q.line) same in
     let k : here.column ≡ p.place.column = m.1.1 ∙ ap (λ (q : Place). q.column) same in
-    let s : at.start ≡ p.place.start = ap (λ (q : Place). q.start) same in (
-      inr (is_in file p here c.1.0 l k),
-      laid_on file ps (p.byte == 10) (beside p.place) (past here p.byte) last c.1.1 w
-          (λ n h. let there : at.start ≤ n = omega (arith, s, h) in on n there)
-          (meets p.byte last p.place here (p.byte == 10) refl o l k),
-    )
-laid_on file (p ∷ ps) true at here last c w on m =
+    let s : at.start ≡ p.place.start = ap (λ (q : Place). q.start) same in
+    plain_on file here (after_byte line p.byte) p.byte last (plain_from (after_byte line p.byte) (bytes_of ps)) (lines_of 0 (p.byte == 10) ps)
+    (same_end line p.byte) (is_in file p here c.1.0 l k)
+    (laid_on file ps (after_byte line p.byte) (p.byte == 10) (beside p.place) (past here p.byte) last c.1.1 w
+    (λ n h. let there : at.start ≤ n = omega (arith, s, h) in on n there)
+    (meets p.byte last p.place here (p.byte == 10) refl o l k))
+laid_on file (p ∷ ps) line true at here last c w on m =
     let free = uncrowded (p.place.line == last) p.place (crowded p.place.line (lines_of 0 (p.byte == 10) ps)) w in
     let is : (place_of file p.place.start) ≡ p.place = c.1.0.0 in
     let line_is : (place_of file p.place.start).line ≡ p.place.line = ap (λ (q : Place). q.line) is in
@@ -159,14 +204,16 @@ laid_on file (p ∷ ps) true at here last c w on m =
     let less : last < p.place.line = further last p.place.line (subst (λ k. last ≤ k) line_is no_less) other in
     let first : 1 ≤ (place_of file p.place.start).column = column_from first_place file p.place.start (omega arith) in
     let one : 1 ≤ p.place.column = subst (λ k. 1 ≤ k) column_is first in
-    gap_on file last p.place here (p.byte ∷ laid p.place.line (p.byte == 10) (bytes_of ps) (lines_of 0 (p.byte == 10) ps)) m.0 m.1 less one
-    (λ there l k. (
-      inr (is_in file p there c.1.0 l k),
-      laid_on file ps (p.byte == 10) (beside p.place) (past there p.byte) p.place.line c.1.1 free.1
-          (λ n h. let start : p.place.start ≤ n = omega (arith, h) in
-          subst (λ k. k ≤ (place_of file n).line) line_is (lines_rise first_place file p.place.start n start))
-          (meets p.byte p.place.line p.place there (p.byte == 10) refl refl l k),
-    ))
+    let rest = plain_from (after_byte line p.byte) (bytes_of ps) in
+    let byte = plain_byte (after_byte line p.byte) p.byte in
+    gap_on file last p.place here (byte ∷ laid p.place.line (byte == 10) rest (lines_of 0 (p.byte == 10) ps)) m.0 m.1 less one
+    (λ there l k.
+    plain_on file there (after_byte line p.byte) p.byte p.place.line rest (lines_of 0 (p.byte == 10) ps)
+    (same_end line p.byte) (is_in file p there c.1.0 l k)
+    (laid_on file ps (after_byte line p.byte) (p.byte == 10) (beside p.place) (past there p.byte) p.place.line c.1.1 free.1
+    (λ n h. let start : p.place.start ≤ n = omega (arith, h) in
+    subst (λ k. k ≤ (place_of file n).line) line_is (lines_rise first_place file p.place.start n start))
+    (meets p.byte p.place.line p.place there (p.byte == 10) refl refl l k)))
   where
     further : (n m : ℕ) → n ≤ m → (m ≡ n → ⊥) → n < m
     further n m h d = omega (arith, h, d)
@@ -182,21 +229,21 @@ is_ok (Ok z) = true
 is_ok (Err flaw) = false
 
 text_laid : (file text : List ℕ) (ps : List Placed) → annotations file ≡ Ok ps → (o : Option Place) → crowded 0 (put_all 0 empty ps).lines ≡ o →
-    laid_unless o (put_all 0 empty ps) ≡ Ok text → AreInC file first_place text
+    laid_unless o (plain_text (put_all 0 empty ps)) ≡ Ok text → AreInC file first_place text
 text_laid file text ps a (Some at) w e = elim (differ (ap is_ok e)) [ ]
 text_laid file text ps a None w e =
     let bytes : (put_all 0 empty ps).bytes ≡ bytes_of ps = put_bytes 0 ps empty in
     let lines : (put_all 0 empty ps).lines ≡ lines_of 0 true ps = put_lines 0 ps empty in
     let free : crowded 0 (lines_of 0 true ps) ≡ None = ap (crowded 0) (sym lines) ∙ w in
-    let there = laid_on file ps true first_place first_place 0 (chained file ps a) free (λ n h. omega arith) (refl, refl) in
-    let same : laid 0 true (put_all 0 empty ps).bytes (put_all 0 empty ps).lines ≡ text = ap or_none e in
+    let there = laid_on file ps l.Nothing true first_place first_place 0 (chained file ps a) free (λ n h. omega arith) (refl, refl) in
+    let same : laid 0 true (plain (put_all 0 empty ps).bytes) (put_all 0 empty ps).lines ≡ text = ap or_none e in
     subst (AreInC file first_place) same
-    (subst (λ z. AreInC file first_place (laid 0 true z (put_all 0 empty ps).lines)) (sym bytes)
-    (subst (λ (ls : List Line). AreInC file first_place (laid 0 true (bytes_of ps) ls)) (sym lines) there))
+    (subst (λ z. AreInC file first_place (laid 0 true (plain z) (put_all 0 empty ps).lines)) (sym bytes)
+    (subst (λ (ls : List Line). AreInC file first_place (laid 0 true (plain (bytes_of ps)) ls)) (sym lines) there))
 
 -- what is made of a file's text
 abbrev laid_after : Result Text FileFlaw → Result (List ℕ) PlaceFlaw
-laid_after r = laid_of (r >>= (λ more. with_files 1 more []))
+laid_after r = laid_of (without_expressions (r >>= (λ more. with_files 1 more [])))
 
 grown_laid : (file text : List ℕ) (ps : List Placed) → annotations file ≡ Ok ps → (x y : Bool) →
     laid_after (if x then flawed 0 Bare else (if y then flawed 0 Long else Ok (put_all 0 empty ps))) ≡ Ok text → AreInC file first_place text

@@ -10,11 +10,12 @@ use Rattle.flt_c.specs.declared.files.Flaw.TheVariants.{Faulty, Large, Bare, Lon
 use Rattle.flt_c.specs.declared.place.Place.{Place}
 use Rattle.flt_c.specs.declared.place.Placed.{Placed}
 use Rattle.flt_c.specs.declared.text.Line.{Line}
-use Rattle.flt_c.specs.Files.{flawed, grown, with_file, with_files, ◌>>=◌}
+use Rattle.flt_c.specs.Files.{flawed, gathered, grown, with_file, with_files, without_expressions, ◌>>=◌}
 use Rattle.flt_c.specs.Laws.{EachByteStands, IsAt, IsFurther, Stands, beside, beside_in, first_line}
+use Rattle.flt_c.specs.Locks.{plain}
 use Rattle.flt_c.specs.Places.{first_place}
 use Rattle.flt_c.specs.Scan.{annotations}
-use Rattle.flt_c.specs.Texts.{Text, after, empty, put, put_all}
+use Rattle.flt_c.specs.Texts.{Text, after, empty, plain_text, put, put_all}
 
 -- ---- results
 
@@ -142,5 +143,20 @@ files_stand files [] number text d fresh front all e =
 files_stand files (file ∷ rest) number text d fresh front all e =
     one_more files file rest (files_stand files rest) number text d fresh front all (with_file number text file) refl e
 
+gathered_stand : (files : List (List ℕ)) (raw : Text) → gathered files ≡ Ok raw → Stands files first_line true raw.bytes raw.lines
+gathered_stand files raw e = files_stand files files 0 empty refl refl (λ bytes lines r. r) raw e
+
 pub each_byte_stands : EachByteStands
-each_byte_stands files text e = files_stand files files 0 empty refl refl (λ bytes lines r. r) text e
+each_byte_stands files text e = by (gathered files) refl e
+  where
+    by : (r : Result Text FileFlaw) → gathered files ≡ r → without_expressions r ≡ Ok text →
+        (found : List ℕ) × ((text.bytes ≡ plain found) × Stands files first_line true found text.lines)
+    by (Ok raw) g e =
+        let same = same_ok (plain_text raw) text e in (
+          raw.bytes,
+          (
+            sym (ap (λ (t : Text). t.bytes) same),
+            subst (λ (ls : List Line). Stands files first_line true raw.bytes ls) (ap (λ (t : Text). t.lines) same) (gathered_stand files raw g),
+          ),
+        )
+    by (Err f) g e = elim (not_ok f text e) [ ]

@@ -5,7 +5,7 @@ use Rattle.flt_c.specs.declared.files.FileFlaw.{FileFlaw}
 use Rattle.flt_c.specs.declared.files.Flaw.{Flaw}
 use Rattle.flt_c.specs.declared.files.Flaw.TheVariants.{Faulty, Large, Bare, Long}
 use Rattle.flt_c.specs.Scan.{annotations}
-use Rattle.flt_c.specs.Texts.{Text, empty, after}
+use Rattle.flt_c.specs.Texts.{Text, empty, after, plain_text}
 
 -- a flaw of the file of this number
 abbrev pub flawed : ℕ → Flaw → Result Text FileFlaw
@@ -33,6 +33,15 @@ abbrev pub with_files : ℕ → Text → List (List ℕ) → Result Text FileFla
 with_files number text [] = Ok text
 with_files number text (file ∷ files) = with_file number text file >>= (λ more. with_files (number + 1) more files)
 
+-- the annotations of some files, or the flaw of the first that has one
+abbrev pub gathered : List (List ℕ) → Result Text FileFlaw
+gathered files = with_files 0 empty files
+
+-- annotations with blanks for the expressions of locks
+abbrev pub without_expressions : Result Text FileFlaw → Result Text FileFlaw
+without_expressions (Ok text) = Ok (plain_text text)
+without_expressions (Err flaw) = Err flaw
+
 -- the text of the annotations of some files, or the flaw of the first that has one
 abbrev pub extracted : List (List ℕ) → Result Text FileFlaw
-extracted files = with_files 0 empty files
+extracted files = without_expressions (gathered files)

@@ -47,11 +47,11 @@ abbrev pub IsInC : List ℕ → Place → ℕ → Type 0
 IsInC file at b =
     (n : ℕ) × (((place_of file n).line ≡ at.line) × (((place_of file n).column ≡ at.column) × ((slice_index file n ≡ b) ⊎ ((b ≡ 10) × IsEnd file n))))
 
--- a blank or a line feed before a line of the text
+-- a blank or a line feed before a line of the text, or a blank for an expression of a lock
 abbrev pub IsGap : ℕ → Type 0
 IsGap b = (b ≡ 32) ⊎ (b ≡ 10)
 
--- each byte of what is laid from a place on is in the file at its own line and column, or stands before a line of the text
+-- each byte of what is laid from a place on is in the file at its own line and column, or is a blank, or stands before a line of the text
 abbrev pub AreInC : List ℕ → Place → List ℕ → Type 0
 AreInC file at [] = Unit {0}
 AreInC file at (b ∷ z) = (IsGap b ⊎ IsInC file at b) × AreInC file (past at b) z

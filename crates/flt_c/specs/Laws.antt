@@ -9,6 +9,7 @@ use Rattle.flt_c.specs.declared.place.Placed.{Placed}
 use Rattle.flt_c.specs.declared.scan.Scanner.{Scanner}
 use Rattle.flt_c.specs.declared.text.Line.{Line}
 use Rattle.flt_c.specs.Files.{extracted}
+use Rattle.flt_c.specs.Locks.{plain}
 use Rattle.flt_c.specs.Modes.{is_note}
 use Rattle.flt_c.specs.Places.{first_place, place_of}
 use Rattle.flt_c.specs.Scan.{annotations, continuation, join, start, step}
@@ -51,9 +52,11 @@ Stands files at false (b ∷ z) lines = IsAt (slice_index_or files at.file []) a
 abbrev pub first_line : Line
 first_line = record { file = 0; place = first_place }
 
--- each byte of the text of some files stands in C at its line's place plus its column
+-- each byte of the text of some files stands in C at its line's place plus its column, apart from blanks for the expressions of locks: it
+-- is a text that stands there as it is, but for these
 abbrev pub EachByteStands : Type 0
-EachByteStands = (files : List (List ℕ)) (text : Text) → extracted files ≡ Ok text → Stands files first_line true text.bytes text.lines
+EachByteStands = (files : List (List ℕ)) (text : Text) → extracted files ≡ Ok text →
+    (found : List ℕ) × ((text.bytes ≡ plain found) × Stands files first_line true found text.lines)
 
 -- ---- no byte of an annotation is left out
 

@@ -3,6 +3,7 @@ pub mod Fronts
 pub mod InPlace
 pub mod Laws
 pub mod Letters
+pub mod Locks
 pub mod Modes
 pub mod Pieces
 pub mod Places

@@ -4,6 +4,7 @@ use Rattle.flt_c.specs.declared.fault.Fault.{Fault}
 use Rattle.flt_c.specs.declared.place.Placed.{Placed}
 use Rattle.flt_c.specs.declared.text.Annotations.{Annotations}
 use Rattle.flt_c.specs.declared.text.Line.{Line}
+use Rattle.flt_c.specs.Locks.{plain}
 
 -- a text, for each of its lines the place of the first byte, and whether a line begins after it
 pub record Text : Type 0 where
@@ -32,6 +33,10 @@ put_all file text (p ∷ ps) = put_all file (put file text p) ps
 abbrev pub after : ℕ → Text → Result (List Placed) Fault → Result Text Fault
 after file text (Ok ps) = Ok (put_all file text ps)
 after file text (Err f) = Err f
+
+-- the same text with blanks for the expressions of locks
+abbrev pub plain_text : Text → Text
+plain_text text = record { bytes = plain text.bytes; lines = text.lines; fresh = text.fresh }
 
 -- the text that some annotations are
 abbrev pub text_in : Annotations → Text

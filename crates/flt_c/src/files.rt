@@ -72,7 +72,23 @@ fn take_file(
     Ok(Ok(()))
 }
 
-/// The text of the annotations of some C files, in order, or the flaw of the first file that has one.
+/// The annotations of some C files, in order, or the flaw of the first file that has one.
+fn gather(alloc: Global, files: &[Vec<u8>]) -> Result<Result<Annotations, FileFlaw>, AllocError>
+    ensures { IfOk result (λ found. MatchResult found
+        (λ text. spec.gathered (map (λ file. file.items) files.now) ≡ Ok (text_in text))
+        (λ flaw. spec.gathered (map (λ file. file.items) files.now) ≡ Err flaw)) }
+{
+    let mut found = Annotations::new(alloc);
+    for (number, file) in files.iter().enumerate() {
+        if let Err(flaw) = take_file(&mut found, number, file.as_slice())? {
+            return Ok(Err(flaw));
+        }
+    }
+    Ok(Ok(found))
+}
+
+/// The text of the annotations of some C files, in order, or the flaw of the first file that has one. The expressions by which annotations
+/// declare locks are blanks in it.
 ///
 /// # Errors
 ///
@@ -85,11 +101,11 @@ pub fn extract(
         (λ text. spec.extracted (map (λ file. file.items) files.now) ≡ Ok (text_in text))
         (λ flaw. spec.extracted (map (λ file. file.items) files.now) ≡ Err flaw)) }
 {
-    let mut found = Annotations::new(alloc);
-    for (number, file) in files.iter().enumerate() {
-        if let Err(flaw) = take_file(&mut found, number, file.as_slice())? {
-            return Ok(Err(flaw));
+    match gather(alloc, files)? {
+        Ok(mut found) => {
+            found.take_off_expressions();
+            Ok(Ok(found))
         }
+        Err(flaw) => Ok(Err(flaw)),
     }
-    Ok(Ok(found))
 }

@@ -12,6 +12,7 @@ mod front;
 mod laws;
 mod laying;
 mod letter;
+mod lock;
 mod mode;
 mod place;
 mod scan;
@@ -25,5 +26,6 @@ pub use laws::{
 };
 pub use laying::{PlaceFlaw, in_place};
 pub use letter::{Letter, Part, letters};
+pub use lock::{LockLine, LockWord, is_expression, lock_line_after};
 pub use place::Place;
 pub use text::{Annotations, Line};

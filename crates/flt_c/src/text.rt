@@ -5,6 +5,7 @@ ghost use Rattle.flt_c.specs.Scan as scan;
 ghost use Rattle.flt_c.specs.Texts as spec;
 
 use crate::fault::Fault;
+use crate::lock::take_off;
 use crate::mode::{Mode, is_blank, is_note};
 use crate::place::Place;
 use crate::scan::{Scanner, after, blamed, continuation, join, open_at_end, start, step};
@@ -99,6 +100,13 @@ impl Annotations {
         } else {
             Ok(())
         }
+    }
+
+    /// Turns the expressions of locks into blanks.
+    pub(crate) fn take_off_expressions(&mut self)
+        ensures { spec.text_in self.new ≡ spec.plain_text (spec.text_in self.old) }
+    {
+        take_off(&mut self.bytes);
     }
 
     /// Adds the text of the annotations of one more file, or returns the file's first fault.

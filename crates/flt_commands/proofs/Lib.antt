@@ -13,6 +13,7 @@ pub mod InTurn
 pub mod Lengths
 pub mod MoreDrawn
 pub mod MoreParsed
+pub mod NewServers
 pub mod OneAnalysis
 pub mod OneAnswer
 pub mod OneCheck
@@ -29,5 +30,4 @@ pub mod Putting
 pub mod Readings
 pub mod Reported
 pub mod Sent
-pub mod Serving
 pub mod SomeRead

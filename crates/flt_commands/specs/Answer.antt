@@ -18,7 +18,7 @@ use Rattle.flt_commands.specs.declared.failure.Failure.{Failure}
 use Rattle.flt_commands.specs.declared.answer.Answer.{Answer}
 use Rattle.flt_commands.specs.declared.answer.Answer.TheVariants.{Accepted, Refused, Certificate, Judged, Explained, Extracted, Formatted, Pages, Ran, FileRefused, Shown, Emitted, NotEmitted, EmittedInto, Compared}
 use Rattle.flt_commands.specs.declared.emit.Unemitted.{Unemitted}
-use Rattle.flt_commands.specs.declared.emit.Unemitted.TheVariants.{Kinds, Create, Return}
+use Rattle.flt_commands.specs.declared.emit.Unemitted.TheVariants.{Kinds, Create, Return, Unread}
 
 -- `R01` to `R15`
 abbrev pub rule_name : Rule → List ℕ
@@ -68,6 +68,7 @@ abbrev pub unemitted_line : Unemitted → List ℕ
 unemitted_line (Kinds line stream instance) = codes "not emitted line " ++ (decimal line ++ (codes " " ++ mixture stream instance))
 unemitted_line (Create line) = codes "not emitted line " ++ (decimal line ++ codes " a pre create that completes with STATUS_SUCCESS")
 unemitted_line (Return line) = codes "not emitted line " ++ (decimal line ++ codes " a return that does not fit its callback")
+unemitted_line Unread = codes "not emitted a source that does not read back"
 
 -- what stands on the standard output: the certificate, a text or its map, a layout or which files differ from theirs, reports, pages with
 -- an empty line between them, the journal, a part of a driver, or a line and a line feed; of a journal that is shown, rows before that line

@@ -27,7 +27,7 @@ use Rattle.flt_commands.specs.Inputs.{Text}
 use Rattle.flt_commands.specs.declared.answer.Answer.{Answer}
 use Rattle.flt_commands.specs.declared.answer.Answer.TheVariants.{Refused, Emitted, NotEmitted}
 use Rattle.flt_commands.specs.declared.emit.Unemitted.{Unemitted}
-use Rattle.flt_commands.specs.declared.emit.Unemitted.TheVariants.{Kinds, Create, Return}
+use Rattle.flt_commands.specs.declared.emit.Unemitted.TheVariants.{Kinds, Create, Return, Unread}
 use Rattle.flt_commands.specs.declared.failure.Failure.{Failure}
 
 -- ---- a part of a driver
@@ -92,10 +92,12 @@ pub record ReturnsIn (f : Filter) (g : Graph) (line : ℕ) : Type 0 where
   pub opens : AreFound g None
   pub is : first_unfit f ≡ Some line
 
+-- one of these; each source is read back
 abbrev pub IsHindered : Filter → Graph → Unemitted → Type 0
 IsHindered f g (Kinds line stream instance) = HasMixture g (Kinds line stream instance)
 IsHindered f g (Create line) = CompletesIn g line
 IsHindered f g (Return line) = ReturnsIn f g line
+IsHindered f g Unread = ⊥
 
 -- what may be answered of a filter and its points
 abbrev pub Emitting : Type 1

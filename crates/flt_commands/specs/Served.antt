@@ -1,27 +1,57 @@
 -- What `serve` reads and writes, and its exit status. This project's own program.
-use Rattle.std.specs.Prelude.{◌≡◌, ℕ, [], Option}
+use Rattle.std.specs.Prelude.{◌≡◌, ℕ, List, [], ◌∷◌, false, Option}
+use Rattle.std.specs.Str.Lossy.{utf8_lossy}
+use Rattle.json.specs.Json.{string}
+use Rattle.json.specs.Print.{print}
+use Rattle.json.specs.Tree.{json_tokens}
+use Rattle.flt_details.specs.declared.sources.Source.{Source}
 use Rattle.flt_frames.specs.Handling.{IsServed, IsServedSoFar, Reply}
+use Rattle.flt_notes.specs.Whole.{IsPrint, Look}
+use Rattle.flt_notes.specs.declared.noted.Noted.{Noted}
+use Rattle.flt_commands.specs.Allowed.{options_of}
 use Rattle.flt_commands.specs.Inputs.{Text}
+use Rattle.flt_commands.specs.declared.serving.Explaining.{Explaining}
 use Rattle.flt_server.specs.declared.server.Server.{Server}
 use Rattle.flt_session.specs.Answers.{IsAnswered}
 use Rattle.flt_session.specs.declared.phase.Phase.TheVariants.{Fresh}
 
+-- how `explain` prints without options
+abbrev pub look : Look
+look = record { coloured = false; states = 40000; options = options_of (record { strict = false; allowed = [] }) }
+
+-- this is what `explain` prints of a file of this name and this text, to the letter
+pub record IsExplained (name text printed : Text) : Type 0 where
+  pub source : Source
+  pub named : source.name.now ≡ name
+  pub given : source.text.now ≡ text
+  pub notes : List Noted
+  pub status : ℕ
+  pub print : IsPrint look (source ∷ []) notes printed status
+
+-- bytes as a JSON string
+abbrev pub as_string : Text → Text
+as_string bytes = print (json_tokens (string (utf8_lossy bytes)))
+
+-- the report on a document of this name and this text: what `explain` prints of it, as a JSON string
+abbrev pub IsReport : Text → Text → Text → Type 0
+IsReport name text report = (printed : Text) × IsExplained name text printed × (report ≡ as_string printed)
+
 -- a server whose client has sent nothing yet
-abbrev pub IsNew : Server → Type 0
+abbrev pub IsNew : Server Explaining → Type 0
 IsNew server = (server.session.phase ≡ Fresh) × (server.session.documents ≡ [])
 
 -- a server in the first state may answer this body so, and is then in the second
-abbrev pub MayAnswer : Server → Text → Reply → Server → Type 0
-MayAnswer old body reply new = IsAnswered old.session body reply new.session
+abbrev pub MayAnswer : Server Explaining → Text → Reply → Server Explaining → Type 0
+MayAnswer old body reply new = IsAnswered IsReport old.session body reply new.session
 
 -- a new server answered the frames of a stream one after the other, and ended with this status. The first two are the bytes of the stream
 -- before and after it, the others what a writer had taken before and after it
 abbrev pub Serves : Option Text → Option Text → Option Text → Option Text → ℕ → Type 0
-Serves had left old new status = (first last : Server) × IsNew first × IsServed MayAnswer first last had left old new status
+Serves had left old new status = (first last : Server Explaining) × IsNew first × IsServed MayAnswer first last had left old new status
 
 -- a new server answered some first frames of a stream, and stopped
 abbrev pub ServesSoFar : Option Text → Option Text → Option Text → Type 0
-ServesSoFar had old new = (first : Server) × IsNew first × IsServedSoFar MayAnswer first had old new
+ServesSoFar had old new = (first : Server Explaining) × IsNew first × IsServedSoFar MayAnswer first had old new
 
 -- the same over streams of the host, of which nobody knows what they gave and took
 abbrev pub ServesSomehow : ℕ → Type 0

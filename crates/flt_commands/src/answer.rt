@@ -316,5 +316,6 @@ fn unemitted_line(alloc: Global, why: Unemitted) -> Result<String, AllocError>
         Unemitted::Return { line } => {
             format!(in alloc; "not emitted line {line} a return that does not fit its callback")
         }
+        Unemitted::Unread => format!(in alloc; "not emitted a source that does not read back"),
     }
 }

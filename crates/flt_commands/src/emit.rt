@@ -8,7 +8,7 @@ ghost use Rattle.flt_graph.specs.Lowering.{IsLowered};
 ghost use Rattle.flt_kinds.specs.Kinds.{AreKinds, IsMixed};
 ghost use Rattle.flt_tree.specs.WellFormed.{IsWellFormed};
 ghost use Rattle.flt_words.specs.Request.{Emit};
-ghost use Rattle.std.specs.Prelude.{◌≡◌, ◌<◌, ◌++◌, IfOk, OnOk, map, option_map, true};
+ghost use Rattle.std.specs.Prelude.{◌≡◌, ◌<◌, ◌++◌, IfOk, IsSomeAnd, OnOk, map, option_map, true};
 
 use crate::answer::Answer;
 use crate::failure::Failure;
@@ -17,7 +17,7 @@ use crate::report::Contents;
 use flt_analyse::{AnalyseFault, Ticks, analyse};
 use flt_check::check;
 use flt_emit::{Allocation, emit, emit_header, emit_installation};
-use flt_emit_read::{reads_back_whole, unfit_return};
+use flt_emit_read::{is_read_back, reads_back_whole, unfit_return};
 use flt_graph::{Graph, Tree, lower};
 use flt_kinds::{ContextKinds, Mixed, Spot, completed_create, context_kinds};
 use flt_syntax::parse;
@@ -44,6 +44,8 @@ pub enum Unemitted {
     Return {
         line: usize,
     },
+    /// The source that was made isn't read back to the text. This never comes.
+    Unread,
 }
 
 // ---- a part of a driver
@@ -61,31 +63,44 @@ fn add_allocations(out: &mut Vec<Allocation>, spots: &[Spot]) -> Result<(), Allo
     Ok(())
 }
 
-/// The source in which these statements allocate contexts of the instance.
-pub(crate) fn source_of(alloc: Global, tree: &Tree, listed: &[Spot]) -> Result<Vec<u8>, AllocError>
+/// The source in which these statements allocate contexts of the instance, if it is read back to the filter.
+pub(crate) fn source_of(
+    alloc: Global,
+    tree: &Tree,
+    listed: &[Spot],
+) -> Result<Option<Vec<u8>>, AllocError>
     requires well_formed { IsWellFormed tree.now.filter }
     requires fit { returns_fit tree.now.filter ≡ true }
-    ensures written { IfOk result (λ bytes. bytes.items ≡ spec.part_text Part.Source listed.now tree.now.filter) }
-    ensures read { IfOk result (λ bytes. spec.IsReadBack Part.Source tree.now.filter bytes.items) }
+    ensures written { IfOk result (λ found. IsSomeAnd found (λ bytes. bytes.items ≡ spec.part_text Part.Source listed.now tree.now.filter)) }
+    ensures read { IfOk result (λ found. IsSomeAnd found (λ bytes. spec.IsReadBack Part.Source tree.now.filter bytes.items)) }
 {
     let mut instances = Vec::new(alloc);
     add_allocations(&mut instances, listed)?;
     let source = emit(alloc, tree, instances.as_slice())?;
+    if is_read_back(alloc, source.as_slice(), &tree.filter)? {
+        return Ok(Some(source));
+    }
+    // The law says that this is never reached. It isn't called above, so that there the reading proves what is read.
     reads_back_whole();
-    Ok(source)
+    Ok(None)
 }
 
-/// The part of the driver in which these statements allocate contexts of the instance.
-fn part_of(alloc: Global, part: Part, tree: &Tree, listed: &[Spot]) -> Result<Vec<u8>, AllocError>
+/// The part of the driver in which these statements allocate contexts of the instance, if a source is read back to the filter.
+fn part_of(
+    alloc: Global,
+    part: Part,
+    tree: &Tree,
+    listed: &[Spot],
+) -> Result<Option<Vec<u8>>, AllocError>
     requires well_formed { IsWellFormed tree.now.filter }
     requires fit { returns_fit tree.now.filter ≡ true }
-    ensures written { IfOk result (λ bytes. bytes.items ≡ spec.part_text part listed.now tree.now.filter) }
-    ensures read { IfOk result (λ bytes. spec.IsReadBack part tree.now.filter bytes.items) }
+    ensures written { IfOk result (λ found. IsSomeAnd found (λ bytes. bytes.items ≡ spec.part_text part listed.now tree.now.filter)) }
+    ensures read { IfOk result (λ found. IsSomeAnd found (λ bytes. spec.IsReadBack part tree.now.filter bytes.items)) }
 {
     match part {
         Part::Source => source_of(alloc, tree, listed),
-        Part::User => emit_header(alloc, tree),
-        Part::Inf => emit_installation(alloc, tree),
+        Part::User => Ok(Some(emit_header(alloc, tree)?)),
+        Part::Inf => Ok(Some(emit_installation(alloc, tree)?)),
     }
 }
 
@@ -134,8 +149,10 @@ fn emit_known(
     if let Some(line) = unfit_return(tree) {
         return Ok(Answer::NotEmitted(Unemitted::Return { line }));
     }
-    let bytes = part_of(alloc, part, tree, listed.as_slice())?;
-    Ok(Answer::Emitted(bytes))
+    match part_of(alloc, part, tree, listed.as_slice())? {
+        Some(bytes) => Ok(Answer::Emitted(bytes)),
+        None => Ok(Answer::NotEmitted(Unemitted::Unread)),
+    }
 }
 
 /// The part of a filter, or why there is none.

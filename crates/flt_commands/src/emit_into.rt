@@ -13,7 +13,7 @@ ghost use Rattle.flt_graph.specs.Lowering.{IsLowered};
 ghost use Rattle.flt_tree.specs.WellFormed.{IsWellFormed};
 ghost use Rattle.flt_words.specs.Request.{EmitInto};
 ghost use Rattle.flt_words.specs.declared.request.Part.TheVariants.{Source};
-ghost use Rattle.std.specs.Prelude.{◌≡◌, ◌<◌, [], ◌∷◌, None, IfErr, IfOk, map, option_map, true};
+ghost use Rattle.std.specs.Prelude.{◌≡◌, ◌<◌, [], ◌∷◌, None, IfErr, IfOk, IsSomeAnd, map, option_map, true};
 
 use crate::answer::Answer;
 use crate::driver::{Driver, DriverParts, driver_lines, names_in, put_driver};
@@ -35,24 +35,27 @@ use std::sync::ledger::{Blank, Ledger};
 
 // ---- filters
 
-/// All parts of a driver, in which these statements allocate contexts of the instance.
-fn parts_of(alloc: Global, tree: &Tree, listed: &[Spot]) -> Result<DriverParts, AllocError>
+/// All parts of a driver, in which these statements allocate contexts of the instance, if the source is read back to the filter.
+fn parts_of(alloc: Global, tree: &Tree, listed: &[Spot]) -> Result<Option<DriverParts>, AllocError>
     requires well_formed { IsWellFormed tree.now.filter }
     requires fit { returns_fit tree.now.filter ≡ true }
-    ensures source { IfOk result (λ parts. parts.source.items ≡ part_text Source listed.now tree.now.filter) }
-    ensures read { IfOk result (λ parts. IsReadBack Source tree.now.filter parts.source.items) }
-    ensures header { IfOk result (λ parts. parts.header.items ≡ user_header tree.now.filter) }
-    ensures installation { IfOk result (λ parts. parts.installation.items ≡ installation tree.now.filter) }
+    ensures source { IfOk result (λ found. IsSomeAnd found (λ parts. parts.source.items ≡ part_text Source listed.now tree.now.filter)) }
+    ensures read { IfOk result (λ found. IsSomeAnd found (λ parts. IsReadBack Source tree.now.filter parts.source.items)) }
+    ensures header { IfOk result (λ found. IsSomeAnd found (λ parts. parts.header.items ≡ user_header tree.now.filter)) }
+    ensures installation { IfOk result (λ found. IsSomeAnd found (λ parts. parts.installation.items ≡ installation tree.now.filter)) }
 {
-    Ok(DriverParts {
-        source: source_of(alloc, tree, listed)?,
+    let Some(source) = source_of(alloc, tree, listed)? else {
+        return Ok(None);
+    };
+    Ok(Some(DriverParts {
+        source,
         header: emit_header(alloc, tree)?,
         installation: emit_installation(alloc, tree)?,
-    })
+    }))
 }
 
-/// Writes a driver in which each context has one kind, no open is completed and each return fits. All of it is in memory before the first
-/// file is written.
+/// Writes a driver in which each context has one kind, no open is completed and each return fits, if its source is read back to the filter.
+/// All of it is in memory before the first file is written.
 fn write_known<P: Pictures>(
     alloc: Global,
     inputs: &[&str],
@@ -60,16 +63,18 @@ fn write_known<P: Pictures>(
     tree: &Tree,
     listed: &[Spot],
     pictures: &mut P,
-) -> Result<Driver, AllocError>
+) -> Result<Option<Driver>, AllocError>
     requires well_formed { IsWellFormed tree.now.filter }
     requires fit { returns_fit tree.now.filter ≡ true }
-    ensures { IfOk result (spec.IsPut (P.written pictures.new)
-        (Does (pictures.new ≡ pictures.old) (P.tried pictures.old) (P.tried pictures.new)) folder.now tree.now.filter listed.now) }
+    ensures { IfOk result (λ found. IsSomeAnd found (spec.IsPut (P.written pictures.new)
+        (Does (pictures.new ≡ pictures.old) (P.tried pictures.old) (P.tried pictures.new)) folder.now tree.now.filter listed.now)) }
 {
     let names = names_in(alloc, folder, tree.filter.name.as_slice())?;
-    let parts = parts_of(alloc, tree, listed)?;
+    let Some(parts) = parts_of(alloc, tree, listed)? else {
+        return Ok(None);
+    };
     let outcome = put_driver(alloc, inputs, &names, &parts, pictures)?;
-    Ok(Driver { names, outcome })
+    Ok(Some(Driver { names, outcome }))
 }
 
 /// Writes the driver of a filter, or says why there is none.
@@ -97,8 +102,10 @@ fn write_filter<P: Pictures>(
     if let Some(line) = unfit_return(tree) {
         return Ok(Answer::NotEmitted(Unemitted::Return { line }));
     }
-    let driver = write_known(alloc, inputs, folder, tree, listed.as_slice(), pictures)?;
-    Ok(Answer::EmittedInto(driver))
+    match write_known(alloc, inputs, folder, tree, listed.as_slice(), pictures)? {
+        Some(driver) => Ok(Answer::EmittedInto(driver)),
+        None => Ok(Answer::NotEmitted(Unemitted::Unread)),
+    }
 }
 
 // ---- texts

@@ -1,12 +1,88 @@
 //! The server of an editor, over a stream of any kind that is read and one that is written.
 
-ghost use Rattle.std.specs.Prelude.{◌≡◌, ◌≢◌, IfErr, IfOk};
+ghost use Rattle.std.specs.Prelude.{◌≡◌, ◌≢◌, None, IfErr, IfOk, true};
 ghost use Rattle.flt_commands.specs.Served as spec;
+ghost use Rattle.flt_notes.specs.Whole.{look_for};
 
+use flt_details::Source;
 use flt_frames::{Incoming, ServeFault, serve};
-use flt_model::Sink;
+use flt_model::{Sink, WriteFault};
+use flt_notes::{Asking, UnwatchedSearch, explain};
 use flt_server::Server;
-use std::alloc::Global;
+use flt_session::Reporter;
+use flt_warning_details::WarningOptions;
+use flt_warnings::AllowedKinds;
+use flt_words::DEFAULT_STATES;
+use json::{Value, to_vec};
+use std::alloc::{AllocError, Global};
+
+/// Takes no bytes: a report that is held back isn't put out.
+#[derive(Drop)]
+struct Nowhere {
+    failures: u64,
+}
+
+impl Sink for Nowhere {
+    ghost taken = { λ s. None };
+
+    ghost failures = { λ s. s.failures };
+
+    fn put(&mut self, _bytes: &[u8]) -> Result<usize, WriteFault> {
+        self.failures = self.failures.wrapping_add(1);
+        Err(WriteFault)
+    }
+}
+
+/// The settings of `explain` without options, with the report held back.
+fn asking() -> Asking
+    ensures look { look_for result ≡ spec.look }
+    ensures held { result.is_held ≡ true }
+{
+    Asking {
+        coloured: false,
+        states: DEFAULT_STATES,
+        is_held: true,
+        options: WarningOptions {
+            allowed: AllowedKinds::none(),
+            is_strict: false,
+        },
+    }
+}
+
+/// What `explain` prints of a text under a name.
+fn printed(alloc: Global, name: &str, text: &[u8]) -> Result<Vec<u8>, AllocError>
+    ensures { IfOk result (λ out. spec.IsExplained name.now text.now out.items) }
+{
+    let sources = [Source { name, text }];
+    let mut out = Nowhere { failures: 0 };
+    let mut watch = UnwatchedSearch;
+    match explain(alloc, asking(), &sources, &mut out, &mut watch) {
+        Ok(told) => Ok(told.explained.output),
+        Err(_) => Err(AllocError),
+    }
+}
+
+/// Bytes as a JSON string; bytes that aren't UTF-8 become U+FFFD.
+fn as_string(alloc: Global, bytes: &[u8]) -> Result<Vec<u8>, AllocError>
+    ensures { IfOk result (λ out. out.items ≡ spec.as_string bytes.now) }
+{
+    let text = String::from_utf8_lossy(alloc, bytes)?;
+    let value: Value<'_> = Value::String(text.as_str());
+    to_vec(alloc, &value)
+}
+
+/// Reports on a text as `explain` does, with runs.
+#[derive(Clone, Copy)]
+pub struct Explaining;
+
+impl Reporter for Explaining {
+    ghost reports = { spec.IsReport };
+
+    fn report(&self, alloc: Global, uri: &str, text: &[u8]) -> Result<Vec<u8>, AllocError> {
+        let printed = printed(alloc, uri, text)?;
+        as_string(alloc, printed.as_slice())
+    }
+}
 
 /// Serves a client that has sent nothing yet, and returns the exit status: 0 after the client's `shutdown` and `exit`, 1 after `exit` alone,
 /// at the end of `input`, in a frame that this end cuts short, and at bytes that aren't a frame's header. Nothing is read after the frame of
@@ -29,6 +105,6 @@ pub fn serve_client<R: Incoming, O: Sink>(
     ensures fine { IfOk result (λ _. O.failures out.new ≡ O.failures out.old) }
     ensures readable { IfOk result (λ _. R.failures input.new ≡ R.failures input.old) }
 {
-    let mut server = Server::new(alloc);
+    let mut server = Server::new(alloc, Explaining);
     serve(alloc, input, out, &mut server)
 }

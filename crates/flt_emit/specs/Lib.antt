@@ -5,6 +5,7 @@ pub mod Fixed
 pub mod FixedFiles
 pub mod Line
 pub mod Names
+pub mod Parts
 pub mod Scope
 pub mod Source
 pub mod Statements

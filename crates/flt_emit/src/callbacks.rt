@@ -327,7 +327,7 @@ fn deferred_hook(out: &mut Vec<u8>, stage: &[u8], name: &[u8]) -> Result<(), All
 
 /// The writer's hook.
 #[tactic(auto, unfolding(crate::specs::Callbacks::hook))]
-fn hook(out: &mut Vec<u8>, head: &Head) -> Result<(), AllocError>
+pub(crate) fn hook(out: &mut Vec<u8>, head: &Head) -> Result<(), AllocError>
     ensures { OnOk result (out.new.items ≡ out.old.items ++ spec.hook head.now) }
 {
     match head {

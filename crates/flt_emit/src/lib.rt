@@ -10,11 +10,13 @@ mod fixed_callbacks;
 mod fixed_files;
 mod line;
 mod names;
+mod part;
 mod scope;
 mod source;
 mod statements;
 mod uses;
 
 pub use files::{emit_header, emit_installation};
+pub use part::{Part, emit_part};
 pub use scope::Allocation;
 pub use source::emit;

@@ -209,7 +209,7 @@ fn globals(out: &mut Vec<u8>, locks: &[Lock], queue: bool) -> Result<(), AllocEr
 
 /// Functions that callbacks call.
 #[tactic(auto, unfolding(crate::specs::Source::helpers))]
-fn helpers(out: &mut Vec<u8>, queue: bool) -> Result<(), AllocError>
+pub(crate) fn helpers(out: &mut Vec<u8>, queue: bool) -> Result<(), AllocError>
     ensures { OnOk result (out.new.items ≡ out.old.items ++ spec.helpers queue) }
 {
     fixed::allocating(out)?;
@@ -298,7 +298,7 @@ fn declared(out: &mut Vec<u8>, filter: &Filter) -> Result<(), AllocError>
 
 /// The source after the callbacks.
 #[tactic(auto, unfolding(crate::specs::Source::framed))]
-fn framed(out: &mut Vec<u8>, filter: &Filter) -> Result<(), AllocError>
+pub(crate) fn framed(out: &mut Vec<u8>, filter: &Filter) -> Result<(), AllocError>
     ensures { OnOk result (out.new.items ≡ out.old.items ++ spec.framed filter.now) }
 {
     let locks = filter.locks.as_slice();

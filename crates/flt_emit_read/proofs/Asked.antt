@@ -26,9 +26,9 @@ use Rattle.flt_emit.specs.Names.{number_name, context_name, context_or_null, rem
 use Rattle.flt_emit.specs.Scope.{Scope, allocates_for_instance}
 use Rattle.flt_print.specs.Reprinting.{call_without, condition_without}
 use Rattle.flt_emit_read.specs.Front.{Front, after}
-use Rattle.flt_emit_read.specs.Lines.{Asked, known_value, comparison_at, if_same, known_at, if_none, unknown_at, null_at, anchor_given, get_at, set_at, delete_at, named, queued_at, remove_at, generic_at, allocate_at, fallible_at, succeeds_at, condition_at}
+use Rattle.flt_emit_read.specs.Lines.{Asked, known_value, comparison_at, if_same, known_at, if_none, unknown_at, null_at, anchor_given, get_at, set_at, delete_at, named, queued_at, remove_at, generic_at, allocate_at, fallible_at, succeeds_at, condition_at, test_at, test_forms, named_test_at, number_name_at, context_at, removed_at}
 use Rattle.flt_emit_read.proofs.Fronts.{then_reads, after_again, name_reads, joined_pieces}
-use Rattle.flt_emit_read.proofs.Words.{number_name_reads, context_reads, removed_reads, existing_reads, optional_reads, address_reads, atom_reads}
+use Rattle.flt_emit_read.proofs.Names.{number_name_reads, context_reads, removed_reads, existing_reads, optional_reads, address_reads, atom_reads}
 
 -- ---- tests
 
@@ -46,7 +46,7 @@ less_reads false n x r ok = then_reads _ (atom_reads x r ok)
 
 module _ (at : Place) where
   number_asks : (n : NumberVariable) (z : Text) → condition_at at (number_name n ++ z) ≡ unknown_at n z
-  unfolding condition_at
+  unfolding condition_at test_at test_forms named_test_at number_name_at context_at removed_at
   number_asks numbers.N0 z = refl
   number_asks numbers.N1 z = refl
   number_asks numbers.N2 z = refl
@@ -57,7 +57,7 @@ module _ (at : Place) where
   number_asks numbers.N7 z = refl
 
   context_asks : (c : ContextVariable) (z : Text) → condition_at at (context_name c ++ z) ≡ null_at (ContextIsSome c) z
-  unfolding condition_at
+  unfolding condition_at test_at test_forms named_test_at number_name_at context_at removed_at
   context_asks contexts.C0 z = refl
   context_asks contexts.C1 z = refl
   context_asks contexts.C2 z = refl
@@ -69,7 +69,7 @@ module _ (at : Place) where
   context_asks contexts.Arg z = refl
 
   removed_asks : (o : RemovedVariable) (z : Text) → condition_at at (removed_name o ++ z) ≡ null_at (OperationIsSome o) z
-  unfolding condition_at
+  unfolding condition_at test_at test_forms named_test_at number_name_at context_at removed_at
   removed_asks removed.O0 z = refl
   removed_asks removed.O1 z = refl
   removed_asks removed.O2 z = refl
@@ -81,7 +81,7 @@ module _ (at : Place) where
   null_reads false t r = refl
 
   constant_asks : (value : Bool) (z : Text) → condition_at at (constant value ++ (codes " /* " ++ z)) ≡ known_at value z
-  unfolding condition_at
+  unfolding condition_at test_at test_forms named_test_at number_name_at context_at removed_at
   constant_asks true z = refl
   constant_asks false z = refl
 
@@ -107,7 +107,7 @@ module _ (at : Place) where
 
   test_reads : (turned : Bool) (t : Test) (r : Text) → IsTest t →
       condition_at at (test_text turned t ++ r) ≡ Some ((turned, made.Test t), r)
-  unfolding condition_at
+  unfolding condition_at test_at test_forms named_test_at number_name_at context_at removed_at
   test_reads turned (ContextIsSome c) r ok =
       ap (condition_at at) (joined_pieces (context_name c ∷ null_sign turned ∷ []) r)
       ∙ context_asks c (null_sign turned ++ r) ∙ null_reads turned (ContextIsSome c) r
@@ -210,12 +210,12 @@ module _ (scope : Scope) (queue : Bool) (point : ℕ) where
       ap (fallible_at scope.place)
       (joined_pieces
       (codes "QueueGeneric( " ∷ instance scope.place ∷ codes ", Generic_" ∷ routine.name ∷ codes ", " ∷ context_or_null c ∷ []) r)
-      ∙ then_reads _ (after_again (instance scope.place) _)
+      ∙ then_reads _ (then_reads _ (after_again (instance scope.place) _))
       ∙ queued_reads scope.place fallible.QueueGenericWorkItem routine.name c r ok
 
   succeeds_asks : (turned : Bool) (z : Text) →
       condition_at scope.place (negation turned ++ (codes "NT_SUCCESS( " ++ z)) ≡ succeeds_at scope.place turned z
-  unfolding condition_at
+  unfolding condition_at test_at test_forms named_test_at number_name_at context_at removed_at
   succeeds_asks true z = refl
   succeeds_asks false z = refl
 

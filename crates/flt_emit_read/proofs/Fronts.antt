@@ -1,5 +1,5 @@
 -- What stands at the front of a text is read.
-use Rattle.std.proofs.Common.{◌≡◌, ◌<◌, ◌/◌, ◌%◌, ◌^◌, ℕ, zero, suc, Bool, true, false, List, [], ◌∷◌, ◌++◌, length, refl, ap, arith, rules, ◌∙◌, append_assoc}
+use Rattle.std.proofs.Common.{◌≡◌, ◌<◌, ◌/◌, ◌%◌, ◌^◌, ℕ, zero, suc, Bool, true, false, List, [], ◌∷◌, ◌++◌, length, refl, ap, arith, rules, ◌∙◌, append_assoc, ◌*◌, ◌-◌, ◌≤◌, ◌+◌}
 use Rattle.std.specs.Prelude.{◌==◌, not, nat_lt, if◌then◌else◌, Option, Some, None, decimal}
 use Rattle.std.specs.Char.{is_ascii_digit}
 use Rattle.std.specs.Fmt.{digits, digits_onto, digit_glyph}
@@ -74,12 +74,28 @@ pub all_digits : (n : ℕ) → list_all is_ascii_digit (decimal n) ≡ true
 unfolding digits
 all_digits n = onto 64 n [] refl
 
-own : IsNumeralModel (λ ds. list_all is_ascii_digit ds ≡ true) (number_from 0)
-own = numerals_by_fold _ (search rules) number_from (search rules)
+-- the value of digits, after that of the digits before them
+abbrev pub value_from : ℕ → Text → ℕ
+value_from n [] = n
+value_from n (d ∷ ds) = value_from (10 * n + (d - 48)) ds
 
-number_again : (ds : Text) (n : ℕ) → 0 < length ds → number_from 0 ds ≡ n → n < 2 ^ 64 → number_of ds ≡ Some n
+own : IsNumeralModel (λ ds. list_all is_ascii_digit ds ≡ true) (value_from 0)
+own = numerals_by_fold _ (search rules) value_from (search rules)
+
+grows : (n : ℕ) (ds : Text) → n ≤ value_from n ds
+grows n [] = omega arith
+grows n (d ∷ ds) = let more = grows (10 * n + (d - 48)) ds in omega (arith, more)
+
+fits : (n : ℕ) (ds : Text) → value_from n ds < 2 ^ 64 → number_from n ds ≡ Some (value_from n ds)
+fits n [] small = refl
+fits n (d ∷ ds) small =
+    let more = grows (10 * n + (d - 48)) ds in
+    rw (lt-ltb (10 * n + (d - 48)) (2 ^ 64) (omega (arith, more, small))) (fits (10 * n + (d - 48)) ds small)
+
+number_again : (ds : Text) (n : ℕ) → 0 < length ds → value_from 0 ds ≡ n → n < 2 ^ 64 → number_of ds ≡ Some n
 number_again [] n some e small = absurd (omega (arith, some))
-number_again (d ∷ ds) n some e small = rw (e, lt-ltb n (2 ^ 64) small) refl
+number_again (d ∷ ds) n some e small =
+    fits 0 (d ∷ ds) (omega (arith, e, small)) ∙ ap (λ m. Some m) e
 
 pub number_reads : (n : ℕ) (r : Text) → n < 2 ^ 64 → Stops is_ascii_digit r → number_at (decimal n ++ r) ≡ Some (n, r)
 unfolding number_at

@@ -26,21 +26,26 @@ use Rattle.flt_emit.specs.Scope.{Scope}
 use Rattle.flt_emit.specs.Statements.{Lines, statement_step, statement_text, with_lines, statements_of, body_text, in_turn, choice_text, if_text, bare_text, repeat_text, closing, else_text, action_text, before_call, plain_text, return_text}
 use Rattle.flt_print.specs.Reprinting.{condition_without}
 use Rattle.flt_emit_read.specs.AsRead.{returned, step_as_read, statement_as_read}
-use Rattle.flt_emit_read.specs.Blocks.{Open, first, second, repeated, Reading, reading, ended, takes, past_end, step, lines_at}
-use Rattle.flt_emit_read.specs.Lines.{Line, whole, asks, turns, otherwise, closes, line_forms, line_at, if_line, bare_line, repeat_line}
+use Rattle.flt_emit_read.specs.declared.blocks.Open.{Open}
+use Rattle.flt_emit_read.specs.declared.blocks.Open.TheVariants.{First, Second, Repeated}
+use Rattle.flt_emit_read.specs.Blocks.{Reading, reading, ended, takes, past_end, step, lines_at}
+use Rattle.flt_emit_read.specs.declared.line.Line.{Line}
+use Rattle.flt_emit_read.specs.declared.line.Line.TheVariants.{Whole, Asks, Turns, Otherwise, Closes}
+use Rattle.flt_emit_read.specs.Lines.{line_at, if_line, bare_line, repeat_line, line_start, named_line, number_name_at, context_at, removed_at, ask_forms, plain_line, plain_forms, lock_line, lock_forms, settle_line, settle_forms}
 use Rattle.flt_emit_read.proofs.Asked.{condition_reads}
-use Rattle.flt_emit_read.proofs.Calls.{call_reads}
+use Rattle.flt_emit_read.proofs.Plain.{call_reads}
 use Rattle.flt_emit_read.proofs.Fronts.{then_reads, first_reads, other_reads, after_again, number_reads, joined_pieces}
 use Rattle.flt_emit_read.proofs.Returns.{return_reads}
 use Rattle.flt_emit_read.proofs.Simple.{starts, action_reads}
-use Rattle.flt_emit_read.proofs.Words.{ends_reads}
+use Rattle.flt_emit_read.proofs.Names.{ends_reads}
 
 -- ---- lines of blocks
 
 module _ (scope : Scope) (queue : Bool) (lv point line : ℕ) (r : Text) (level : ℕ) where
   if_reads : (turned : Bool) (c : Condition) → IsCondition queue c →
-      line_at scope.place scope.locks lv point (if_text scope level point line turned c ++ r) ≡ Some (asks turned (condition_without c), r)
-  unfolding line_forms if_line
+      line_at scope.place scope.locks lv point (if_text scope level point line turned c ++ r) ≡ Some (Asks turned (condition_without c), r)
+  unfolding if_line line_start named_line number_name_at context_at removed_at ask_forms plain_line plain_forms lock_line lock_forms
+      settle_line settle_forms
   if_reads turned c ok =
       ap (line_at scope.place scope.locks lv point)
       (joined_pieces (indentation level ∷ codes "if (" ∷ condition_text scope point turned c ∷ codes ") {" ∷ label point line ∷ []) r)
@@ -50,8 +55,9 @@ module _ (scope : Scope) (queue : Bool) (lv point line : ℕ) (r : Text) (level 
 
   bare_reads : (c : Condition) → IsCondition queue c →
       line_at scope.place scope.locks lv point (bare_text scope level point line c ++ r) ≡
-      Some (whole (If no_span (condition_without c) [] []), r)
-  unfolding line_forms bare_line
+      Some (Whole (If no_span (condition_without c) [] []), r)
+  unfolding bare_line line_start named_line number_name_at context_at removed_at ask_forms plain_line plain_forms lock_line lock_forms
+      settle_line settle_forms
   bare_reads c ok =
       ap (line_at scope.place scope.locks lv point)
       (joined_pieces (indentation level ∷ codes "(VOID) (" ∷ condition_text scope point false c ∷ codes ");" ∷ label point line ∷ []) r)
@@ -59,21 +65,24 @@ module _ (scope : Scope) (queue : Bool) (lv point line : ℕ) (r : Text) (level 
       ∙ then_reads _ (condition_reads scope queue point false c (codes ");" ++ (label point line ++ r)) ok)
       ∙ ends_reads (codes ");") point line _ r
 
-  closing_reads : line_at scope.place scope.locks lv point (closing level ++ r) ≡ Some (closes, r)
-  unfolding line_forms
+  closing_reads : line_at scope.place scope.locks lv point (closing level ++ r) ≡ Some (Closes, r)
+  unfolding line_start named_line number_name_at context_at removed_at ask_forms plain_line plain_forms lock_line lock_forms settle_line
+      settle_forms
   closing_reads =
       ap (line_at scope.place scope.locks lv point) (joined_pieces (indentation level ∷ codes "}\n" ∷ []) r)
       ∙ starts scope.place scope.locks lv point level _
 
-  else_reads : line_at scope.place scope.locks lv point (else_text level ++ r) ≡ Some (otherwise, r)
-  unfolding line_forms
+  else_reads : line_at scope.place scope.locks lv point (else_text level ++ r) ≡ Some (Otherwise, r)
+  unfolding line_start named_line number_name_at context_at removed_at ask_forms plain_line plain_forms lock_line lock_forms settle_line
+      settle_forms
   else_reads =
       ap (line_at scope.place scope.locks lv point) (joined_pieces (indentation level ∷ codes "} else {\n" ∷ []) r)
       ∙ starts scope.place scope.locks lv point level _
 
 repeat_reads : (at : Place) (locks : List Lock) (level point line n : ℕ) (r : Text) → n ≤ max_turns →
-    line_at at locks level point (repeat_text level point line n ++ r) ≡ Some (turns n, r)
-unfolding line_forms repeat_line
+    line_at at locks level point (repeat_text level point line n ++ r) ≡ Some (Turns n, r)
+unfolding repeat_line line_start named_line number_name_at context_at removed_at ask_forms plain_line plain_forms lock_line lock_forms
+    settle_line settle_forms
 repeat_reads at locks level point line n r few =
     ap (line_at at locks level point)
     (joined_pieces (indentation level ∷ codes "for (ULONG turn" ∷ decimal level ∷ codes " = " ∷ decimal n ∷ codes "; turn"
@@ -209,7 +218,7 @@ module _ (scope : Scope) (queue : Bool) where
   one_point : (s : Statement) (y : Statement-F Statement) (read : Statement) → roll-Statement y ≡ s →
       points_of s ≡ 1 → statement_as_read scope.place s ≡ read →
       ((point level : ℕ) (r : Text) → length r < length (layer scope y level point ++ r)) →
-      ((lv point level : ℕ) (r : Text) → line_at scope.place scope.locks lv point (layer scope y level point ++ r) ≡ Some (whole read, r)) →
+      ((lv point level : ℕ) (r : Text) → line_at scope.place scope.locks lv point (layer scope y level point ++ r) ≡ Some (Whole read, r)) →
       OfStatement s
   one_point s y read e one as_read less reads point done outer r =
       from_text (ap (λ (f : Lines). f (suc (length outer)) point ++ r) (laid scope s y e))
@@ -271,7 +280,7 @@ module _ (scope : Scope) (queue : Bool) where
   -- the line of an `if`
   asked_line : {point : ℕ} {done : List Statement} {outer : List Open} {u : Reading} {y z : Text} (turned : Bool) (c : Condition)
       (line : ℕ) → IsCondition queue c →
-      Path (reading (point + 1) [] (first turned (condition_without c) done ∷ outer)) y u z →
+      Path (reading (point + 1) [] (First turned (condition_without c) done ∷ outer)) y u z →
       Path (reading point done outer) (if_text scope (suc (length outer)) point line turned c ++ y) u z
   asked_line {point = point} {outer = outer} {y = y} turned c line ok more =
       by_line (if_reads scope queue (suc (length outer)) point line y (suc (length outer)) turned c ok) refl
@@ -294,13 +303,13 @@ module _ (scope : Scope) (queue : Bool) where
       (grouped (if_text scope (suc (length outer)) point line true c)
       (in_turn (with_lines scope (x ∷ xs)) (suc (length outer) + 1) (point + 1)) (closing (suc (length outer))) r)
       (asked_line true c line ok
-      (closed_block (x ∷ xs) e (first true (condition_without c) done) (point + 1) q outer r (omega (arith, h))))
+      (closed_block (x ∷ xs) e (First true (condition_without c) done) (point + 1) q outer r (omega (arith, h))))
   choice line c (y ∷ ys) [] ok g e point q done outer r h =
       from_text
       (grouped (if_text scope (suc (length outer)) point line false c)
       (in_turn (with_lines scope (y ∷ ys)) (suc (length outer) + 1) (point + 1)) (closing (suc (length outer))) r)
       (asked_line false c line ok
-      (closed_block (y ∷ ys) g (first false (condition_without c) done) (point + 1) q outer r (omega (arith, h))))
+      (closed_block (y ∷ ys) g (First false (condition_without c) done) (point + 1) q outer r (omega (arith, h))))
   choice line c (y ∷ ys) (x ∷ xs) ok g e point q done outer r h =
       let level = suc (length outer) in
       let middle = point + 1 + points (y ∷ ys) in
@@ -317,10 +326,10 @@ module _ (scope : Scope) (queue : Bool) where
       ∙ ap (λ n. if_text scope level point line false c ++ (body_text scope (y ∷ ys) n (point + 1)
       ++ (else_text level ++ (last ++ (closing level ++ r))))) (add-one level))
       (asked_line false c line ok
-      (joins (g (point + 1) [] (first false (condition_without c) done ∷ outer) (else_text level ++ (last ++ (closing level ++ r))))
+      (joins (g (point + 1) [] (First false (condition_without c) done ∷ outer) (else_text level ++ (last ++ (closing level ++ r))))
       (by_line (else_reads scope queue (suc level) (point + 1 + points (y ∷ ys)) 0 (last ++ (closing level ++ r)) level) refl
       (else_shorter level (last ++ (closing level ++ r)))
-      (closed_block (x ∷ xs) e (second (condition_without c) (inside (y ∷ ys)) done) middle q outer r (omega (arith, h))))))
+      (closed_block (x ∷ xs) e (Second (condition_without c) (inside (y ∷ ys)) done) middle q outer r (omega (arith, h))))))
 
   of_choice : (at : Span) (c : Condition) (granted refused : List Statement) → IsCondition queue c → OfBlock granted → OfBlock refused →
       OfStatement (If at c granted refused)
@@ -347,7 +356,7 @@ module _ (scope : Scope) (queue : Bool) where
       (by_line (repeat_reads scope.place scope.locks level point at.line n inner few) refl
       (last_shorter (indentation level ∷ codes "for (ULONG turn" ∷ decimal level ∷ codes " = " ∷ decimal n ∷ codes "; turn"
       ∷ decimal level ∷ codes " != 0; turn" ∷ decimal level ∷ codes "--) {" ∷ []) point at.line inner)
-      (closed_block body of (repeated n done) (point + 1) (point + points_of whole_repeat) outer r
+      (closed_block body of (Repeated n done) (point + 1) (point + points_of whole_repeat) outer r
       (omega (arith, folded ℕ points_step whole_repeat parts (rolls-Repeat at n body))))))
 
   mutual

@@ -18,17 +18,20 @@ use Rattle.flt_emit.specs.Names.{context_name, status_name}
 use Rattle.flt_emit.specs.Statements.{handed_text, before_return, final_text, passing, answer_text, return_text}
 use Rattle.flt_emit_read.specs.AsRead.{returned}
 use Rattle.flt_emit_read.specs.Front.{by_form}
-use Rattle.flt_emit_read.specs.Lines.{Line, whole, line_forms, line_at, completed_call, completing_return, answers, bare_statuses, handed_line, handing}
-use Rattle.flt_emit_read.proofs.Calls.{completion_starts}
+use Rattle.flt_emit_read.specs.declared.line.Line.{Line}
+use Rattle.flt_emit_read.specs.declared.line.Line.TheVariants.{Whole}
+use Rattle.flt_emit_read.specs.Lines.{line_at, completed_call, completing_return, answers, bare_statuses, handed_line, handing, line_start, named_line, number_name_at, context_at, removed_at, ask_forms, plain_line, plain_forms, lock_line, lock_forms, settle_line, settle_forms}
+use Rattle.flt_emit_read.proofs.Plain.{completion_starts}
 use Rattle.flt_emit_read.proofs.Fronts.{then_reads, joined_pieces, past_indentation}
 use Rattle.flt_emit_read.proofs.Simple.{started, starts}
-use Rattle.flt_emit_read.proofs.Words.{context_reads, ends_reads}
+use Rattle.flt_emit_read.proofs.Names.{context_reads, ends_reads}
 
 module _ (locks : List Lock) (lv point : ℕ) where
   -- a pre or a post callback's return
   bare_starts : (at : Place) → answers at ≡ true → (z : Text) →
       started at locks lv point (114 ∷ z) ≡ by_form (bare_statuses point) (114 ∷ z)
-  unfolding line_forms
+  unfolding line_start named_line number_name_at context_at removed_at ask_forms plain_line plain_forms lock_line lock_forms settle_line
+      settle_forms
   bare_starts (place.Pre op) h z = refl
   bare_starts (place.Post op) h z = refl
   bare_starts place.Canceled h z = absurd (false≢true h)
@@ -39,7 +42,8 @@ module _ (locks : List Lock) (lv point : ℕ) where
   -- a completion context
   star_starts : (at : Place) → answers at ≡ true → (z : Text) →
       started at locks lv point (42 ∷ z) ≡ by_form (bare_statuses point) (42 ∷ z)
-  unfolding line_forms
+  unfolding line_start named_line number_name_at context_at removed_at ask_forms plain_line plain_forms lock_line lock_forms settle_line
+      settle_forms
   star_starts (place.Pre op) h z = refl
   star_starts (place.Post op) h z = refl
   star_starts place.Canceled h z = absurd (false≢true h)
@@ -54,8 +58,8 @@ module _ (locks : List Lock) (lv point : ℕ) where
 
     handed : (at : Place) → answers at ≡ true → (c : ContextVariable) (name : Text) (s : Status) →
         by_form (handing point c) (codes "return " ++ (name ++ (codes ";" ++ (label point line ++ r)))) ≡
-        Some (whole (Return no_span (Some s)), r) →
-        line_at at locks lv point ((handed_text level (Some c) ++ []) ++ answer name) ≡ Some (whole (Return no_span (Some s)), r)
+        Some (Whole (Return no_span (Some s)), r) →
+        line_at at locks lv point ((handed_text level (Some c) ++ []) ++ answer name) ≡ Some (Whole (Return no_span (Some s)), r)
     unfolding handed_line
     handed at h c name s e =
         ap (line_at at locks lv point)
@@ -66,7 +70,7 @@ module _ (locks : List Lock) (lv point : ℕ) where
 
     completes : (at : Place) → answers at ≡ true → (f : FinalStatus) →
         line_at at locks lv point ((final_text level (codes "Data") f ++ []) ++ answer (codes "FLT_PREOP_COMPLETE")) ≡
-        Some (whole (Return no_span (Some (statuses.Complete f))), r)
+        Some (Whole (Return no_span (Some (statuses.Complete f))), r)
     completes at h f =
         ap (line_at at locks lv point) (append_assoc (final_text level (codes "Data") f) [] (answer (codes "FLT_PREOP_COMPLETE")))
         ∙ completion_starts at locks lv point line r level operations.Data f _
@@ -76,12 +80,12 @@ module _ (locks : List Lock) (lv point : ℕ) where
 
     bare : (at : Place) → answers at ≡ true → (name : Text) (s : Status) →
         by_form (bare_statuses point) (codes "return " ++ (name ++ (codes ";" ++ (label point line ++ r)))) ≡
-        Some (whole (Return no_span (Some s)), r) →
-        line_at at locks lv point (answer name) ≡ Some (whole (Return no_span (Some s)), r)
+        Some (Whole (Return no_span (Some s)), r) →
+        line_at at locks lv point (answer name) ≡ Some (Whole (Return no_span (Some s)), r)
     bare at h name s e = starts at locks lv point level _ ∙ bare_starts at h _ ∙ e
 
     answer_reads : (at : Place) → answers at ≡ true → (s : Status) →
-        line_at at locks lv point (before_return level s ++ answer (status_name s)) ≡ Some (whole (Return no_span (Some s)), r)
+        line_at at locks lv point (before_return level s ++ answer (status_name s)) ≡ Some (Whole (Return no_span (Some s)), r)
     answer_reads at h (statuses.WithCallback None) =
         bare at h (status_name (statuses.WithCallback None)) (statuses.WithCallback None) (ends_reads [] point line _ r)
     answer_reads at h (statuses.WithCallback (Some c)) =
@@ -101,7 +105,7 @@ module _ (locks : List Lock) (lv point : ℕ) where
         bare at h (status_name statuses.MoreProcessingRequired) statuses.MoreProcessingRequired (ends_reads [] point line _ r)
 
     status_reads : (at : Place) (is_pre : Bool) → answers at ≡ true → (s : Status) →
-        line_at at locks lv point (answer_text is_pre level (Some s) ++ (label point line ++ r)) ≡ Some (whole (Return no_span (Some s)), r)
+        line_at at locks lv point (answer_text is_pre level (Some s) ++ (label point line ++ r)) ≡ Some (Whole (Return no_span (Some s)), r)
     status_reads at is_pre h s =
         ap (line_at at locks lv point)
         (joined_pieces (before_return level s ∷ indentation level ∷ codes "return " ∷ status_name s ∷ codes ";" ∷ [])
@@ -117,8 +121,9 @@ module _ (locks : List Lock) (lv point : ℕ) where
         ∙ starts at locks lv point level _ ∙ e
 
     pub return_reads : (at : Place) (s : Option Status) →
-        line_at at locks lv point (return_text at level s ++ (label point line ++ r)) ≡ Some (whole (Return no_span (returned at s)), r)
-    unfolding line_forms
+        line_at at locks lv point (return_text at level s ++ (label point line ++ r)) ≡ Some (Whole (Return no_span (returned at s)), r)
+    unfolding line_start named_line number_name_at context_at removed_at ask_forms plain_line plain_forms lock_line lock_forms settle_line
+        settle_forms
     return_reads (place.Pre op) None = alone (place.Pre op) (passing true) _ (ends_reads [] point line _ r)
     return_reads (place.Pre op) (Some s) = status_reads (place.Pre op) true refl s
     return_reads (place.Post op) None = alone (place.Post op) (passing false) _ (ends_reads [] point line _ r)

@@ -24,10 +24,12 @@ use Rattle.flt_emit.specs.Expressions.{expression_text, file_text}
 use Rattle.flt_emit.specs.Line.{label, atom_text, indentation}
 use Rattle.flt_emit.specs.Names.{number_name, context_name, removed_name, operation_name, own_file}
 use Rattle.flt_emit.specs.Statements.{action_text}
-use Rattle.flt_emit_read.specs.Front.{Front, after, by_form, past_blanks, number_at}
-use Rattle.flt_emit_read.specs.Lines.{Line, whole, line_forms, line_at, number_line, context_line, removed_line, expression_after, file_at, write_line, atom_at, number_name_at, completing}
+use Rattle.flt_emit_read.specs.Front.{Front, after, past_blanks, number_at}
+use Rattle.flt_emit_read.specs.declared.line.Line.{Line}
+use Rattle.flt_emit_read.specs.declared.line.Line.TheVariants.{Whole}
+use Rattle.flt_emit_read.specs.Lines.{line_at, number_line, context_line, removed_line, expression_after, file_at, write_line, atom_at, number_name_at, completing, line_start, named_line, context_at, removed_at, ask_forms, plain_line, plain_forms, lock_line, lock_forms, settle_line, settle_forms}
 use Rattle.flt_emit_read.proofs.Fronts.{then_reads, first_reads, other_reads, after_again, joined_pieces, past_indentation}
-use Rattle.flt_emit_read.proofs.Words.{context_reads, removed_reads, atom_reads, ends_reads}
+use Rattle.flt_emit_read.proofs.Names.{context_reads, removed_reads, atom_reads, ends_reads}
 
 -- ---- files
 
@@ -56,14 +58,15 @@ file_reads at (operations.Removed o) r =
 module _ (at : Place) (locks : List Lock) (lv point : ℕ) where
   -- a line without its blanks
   abbrev pub started : Text → Front Line
-  started z = by_form (line_forms at locks lv point) (past_blanks z)
+  started z = line_start at locks lv point (past_blanks z)
 
   pub starts : (level : ℕ) (z : Text) → line_at at locks lv point (indentation level ++ z) ≡ started z
   unfolding line_at
-  starts level z = ap (by_form (line_forms at locks lv point)) (past_indentation level z)
+  starts level z = ap (line_start at locks lv point) (past_indentation level z)
 
   number_starts : (n : NumberVariable) (z : Text) → started (number_name n ++ z) ≡ number_line at point n z
-  unfolding line_forms
+  unfolding line_start named_line number_name_at context_at removed_at ask_forms plain_line plain_forms lock_line lock_forms settle_line
+      settle_forms
   number_starts numbers.N0 z = refl
   number_starts numbers.N1 z = refl
   number_starts numbers.N2 z = refl
@@ -74,7 +77,8 @@ module _ (at : Place) (locks : List Lock) (lv point : ℕ) where
   number_starts numbers.N7 z = refl
 
   pub context_starts : (c : ContextVariable) (z : Text) → started (context_name c ++ z) ≡ context_line point c z
-  unfolding line_forms
+  unfolding line_start named_line number_name_at context_at removed_at ask_forms plain_line plain_forms lock_line lock_forms settle_line
+      settle_forms
   context_starts contexts.C0 z = refl
   context_starts contexts.C1 z = refl
   context_starts contexts.C2 z = refl
@@ -86,7 +90,8 @@ module _ (at : Place) (locks : List Lock) (lv point : ℕ) where
   context_starts contexts.Arg z = refl
 
   removed_starts : (o : RemovedVariable) (z : Text) → started (removed_name o ++ z) ≡ removed_line at point o z
-  unfolding line_forms
+  unfolding line_start named_line number_name_at context_at removed_at ask_forms plain_line plain_forms lock_line lock_forms settle_line
+      settle_forms
   removed_starts removed.O0 z = refl
   removed_starts removed.O1 z = refl
   removed_starts removed.O2 z = refl
@@ -94,7 +99,8 @@ module _ (at : Place) (locks : List Lock) (lv point : ℕ) where
 
   pub completing_starts : (d : OperationVariable) (z : Text) →
       started (operation_name d ++ (codes "->IoStatus.Status = " ++ z)) ≡ completing at point d z
-  unfolding line_forms removed_line
+  unfolding removed_line line_start named_line number_name_at context_at removed_at ask_forms plain_line plain_forms lock_line lock_forms
+      settle_line settle_forms
   completing_starts operations.Data z = refl
   completing_starts (operations.Removed o) z = removed_starts o (codes "->IoStatus.Status = " ++ z)
 
@@ -103,7 +109,7 @@ module _ (at : Place) (locks : List Lock) (lv point : ℕ) where
 
     expression_reads : (n : NumberVariable) (e : Expression) → IsExpression e →
         number_line at point n (codes " = " ++ (expression_text e ++ (codes ";" ++ (label point line ++ r)))) ≡
-        Some (whole (Act no_span (SetNumber n e)), r)
+        Some (Whole (Act no_span (SetNumber n e)), r)
     unfolding number_line expression_after
     expression_reads n (expressions.Atom x) ok =
         first_reads _ _ (atom_reads x (codes ";" ++ (label point line ++ r)) ok) ∙ ends_reads [] point line _ r
@@ -120,8 +126,9 @@ module _ (at : Place) (locks : List Lock) (lv point : ℕ) where
 
     -- ---- actions
 
-    action_starts : (a : Action) → IsAction a → started (action_text at a ++ (label point line ++ r)) ≡ Some (whole (Act no_span a), r)
-    unfolding line_forms number_line context_line removed_line write_line atom_at number_name_at number_at
+    action_starts : (a : Action) → IsAction a → started (action_text at a ++ (label point line ++ r)) ≡ Some (Whole (Act no_span a), r)
+    unfolding number_line context_line removed_line write_line atom_at number_name_at number_at line_start named_line context_at
+        removed_at ask_forms plain_line plain_forms lock_line lock_forms settle_line settle_forms
     action_starts (SetNumber n e) ok =
         ap started (joined_pieces (number_name n ∷ codes " = " ∷ expression_text e ∷ codes ";" ∷ []) (label point line ++ r))
         ∙ number_starts n _ ∙ expression_reads n e ok
@@ -146,5 +153,5 @@ module _ (at : Place) (locks : List Lock) (lv point : ℕ) where
         ∙ removed_starts o _ ∙ ends_reads [] point line _ r
 
     pub action_reads : (level : ℕ) (a : Action) → IsAction a →
-        line_at at locks lv point (indentation level ++ (action_text at a ++ (label point line ++ r))) ≡ Some (whole (Act no_span a), r)
+        line_at at locks lv point (indentation level ++ (action_text at a ++ (label point line ++ r))) ≡ Some (Whole (Act no_span a), r)
     action_reads level a ok = starts level (action_text at a ++ (label point line ++ r)) ∙ action_starts a ok

@@ -39,7 +39,7 @@ use Rattle.flt_emit_read.specs.Blocks.{reading, past_end, step, body_at}
 use Rattle.flt_emit_read.specs.Front.{after}
 use Rattle.flt_emit_read.specs.Laws.{ReadsBack}
 use Rattle.flt_print.specs.Reprinting.{nowhere}
-use Rattle.flt_emit_read.specs.Lines.{line_forms, line_at}
+use Rattle.flt_emit_read.specs.Lines.{line_at, line_start, named_line, number_name_at, context_at, removed_at, ask_forms, plain_line, plain_forms, lock_line, lock_forms, settle_line, settle_forms}
 use Rattle.flt_emit_read.specs.Sources.{lock_at, locks_at, queue_at, operation_kind_at, event_at, routine_at, head_at, prototype_at, heads_at, hooked, callback_at, callbacks_at, queue_of, whole_filter, title_at, read_back}
 use Rattle.flt_emit_read.proofs.Declared.{declaration_lines}
 use Rattle.flt_emit_read.proofs.Fronts.{then_reads, first_reads, other_reads, after_again, all_digits, past_all, number_reads, name_reads, Stops, pieces, joined_pieces}
@@ -52,38 +52,44 @@ abbrev pub Ends : Place → List Lock → Text → Text → Type 0
 Ends at locks y rest =
     ((point : ℕ) (done : List Statement) → step at locks (reading point done []) y ≡ None) × (past_end [] at y ≡ Some rest)
 
-pre_ends : (op : Operation) (locks : List Lock) (b : Bool) (r : Text) →
+pub pre_ends : (op : Operation) (locks : List Lock) (b : Bool) (r : Text) →
     Ends (place.Pre op) locks (unreturned b true ++ (codes "}\n" ++ r)) r
-unfolding unreturned unreached line_at line_forms
+unfolding unreturned unreached line_at line_start named_line number_name_at context_at removed_at ask_forms plain_line plain_forms
+    lock_line lock_forms settle_line settle_forms
 pre_ends op locks true r = (λ point done. refl, refl)
 pre_ends op locks false r = (λ point done. refl, refl)
 
-post_ends : (op : Operation) (locks : List Lock) (b : Bool) (r : Text) →
+pub post_ends : (op : Operation) (locks : List Lock) (b : Bool) (r : Text) →
     Ends (place.Post op) locks (unreturned b false ++ (codes "}\n" ++ r)) r
-unfolding unreturned unreached line_at line_forms
+unfolding unreturned unreached line_at line_start named_line number_name_at context_at removed_at ask_forms plain_line plain_forms
+    lock_line lock_forms settle_line settle_forms
 post_ends op locks true r = (λ point done. refl, refl)
 post_ends op locks false r = (λ point done. refl, refl)
 
-deferred_pre_ends : (locks : List Lock) (b : Bool) (r : Text) →
+pub deferred_pre_ends : (locks : List Lock) (b : Bool) (r : Text) →
     Ends place.DeferredPre locks (joined (done b ∷ fixed.free_deferred ∷ []) ++ (codes "}\n" ++ r)) r
-unfolding free_deferred line_at line_forms
+unfolding free_deferred line_at line_start named_line number_name_at context_at removed_at ask_forms plain_line plain_forms lock_line
+    lock_forms settle_line settle_forms
 deferred_pre_ends locks true r = (λ point done. refl, refl)
 deferred_pre_ends locks false r = (λ point done. refl, refl)
 
-deferred_post_ends : (locks : List Lock) (b : Bool) (r : Text) →
+pub deferred_post_ends : (locks : List Lock) (b : Bool) (r : Text) →
     Ends place.DeferredPost locks (joined (done b ∷ fixed.free_deferred ∷ []) ++ (codes "}\n" ++ r)) r
-unfolding free_deferred line_at line_forms
+unfolding free_deferred line_at line_start named_line number_name_at context_at removed_at ask_forms plain_line plain_forms lock_line
+    lock_forms settle_line settle_forms
 deferred_post_ends locks true r = (λ point done. refl, refl)
 deferred_post_ends locks false r = (λ point done. refl, refl)
 
-generic_ends : (locks : List Lock) (b : Bool) (r : Text) →
+pub generic_ends : (locks : List Lock) (b : Bool) (r : Text) →
     Ends place.Generic locks (joined (done b ∷ fixed.free_generic ∷ []) ++ (codes "}\n" ++ r)) r
-unfolding free_generic line_at line_forms
+unfolding free_generic line_at line_start named_line number_name_at context_at removed_at ask_forms plain_line plain_forms lock_line
+    lock_forms settle_line settle_forms
 generic_ends locks true r = (λ point done. refl, refl)
 generic_ends locks false r = (λ point done. refl, refl)
 
-canceled_ends : (locks : List Lock) (r : Text) → Ends place.Canceled locks (codes "}\n" ++ r) r
-unfolding line_at line_forms
+pub canceled_ends : (locks : List Lock) (r : Text) → Ends place.Canceled locks (codes "}\n" ++ r) r
+unfolding line_at line_start named_line number_name_at context_at removed_at ask_forms plain_line plain_forms lock_line lock_forms
+    settle_line settle_forms
 canceled_ends locks r = (λ point done. refl, refl)
 
 all_end : (h : Head) (locks : List Lock) (body : List Statement) (r : Text) →

@@ -1,26 +1,20 @@
 -- Lines one after the other, with the blocks that are open. This project's own.
-use Rattle.std.specs.Prelude.{ℕ, zero, suc, ◌+◌, Bool, true, false, List, [], ◌∷◌, ◌++◌, length, codes, Option, Some, None}
+use Rattle.std.specs.Prelude.{ℕ, zero, suc, ◌+◌, true, false, List, [], ◌∷◌, ◌++◌, length, codes, Option, Some, None}
 use Rattle.flt_rules.specs.declared.place.Place.{Place}
 use Rattle.flt_rules.specs.declared.place.Place.TheVariants as place
 use Rattle.flt_tree.specs.Filter.{no_span}
 use Rattle.flt_tree.specs.Names.{Text}
-use Rattle.flt_tree.specs.declared.filter.Condition.{Condition}
 use Rattle.flt_tree.specs.declared.filter.Lock.{Lock}
 use Rattle.flt_tree.specs.declared.filter.Statement.{Statement}
 use Rattle.flt_tree.specs.declared.filter.Statement.TheVariants.{If, Repeat}
 use Rattle.flt_emit.specs.Fixed as fixed
 use Rattle.flt_emit.specs.Statements.{passing}
+use Rattle.flt_emit_read.specs.declared.blocks.Open.{Open}
+use Rattle.flt_emit_read.specs.declared.blocks.Open.TheVariants.{First, Second, Repeated}
 use Rattle.flt_emit_read.specs.Front.{Front, ◌>>=◌, or_else, after}
-use Rattle.flt_emit_read.specs.Lines.{Line, whole, asks, turns, otherwise, closes, line_at}
-
--- a block that is open, with the statements before it
-pub data Open : Type 0 where
-  -- the first block of an `if`, and whether that asks for the opposite
-  first : Bool → Condition → List Statement → Open
-  -- the second one, behind the statements of the first
-  second : Condition → List Statement → List Statement → Open
-  -- a `repeat`
-  repeated : ℕ → List Statement → Open
+use Rattle.flt_emit_read.specs.declared.line.Line.{Line}
+use Rattle.flt_emit_read.specs.declared.line.Line.TheVariants.{Whole, Asks, Turns, Otherwise, Closes}
+use Rattle.flt_emit_read.specs.Lines.{line_at}
 
 -- where a reading stands
 pub record Reading : Type 0 where
@@ -36,14 +30,14 @@ reading point done outer = record { point = point; done = done; open_blocks = ou
 
 -- the statements of the block outside, once the block that is open ends
 abbrev pub ended : Open → List Statement → List Statement
-ended (first false c before) inside = before ++ If no_span c inside [] ∷ []
-ended (first true c before) inside = before ++ If no_span c [] inside ∷ []
-ended (second c granted before) inside = before ++ If no_span c granted inside ∷ []
-ended (repeated n before) inside = before ++ Repeat no_span n inside ∷ []
+ended (First false c before) inside = before ++ If no_span c inside [] ∷ []
+ended (First true c before) inside = before ++ If no_span c [] inside ∷ []
+ended (Second c granted before) inside = before ++ If no_span c granted inside ∷ []
+ended (Repeated n before) inside = before ++ Repeat no_span n inside ∷ []
 
 -- the second block of an `if` begins
 abbrev pub turned_over : ℕ → List Statement → List Open → Option Reading
-turned_over point done (first false c before ∷ outer) = Some (reading point [] (second c done before ∷ outer))
+turned_over point done (First false c before ∷ outer) = Some (reading point [] (Second c done before ∷ outer))
 turned_over point done _ = None
 
 -- a block ends
@@ -53,11 +47,11 @@ closed point done (block ∷ outer) = Some (reading point (ended block done) out
 
 -- what a line does
 abbrev pub takes : Reading → Line → Option Reading
-takes r (whole s) = Some (reading (r.point + 1) (r.done ++ s ∷ []) r.open_blocks)
-takes r (asks turned c) = Some (reading (r.point + 1) [] (first turned c r.done ∷ r.open_blocks))
-takes r (turns n) = Some (reading (r.point + 1) [] (repeated n r.done ∷ r.open_blocks))
-takes r otherwise = turned_over r.point r.done r.open_blocks
-takes r closes = closed r.point r.done r.open_blocks
+takes r (Whole s) = Some (reading (r.point + 1) (r.done ++ s ∷ []) r.open_blocks)
+takes r (Asks turned c) = Some (reading (r.point + 1) [] (First turned c r.done ∷ r.open_blocks))
+takes r (Turns n) = Some (reading (r.point + 1) [] (Repeated n r.done ∷ r.open_blocks))
+takes r Otherwise = turned_over r.point r.done r.open_blocks
+takes r Closes = closed r.point r.done r.open_blocks
 
 -- ---- a whole body
 

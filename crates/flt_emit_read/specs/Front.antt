@@ -51,15 +51,15 @@ is_blank b = b == 32
 abbrev pub past_blanks : Text → Text
 past_blanks = past_while is_blank
 
--- a text of digits as a number, after the number of the digits before them
-abbrev pub number_from : ℕ → Text → ℕ
-number_from n [] = n
-number_from n (d ∷ ds) = number_from (10 * n + (d - 48)) ds
+-- a text of digits as a number of 64 bits, after the number of the digits before them
+abbrev pub number_from : ℕ → Text → Option ℕ
+number_from n [] = Some n
+number_from n (d ∷ ds) = if nat_lt (10 * n + (d - 48)) (2 ^ 64) then number_from (10 * n + (d - 48)) ds else None
 
--- a number of 64 bits, if there are digits
+-- the same if there are digits
 abbrev pub number_of : Text → Option ℕ
 number_of [] = None
-number_of (d ∷ ds) = if nat_lt (number_from 0 (d ∷ ds)) (2 ^ 64) then Some (number_from 0 (d ∷ ds)) else None
+number_of (d ∷ ds) = number_from 0 (d ∷ ds)
 
 unfoldable pub number_at : Text → Front ℕ
 number_at z = number_of (front_while is_ascii_digit z) >>= λ n. Some (n, past_while is_ascii_digit z)

@@ -25,7 +25,6 @@ use Rattle.flt_tree.specs.declared.filter.Lock.{Lock}
 use Rattle.flt_tree.specs.declared.filter.PlainCall.{PlainCall}
 use Rattle.flt_tree.specs.declared.filter.PlainCall.TheVariants as plain
 use Rattle.flt_tree.specs.declared.filter.Routine.{Routine}
-use Rattle.flt_tree.specs.declared.filter.Statement.{Statement}
 use Rattle.flt_tree.specs.declared.filter.Statement.TheVariants.{Act, Call, Return, If}
 use Rattle.flt_tree.specs.declared.filter.Status.{Status}
 use Rattle.flt_tree.specs.declared.filter.Status.TheVariants as statuses
@@ -45,20 +44,9 @@ use Rattle.flt_tree.specs.declared.variable.RemovedVariable.TheVariants as remov
 use Rattle.flt_emit.specs.Expressions.{is_variable, is_zero}
 use Rattle.flt_emit.specs.Names.{number_name, context_name, removed_name, operation_name, instance, own_file, existing_name, final_status_name}
 use Rattle.flt_print.specs.Reprinting.{nowhere}
+use Rattle.flt_emit_read.specs.declared.line.Line.{Line}
+use Rattle.flt_emit_read.specs.declared.line.Line.TheVariants.{Whole, Asks, Turns, Otherwise, Closes}
 use Rattle.flt_emit_read.specs.Front.{Front, ◌>>=◌, or_else, after, one_of, Forms, by_form, past_while, past_blanks, number_at, name_at}
-
--- what a line says
-pub data Line : Type 0 where
-  -- a whole statement
-  whole : Statement → Line
-  -- the beginning of an `if`, and whether it asks for the opposite
-  asks : Bool → Condition → Line
-  -- the beginning of a `repeat`, and its turns
-  turns : ℕ → Line
-  -- the first block of an `if` ends, and the second one begins
-  otherwise : Line
-  -- a block ends
-  closes : Line
 
 -- ---- names
 
@@ -124,21 +112,25 @@ labelled point z = do
   z ← after (codes ", line ") z
   after (10 ∷ []) (past_while is_ascii_digit z)
 
+-- what follows this end of a line and its label
+abbrev pub ended : Text → ℕ → Text → Option Text
+ended end point z = after end z >>= λ z. labelled point z
+
 -- a line ends so, with its label
 abbrev pub ends : {A : Type 0} → Text → ℕ → A → Text → Front A
 ends end point x z = after end z >>= λ z. labelled point z >>= λ z. Some (x, z)
 
 -- a statement that neither calls nor branches
 abbrev pub act : ℕ → Text → Action → Text → Front Line
-act point end a = ends end point (whole (Act no_span a))
+act point end a = ends end point (Whole (Act no_span a))
 
 -- a call
 abbrev pub calls : ℕ → Text → PlainCall → Text → Front Line
-calls point end c = ends end point (whole (Call no_span c))
+calls point end c = ends end point (Whole (Call no_span c))
 
 -- a return
 abbrev pub leaves : ℕ → Option Status → Text → Front Line
-leaves point s = ends [] point (whole (Return no_span s))
+leaves point s = ends [] point (Whole (Return no_span s))
 
 -- ---- statements that neither call nor branch
 
@@ -187,12 +179,20 @@ abbrev pub lock_end : Option Text → Text → Text
 lock_end None name = codes " );"
 lock_end (Some level) name = level ++ (name ++ codes " );")
 
+-- the lock of a kind and a name, and what follows the call on it
+unfoldable pub locked : List Lock → ℕ → LockKind → Option Text → Text → Front LockNumber
+locked locks point kind level z = do
+  name ← name_at z
+  l ← lock_number kind name.0 locks
+  rest ← ended (lock_end level name.0) point name.1
+  Some (l, rest)
+
 -- a call on the lock of a kind
 unfoldable pub lock_call : List Lock → ℕ → LockKind → Option Text → (LockNumber → PlainCall) → Text → Front Line
 lock_call locks point kind level made z =
-    name_at z >>= λ name. lock_number kind name.0 locks >>= λ l. calls point (lock_end level name.0) (made l) name.1
+    locked locks point kind level z >>= λ l. Some (Whole (Call no_span (made l.0)), l.1)
 
--- the same statuses for a pended operation, but for the one that completes it
+-- a status for a pended operation that doesn't complete it
 unfoldable pub pended_at : Text → Front Status
 pended_at =
     by_form ((codes "FLT_PREOP_SUCCESS_WITH_CALLBACK, ", λ z. optional_at z >>= λ c. Some (statuses.WithCallback c.0, c.1))
@@ -235,6 +235,10 @@ completing_return false point f = []
 abbrev pub completed_return : Place → ℕ → OperationVariable → FinalStatus → Forms Line
 completed_return at point operations.Data f = completing_return (answers at) point f
 completed_return at point (operations.Removed o) f = []
+
+-- the last of the lines that complete an operation
+abbrev pub completed : Place → ℕ → OperationVariable → FinalStatus → Text → Front Line
+completed at point d f = by_form (completed_call point d f ∷ completed_return at point d f)
 
 -- the lines that complete an operation, after the words that set its final status
 unfoldable pub completing : Place → ℕ → OperationVariable → Text → Front Line
@@ -336,9 +340,13 @@ null_at t = one_of ((codes " != NULL", (false, made.Test t)) ∷ (codes " == NUL
 
 -- ---- calls that can fail
 
+-- what a call about the context of a stream is given first
+abbrev pub stream_given : Place → Text
+stream_given at = instance at ++ (codes ", " ++ own_file at)
+
 -- what a call about the context of a stream or of an instance is given first
 abbrev pub anchor_given : Place → Anchor → Text
-anchor_given at Stream = instance at ++ (codes ", " ++ own_file at)
+anchor_given at Stream = stream_given at
 anchor_given at Instance = instance at
 
 unfoldable pub get_at : Place → Anchor → Text → Front FallibleCall
@@ -384,18 +392,25 @@ remove_at z = do
   c ← context_at z
   Some (fallible.RemoveNextIo o.0 c.0, c.1)
 
+-- what follows the instance of a work item without an operation
+abbrev pub past_instance : Place → Text → Option Text
+past_instance at z = after (instance at) z >>= λ z. after (codes ", Generic_") z
+
 unfoldable pub generic_at : Place → Text → Front FallibleCall
-generic_at at z = do
-  z ← after (instance at) z
-  z ← after (codes ", Generic_") z
-  queued_at fallible.QueueGenericWorkItem z
+generic_at at z = past_instance at z >>= λ z. queued_at fallible.QueueGenericWorkItem z
 
 -- the kind of a context that is allocated isn't in the tree
+abbrev pub past_kind : Text → Option Text
+past_kind z = or_else (after (codes "FLT_STREAM_CONTEXT, &") z) (λ rest. Some rest) (after (codes "FLT_INSTANCE_CONTEXT, &") z)
+
 unfoldable pub allocate_at : Text → Front FallibleCall
 allocate_at z = do
-  z ← or_else (after (codes "FLT_STREAM_CONTEXT, &") z) (λ rest. Some rest) (after (codes "FLT_INSTANCE_CONTEXT, &") z)
+  z ← past_kind z
   c ← context_at z
   Some (fallible.AllocateContext c.0, c.1)
+
+abbrev pub insert_at : Text → Front FallibleCall
+insert_at z = optional_at z >>= λ c. Some (fallible.InsertIo c.0, c.1)
 
 unfoldable pub fallible_at : Place → Text → Front FallibleCall
 fallible_at at =
@@ -403,7 +418,7 @@ fallible_at at =
     ∷ (codes "GetStreamContext( ", get_at at Stream) ∷ (codes "GetInstanceContext( ", get_at at Instance)
     ∷ (codes "SetStreamContext( ", set_at at Stream) ∷ (codes "SetInstanceContext( ", set_at at Instance)
     ∷ (codes "DeleteStreamContext( ", delete_at at Stream) ∷ (codes "DeleteInstanceContext( ", delete_at at Instance)
-    ∷ (codes "InsertIo( Data, ", λ z. optional_at z >>= λ c. Some (fallible.InsertIo c.0, c.1))
+    ∷ (codes "InsertIo( Data, ", insert_at)
     ∷ (codes "RemoveNextIo( &", remove_at)
     ∷ (codes "QueueDeferredIo( Data, Deferred_", queued_at fallible.QueueDeferredIoWorkItem)
     ∷ (codes "QueueGeneric( ", generic_at at) ∷ [])
@@ -414,27 +429,39 @@ succeeds_at at turned z = do
   z ← after (codes " ) )") c.1
   Some ((turned, made.Succeeds c.0), z)
 
--- what an `if` asks
-unfoldable pub condition_at : Place → Text → Front Asked
-condition_at at =
-    by_form ((codes "NT_SUCCESS( ", succeeds_at at false) ∷ (codes "!NT_SUCCESS( ", succeeds_at at true)
-    ∷ (codes "TRUE /* ", known_at true) ∷ (codes "FALSE /* ", known_at false)
+-- a test that begins with a variable
+unfoldable pub named_test_at : Text → Front Asked
+named_test_at z =
+    or_else (number_name_at z) (λ n. unknown_at n.0 n.1)
+    (or_else (context_at z) (λ c. null_at (ContextIsSome c.0) c.1) (removed_at z >>= λ o. null_at (OperationIsSome o.0) o.1))
+
+-- tests, by how they begin
+unfoldable pub test_forms : Forms Asked
+test_forms =
+    (codes "TRUE /* ", known_at true) ∷ (codes "FALSE /* ", known_at false)
     ∷ (codes "FLT_IS_IRP_OPERATION( Data )", λ z. Some ((false, made.Test IsIrp), z))
     ∷ (codes "!FLT_IS_IRP_OPERATION( Data )", λ z. Some ((true, made.Test IsIrp), z))
     ∷ (codes "FlagOn( Flags, FLTFL_POST_OPERATION_DRAINING )", λ z. Some ((false, made.Test IsDraining), z))
-    ∷ (codes "!FlagOn( Flags, FLTFL_POST_OPERATION_DRAINING )", λ z. Some ((true, made.Test IsDraining), z))
-    ∷ (map (λ n. (number_name n, unknown_at n)) all_numbers
-    ++ (map (λ c. (context_name c, null_at (ContextIsSome c))) all_contexts
-    ++ map (λ o. (removed_name o, null_at (OperationIsSome o))) all_removed)))
+    ∷ (codes "!FlagOn( Flags, FLTFL_POST_OPERATION_DRAINING )", λ z. Some ((true, made.Test IsDraining), z)) ∷ []
+
+-- a test
+unfoldable pub test_at : Text → Front Asked
+test_at z = or_else (one_of test_forms z) (λ q. q.0 q.1) (named_test_at z)
+
+-- what an `if` asks
+unfoldable pub condition_at : Place → Text → Front Asked
+condition_at at z =
+    or_else (one_of ((codes "NT_SUCCESS( ", succeeds_at at false) ∷ (codes "!NT_SUCCESS( ", succeeds_at at true) ∷ []) z) (λ q. q.0 q.1)
+    (test_at z)
 
 -- ---- blocks
 
 unfoldable pub if_line : Place → ℕ → Text → Front Line
-if_line at point z = condition_at at z >>= λ c. ends (codes ") {") point (asks c.0.0 c.0.1) c.1
+if_line at point z = condition_at at z >>= λ c. ends (codes ") {") point (Asks c.0.0 c.0.1) c.1
 
 -- an `if` without statements, which never asks for the opposite
 abbrev pub bare : ℕ → Bool → Condition → Text → Front Line
-bare point false c = ends (codes ");") point (whole (If no_span c [] []))
+bare point false c = ends (codes ");") point (Whole (If no_span c [] []))
 bare point true c = λ z. None
 
 unfoldable pub bare_line : Place → ℕ → Text → Front Line
@@ -449,32 +476,63 @@ repeat_line level point z = do
   z ← after (decimal level) z
   z ← after (codes " != 0; turn") z
   z ← after (decimal level) z
-  ends (codes "--) {") point (turns n.0) z
+  ends (codes "--) {") point (Turns n.0) z
 
 -- ---- all lines
 
--- the lines of a callback of a place, in a block of a level, by how they begin
-unfoldable pub line_forms : Place → List Lock → ℕ → ℕ → Forms Line
-line_forms at locks level point =
-    (codes "if (", if_line at point) ∷ (codes "(VOID) (", bare_line at point) ∷ (codes "for (ULONG turn", repeat_line level point)
-    ∷ (codes "}\n", λ z. Some (closes, z)) ∷ (codes "} else {\n", λ z. Some (otherwise, z))
-    ∷ (codes "WriteULong64NoFence( &", write_line point)
-    ∷ (codes "FltDeleteContext( ", ended_context point plain.DeleteContext)
-    ∷ (codes "FltReleaseContext( ", ended_context point plain.ReleaseContext)
-    ∷ (codes "KeAcquireSpinLock( &Globals.lock_", lock_call locks point Spin (Some (codes ", &irql_")) (plain.AcquireLock Spin))
+-- a line that begins with a variable, or a return
+unfoldable pub named_line : Place → ℕ → Text → Front Line
+named_line at point z =
+    or_else (number_name_at z) (λ n. number_line at point n.0 n.1)
+    (or_else (context_at z) (λ c. context_line point c.0 c.1)
+    (or_else (removed_at z) (λ o. removed_line at point o.0 o.1) (by_form (returns at point) z)))
+
+-- lines that settle operations, by how they begin
+unfoldable pub settle_forms : Place → ℕ → Forms Line
+settle_forms at point =
+    (codes "FltCompletePendedPreOperation( ", pended_line point)
+    ∷ (codes "FltCompletePendedPostOperation( Data );", calls point [] plain.CompletePendedPostOperation)
+    ∷ (codes "Data->IoStatus.Status = ", completing at point operations.Data) ∷ []
+
+-- such a line, or one that begins with a variable, or a return
+unfoldable pub settle_line : Place → ℕ → Text → Front Line
+settle_line at point z = or_else (one_of (settle_forms at point) z) (λ q. q.0 q.1) (named_line at point z)
+
+-- calls on locks, by how they begin
+unfoldable pub lock_forms : List Lock → ℕ → Forms Line
+lock_forms locks point =
+    (codes "KeAcquireSpinLock( &Globals.lock_", lock_call locks point Spin (Some (codes ", &irql_")) (plain.AcquireLock Spin))
     ∷ (codes "ExAcquireFastMutex( &Globals.lock_", lock_call locks point Fast None (plain.AcquireLock Fast))
     ∷ (codes "FltAcquirePushLockExclusive( &Globals.lock_", lock_call locks point Push None (plain.AcquireLock Push))
     ∷ (codes "FltAcquirePushLockShared( &Globals.lock_", lock_call locks point Push None plain.AcquirePushLockShared)
     ∷ (codes "KeReleaseSpinLock( &Globals.lock_", lock_call locks point Spin (Some (codes ", irql_")) (plain.ReleaseLock Spin))
     ∷ (codes "ExReleaseFastMutex( &Globals.lock_", lock_call locks point Fast None (plain.ReleaseLock Fast))
-    ∷ (codes "FltReleasePushLock( &Globals.lock_", lock_call locks point Push None (plain.ReleaseLock Push))
-    ∷ (codes "FltCompletePendedPreOperation( ", pended_line point)
-    ∷ (codes "FltCompletePendedPostOperation( Data );", calls point [] plain.CompletePendedPostOperation)
-    ∷ (codes "Data->IoStatus.Status = ", completing at point operations.Data)
-    ∷ (map (λ n. (number_name n, number_line at point n)) all_numbers
-    ++ (map (λ c. (context_name c, context_line point c)) all_contexts
-    ++ (map (λ o. (removed_name o, removed_line at point o)) all_removed ++ returns at point)))
+    ∷ (codes "FltReleasePushLock( &Globals.lock_", lock_call locks point Push None (plain.ReleaseLock Push)) ∷ []
+
+-- such a call, or a line of those above
+unfoldable pub lock_line : Place → List Lock → ℕ → Text → Front Line
+lock_line at locks point z = or_else (one_of (lock_forms locks point) z) (λ q. q.0 q.1) (settle_line at point z)
+
+-- lines that begin and end blocks and that end contexts, by how they begin
+unfoldable pub plain_forms : ℕ → ℕ → Forms Line
+plain_forms level point =
+    (codes "for (ULONG turn", repeat_line level point) ∷ (codes "}\n", λ z. Some (Closes, z))
+    ∷ (codes "} else {\n", λ z. Some (Otherwise, z)) ∷ (codes "WriteULong64NoFence( &", write_line point)
+    ∷ (codes "FltDeleteContext( ", ended_context point plain.DeleteContext)
+    ∷ (codes "FltReleaseContext( ", ended_context point plain.ReleaseContext) ∷ []
+
+-- such a line, or one of those above
+unfoldable pub plain_line : Place → List Lock → ℕ → ℕ → Text → Front Line
+plain_line at locks level point z = or_else (one_of (plain_forms level point) z) (λ q. q.0 q.1) (lock_line at locks point z)
+
+-- the lines of `if`, by how they begin
+unfoldable pub ask_forms : Place → ℕ → Forms Line
+ask_forms at point = (codes "if (", if_line at point) ∷ (codes "(VOID) (", bare_line at point) ∷ []
+
+-- a line without its blanks, of a callback of a place, in a block of a level
+unfoldable pub line_start : Place → List Lock → ℕ → ℕ → Text → Front Line
+line_start at locks level point z = or_else (one_of (ask_forms at point) z) (λ q. q.0 q.1) (plain_line at locks level point z)
 
 -- the line at the front
 unfoldable pub line_at : Place → List Lock → ℕ → ℕ → Text → Front Line
-line_at at locks level point z = by_form (line_forms at locks level point) (past_blanks z)
+line_at at locks level point z = line_start at locks level point (past_blanks z)

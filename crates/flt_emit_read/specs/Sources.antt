@@ -143,6 +143,11 @@ title_at z = do
   z ← after (codes "_user.h\"\n") z
   Some ((name.0, altitude.0), z)
 
+-- the filter of a frame, by its callbacks
+abbrev pub filter_at : Text → ℕ → List Lock → Bool → List Head → Text → Option Filter
+filter_at name altitude locks queue heads z =
+    callbacks_at locks 0 heads z >>= λ c. whole_filter (filter_of name altitude locks queue c.0) c.1
+
 -- the filter of a source, without places
 unfoldable pub read_back : Text → Option Filter
 read_back z = do
@@ -153,5 +158,4 @@ read_back z = do
   z ← after fixed.globals_end queue.1
   heads ← heads_at max_callbacks [] z
   z ← after (helpers queue.0) heads.1
-  callbacks ← callbacks_at locks.0 0 heads.0 z
-  whole_filter (filter_of title.0.0 title.0.1 locks.0 queue.0 callbacks.0) callbacks.1
+  filter_at title.0.0 title.0.1 locks.0 queue.0 heads.0 z

@@ -1,22 +1,26 @@
 //! Quick fixes of a fault or a finding: an editor may write the word that is probably meant, or release a context or a lock that is held at the end
 //! of a path.
-//! An edit for a finding is offered only if the text has fewer findings after it.
+//! An edit for a finding is offered only if its callback has fewer findings after it. No other callback's depend on it.
 
-use crate::edits::{Edit, is_better, put_action};
-use crate::faults::is_too_long;
+use crate::edits::{Edit, findings_in, is_better, put_action};
+use crate::faults::{byte_of_fault, is_on, is_too_long};
+use crate::focus::{Focus, focus_by, focus_on, symbols_in};
 use crate::places::Document;
 use flt_details::{Judged, call_name, judge, word_of};
 use flt_explain::{Finding, Subject};
 use flt_graph::{Graph, Instruction, Place};
 use flt_hints::{Trouble, describe};
-use flt_outline::Part;
+use flt_outline::{Part, Symbol};
 use flt_rules::{Call, LockNumber, Rule};
-use flt_syntax::Tree;
+use flt_syntax::{SyntaxFault, Tree};
 use json::Writer;
 use std::alloc::{AllocError, Global};
 
-/// How many findings are looked at for one request, since each takes an analysis of the text.
+/// How many findings are looked at for one request, since an edit for each takes an analysis of its callback.
 const MAX_TRIED: usize = 16;
+
+/// How many points and findings of callbacks are analysed for one request, but for those of the last edit.
+const MAX_ANALYSED: usize = 2_500;
 
 fn meets(part: Part, other: Part) -> bool {
     other.start <= part.end && part.start <= other.end
@@ -57,14 +61,15 @@ fn put_replacing(
     writer: &mut Writer,
     document: &Document<'_>,
     trouble: &Trouble<'_>,
+    left_out: usize,
     part: Part,
 ) -> Result<(), AllocError> {
     let (Some(word), Some(token)) = (trouble.meant, trouble.spot.token) else {
         return Ok(());
     };
     let found = Part {
-        start: token.start,
-        end: token.end,
+        start: token.start.saturating_add(left_out),
+        end: token.end.saturating_add(left_out),
     };
     if !meets(part, found) {
         return Ok(());
@@ -73,15 +78,33 @@ fn put_replacing(
     put_action(alloc, writer, document, &edit)
 }
 
-fn put_for_fault(
+/// The edit for a fault whose words are tried in all of the text.
+fn put_for_fault_in_all(
     alloc: Global,
     writer: &mut Writer,
     document: &Document<'_>,
     part: Part,
 ) -> Result<(), AllocError> {
     match describe(alloc, document.text)? {
-        Some(trouble) => put_replacing(alloc, writer, document, &trouble, part),
+        Some(trouble) => put_replacing(alloc, writer, document, &trouble, 0, part),
         None => Ok(()),
+    }
+}
+
+/// The edit for a fault. Words are tried in its callback, if the fault is the same without the others.
+fn put_for_fault(
+    alloc: Global,
+    writer: &mut Writer,
+    document: &Document<'_>,
+    fault: SyntaxFault,
+    part: Part,
+) -> Result<(), AllocError> {
+    let focus = focus_on(alloc, document.text, byte_of_fault(document.text, fault))?;
+    match describe(alloc, focus.text.as_slice())? {
+        Some(trouble) if is_on(&trouble, fault) => {
+            put_replacing(alloc, writer, document, &trouble, focus.left_out, part)
+        }
+        _ => put_for_fault_in_all(alloc, writer, document, part),
     }
 }
 
@@ -235,15 +258,24 @@ fn testing(
     Ok(Edit { title, part, new })
 }
 
-/// Puts an edit if the text has fewer findings after it, and says whether it is put.
+/// A callback in which edits are tried.
+#[derive(Drop)]
+struct Scope<'a> {
+    focus: &'a Focus,
+    callback: usize,
+    /// How many findings it has.
+    findings: usize,
+}
+
+/// Puts an edit if its callback has fewer findings after it, and says whether it is put.
 fn put_if_better(
     alloc: Global,
     writer: &mut Writer,
     document: &Document<'_>,
-    findings: usize,
+    scope: &Scope<'_>,
     edit: &Edit,
 ) -> Result<bool, AllocError> {
-    let better = is_better(alloc, document.text, findings, edit)?;
+    let better = is_better(alloc, scope.focus, scope.callback, scope.findings, edit)?;
     if better {
         put_action(alloc, writer, document, edit)?;
     }
@@ -257,16 +289,16 @@ fn put_calling(
     document: &Document<'_>,
     tree: &Tree,
     graph: &Graph,
-    findings: usize,
+    scope: &Scope<'_>,
     finding: &Finding,
     call: &[u8],
 ) -> Result<(), AllocError> {
     let first = calling(alloc, document, tree, graph, finding, call)?;
-    if put_if_better(alloc, writer, document, findings, &first)? {
+    if put_if_better(alloc, writer, document, scope, &first)? {
         return Ok(());
     }
     let second = testing(alloc, document, tree, graph, finding, call)?;
-    put_if_better(alloc, writer, document, findings, &second)?;
+    put_if_better(alloc, writer, document, scope, &second)?;
     Ok(())
 }
 
@@ -276,7 +308,7 @@ fn put_for_finding(
     document: &Document<'_>,
     tree: &Tree,
     graph: &Graph,
-    findings: usize,
+    scope: &Scope<'_>,
     finding: &Finding,
 ) -> Result<(), AllocError> {
     match lacking(tree, graph, finding) {
@@ -287,7 +319,7 @@ fn put_for_finding(
                 document,
                 tree,
                 graph,
-                findings,
+                scope,
                 finding,
                 call.as_bytes(),
             )
@@ -305,6 +337,29 @@ fn is_there(graph: &Graph, finding: &Finding, part: Part) -> bool {
     meets(part, statement)
 }
 
+/// Puts the edit for a finding, and returns how many points and findings each analysis for it has.
+fn put_in_scope(
+    alloc: Global,
+    writer: &mut Writer,
+    document: &Document<'_>,
+    tree: &Tree,
+    graph: &Graph,
+    symbols: &[Symbol],
+    finding: &Finding,
+) -> Result<usize, AllocError> {
+    let callback = finding.callback;
+    let start = graph.span(callback, finding.point).start;
+    let focus = focus_by(alloc, document.text, symbols, start)?;
+    let findings = findings_in(alloc, focus.text.as_slice(), callback)?.unwrap_or(0);
+    let scope = Scope {
+        focus: &focus,
+        callback,
+        findings,
+    };
+    put_for_finding(alloc, writer, document, tree, graph, &scope, finding)?;
+    Ok(graph.points(callback).saturating_add(findings))
+}
+
 fn put_for_findings(
     alloc: Global,
     writer: &mut Writer,
@@ -314,11 +369,22 @@ fn put_for_findings(
     found: &[Finding],
     part: Part,
 ) -> Result<(), AllocError> {
+    let symbols = symbols_in(alloc, document.text)?;
     let mut left = MAX_TRIED;
+    let mut analysed: usize = 0;
     for finding in found {
-        if left > 0 && is_there(graph, finding, part) {
+        if left > 0 && analysed < MAX_ANALYSED && is_there(graph, finding, part) {
             left -= 1;
-            put_for_finding(alloc, writer, document, tree, graph, found.len(), finding)?;
+            let size = put_in_scope(
+                alloc,
+                writer,
+                document,
+                tree,
+                graph,
+                symbols.as_slice(),
+                finding,
+            )?;
+            analysed = analysed.saturating_add(size);
         }
     }
     Ok(())
@@ -332,7 +398,7 @@ fn put_judged(
     part: Part,
 ) -> Result<(), AllocError> {
     match judged {
-        Judged::Unread(_) => put_for_fault(alloc, writer, document, part),
+        Judged::Unread(fault) => put_for_fault(alloc, writer, document, *fault, part),
         Judged::Known(tree, graph, found) => {
             put_for_findings(alloc, writer, document, tree, graph, found.as_slice(), part)
         }

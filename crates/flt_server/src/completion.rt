@@ -1,11 +1,13 @@
 //! The words and names that are legal at a place.
 
+use crate::faults::{byte_of_fault, is_on};
+use crate::focus::focus_on;
 use crate::members::{put_number, put_text};
 use crate::places::Document;
 use flt_details::tokens_of;
 use flt_hints::{Choices, Expected, describe};
 use flt_outline::is_variable;
-use flt_syntax::Kind;
+use flt_syntax::{Kind, ParseError, SyntaxFault, parse};
 use json::Writer;
 use std::alloc::{AllocError, Global};
 
@@ -107,13 +109,36 @@ fn put_choices(
     put_expected(alloc, writer, choices.expected.as_slice())
 }
 
+/// The fault of a text, if it doesn't parse.
+fn fault_of(alloc: Global, text: &[u8]) -> Result<Option<SyntaxFault>, AllocError> {
+    match parse(alloc, text) {
+        Ok(_) => Ok(None),
+        Err(ParseError::Syntax(fault)) => Ok(Some(fault)),
+        Err(ParseError::OutOfMemory) => Err(AllocError),
+    }
+}
+
+/// Writes the choices at a fault, by the callback in which it is.
+fn put_at_fault(
+    alloc: Global,
+    writer: &mut Writer,
+    text: &[u8],
+    fault: SyntaxFault,
+    start: usize,
+) -> Result<(), AllocError> {
+    let focus = focus_on(alloc, text, start)?;
+    match describe(alloc, focus.text.as_slice())? {
+        Some(trouble) if is_on(&trouble, fault) => put_choices(alloc, writer, &trouble.choices),
+        _ => Ok(()),
+    }
+}
+
 /// Writes the choices at the token that begins at a byte, if the text is refused there.
 fn put_at(alloc: Global, writer: &mut Writer, text: &[u8], start: usize) -> Result<(), AllocError> {
-    let Some(trouble) = describe(alloc, text)? else {
-        return Ok(());
-    };
-    match trouble.spot.token {
-        Some(token) if token.start == start => put_choices(alloc, writer, &trouble.choices),
+    match fault_of(alloc, text)? {
+        Some(fault) if byte_of_fault(text, fault) == start => {
+            put_at_fault(alloc, writer, text, fault, start)
+        }
         _ => Ok(()),
     }
 }

@@ -16,7 +16,7 @@ fn put_judged(
     judged: &Judged,
 ) -> Result<(), AllocError> {
     match judged {
-        Judged::Unread(_) => put_unread(alloc, writer, document),
+        Judged::Unread(fault) => put_unread(alloc, writer, document, *fault),
         Judged::Known(tree, graph, found) => {
             put_findings(alloc, writer, document, tree, graph, found.as_slice())?;
             put_warnings(alloc, writer, document, tree, graph, found.as_slice())

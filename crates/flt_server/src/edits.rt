@@ -1,8 +1,10 @@
 //! Edits of a document that an editor offers.
 
+use crate::focus::Focus;
 use crate::members::{put_string, put_text};
 use crate::places::Document;
 use flt_details::{Judged, judge};
+use flt_explain::Finding;
 use flt_outline::Part;
 use json::Writer;
 use std::alloc::{AllocError, Global};
@@ -15,33 +17,54 @@ pub(crate) struct Edit {
     pub(crate) new: Vec<u8>,
 }
 
-/// The text after an edit.
-fn edited(alloc: Global, text: &[u8], edit: &Edit) -> Result<Vec<u8>, AllocError> {
+/// The text of a callback after an edit in it.
+fn edited(alloc: Global, focus: &Focus, edit: &Edit) -> Result<Vec<u8>, AllocError> {
+    let text = focus.text.as_slice();
+    let start = edit.part.start.saturating_sub(focus.left_out);
+    let end = edit.part.end.saturating_sub(focus.left_out);
     let mut out = Vec::new(alloc);
-    out.extend_from_slice(text.get(..edit.part.start).unwrap_or(b""))?;
+    out.extend_from_slice(text.get(..start).unwrap_or(b""))?;
     out.extend_from_slice(edit.new.as_slice())?;
-    out.extend_from_slice(text.get(edit.part.end..).unwrap_or(b""))?;
+    out.extend_from_slice(text.get(end..).unwrap_or(b""))?;
     Ok(out)
 }
 
-/// Whether a text parses and has fewer findings than a number.
-fn has_fewer(judged: &Judged, findings: usize) -> bool {
-    match judged {
-        Judged::Known(_, _, found) => found.len() < findings,
-        Judged::Unread(_) => false,
+/// How many of some findings a callback has.
+fn count_in(found: &[Finding], callback: usize) -> usize {
+    let mut count: usize = 0;
+    for finding in found {
+        if finding.callback == callback {
+            count = count.saturating_add(1);
+        }
+    }
+    count
+}
+
+/// How many findings a callback of a text has; none if the text doesn't parse.
+pub(crate) fn findings_in(
+    alloc: Global,
+    text: &[u8],
+    callback: usize,
+) -> Result<Option<usize>, AllocError> {
+    match judge(alloc, text)? {
+        Judged::Known(_, _, found) => Ok(Some(count_in(found.as_slice(), callback))),
+        Judged::Unread(_) => Ok(None),
     }
 }
 
-/// Whether a text has fewer findings after an edit.
+/// Whether a callback has fewer findings than a number after an edit.
 pub(crate) fn is_better(
     alloc: Global,
-    text: &[u8],
+    focus: &Focus,
+    callback: usize,
     findings: usize,
     edit: &Edit,
 ) -> Result<bool, AllocError> {
-    let text = edited(alloc, text, edit)?;
-    let judged = judge(alloc, text.as_slice())?;
-    Ok(has_fewer(&judged, findings))
+    let text = edited(alloc, focus, edit)?;
+    match findings_in(alloc, text.as_slice(), callback)? {
+        Some(left) => Ok(left < findings),
+        None => Ok(false),
+    }
 }
 
 fn put_change(

@@ -1,11 +1,14 @@
 //! Diagnostics of a text that doesn't parse.
 
+use crate::focus::focus_on;
 use crate::members::{add_line, put_number, put_string, put_text};
 use crate::places::Document;
 use flt_details::fault_name;
 use flt_hints::{Told, Trouble, describe, tell};
-use flt_outline::Part;
+use flt_outline::{Part, byte_of};
 use flt_places::{Region, lines_of};
+use flt_session::{Encoding, Spot};
+use flt_syntax::SyntaxFault;
 use flt_tree::Position;
 use json::Writer;
 use std::alloc::{AllocError, Global};
@@ -70,8 +73,25 @@ fn put_fault(
     writer.end_object()
 }
 
-/// The diagnostic of a text that doesn't parse.
-pub(crate) fn put_unread(
+/// The byte of a text's fault, from 0.
+pub(crate) fn byte_of_fault(text: &[u8], fault: SyntaxFault) -> usize {
+    let spot = Spot {
+        line: fault.line.saturating_sub(1),
+        character: fault.column.saturating_sub(1),
+    };
+    byte_of(text, Encoding::Utf8, spot)
+}
+
+/// Whether a report is on this fault.
+pub(crate) fn is_on(trouble: &Trouble<'_>, fault: SyntaxFault) -> bool {
+    let found = trouble.spot.fault;
+    found.line == fault.line
+        && found.column == fault.column
+        && fault_name(found.kind) == fault_name(fault.kind)
+}
+
+/// The diagnostic of a text whose words are tried in all of it.
+fn put_unread_whole(
     alloc: Global,
     writer: &mut Writer,
     document: &Document<'_>,
@@ -79,6 +99,21 @@ pub(crate) fn put_unread(
     match describe(alloc, document.text)? {
         Some(trouble) => put_fault(alloc, writer, document, &trouble),
         None => Ok(()),
+    }
+}
+
+/// The diagnostic of a text that doesn't parse. Words are tried in the callback of its fault, if the fault is the same without the others.
+pub(crate) fn put_unread(
+    alloc: Global,
+    writer: &mut Writer,
+    document: &Document<'_>,
+    fault: SyntaxFault,
+) -> Result<(), AllocError> {
+    let byte = byte_of_fault(document.text, fault);
+    let focus = focus_on(alloc, document.text, byte)?;
+    match describe(alloc, focus.text.as_slice())? {
+        Some(trouble) if is_on(&trouble, fault) => put_fault(alloc, writer, document, &trouble),
+        _ => put_unread_whole(alloc, writer, document),
     }
 }
 
@@ -94,6 +129,42 @@ pub(crate) fn put_unanalysed(
         writer,
         "message",
         "a text has at most 65,536 bytes: this one isn't analysed",
+    )?;
+    writer.end_object()
+}
+
+/// The diagnostic that says how many others aren't sent, at the place of the first of them.
+pub(crate) fn put_rest(
+    alloc: Global,
+    writer: &mut Writer,
+    document: &Document<'_>,
+    region: Region,
+    count: usize,
+) -> Result<(), AllocError> {
+    let message = format!(in alloc;
+        "{count} more from here on: `fltstack explain` has all of them"
+    )?;
+    writer.begin_object()?;
+    document.put_region(writer, "range", region)?;
+    put_number(writer, "severity", 3)?;
+    put_string(writer, "source", "fltstack")?;
+    put_string(writer, "message", message.as_str())?;
+    writer.end_object()
+}
+
+/// The diagnostic that says that warnings aren't searched for, at the first byte.
+pub(crate) fn put_unsearched(
+    writer: &mut Writer,
+    document: &Document<'_>,
+) -> Result<(), AllocError> {
+    writer.begin_object()?;
+    document.put_part(writer, "range", Part { start: 0, end: 0 })?;
+    put_number(writer, "severity", 3)?;
+    put_string(writer, "source", "fltstack")?;
+    put_string(
+        writer,
+        "message",
+        "the text uses values of contexts too often to be searched for warnings while it is edited: `fltstack explain` has them",
     )?;
     writer.end_object()
 }

@@ -1,11 +1,12 @@
 //! Diagnostics of findings.
 
-use crate::faults::put_kind;
+use crate::faults::{put_kind, put_rest};
 use crate::members::{add_line, put_text};
-use crate::places::Document;
+use crate::places::{Document, region_of as region_of_part};
 use flt_details::{Detail, Maker, Marks, RuleName, Words, details};
 use flt_explain::Finding;
 use flt_graph::Graph;
+use flt_outline::Part;
 use flt_places::Region;
 use flt_syntax::Tree;
 use json::Writer;
@@ -93,7 +94,54 @@ fn put_finding(
     writer.end_object()
 }
 
-/// The diagnostics of the findings of a text.
+/// How many findings of a text are sent at most.
+const MAX_FINDINGS: usize = 200;
+
+/// How many points their paths may have: a path to each is searched for.
+const MAX_POINTS: usize = 6_000;
+
+/// How many findings are sent: the first, of which each adds the points of its callback up to its own.
+fn sent_count(found: &[Finding]) -> usize {
+    let mut points: usize = 0;
+    let mut count: usize = 0;
+    for finding in found {
+        points = points.saturating_add(finding.point).saturating_add(1);
+        if count == MAX_FINDINGS || MAX_POINTS < points && 0 < count {
+            return count;
+        }
+        count = count.saturating_add(1);
+    }
+    count
+}
+
+/// The diagnostic that says how many findings aren't sent, at the first of them.
+fn put_unsent(
+    alloc: Global,
+    writer: &mut Writer,
+    document: &Document<'_>,
+    graph: &Graph,
+    found: &[Finding],
+) -> Result<(), AllocError> {
+    match found {
+        [first, ..] => {
+            let span = graph.span(first.callback, first.point);
+            let part = Part {
+                start: span.start,
+                end: span.end,
+            };
+            put_rest(
+                alloc,
+                writer,
+                document,
+                region_of_part(&document.lines, part),
+                found.len(),
+            )
+        }
+        [] => Ok(()),
+    }
+}
+
+/// The diagnostics of the findings of a text, as many as are sent.
 pub(crate) fn put_findings(
     alloc: Global,
     writer: &mut Writer,
@@ -102,9 +150,10 @@ pub(crate) fn put_findings(
     graph: &Graph,
     found: &[Finding],
 ) -> Result<(), AllocError> {
-    let details = details(alloc, document.text, tree, graph, found)?;
+    let count = sent_count(found).min(found.len());
+    let details = details(alloc, document.text, tree, graph, &found[..count])?;
     for detail in details.as_slice() {
         put_finding(alloc, writer, document, detail)?;
     }
-    Ok(())
+    put_unsent(alloc, writer, document, graph, &found[count..])
 }

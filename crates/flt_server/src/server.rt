@@ -7,36 +7,38 @@ ghost use Rattle.flt_session.specs.declared.phase.Phase.TheVariants.{Fresh};
 
 use crate::filters::Filters;
 use flt_frames::{Answered, Handler};
-use flt_session::Session;
+use flt_session::{Reporter, Session};
 use std::alloc::{AllocError, Global};
 
 /// A server of one client.
 #[derive(Drop)]
-pub struct Server {
+pub struct Server<R: Reporter + Drop> {
     session: Session,
+    reporter: R,
 }
 
-impl Server {
+impl<R: Reporter + Drop> Server<R> {
     /// A server whose client said nothing yet.
-    pub fn new(alloc: Global) -> Server
+    pub fn new(alloc: Global, reporter: R) -> Server<R>
         ensures phase { result.session.phase ≡ Fresh }
         ensures documents { result.session.documents ≡ [] }
     {
         Server {
             session: Session::new(alloc),
+            reporter,
         }
     }
 }
 
-impl Handler for Server {
+impl<R: Reporter + Drop> Handler for Server<R> {
     ghost use Rattle.flt_session.specs.Answers.{IsAnswered};
 
-    ghost answers = { λ old body answer new. IsAnswered old.session body answer new.session };
+    ghost answers = { λ old body answer new. IsAnswered R.reports old.session body answer new.session };
 
     fn answer(&mut self, alloc: Global, body: &[u8]) -> Result<Answered, AllocError>
-        ensures answered { IfOk result (λ a. IsAnswered self.old.session body.now (reply_of a) self.new.session) }
+        ensures answered { IfOk result (λ a. IsAnswered R.reports self.old.session body.now (reply_of a) self.new.session) }
         ensures kept { OnErr result (self.new ≡ self.old) }
     {
-        self.session.answer(alloc, &Filters, body)
+        self.session.answer(alloc, &Filters, &self.reporter, body)
     }
 }

@@ -1,12 +1,12 @@
 //! Diagnostics of warnings.
 
-use crate::faults::put_kind;
+use crate::faults::{put_kind, put_rest, put_unsearched};
 use crate::findings::{put_related_place, region_of};
 use crate::members::{add_line, put_text};
 use crate::places::Document;
 use flt_explain::Finding;
-use flt_graph::Graph;
-use flt_syntax::Tree;
+use flt_graph::{Graph, Instruction};
+use flt_syntax::{Action, Tree};
 use flt_warning_details::{RelatedPlace, WarningDetail, warning_details};
 use flt_warnings::AllowedKinds;
 use json::Writer;
@@ -56,7 +56,75 @@ fn put_warning(
     writer.end_object()
 }
 
-/// The diagnostics of the warnings of a text that no comment allows.
+/// How many warnings of a text are sent at most.
+const MAX_WARNINGS: usize = 200;
+
+/// How many pairs of a point and a use of a context's value a text may have. Each of them is compared.
+const MAX_PAIRS: usize = 2_500_000;
+
+fn uses_value(instruction: &Instruction) -> bool {
+    match instruction {
+        Instruction::Act(Action::ReadValue(_, _) | Action::WriteValue(_, _), _) => true,
+        _ => false,
+    }
+}
+
+/// How many uses of contexts' values a callback has.
+fn uses_in(graph: &Graph, callback: usize) -> usize {
+    let mut count: usize = 0;
+    for point in 0..graph.points(callback) {
+        if uses_value(graph.instruction_ref(callback, point)) {
+            count = count.saturating_add(1);
+        }
+    }
+    count
+}
+
+/// Whether the warnings of a text are searched for in time.
+fn has_few_pairs(graph: &Graph) -> bool {
+    let mut points: usize = 0;
+    let mut uses: usize = 0;
+    for callback in 0..graph.callbacks() {
+        points = points.saturating_add(graph.points(callback));
+        uses = uses.saturating_add(uses_in(graph, callback));
+    }
+    points.saturating_mul(uses) <= MAX_PAIRS
+}
+
+/// The warnings among some that no comment allows.
+fn put_shown(
+    alloc: Global,
+    writer: &mut Writer,
+    document: &Document<'_>,
+    all: &[WarningDetail],
+) -> Result<(), AllocError> {
+    let mut count: usize = 0;
+    let mut first = None;
+    for detail in all {
+        if detail.is_shown() {
+            if count < MAX_WARNINGS {
+                put_warning(alloc, writer, document, detail)?;
+            } else if first.is_none() {
+                first = Some(region_of(&detail.marks));
+            }
+            count = count.saturating_add(1);
+        }
+    }
+    match first {
+        Some(region) => {
+            put_rest(
+                alloc,
+                writer,
+                document,
+                region,
+                count.saturating_sub(MAX_WARNINGS),
+            )
+        }
+        None => Ok(()),
+    }
+}
+
+/// The diagnostics of the warnings of a text that no comment allows, as many as are sent.
 pub(crate) fn put_warnings(
     alloc: Global,
     writer: &mut Writer,
@@ -65,6 +133,9 @@ pub(crate) fn put_warnings(
     graph: &Graph,
     found: &[Finding],
 ) -> Result<(), AllocError> {
+    if !has_few_pairs(graph) {
+        return put_unsearched(writer, document);
+    }
     let all = warning_details(
         alloc,
         document.text,
@@ -73,10 +144,5 @@ pub(crate) fn put_warnings(
         found,
         AllowedKinds::none(),
     )?;
-    for detail in all.as_slice() {
-        if detail.is_shown() {
-            put_warning(alloc, writer, document, detail)?;
-        }
-    }
-    Ok(())
+    put_shown(alloc, writer, document, all.as_slice())
 }

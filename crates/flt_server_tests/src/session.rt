@@ -1,16 +1,35 @@
 //! A session in which each kind of body and each question comes.
 
+ghost use Rattle.std.specs.Prelude.{⊤};
+
 use flt_frames::{Answered, Handler};
 use flt_server::Server;
+use flt_session::Reporter;
 use std::alloc::{AllocError, Global};
 use std::test::Fail;
+
+/// Reports the name of a text, whatever the text is.
+#[derive(Drop)]
+struct Names;
+
+impl Reporter for Names {
+    ghost reports = { λ uri text report. ⊤ };
+
+    fn report(&self, alloc: Global, uri: &str, _text: &[u8]) -> Result<Vec<u8>, AllocError> {
+        let mut out = Vec::new(alloc);
+        out.push(b'"')?;
+        out.extend_from_slice(uri.as_bytes())?;
+        out.push(b'"')?;
+        Ok(out)
+    }
+}
 
 /// A body, its response, the notification that comes with it, and the status with which the server ends; 2 where it doesn't.
 type Row<'a> = (&'a str, &'a str, &'a str, u8);
 
 const GOES_ON: u8 = 2;
 
-static ROWS: [Row<'static>; 26] = [
+static ROWS: [Row<'static>; 27] = [
     (
         "{",
         "{\"jsonrpc\":\"2.0\",\"id\":null,\"error\":{\"code\":-32700,\"message\":\"the body isn't JSON\"}}",
@@ -33,7 +52,7 @@ static ROWS: [Row<'static>; 26] = [
     ("{\"method\":\"initialized\"}", "", "", GOES_ON),
     (
         "{\"id\":\"a\\n\",\"method\":\"initialize\"}",
-        "{\"jsonrpc\":\"2.0\",\"id\":\"a\\n\",\"result\":{\"capabilities\":{\"positionEncoding\":\"utf-16\",\"textDocumentSync\":{\"openClose\":true,\"change\":1},\"hoverProvider\":true,\"completionProvider\":{},\"definitionProvider\":true,\"referencesProvider\":true,\"documentSymbolProvider\":true,\"foldingRangeProvider\":true,\"codeActionProvider\":{\"codeActionKinds\":[\"quickfix\"]}},\"serverInfo\":{\"name\":\"fltstack\"}}}",
+        "{\"jsonrpc\":\"2.0\",\"id\":\"a\\n\",\"result\":{\"capabilities\":{\"positionEncoding\":\"utf-16\",\"textDocumentSync\":{\"openClose\":true,\"change\":1},\"hoverProvider\":true,\"completionProvider\":{},\"definitionProvider\":true,\"referencesProvider\":true,\"documentSymbolProvider\":true,\"foldingRangeProvider\":true,\"codeActionProvider\":{\"codeActionKinds\":[\"quickfix\"]},\"executeCommandProvider\":{\"commands\":[\"fltstack.explain\"]}},\"serverInfo\":{\"name\":\"fltstack\"}}}",
         "",
         GOES_ON,
     ),
@@ -122,6 +141,12 @@ static ROWS: [Row<'static>; 26] = [
         GOES_ON,
     ),
     (
+        "{\"id\":12.5,\"method\":\"workspace/executeCommand\",\"params\":{\"command\":\"fltstack.explain\",\"arguments\":[\"file:///b\"]}}",
+        "{\"jsonrpc\":\"2.0\",\"id\":12.5,\"result\":\"file:///b\"}",
+        "",
+        GOES_ON,
+    ),
+    (
         "{\"method\":\"textDocument/didChange\",\"params\":{\"textDocument\":{\"uri\":\"file:///b\"},\"contentChanges\":[{\"text\":\"filter a altitude 1\\nlock spin data # 🙂\\npre read {\\n  KeAcquireSpinLock data\\n  KeReleaseSpinLok data\\n  return NO_CALLBACK\\n}\\n\"}]}}",
         "",
         "{\"jsonrpc\":\"2.0\",\"method\":\"textDocument/publishDiagnostics\",\"params\":{\"uri\":\"file:///b\",\"diagnostics\":[{\"range\":{\"start\":{\"line\":4,\"character\":2},\"end\":{\"line\":4,\"character\":18}},\"severity\":1,\"code\":\"E03\",\"source\":\"fltstack\"",
@@ -182,14 +207,14 @@ fn is_as(answered: &Answered, row: Row<'_>) -> bool {
 }
 
 /// Whether a body is answered as a row says.
-fn goes(alloc: Global, server: &mut Server, row: Row<'_>) -> Result<bool, AllocError> {
+fn goes(alloc: Global, server: &mut Server<Names>, row: Row<'_>) -> Result<bool, AllocError> {
     let answered = server.answer(alloc, row.0.as_bytes())?;
     Ok(is_as(&answered, row))
 }
 
 /// The number of the first row that goes otherwise, from 0; their number where none does.
 fn first_wrong(alloc: Global, rows: &[Row<'_>]) -> Result<usize, AllocError> {
-    let mut server = Server::new(alloc);
+    let mut server = Server::new(alloc, Names);
     let mut number: usize = 0;
     for row in rows {
         if !goes(alloc, &mut server, *row)? {

@@ -1,5 +1,5 @@
 -- The messages of clients: requests, notifications and responses of JSON-RPC 2.0.
-use Rattle.std.specs.Prelude.{◌≡◌, ℕ, List, Bool, ◌||◌, codes, if◌then◌else◌, is_some, ⊤, Option, Some, None, option_and_then}
+use Rattle.std.specs.Prelude.{ℕ, List, ◌||◌, codes, if◌then◌else◌, is_some, ⊤, Option, Some, None, option_and_then}
 use Rattle.json.specs.Find.{as_str, get}
 use Rattle.json.specs.Json.{Json, null, boolean, number, string, array, object}
 use Rattle.json.specs.Tree.{HasNumbers}

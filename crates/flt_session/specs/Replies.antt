@@ -1,7 +1,7 @@
 -- Responses to requests, as JSON-RPC 2.0 has them.
 use Rattle.std.specs.Prelude.{ℕ, List, ◌++◌, codes}
 use Rattle.flt_session.specs.declared.reply.Refusal.{Refusal}
-use Rattle.flt_session.specs.declared.reply.Refusal.TheVariants.{NotJson, NoRequest, UnknownMethod, NotInitialized}
+use Rattle.flt_session.specs.declared.reply.Refusal.TheVariants.{NotJson, NoRequest, UnknownMethod, BadParams, NotInitialized}
 
 -- what each response begins with
 abbrev pub head : List ℕ
@@ -12,6 +12,8 @@ abbrev pub refusal_tail : Refusal → List ℕ
 refusal_tail NotJson = codes ",\"error\":{\"code\":-32700,\"message\":\"the body isn't JSON\"}}"
 refusal_tail NoRequest = codes ",\"error\":{\"code\":-32600,\"message\":\"this is no request that may be made now\"}}"
 refusal_tail UnknownMethod = codes ",\"error\":{\"code\":-32601,\"message\":\"the server doesn't know this method\"}}"
+refusal_tail BadParams =
+    codes ",\"error\":{\"code\":-32602,\"message\":\"the server doesn't know this command, or its argument is no open document\"}}"
 refusal_tail NotInitialized = codes ",\"error\":{\"code\":-32002,\"message\":\"the server isn't initialized\"}}"
 
 -- the response that refuses the message of an id

@@ -1,6 +1,7 @@
 //! The documents that clients have open.
 
-ghost use Rattle.std.specs.Prelude.{◌≡◌, ◌<◌, length, IfOk, IfSome};
+ghost use Rattle.std.specs.Prelude.{◌≡◌, ◌<◌, find, length, IfOk, IfSome, option_copied};
+ghost use Rattle.flt_session.specs.Commands as spec;
 
 use crate::language::{Encoding, OpenText};
 use sqlite_items::Items;
@@ -25,10 +26,22 @@ pub(crate) fn position_of(documents: &[Document], uri: &str) -> Option<usize>
         .position(|document| document.uri.as_slice() == uri.as_bytes())
 }
 
+fn is_named(document: &Document, uri: &str) -> bool
+    ensures { result ≡ spec.is_named uri.now document.now }
+{
+    document.uri.as_slice() == uri.as_bytes()
+}
+
 /// A document among others, if it is there.
-pub(crate) fn document_of<'a>(documents: &'a [Document], uri: &str) -> Option<&'a Document> {
-    let at = position_of(documents, uri)?;
-    documents.get(at)
+pub(crate) fn document_of<'a>(documents: &'a [Document], uri: &str) -> Option<&'a Document>
+    ensures { option_copied result ≡ find (spec.is_named uri.now) documents.now }
+{
+    for document in documents {
+        if is_named(document, uri) {
+            return Some(document);
+        }
+    }
+    None
 }
 
 pub(crate) fn document_with(alloc: Global, uri: &str, text: &str) -> Result<Document, AllocError>

@@ -1,5 +1,7 @@
 //! The trait of a language, and the questions that a session asks it.
 
+ghost use Rattle.std.specs.Prelude.{ℕ, List, IfOk};
+
 use std::alloc::{AllocError, Global};
 
 /// The unit in which columns are counted.
@@ -52,4 +54,14 @@ pub trait Language {
         open: OpenText<'_>,
         question: Question,
     ) -> Result<Vec<u8>, AllocError>;
+}
+
+/// A reporter on documents.
+pub trait Reporter {
+    // The report on a document of this name and this text may be written so.
+    ghost reports: { List ℕ → List ℕ → List ℕ → Type 0 };
+
+    /// The report on a document, as JSON. It may take long: a client asks for it by a command.
+    fn report(&self, alloc: Global, uri: &str, text: &[u8]) -> Result<Vec<u8>, AllocError>
+        ensures { IfOk result (λ report. reports uri.now text.now report.items) };
 }

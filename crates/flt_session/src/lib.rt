@@ -1,8 +1,9 @@
 //! A session of the Language Server Protocol, whatever the language: which bodies are requests, how each is answered, and the documents
-//! that the client has open. It exports `Session`, and the trait `Language` with the questions that a language answers.
+//! that the client has open. It exports `Session`, the trait `Language` with the questions that a language answers, and the trait `Reporter`.
 //!
 //! `specs/Answers.antt` has the properties that are proved of an answer: whether there is a response, to which request, and which error it
-//! is; whether the server ends; and the state of the session afterwards. No contract here is about the results that a language writes.
+//! is; whether the server ends; and the state of the session afterwards. No contract here is about the results that a language writes. The
+//! report that a client asks for by a command is one that the reporter may write.
 #![tactic(auto)]
 
 mod capabilities;
@@ -16,5 +17,5 @@ mod phase;
 mod reply;
 mod session;
 
-pub use language::{Encoding, Language, OpenText, Question, Spot};
+pub use language::{Encoding, Language, OpenText, Question, Reporter, Spot};
 pub use session::Session;

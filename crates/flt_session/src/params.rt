@@ -1,5 +1,10 @@
 //! The parameters of messages.
 
+ghost use Rattle.std.specs.Prelude.{◌≡◌, option_map, option_and_then};
+ghost use Rattle.flt_session.specs.Commands as spec;
+ghost use Rattle.json.specs.Find.{as_str, get, get_item};
+ghost use Rattle.json.specs.Value.{items_view, value_view};
+
 use crate::language::{Question, Spot};
 use crate::method::Topic;
 use json::Value;
@@ -132,5 +137,57 @@ pub(crate) fn offers_utf8(params: &Value<'_>) -> bool {
     match encodings(params) {
         Some(Value::Array(offered)) => has_text(offered.as_slice(), "utf-8"),
         _ => false,
+    }
+}
+
+// ---- commands
+
+/// The text of a member.
+fn text_in<'a>(value: &Value<'a>, name: &str) -> Option<&'a str>
+    ensures { option_map (λ s. s.now) result ≡ option_and_then as_str (get name.now (value_view value.now)) }
+{
+    match value.get(name) {
+        Some(member) => member.as_str(),
+        None => None,
+    }
+}
+
+/// The first of some values, if it is a text.
+fn first_text<'a>(values: &[Value<'a>]) -> Option<&'a str>
+    ensures { option_map (λ s. s.now) result ≡ option_and_then as_str (get_item 0 (items_view values.now)) }
+{
+    match values {
+        [first, ..] => first.as_str(),
+        [] => None,
+    }
+}
+
+/// The first argument of a command, if it is a text.
+fn argument_in<'a>(params: &Value<'a>) -> Option<&'a str>
+    ensures { option_map (λ s. s.now) result ≡ spec.argument_of (value_view params.now) }
+{
+    match params.get("arguments") {
+        Some(Value::Array(arguments)) => first_text(arguments.as_slice()),
+        _ => None,
+    }
+}
+
+/// The document on which a command asks for a report; none if it is another command, or names none.
+fn explained_in<'a>(params: &Value<'a>) -> Option<&'a str>
+    ensures { option_map (λ s. s.now) result ≡ spec.explained_in (value_view params.now) }
+{
+    match text_in(params, "command") {
+        Some("fltstack.explain") => argument_in(params),
+        _ => None,
+    }
+}
+
+/// The same of parameters that may be missing.
+pub(crate) fn explained_by<'a>(params: Option<&Value<'a>>) -> Option<&'a str>
+    ensures { option_map (λ s. s.now) result ≡ option_and_then spec.explained_in (option_map (λ v. value_view v.now) params.entry) }
+{
+    match params {
+        Some(params) => explained_in(params),
+        None => None,
     }
 }

@@ -15,6 +15,8 @@ pub enum Refusal {
     /// JSON that is no message, or a request that can't be made now.
     NoRequest,
     UnknownMethod,
+    /// A command that isn't known, or whose argument is no open document.
+    BadParams,
     /// A request before `initialize`.
     NotInitialized,
 }
@@ -31,6 +33,8 @@ impl Refusal {
                 b",\"error\":{\"code\":-32600,\"message\":\"this is no request that may be made now\"}}",
             Refusal::UnknownMethod =>
                 b",\"error\":{\"code\":-32601,\"message\":\"the server doesn't know this method\"}}",
+            Refusal::BadParams =>
+                b",\"error\":{\"code\":-32602,\"message\":\"the server doesn't know this command, or its argument is no open document\"}}",
             Refusal::NotInitialized =>
                 b",\"error\":{\"code\":-32002,\"message\":\"the server isn't initialized\"}}",
         }

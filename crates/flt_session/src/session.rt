@@ -3,7 +3,9 @@
 ghost use Rattle.std.specs.Prelude.{◌≡◌, ◌≤◌, ◌<◌, [], codes, length, None, Some, IfOk, OnOk, OnErr, option_map};
 ghost use Rattle.flt_frames.specs.Handling.{reply_of};
 ghost use Rattle.flt_session.specs.Answers as spec;
+ghost use Rattle.flt_session.specs.Commands as commands;
 ghost use Rattle.flt_session.specs.Messages as messages;
+ghost use Rattle.flt_session.specs.Replies as replies;
 ghost use Rattle.flt_session.specs.Answers.{no_response, a_result, an_error};
 ghost use Rattle.flt_session.specs.declared.phase.Phase.TheVariants.{Fresh, Ready, Stopped};
 ghost use Rattle.flt_session.specs.declared.reply.Refusal.TheVariants.{NotJson, NoRequest};
@@ -13,11 +15,13 @@ ghost use Rattle.json.specs.Value.{value_view};
 
 use crate::capabilities::capabilities;
 use crate::document::{Document, MAX_DOCUMENTS, document_of, document_with, position_of};
-use crate::language::{Encoding, Language, OpenText};
+use crate::language::{Encoding, Language, OpenText, Reporter};
 use crate::message::{Message, message_of};
 use crate::method::{Notice, Topic, notice_of, topic_of};
 use crate::notices::{cleared, declined, published};
-use crate::params::{changed_text, offers_utf8, opened_text, question_in, uri_in, version_in};
+use crate::params::{
+    changed_text, explained_by, offers_utf8, opened_text, question_in, uri_in, version_in,
+};
 use crate::phase::Phase;
 use crate::reply::{Refusal, answered, refused};
 use flt_frames::Answered;
@@ -71,10 +75,27 @@ fn refusing(alloc: Global, id: &[u8], refusal: Refusal) -> Result<Answered, Allo
 
 /// The answer with this text as its result.
 fn resulting(alloc: Global, id: &[u8], text: &[u8]) -> Result<Answered, AllocError>
-    ensures { IfOk result (spec.Answers (a_result id.now) None) }
+    ensures answers { IfOk result (spec.Answers (a_result id.now) None) }
+    ensures text { IfOk result (λ a. option_map (λ v. v.items) a.response ≡ Some (replies.answered id.now text.now)) }
 {
     let response = answered(alloc, id, text)?;
     Ok(responding(alloc, response))
+}
+
+/// The answer with the report on a document as its result.
+fn reporting<R: Reporter>(
+    alloc: Global,
+    reporter: &R,
+    id: &[u8],
+    uri: &str,
+    document: &Document,
+) -> Result<Answered, AllocError>
+    ensures answers { IfOk result (spec.Answers (a_result id.now) None) }
+    ensures report { IfOk result (λ a. spec.IsReported R.reports (commands.report_on id.now uri.now (Some document.now))
+        (option_map (λ v. v.items) a.response)) }
+{
+    let report = reporter.report(alloc, uri, document.text.as_slice())?;
+    resulting(alloc, id, report.as_slice())
 }
 
 /// The answer that notifies of something.
@@ -468,6 +489,28 @@ impl Session {
         resulting(alloc, id, text.as_slice())
     }
 
+    /// The answer to a command.
+    fn command<R: Reporter>(
+        &self,
+        alloc: Global,
+        reporter: &R,
+        id: &[u8],
+        params: Option<&Value<'_>>,
+    ) -> Result<Answered, AllocError>
+        ensures answers { IfOk result (spec.Answers (spec.of_report id.now (commands.report_asked self.now.documents id.now
+            (option_map (λ v. value_view v.now) params.entry))) None) }
+        ensures report { IfOk result (λ a. spec.IsReported R.reports (commands.report_asked self.now.documents id.now
+            (option_map (λ v. value_view v.now) params.entry)) (option_map (λ v. v.items) a.response)) }
+    {
+        let Some(uri) = explained_by(params) else {
+            return refusing(alloc, id, Refusal::BadParams);
+        };
+        match document_of(self.documents.as_slice(), uri) {
+            Some(found) => reporting(alloc, reporter, id, uri, found),
+            None => refusing(alloc, id, Refusal::BadParams),
+        }
+    }
+
     /// The answer to a request before `initialize`, or to that.
     fn first(
         &mut self,
@@ -489,16 +532,19 @@ impl Session {
     }
 
     /// The answer to a request in a session.
-    fn asked<L: Language>(
+    fn asked<L: Language, R: Reporter>(
         &mut self,
         alloc: Global,
         language: &L,
+        reporter: &R,
         id: &[u8],
         method: &str,
         params: Option<&Value<'_>>,
     ) -> Result<Answered, AllocError>
         requires ready { self.old.phase ≡ Ready }
-        ensures answers { IfOk result (spec.Answers (spec.of_asked id.now method.now) None) }
+        ensures answers { IfOk result (spec.Answers (spec.of_asked self.old.documents id.now method.now (option_map (λ v. value_view v.now) params.entry)) None) }
+        ensures report { IfOk result (λ a. spec.IsReported R.reports (spec.report_of_request Ready self.old.documents id.now method.now
+            (option_map (λ v. value_view v.now) params.entry)) (option_map (λ v. v.items) a.response)) }
         ensures phase { OnOk result (self.new.phase ≡ spec.after_request Ready method.now) }
         ensures kept { OnErr result (self.new ≡ self.old) }
     {
@@ -508,58 +554,70 @@ impl Session {
         if method == "shutdown" {
             return self.shut_down(alloc, id);
         }
+        if method == "workspace/executeCommand" {
+            return self.command(alloc, reporter, id, params);
+        }
         self.question(alloc, language, id, method, params)
     }
 
-    fn requested<L: Language>(
+    fn requested<L: Language, R: Reporter>(
         &mut self,
         alloc: Global,
         language: &L,
+        reporter: &R,
         id: &[u8],
         method: &str,
         params: Option<&Value<'_>>,
     ) -> Result<Answered, AllocError>
-        ensures answers { IfOk result (spec.Answers (spec.of_request self.old.phase id.now method.now) None) }
+        ensures answers { IfOk result (spec.Answers (spec.of_request self.old id.now method.now (option_map (λ v. value_view v.now) params.entry)) None) }
+        ensures report { IfOk result (λ a. spec.IsReported R.reports (spec.report_of_request self.old.phase self.old.documents id.now method.now
+            (option_map (λ v. value_view v.now) params.entry)) (option_map (λ v. v.items) a.response)) }
         ensures phase { OnOk result (self.new.phase ≡ spec.after_request self.old.phase method.now) }
         ensures kept { OnErr result (self.new ≡ self.old) }
     {
         match self.phase {
             Phase::Fresh => self.first(alloc, id, method, params),
-            Phase::Ready => self.asked(alloc, language, id, method, params),
+            Phase::Ready => self.asked(alloc, language, reporter, id, method, params),
             Phase::Stopped => refusing(alloc, id, Refusal::NoRequest),
         }
     }
 
     /// The same by the id's value.
-    fn request<L: Language>(
+    fn request<L: Language, R: Reporter>(
         &mut self,
         alloc: Global,
         language: &L,
+        reporter: &R,
         id: &Value<'_>,
         method: &str,
         params: Option<&Value<'_>>,
     ) -> Result<Answered, AllocError>
         requires numbers { HasNumbers (value_view id.now) }
-        ensures answers { IfOk result (spec.Answers (spec.of_request self.old.phase (spec.id_text (value_view id.now)) method.now) None) }
+        ensures answers { IfOk result (spec.Answers (spec.of_request self.old (spec.id_text (value_view id.now)) method.now (option_map (λ v. value_view v.now) params.entry)) None) }
+        ensures report { IfOk result (λ a. spec.IsReported R.reports (spec.report_of_request self.old.phase self.old.documents (spec.id_text (value_view id.now)) method.now
+            (option_map (λ v. value_view v.now) params.entry)) (option_map (λ v. v.items) a.response)) }
         ensures phase { OnOk result (self.new.phase ≡ spec.after_request self.old.phase method.now) }
         ensures kept { OnErr result (self.new ≡ self.old) }
     {
         let id = to_vec(alloc, id)?;
-        self.requested(alloc, language, id.as_slice(), method, params)
+        self.requested(alloc, language, reporter, id.as_slice(), method, params)
     }
 
     // ---- messages
 
-    fn message<L: Language>(
+    fn message<L: Language, R: Reporter>(
         &mut self,
         alloc: Global,
         language: &L,
+        reporter: &R,
         message: Message<'_, '_>,
         params: Option<&Value<'_>>,
     ) -> Result<Answered, AllocError>
         requires numbers { messages.IsWritable message }
-        ensures answers { IfOk result (spec.Answers (spec.of_message self.old.phase (messages.view_of message.entry))
+        ensures answers { IfOk result (spec.Answers (spec.of_message self.old (messages.view_of message.entry) (option_map (λ v. value_view v.now) params.entry))
             (spec.end_of_message self.old.phase (messages.view_of message.entry))) }
+        ensures report { IfOk result (λ a. spec.IsReported R.reports (spec.report_of_message self.old (messages.view_of message.entry)
+            (option_map (λ v. value_view v.now) params.entry)) (option_map (λ v. v.items) a.response)) }
         ensures phase { OnOk result (self.new.phase ≡ spec.after_message self.old.phase (messages.view_of message.entry)) }
         ensures kept { OnErr result (self.new ≡ self.old) }
     {
@@ -567,24 +625,29 @@ impl Session {
             Message::Malformed => refusing(alloc, NO_ID, Refusal::NoRequest),
             Message::Response => Ok(silent(alloc)),
             Message::Notification(method) => self.notified(alloc, language, method, params),
-            Message::Request(id, method) => self.request(alloc, language, id, method, params),
+            Message::Request(id, method) => self.request(
+                alloc, language, reporter, id, method, params,
+            ),
         }
     }
 
-    fn value<L: Language>(
+    fn value<L: Language, R: Reporter>(
         &mut self,
         alloc: Global,
         language: &L,
+        reporter: &R,
         value: &Value<'_>,
     ) -> Result<Answered, AllocError>
         requires numbers { HasNumbers (value_view value.now) }
-        ensures answers { IfOk result (spec.Answers (spec.of_body self.old.phase (Some (value_view value.now)))
+        ensures answers { IfOk result (spec.Answers (spec.of_body self.old (Some (value_view value.now)))
             (spec.end_of_body self.old.phase (Some (value_view value.now)))) }
+        ensures report { IfOk result (λ a. spec.IsReported R.reports (spec.report_of_body self.old (Some (value_view value.now)))
+            (option_map (λ v. v.items) a.response)) }
         ensures phase { OnOk result (self.new.phase ≡ spec.after_body self.old.phase (Some (value_view value.now))) }
         ensures kept { OnErr result (self.new ≡ self.old) }
     {
         let message = message_of(value);
-        self.message(alloc, language, message, value.get("params"))
+        self.message(alloc, language, reporter, message, value.get("params"))
     }
 
     /// Answers a body.
@@ -592,18 +655,19 @@ impl Session {
     /// # Errors
     ///
     /// `AllocError` if a growth is refused: the session is then as it was.
-    pub fn answer<L: Language>(
+    pub fn answer<L: Language, R: Reporter>(
         &mut self,
         alloc: Global,
         language: &L,
+        reporter: &R,
         body: &[u8],
     ) -> Result<Answered, AllocError>
-        ensures answered { IfOk result (λ a. spec.IsAnswered self.old body.now (reply_of a) self.new) }
+        ensures answered { IfOk result (λ a. spec.IsAnswered R.reports self.old body.now (reply_of a) self.new) }
         ensures kept { OnErr result (self.new ≡ self.old) }
     {
         let mut scratch = Scratch::new(alloc);
         match Value::from_slice(alloc, body, &mut scratch) {
-            Ok(value) => self.value(alloc, language, &value),
+            Ok(value) => self.value(alloc, language, reporter, &value),
             Err(Error::Invalid) => refusing(alloc, NO_ID, Refusal::NotJson),
             Err(_) => Err(AllocError),
         }

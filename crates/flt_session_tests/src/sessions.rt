@@ -1,7 +1,9 @@
 //! Sessions of a client, body by body, with a language of fixed texts.
 
+ghost use Rattle.std.specs.Prelude.{⊤};
+
 use flt_frames::Answered;
-use flt_session::{Encoding, Language, OpenText, Question, Session, Spot};
+use flt_session::{Encoding, Language, OpenText, Question, Reporter, Session, Spot};
 use std::alloc::{AllocError, Global};
 use std::test::Fail;
 
@@ -36,6 +38,21 @@ impl Language for Numbers {
         out.extend_from_slice(open.uri.as_bytes())?;
         out.extend_from_slice(b"\",")?;
         out.extend_from_slice(open.text)?;
+        out.push(b']')?;
+        Ok(out)
+    }
+}
+
+/// The report on a document is an array of its name and its text.
+impl Reporter for Numbers {
+    ghost reports = { λ uri text report. ⊤ };
+
+    fn report(&self, alloc: Global, uri: &str, text: &[u8]) -> Result<Vec<u8>, AllocError> {
+        let mut out = Vec::new(alloc);
+        out.extend_from_slice(b"[\"report\",\"")?;
+        out.extend_from_slice(uri.as_bytes())?;
+        out.extend_from_slice(b"\",")?;
+        out.extend_from_slice(text)?;
         out.push(b']')?;
         Ok(out)
     }
@@ -238,7 +255,7 @@ fn responds(
     body: &[u8],
     wanted: &str,
 ) -> Result<bool, AllocError> {
-    let answered = session.answer(alloc, &Numbers, body)?;
+    let answered = session.answer(alloc, &Numbers, &Numbers, body)?;
     Ok(
         is_response(&answered.response, wanted)
             && answered.notifications.is_empty()
@@ -249,7 +266,7 @@ fn responds(
 /// Leads a session so far.
 fn lead(alloc: Global, session: &mut Session, bodies: &[&str]) -> Result<(), AllocError> {
     for body in bodies {
-        session.answer(alloc, &Numbers, body.as_bytes())?;
+        session.answer(alloc, &Numbers, &Numbers, body.as_bytes())?;
     }
     Ok(())
 }
@@ -273,7 +290,7 @@ fn first_other(
 
 /// The status with which a session ends by `exit`, if that alone is the answer.
 fn status(alloc: Global, session: &mut Session) -> Result<Option<u8>, AllocError> {
-    let answered = session.answer(alloc, &Numbers, EXIT.as_bytes())?;
+    let answered = session.answer(alloc, &Numbers, &Numbers, EXIT.as_bytes())?;
     if answered.response.is_some() || !answered.notifications.is_empty() {
         return Ok(None);
     }
@@ -326,10 +343,10 @@ fn bodies_that_are_no_requests_are_answered_within_memory(rt: HostRuntime) -> Re
 type Row = (&'static str, &'static str, &'static str, Option<u8>);
 
 /// A session from `initialize` to `exit`.
-static WHOLE: [Row; 43] = [
+static WHOLE: [Row; 55] = [
     (
         "{\"jsonrpc\":\"2.0\",\"id\":1,\"method\":\"initialize\",\"params\":{\"processId\":null,\"rootUri\":null,\"capabilities\":{}}}",
-        "{\"jsonrpc\":\"2.0\",\"id\":1,\"result\":{\"capabilities\":{\"positionEncoding\":\"utf-16\",\"textDocumentSync\":{\"openClose\":true,\"change\":1},\"hoverProvider\":true,\"completionProvider\":{},\"definitionProvider\":true,\"referencesProvider\":true,\"documentSymbolProvider\":true,\"foldingRangeProvider\":true,\"codeActionProvider\":{\"codeActionKinds\":[\"quickfix\"]}},\"serverInfo\":{\"name\":\"fltstack\"}}}",
+        "{\"jsonrpc\":\"2.0\",\"id\":1,\"result\":{\"capabilities\":{\"positionEncoding\":\"utf-16\",\"textDocumentSync\":{\"openClose\":true,\"change\":1},\"hoverProvider\":true,\"completionProvider\":{},\"definitionProvider\":true,\"referencesProvider\":true,\"documentSymbolProvider\":true,\"foldingRangeProvider\":true,\"codeActionProvider\":{\"codeActionKinds\":[\"quickfix\"]},\"executeCommandProvider\":{\"commands\":[\"fltstack.explain\"]}},\"serverInfo\":{\"name\":\"fltstack\"}}}",
         SILENT,
         None,
     ),
@@ -544,6 +561,78 @@ static WHOLE: [Row; 43] = [
         None,
     ),
     (
+        "{\"jsonrpc\":\"2.0\",\"id\":101,\"method\":\"workspace/executeCommand\",\"params\":{\"command\":\"fltstack.explain\",\"arguments\":[\"file:///a\"]}}",
+        "{\"jsonrpc\":\"2.0\",\"id\":101,\"result\":[\"report\",\"file:///a\",9]}",
+        SILENT,
+        None,
+    ),
+    (
+        "{\"jsonrpc\":\"2.0\",\"id\":102,\"method\":\"workspace/executeCommand\",\"params\":{\"command\":\"fltstack.explain\",\"arguments\":[\"file:///b\",1]}}",
+        "{\"jsonrpc\":\"2.0\",\"id\":102,\"result\":[\"report\",\"file:///b\",\n6]}",
+        SILENT,
+        None,
+    ),
+    (
+        "{\"jsonrpc\":\"2.0\",\"id\":103,\"method\":\"workspace/executeCommand\",\"params\":{\"command\":\"fltstack.explain\",\"arguments\":[\"file:///c\"]}}",
+        "{\"jsonrpc\":\"2.0\",\"id\":103,\"error\":{\"code\":-32602,\"message\":\"the server doesn't know this command, or its argument is no open document\"}}",
+        SILENT,
+        None,
+    ),
+    (
+        "{\"jsonrpc\":\"2.0\",\"id\":104,\"method\":\"workspace/executeCommand\",\"params\":{\"command\":\"fltstack.explain\",\"arguments\":[1]}}",
+        "{\"jsonrpc\":\"2.0\",\"id\":104,\"error\":{\"code\":-32602,\"message\":\"the server doesn't know this command, or its argument is no open document\"}}",
+        SILENT,
+        None,
+    ),
+    (
+        "{\"jsonrpc\":\"2.0\",\"id\":105,\"method\":\"workspace/executeCommand\",\"params\":{\"command\":\"fltstack.explain\",\"arguments\":[]}}",
+        "{\"jsonrpc\":\"2.0\",\"id\":105,\"error\":{\"code\":-32602,\"message\":\"the server doesn't know this command, or its argument is no open document\"}}",
+        SILENT,
+        None,
+    ),
+    (
+        "{\"jsonrpc\":\"2.0\",\"id\":106,\"method\":\"workspace/executeCommand\",\"params\":{\"command\":\"fltstack.explain\",\"arguments\":\"file:///a\"}}",
+        "{\"jsonrpc\":\"2.0\",\"id\":106,\"error\":{\"code\":-32602,\"message\":\"the server doesn't know this command, or its argument is no open document\"}}",
+        SILENT,
+        None,
+    ),
+    (
+        "{\"jsonrpc\":\"2.0\",\"id\":107,\"method\":\"workspace/executeCommand\",\"params\":{\"command\":\"fltstack.explain\"}}",
+        "{\"jsonrpc\":\"2.0\",\"id\":107,\"error\":{\"code\":-32602,\"message\":\"the server doesn't know this command, or its argument is no open document\"}}",
+        SILENT,
+        None,
+    ),
+    (
+        "{\"jsonrpc\":\"2.0\",\"id\":108,\"method\":\"workspace/executeCommand\",\"params\":{\"command\":\"fltstack.explai\",\"arguments\":[\"file:///a\"]}}",
+        "{\"jsonrpc\":\"2.0\",\"id\":108,\"error\":{\"code\":-32602,\"message\":\"the server doesn't know this command, or its argument is no open document\"}}",
+        SILENT,
+        None,
+    ),
+    (
+        "{\"jsonrpc\":\"2.0\",\"id\":109,\"method\":\"workspace/executeCommand\",\"params\":{\"command\":1,\"arguments\":[\"file:///a\"]}}",
+        "{\"jsonrpc\":\"2.0\",\"id\":109,\"error\":{\"code\":-32602,\"message\":\"the server doesn't know this command, or its argument is no open document\"}}",
+        SILENT,
+        None,
+    ),
+    (
+        "{\"jsonrpc\":\"2.0\",\"id\":110,\"method\":\"workspace/executeCommand\",\"params\":{\"arguments\":[\"file:///a\"]}}",
+        "{\"jsonrpc\":\"2.0\",\"id\":110,\"error\":{\"code\":-32602,\"message\":\"the server doesn't know this command, or its argument is no open document\"}}",
+        SILENT,
+        None,
+    ),
+    (
+        "{\"jsonrpc\":\"2.0\",\"id\":111,\"method\":\"workspace/executeCommand\",\"params\":[]}",
+        "{\"jsonrpc\":\"2.0\",\"id\":111,\"error\":{\"code\":-32602,\"message\":\"the server doesn't know this command, or its argument is no open document\"}}",
+        SILENT,
+        None,
+    ),
+    (
+        "{\"jsonrpc\":\"2.0\",\"id\":112,\"method\":\"workspace/executeCommand\"}",
+        "{\"jsonrpc\":\"2.0\",\"id\":112,\"error\":{\"code\":-32602,\"message\":\"the server doesn't know this command, or its argument is no open document\"}}",
+        SILENT,
+        None,
+    ),
+    (
         "{\"jsonrpc\":\"2.0\",\"id\":\"end\",\"method\":\"shutdown\"}",
         "{\"jsonrpc\":\"2.0\",\"id\":\"end\",\"result\":null}",
         SILENT,
@@ -591,7 +680,7 @@ static WHOLE: [Row; 43] = [
 static IN_BYTES: [Row; 4] = [
     (
         "{\"jsonrpc\":\"2.0\",\"id\":\"a\\n\\u0041\",\"method\":\"initialize\",\"params\":{\"capabilities\":{\"general\":{\"positionEncodings\":[\"utf-16\",\"utf-8\"]}}}}",
-        "{\"jsonrpc\":\"2.0\",\"id\":\"a\\nA\",\"result\":{\"capabilities\":{\"positionEncoding\":\"utf-8\",\"textDocumentSync\":{\"openClose\":true,\"change\":1},\"hoverProvider\":true,\"completionProvider\":{},\"definitionProvider\":true,\"referencesProvider\":true,\"documentSymbolProvider\":true,\"foldingRangeProvider\":true,\"codeActionProvider\":{\"codeActionKinds\":[\"quickfix\"]}},\"serverInfo\":{\"name\":\"fltstack\"}}}",
+        "{\"jsonrpc\":\"2.0\",\"id\":\"a\\nA\",\"result\":{\"capabilities\":{\"positionEncoding\":\"utf-8\",\"textDocumentSync\":{\"openClose\":true,\"change\":1},\"hoverProvider\":true,\"completionProvider\":{},\"definitionProvider\":true,\"referencesProvider\":true,\"documentSymbolProvider\":true,\"foldingRangeProvider\":true,\"codeActionProvider\":{\"codeActionKinds\":[\"quickfix\"]},\"executeCommandProvider\":{\"commands\":[\"fltstack.explain\"]}},\"serverInfo\":{\"name\":\"fltstack\"}}}",
         SILENT,
         None,
     ),
@@ -637,7 +726,7 @@ static LATE: [Row; 7] = [
     ),
     (
         "{\"jsonrpc\":\"2.0\",\"id\":-2.5,\"method\":\"initialize\",\"params\":{\"capabilities\":{\"general\":{\"positionEncodings\":[\"utf-32\",\"utf-16\"]}}}}",
-        "{\"jsonrpc\":\"2.0\",\"id\":-2.5,\"result\":{\"capabilities\":{\"positionEncoding\":\"utf-16\",\"textDocumentSync\":{\"openClose\":true,\"change\":1},\"hoverProvider\":true,\"completionProvider\":{},\"definitionProvider\":true,\"referencesProvider\":true,\"documentSymbolProvider\":true,\"foldingRangeProvider\":true,\"codeActionProvider\":{\"codeActionKinds\":[\"quickfix\"]}},\"serverInfo\":{\"name\":\"fltstack\"}}}",
+        "{\"jsonrpc\":\"2.0\",\"id\":-2.5,\"result\":{\"capabilities\":{\"positionEncoding\":\"utf-16\",\"textDocumentSync\":{\"openClose\":true,\"change\":1},\"hoverProvider\":true,\"completionProvider\":{},\"definitionProvider\":true,\"referencesProvider\":true,\"documentSymbolProvider\":true,\"foldingRangeProvider\":true,\"codeActionProvider\":{\"codeActionKinds\":[\"quickfix\"]},\"executeCommandProvider\":{\"commands\":[\"fltstack.explain\"]}},\"serverInfo\":{\"name\":\"fltstack\"}}}",
         SILENT,
         None,
     ),
@@ -677,7 +766,7 @@ fn is_row(answered: &Answered, row: &Row) -> bool {
 
 /// Whether a body is answered as a row says.
 fn goes(alloc: Global, session: &mut Session, row: &Row) -> Result<bool, AllocError> {
-    let answered = session.answer(alloc, &Numbers, row.0.as_bytes())?;
+    let answered = session.answer(alloc, &Numbers, &Numbers, row.0.as_bytes())?;
     Ok(is_row(&answered, row))
 }
 
@@ -736,7 +825,7 @@ fn opening(alloc: Global, number: u16) -> Result<Vec<u8>, AllocError> {
 /// Whether a document is opened and analysed.
 fn is_opened(alloc: Global, session: &mut Session, number: u16) -> Result<bool, AllocError> {
     let body = opening(alloc, number)?;
-    let answered = session.answer(alloc, &Numbers, body.as_slice())?;
+    let answered = session.answer(alloc, &Numbers, &Numbers, body.as_slice())?;
     Ok(!is_notified(answered.notifications.as_slice(), DECLINED))
 }
 

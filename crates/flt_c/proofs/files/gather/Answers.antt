@@ -1,7 +1,7 @@
 use Rattle.std.proofs.Common.{sym, ◌∙◌, Ok, Err}
 use Rattle.flt_c.specs.Texts.{text_in}
 use Rattle.flt_c.proofs.FilesOn.{file_on}
-use Rattle.flt_c.proofs.files.extract.Goals as goal
+use Rattle.flt_c.proofs.files.gather.Goals as goal
 
 pub returns-in-Err : goal.returns-in-Err
 returns-in-Err c =

@@ -22,7 +22,7 @@ use Rattle.flt_emit.specs.Expressions.{address}
 use Rattle.flt_emit.specs.Line.{label, atom_text}
 use Rattle.flt_emit.specs.Names.{number_name, context_name, context_or_null, removed_name, operation_name, existing_name, final_status_name}
 use Rattle.flt_emit_read.specs.Front.{after, past_blanks, number_at}
-use Rattle.flt_emit_read.specs.Lines.{number_name_at, context_at, removed_at, operation_at, final_at, existing_at, optional_at, address_at, atom_at, labelled, ends}
+use Rattle.flt_emit_read.specs.Lines.{number_name_at, context_at, removed_at, operation_at, final_at, existing_at, optional_at, address_at, atom_at, labelled, ended, ends}
 use Rattle.flt_emit_read.proofs.Fronts.{then_reads, first_reads, other_reads, after_again, all_digits, past_all, number_reads, joined_pieces}
 
 pub number_name_reads : (n : NumberVariable) (r : Text) → number_name_at (number_name n ++ r) ≡ Some (n, r)
@@ -128,6 +128,9 @@ label_reads point line r =
     ap (labelled point) (joined_pieces (codes "    // " ∷ decimal point ∷ codes ", line " ∷ decimal line ∷ codes "\n" ∷ []) r)
     ∙ then_reads _ (after_again (decimal point) (codes ", line " ++ (decimal line ++ (codes "\n" ++ r))))
     ∙ ap (after (10 ∷ [])) (past_all is_ascii_digit (decimal line) (codes "\n" ++ r) (all_digits line) refl)
+
+pub ended_reads : (end : Text) (point line : ℕ) (r : Text) → ended end point (end ++ (label point line ++ r)) ≡ Some r
+ended_reads end point line r = then_reads _ (after_again end (label point line ++ r)) ∙ label_reads point line r
 
 pub ends_reads : {A : Type 0} (end : Text) (point line : ℕ) (x : A) (r : Text) →
     ends end point x (end ++ (label point line ++ r)) ≡ Some (x, r)

@@ -22,10 +22,11 @@ use Rattle.flt_emit.specs.Line.{label, indentation}
 use Rattle.flt_emit.specs.Names.{context_name, context_or_null, operation_name, final_status_name, status_name}
 use Rattle.flt_emit.specs.Statements.{plain_text, before_call, final_text}
 use Rattle.flt_emit_read.specs.Front.{◌>>=◌, after, by_form, past_blanks}
-use Rattle.flt_emit_read.specs.Lines.{whole, line_forms, line_at, context_line, ended_context, lock_end, lock_call, pended_at, pended_line, completing, completed_call, completed_return}
+use Rattle.flt_emit_read.specs.declared.line.Line.TheVariants.{Whole}
+use Rattle.flt_emit_read.specs.Lines.{line_at, context_line, ended_context, lock_end, lock_call, pended_at, pended_line, completing, completed_call, completed_return, line_start, named_line, number_name_at, context_at, removed_at, ask_forms, plain_line, plain_forms, lock_line, lock_forms, settle_line, settle_forms, locked}
 use Rattle.flt_emit_read.proofs.Fronts.{then_reads, after_again, Stops, name_reads, pieces, joined_pieces, past_indentation}
 use Rattle.flt_emit_read.proofs.Simple.{started, starts, context_starts, completing_starts}
-use Rattle.flt_emit_read.proofs.Words.{context_reads, operation_reads, operation_solid, final_reads, optional_reads, ends_reads}
+use Rattle.flt_emit_read.proofs.Names.{context_reads, operation_reads, operation_solid, final_reads, optional_reads, ended_reads, ends_reads}
 
 -- a status that doesn't complete
 abbrev pub is_bare : Status → Bool
@@ -52,10 +53,11 @@ module _ (at : Place) (locks : List Lock) (lv point line : ℕ) (r : Text) where
 
   lock_reads : (kind : LockKind) (level : Option Text) (made : LockNumber → PlainCall) (name : Text) (l : LockNumber) →
       is_name name ≡ true → lock_number kind name locks ≡ Some l → Stops is_word (lock_end level name ++ rest) →
-      lock_call locks point kind level made (name ++ (lock_end level name ++ rest)) ≡ Some (whole (Call no_span (made l)), r)
-  unfolding lock_call
+      lock_call locks point kind level made (name ++ (lock_end level name ++ rest)) ≡ Some (Whole (Call no_span (made l)), r)
+  unfolding lock_call locked
   lock_reads kind level made name l h e s =
-      then_reads _ (name_reads name (lock_end level name ++ rest) h s) ∙ then_reads _ e ∙ ends_reads (lock_end level name) point line _ r
+      then_reads _ (then_reads _ (name_reads name (lock_end level name ++ rest) h s) ∙ then_reads _ e
+      ∙ then_reads _ (ended_reads (lock_end level name) point line r))
 
   spin_end : (before level name : Text) →
       pieces (before ∷ name ∷ level ∷ name ∷ codes " );" ∷ []) rest ≡ before ++ (name ++ (lock_end (Some level) name ++ rest))
@@ -91,8 +93,9 @@ module _ (at : Place) (locks : List Lock) (lv point line : ℕ) (r : Text) where
 
   pended_call : (d : OperationVariable) (s : Status) → is_bare s ≡ true →
       started at locks lv point (plain_text locks (plain.CompletePendedPreOperation d s) ++ rest) ≡
-      Some (whole (Call no_span (plain.CompletePendedPreOperation d s)), r)
-  unfolding line_forms pended_line
+      Some (Whole (Call no_span (plain.CompletePendedPreOperation d s)), r)
+  unfolding pended_line line_start named_line number_name_at context_at removed_at ask_forms plain_line plain_forms lock_line lock_forms
+      settle_line settle_forms
   pended_call d s h =
       ap (started at locks lv point)
       (joined_pieces (codes "FltCompletePendedPreOperation( " ∷ operation_name d ∷ codes ", " ∷ status_name s ∷ codes ", "
@@ -105,8 +108,9 @@ module _ (at : Place) (locks : List Lock) (lv point line : ℕ) (r : Text) where
   is_alone c = true
 
   plain_starts : (c : PlainCall) → IsPlain locks c → is_alone c ≡ true →
-      started at locks lv point (plain_text locks c ++ rest) ≡ Some (whole (Call no_span c), r)
-  unfolding line_forms ended_context context_line
+      started at locks lv point (plain_text locks c ++ rest) ≡ Some (Whole (Call no_span c), r)
+  unfolding ended_context context_line line_start named_line number_name_at context_at removed_at ask_forms plain_line plain_forms
+      lock_line lock_forms settle_line settle_forms
   plain_starts (plain.DeleteContext c) ok h =
       ap (started at locks lv point) (joined_pieces (codes "FltDeleteContext( " ∷ context_name c ∷ codes " );" ∷ []) rest)
       ∙ then_reads _ (context_reads c _) ∙ ends_reads (codes " );") point line _ r
@@ -155,7 +159,7 @@ module _ (at : Place) (locks : List Lock) (lv point line : ℕ) (r : Text) where
   completed_reads : (level : ℕ) (d : OperationVariable) (f : FinalStatus) →
       line_at at locks lv point (final_text level (operation_name d) f ++ (indentation level
       ++ (plain_text locks (plain.CompletePendedPreOperation d (statuses.Complete f)) ++ rest))) ≡
-      Some (whole (Call no_span (plain.CompletePendedPreOperation d (statuses.Complete f))), r)
+      Some (Whole (Call no_span (plain.CompletePendedPreOperation d (statuses.Complete f))), r)
   completed_reads level d f =
       completion_starts level d f _
       ∙ ap (λ z. by_form (completed_call point d f ∷ completed_return at point d f) (past_blanks z))
@@ -164,12 +168,12 @@ module _ (at : Place) (locks : List Lock) (lv point line : ℕ) (r : Text) where
       ∙ then_reads _ (after_again (operation_name d) _) ∙ ends_reads (codes ", FLT_PREOP_COMPLETE, NULL );") point line _ r
 
   alone_reads : (level : ℕ) (c : PlainCall) → IsPlain locks c → is_alone c ≡ true →
-      line_at at locks lv point (indentation level ++ (plain_text locks c ++ rest)) ≡ Some (whole (Call no_span c), r)
+      line_at at locks lv point (indentation level ++ (plain_text locks c ++ rest)) ≡ Some (Whole (Call no_span c), r)
   alone_reads level c ok h = starts at locks lv point level (plain_text locks c ++ rest) ∙ plain_starts c ok h
 
   pub call_reads : (level : ℕ) (c : PlainCall) → IsPlain locks c →
       line_at at locks lv point (before_call level c ++ (indentation level ++ (plain_text locks c ++ (label point line ++ r)))) ≡
-      Some (whole (Call no_span c), r)
+      Some (Whole (Call no_span c), r)
   call_reads level (plain.CompletePendedPreOperation d (statuses.Complete f)) ok = completed_reads level d f
   call_reads level (plain.CompletePendedPreOperation d (statuses.WithCallback c)) ok = alone_reads level _ ok refl
   call_reads level (plain.CompletePendedPreOperation d (statuses.Synchronize c)) ok = alone_reads level _ ok refl

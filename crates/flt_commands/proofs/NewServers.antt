@@ -5,9 +5,10 @@ use Rattle.flt_commands.specs.Served.{IsNew, MayAnswer, Serves, ServesSoFar}
 use Rattle.flt_frames.specs.Handling.{IsServed, IsServedSoFar}
 use Rattle.flt_frames.specs.declared.fault.ServeFault.{ServeFault}
 use Rattle.flt_frames.specs.declared.fault.ServeFault.TheVariants.{Write}
+use Rattle.flt_commands.specs.declared.serving.Explaining.{Explaining}
 use Rattle.flt_server.specs.declared.server.Server.{Server}
 
-module _ (first last : Server) (is : IsNew first) where
+module _ (first last : Server Explaining) (is : IsNew first) where
   -- it ended with a status
   pub serves : (had left old new : Option Text) (r : Result ℕ ServeFault) →
       IfOk r (IsServed MayAnswer first last had left old new) → IfOk r (Serves had left old new)
