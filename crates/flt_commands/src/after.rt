@@ -14,7 +14,7 @@ use flt_words::Form;
 use std::alloc::{AllocError, Global};
 use std::cmp::{max, min};
 
-/// What is told of texts, after drifts that are worth this status, when so many bytes of all that are written already.
+/// The output for texts after drifts that are worth this status, when so many bytes of all of it are written already.
 fn told_after(first: Vec<u8>, worth: u8, sent: usize, own: Told) -> Result<Told, AllocError>
     ensures after { IfOk result (spec.IsAfter first.items worth own) }
     ensures sent { IfOk result (λ e. e.sent ≡ sent) }

@@ -63,7 +63,7 @@ fn laid(alloc: Global, file: Vec<u8>) -> Result<Result<Found, Unread>, AllocErro
     }
 }
 
-/// What a name gives, of a file that is taken for C its annotations, or why these are the bytes of a C file whose annotations make no text.
+/// The text that a name gives, of a file that is taken for C its annotations at their places, or why it gives none.
 #[tactic(auto, using(crate::proofs::FoundFiles::found_in_c, crate::proofs::FoundFiles::unlaid))]
 fn found_in<I: Inputs>(
     alloc: Global,
@@ -85,7 +85,7 @@ fn found_in<I: Inputs>(
     Ok(Ok(Found { text: file, code }))
 }
 
-/// What one name gives after others, or why it gives nothing. The standard input gives its bytes once, and `is_used` says whether it is
+/// The text that one name gives after others, or why it gives none. The standard input gives its bytes once, and `is_used` says whether it is
 /// among the others.
 fn find_one<I: Inputs>(
     alloc: Global,
@@ -117,7 +117,7 @@ pub(crate) struct FoundFiles<'a> {
 }
 
 impl<'a> FoundFiles<'a> {
-    /// Adds one name, with what it gives or why it gives nothing. `is_used` says whether the standard input is among those before it.
+    /// Adds one name, with the text that it gives or why it gives none. `is_used` says whether the standard input is among those before it.
     fn add<I: Inputs>(
         &mut self,
         alloc: Global,
@@ -145,7 +145,7 @@ impl<'a> FoundFiles<'a> {
     }
 }
 
-/// What each name gives, in order, or why it gives nothing. The standard input gives its bytes once.
+/// The text that each name gives, in order, or why it gives none. The standard input gives its bytes once.
 pub(crate) fn find_each<'a, I: Inputs>(
     alloc: Global,
     inputs: &I,

@@ -87,7 +87,7 @@ fn are_some(found: &[Drift]) -> bool
 
 // ---- the drifts of all files
 
-/// What is printed of the drifts of files, and whether there is one.
+/// The drifts of files as they are printed, and whether there is one.
 #[derive(Drop)]
 pub(crate) struct Drifted {
     pub(crate) printed: Vec<u8>,
@@ -135,7 +135,7 @@ fn add_file(
     }
 }
 
-/// What ends the drifts that a form prints.
+/// The end of the drifts that a form prints.
 fn gap(form: Form, printed: &[u8]) -> &'static [u8]
     ensures { result.now ≡ spec.gap form printed.now }
 {
