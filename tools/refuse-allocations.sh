@@ -206,6 +206,8 @@ runs=(
     "explain warnings/w01_three_locks.flt"
     "explain --states 1 warnings/w01_turned_locks.flt"
     "explain c/ctx_broken.c c/kit.h"
+    "explain --states 1 c/ctx_drifted.c leaked_context.flt"
+    "explain --strict --form short c/ctx_drifted.c leaked_context.flt"
     "explain --strict warnings/w02_inserted_under_a_lock.flt warnings/w04_changed_without_the_lock.flt"
     "explain --form lines warnings/w05_goes_on_with_its_own.flt warnings/w06_never_queued.flt"
     "compare c/ctx_drifted.c c/ctx.c"

@@ -273,21 +273,21 @@ module _ (law : Law) (runs : LawOfRuns) (nowhere : SpelledFailsNowhere) where
   in_document options sources missed runs printed status (run, is, same) good =
       in_results options _ _ 0 sources is.results status is.found good
 
-  told_well : (form : Form) (options : WarningOptions) (sources : List Source) (missed : List UnreadFile) (t : Told) →
-      IsTold form options sources missed t → t.explained.status ≡ 0 → EachBreaksNothing (texts_of sources)
-  told_well Human options sources missed t told good =
+  told_well : (form : Form) (options : WarningOptions) (drifts : Text) (sources : List Source) (missed : List UnreadFile) (t : Told) →
+      IsTold form options drifts sources missed t → t.explained.status ≡ 0 → EachBreaksNothing (texts_of sources)
+  told_well Human options drifts sources missed t told good =
       all_reported options told.filters (texts_of sources) t.explained.output.items t.explained.status told.are good
-  told_well Short options sources missed t told good =
+  told_well Short options drifts sources missed t told good =
       in_lines Sentence options no_member 0 sources [] t.explained.output.items t.explained.status told good
-  told_well Lines options sources missed t told good =
+  told_well Lines options drifts sources missed t told good =
       in_lines Object options no_member 0 sources [] t.explained.output.items t.explained.status told good
-  told_well Sarif options sources missed t told good =
+  told_well Sarif options drifts sources missed t told good =
       in_document options sources missed [] t.explained.output.items t.explained.status told good
-  told_well LinesWithRuns options sources missed t told good =
+  told_well LinesWithRuns options drifts sources missed t told good =
       in_lines Object options (own_member sources told.runs.now) 0 sources [] t.explained.output.items t.explained.status told.lines good
-  told_well SarifWithRuns options sources missed t told good =
+  told_well SarifWithRuns options drifts sources missed t told good =
       in_document options sources missed told.runs t.explained.output.items t.explained.status told.document good
-  told_well Html options sources missed t told good =
+  told_well Html options drifts sources missed t told good =
       all_reported options told.reports.filters (texts_of sources) told.printed t.explained.status told.reports.are good
 
   -- where a file isn't read, the status isn't 0
@@ -295,27 +295,28 @@ module _ (law : Law) (runs : LawOfRuns) (nowhere : SpelledFailsNowhere) where
   own_zero status [] good = good
   own_zero status (file ∷ files) good = absurd (omega (arith, good))
 
-  explained : (gives : Giving) (form : Form) (colour : Colour) (states : ℕ) (look : Look) (journal : Option Text) (warnings : Choice)
+  explained : (gives : Giving) (is_c : Bool) (form : Form) (colour : Colour) (states : ℕ) (look : Look) (journal : Option Text) (warnings : Choice)
       (files texts : List Text) (answer : Answer) →
-      IsExplained gives form look journal files texts (Ok answer) → status_of answer ≡ 0 →
-      IsClean (Explain form colour states journal warnings files) texts
-  explained gives form colour states look journal warnings files texts (Explained e missed) said good =
-      subst EachBreaksNothing said.told.given
-      (told_well form look.options said.told.sources missed.items e said.told.told (own_zero e.explained.status missed.items good))
-  explained gives form colour states look journal warnings files texts (Shown rows v) said good = absurd said
-  explained gives form colour states look journal warnings files texts (has_text b) said good = absurd said
-  explained gives form colour states look journal warnings files texts (has_layouts mode outcomes) said good = absurd said
-  explained gives form colour states look journal warnings files texts (has_pages t) said good = absurd said
-  explained gives form colour states look journal warnings files texts (Emitted b) said good = absurd said
-  explained gives form colour states look journal warnings files texts (NotEmitted w) said good = absurd said
-  explained gives form colour states look journal warnings files texts (EmittedInto d) said good = absurd said
-  explained gives form colour states look journal warnings files texts (Compared w) said good = absurd said
-  explained gives form colour states look journal warnings files texts (has_run ran) said good = absurd said
-  explained gives form colour states look journal warnings files texts (FileRefused n f) said good = absurd said
-  explained gives form colour states look journal warnings files texts Accepted said good = absurd said
-  explained gives form colour states look journal warnings files texts (Refused f) said good = absurd said
-  explained gives form colour states look journal warnings files texts (Written c) said good = absurd said
-  explained gives form colour states look journal warnings files texts (Judged v) said good = absurd said
+      IsExplained gives is_c form look warnings.allowed journal files texts (Ok answer) → status_of answer ≡ 0 →
+      IsClean (Explain form colour states journal warnings is_c files) texts
+  explained gives is_c form colour states look journal warnings files texts (Explained e missed) said good =
+      let zeros = both_zero said.told.own.explained.status _ (sym said.told.after.status ∙ own_zero e.explained.status missed.items good) in
+      subst EachBreaksNothing said.told.told.given
+      (told_well form look.options _ said.told.told.sources missed.items said.told.own said.told.told.told zeros.0)
+  explained gives is_c form colour states look journal warnings files texts (Shown rows v) said good = absurd said
+  explained gives is_c form colour states look journal warnings files texts (has_text b) said good = absurd said
+  explained gives is_c form colour states look journal warnings files texts (has_layouts mode outcomes) said good = absurd said
+  explained gives is_c form colour states look journal warnings files texts (has_pages t) said good = absurd said
+  explained gives is_c form colour states look journal warnings files texts (Emitted b) said good = absurd said
+  explained gives is_c form colour states look journal warnings files texts (NotEmitted w) said good = absurd said
+  explained gives is_c form colour states look journal warnings files texts (EmittedInto d) said good = absurd said
+  explained gives is_c form colour states look journal warnings files texts (Compared w) said good = absurd said
+  explained gives is_c form colour states look journal warnings files texts (has_run ran) said good = absurd said
+  explained gives is_c form colour states look journal warnings files texts (FileRefused n f) said good = absurd said
+  explained gives is_c form colour states look journal warnings files texts Accepted said good = absurd said
+  explained gives is_c form colour states look journal warnings files texts (Refused f) said good = absurd said
+  explained gives is_c form colour states look journal warnings files texts (Written c) said good = absurd said
+  explained gives is_c form colour states look journal warnings files texts (Judged v) said good = absurd said
 
   -- what is emitted is covered
   covered : (emitting : Emitting) (has : Cert → Type 0) (refuses : Answer → Type 0) (text : Text) (answer : Answer) →
@@ -348,13 +349,12 @@ module _ (law : Law) (runs : LawOfRuns) (nowhere : SpelledFailsNowhere) where
   says_clean gives names texts IsSaidOf P (Ok answer) bytes status holds (given result there said) reported good =
       holds answer said (sym reported.1 ∙ good)
 
-  explains_clean : (gives : Giving) (form : Form) (colour : Colour) (states : ℕ) (look : Look) (journal : Option Text) (warnings : Choice)
+  explains_clean : (gives : Giving) (is_c : Bool) (form : Form) (colour : Colour) (states : ℕ) (look : Look) (journal : Option Text) (warnings : Choice)
       (files texts : List Text) (said : Result Answer Failure) (bytes : List ℕ) (status : ℕ) →
-      IsExplained gives form look journal files texts said → IsReported said bytes status →
-      status ≡ 0 → IsClean (Explain form colour states journal warnings files) texts
-  explains_clean gives form colour states look journal warnings files texts (Ok answer) bytes status said reported good =
-      explained gives form colour states look journal warnings files texts answer said (sym reported.1 ∙ good)
-  explains_clean gives form colour states look journal warnings files texts (Err f) bytes status said reported good =
+      IsExplained gives is_c form look warnings.allowed journal files texts said → IsReported said bytes status → status ≡ 0 → IsClean (Explain form colour states journal warnings is_c files) texts
+  explains_clean gives is_c form colour states look journal warnings files texts (Ok answer) bytes status said reported good =
+      explained gives is_c form colour states look journal warnings files texts answer said (sym reported.1 ∙ good)
+  explains_clean gives is_c form colour states look journal warnings files texts (Err f) bytes status said reported good =
       absurd (omega (arith, reported.1.1, good))
 
   -- where this is said of what is asked for, and reported with the status 0, the text breaks nothing
@@ -372,9 +372,8 @@ module _ (law : Law) (runs : LawOfRuns) (nowhere : SpelledFailsNowhere) where
       (λ answer is well. driven texts answer workers quiet script files is well) is reported good
   clean_of shown gives (Replay journal files) texts said bytes status is reported good = tt
   clean_of shown gives (Show timeline picture journal files) texts said bytes status is reported good = tt
-  clean_of shown gives (Explain form colour states journal warnings files) texts said bytes status is reported good =
-      explains_clean gives form colour states (look_in colour shown states warnings) journal warnings files texts said
-      bytes status is reported good
+  clean_of shown gives (Explain form colour states journal warnings is_c files) texts said bytes status is reported good =
+      explains_clean gives is_c form colour states (look_in colour shown states warnings) journal warnings files texts said bytes status is reported good
   clean_of shown gives (Extract of_map files) texts said bytes status is reported good = tt
   clean_of shown gives (Format mode files) texts said bytes status is reported good = tt
   clean_of shown gives (Pages names) texts said bytes status is reported good = tt

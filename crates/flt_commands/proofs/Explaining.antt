@@ -13,11 +13,13 @@ use Rattle.flt_notes.specs.declared.noted.Noted.{Noted}
 use Rattle.flt_warning_details.specs.declared.options.WarningOptions.{WarningOptions}
 use Rattle.flt_words.specs.declared.request.Form.{Form}
 use Rattle.flt_commands.proofs.Sent.{cut_short}
+use Rattle.flt_commands.specs.Annotated.{AreFoundIn, codes_in}
 use Rattle.flt_commands.specs.Answer.{sent_in}
 use Rattle.flt_commands.specs.Commands.{IsReported}
-use Rattle.flt_commands.specs.Explain.{AreNotedFor, HasReport, HoldsBack, IsCutIn, IsCutShort, IsCutUnder, IsExplained, IsNoteTold, IsPrintTold, IsSent, IsTold, IsToldOrUnwritten, IsToldUnder, look_of, names_in, said_of, told_name}
+use Rattle.flt_commands.specs.Explain.{AreNotedFor, HasReport, HoldsBack, IsCutAfter, IsCutIn, IsCutShort, IsCutUnder, IsExplained, IsNoteTold, IsPrintTold, IsSent, IsTold, IsToldOrUnwritten, IsToldUnder, IsToldWith, first_in, look_of, names_in, said_of, told_name}
+use Rattle.flt_commands.specs.Drifts.{drifts_status, drifts_told}
 use Rattle.flt_commands.specs.Explain as explain
-use Rattle.flt_commands.specs.Inputs.{AreReadIn, Giving, Text}
+use Rattle.flt_commands.specs.Inputs.{Giving, Text}
 use Rattle.flt_commands.specs.Remarks.{unread_in, unread_lines}
 use Rattle.flt_commands.specs.declared.answer.Answer.{Answer}
 use Rattle.flt_commands.specs.declared.explain.Asked.{Asked}
@@ -26,7 +28,7 @@ use Rattle.flt_commands.specs.declared.explain.Explanation.TheVariants.{Told as 
 use Rattle.flt_commands.specs.declared.failure.Failure.{Failure}
 use Rattle.flt_commands.specs.declared.fault.CommandFault.{CommandFault}
 use Rattle.flt_commands.specs.declared.fault.CommandFault.TheVariants.{OutOfMemory}
-use Rattle.flt_commands.specs.declared.inputs.ReadFiles.{ReadFiles}
+use Rattle.flt_commands.specs.declared.annotated.FoundFiles.{FoundFiles}
 use Rattle.flt_commands.specs.declared.report.Report.{Report}
 
 -- ---- what is held back
@@ -41,14 +43,12 @@ holds_some form journal name same = rw same tt
 
 -- ---- of names and what they give
 
--- what was said of the texts that were read is what `explain` says of these names under its look
-pub told_under : (form : Form) (look : Look) (journal : Option Text) (names texts : List Text)
-    (unread : List UnreadFile) (sources : List Source)
+pub told_under : (form : Form) (look : Look) (journal : Option Text) (drifts : Text) (names texts : List Text) (unread : List UnreadFile) (sources : List Source)
     (result : Result Told CommandFault) → names_in sources ≡ map (told_name form) names → texts_of sources ≡ texts →
-    IfOk result (IsTold form look.options sources unread) → IfOk result (λ t. AreNotedFor form journal (texts_of sources) t.noted) →
-    IfOk result (IsNoteTold form (texts_of sources) look.states) → IfOk result (IsPrintTold form look sources) →
-    IfOk result (IsToldUnder form look journal names texts unread)
-told_under form look journal names texts unread sources (Ok t) named given told noted notes print = record {
+    IfOk result (IsTold form look.options drifts sources unread) → IfOk result (λ t. AreNotedFor form journal (texts_of sources) t.noted) →
+    IfOk result (IsNoteTold form (texts_of sources) look.states) → IfOk result (IsPrintTold form look drifts sources) →
+    IfOk result (IsToldUnder form look journal drifts names texts unread)
+told_under form look journal drifts names texts unread sources (Ok t) named given told noted notes print = record {
   sources = sources;
   named = named;
   given = given;
@@ -57,7 +57,7 @@ told_under form look journal names texts unread sources (Ok t) named given told 
   notes = subst (λ ts. IsNoteTold form ts look.states t) given notes;
   print = print;
 }
-told_under form look journal names texts unread sources (Err e) named given told noted notes print = tt
+told_under form look journal drifts names texts unread sources (Err e) named given told noted notes print = tt
 
 -- a report has these notes, if they are those of one that is asked for so
 pub reported : (asked : Asked) (asking : Asking) (sources : List Source) (t : Told) (notes : List Noted) →
@@ -81,46 +81,53 @@ cut_some form options states names texts sources (Err e) old new named given cut
 
 -- ---- of files
 
-module _ (gives : Giving) (form : Form) (options : WarningOptions) (states : ℕ) (files : List Text) where
+-- what is printed of the drifts of some files
+abbrev drifts_of : Form → List Text → FoundFiles → Text
+drifts_of form allowed f = drifts_told form allowed (map (λ name. name.now) f.names.items) (codes_in f)
+
+-- what they are worth
+abbrev worth_of : Look → List Text → FoundFiles → ℕ
+worth_of look allowed f = drifts_status look.options.is_strict allowed (codes_in f)
+
+module _ (gives : Giving) (is_c : Bool) (form : Form) (options : WarningOptions) (states : ℕ) (allowed files : List Text) where
   -- what is told of those that are read is cut short
-  pub cut_read : (r : ReadFiles) (old new : Option Text) → AreReadIn gives files r →
-      IsCutUnder form options states (map (λ name. name.now) r.names.items) (map (λ text. text.items) r.texts.items) old new →
-      IsCutShort gives form options states files old new
-  cut_read r old new are cut = explain.some_read _ _ _ are cut
+  pub cut_read : (f : FoundFiles) (old new : Option Text) → AreFoundIn is_c gives files f →
+      IsCutAfter (first_in form (drifts_of form allowed f)) form options states (map (λ name. name.now) f.names.items) (map (λ text. text.items) f.texts.items)
+      old new → IsCutShort gives is_c form options states allowed files old new
+  cut_read f old new are cut = explain.some_read _ _ _ _ are.read are.found cut
 
   -- nothing went out where a file is named for a journal
   pub cut_named : {O : Type 0} (taken : O → Option Text) (old new : O) (journal : Option (Bor Text)) → journal ≢ None →
-      (HoldsBack form (option_map (λ name. name.now) journal) → new ≡ old) →
-      IsCutShort gives form options states files (taken old) (taken new)
+      (HoldsBack form (option_map (λ name. name.now) journal) → new ≡ old) → IsCutShort gives is_c form options states allowed files (taken old) (taken new)
   cut_named taken old new journal named held =
-      rw (held (holds_named form journal named)) (cut_short gives form options states files (taken old))
+      rw (held (holds_named form journal named)) (cut_short gives is_c form options states allowed files (taken old))
 
   -- nor where its journal isn't written
   pub cut_unwritten : {O : Type 0} (taken : O → Option Text) (old new : O) (look : Look) (journal : Option Text) (texts : List Text)
-      (said : Explanation) → IsErr (said_of said) → IsExplained gives form look journal files texts (said_of said) →
-      (HoldsBack form journal → new ≡ old) →
-      IsCutShort gives form options states files (taken old) (taken new)
+      (said : Explanation) → IsErr (said_of said) → IsExplained gives is_c form look allowed journal files texts (said_of said) →
+      (HoldsBack form journal → new ≡ old) → IsCutShort gives is_c form options states allowed files (taken old) (taken new)
   cut_unwritten taken old new look journal texts (Said t unread) err is held =
       let e : false ≡ true = err in let no : ⊥ = cc in absurd no
   cut_unwritten taken old new look journal texts (Unwritten name why) err is held =
-      rw (held (holds_some form journal name.now is.0)) (cut_short gives form options states files (taken old))
+      rw (held (holds_some form journal name.now is.0)) (cut_short gives is_c form options states allowed files (taken old))
 
   -- the same of a report
   pub cut_reported : {O : Type 0} (taken : O → Option Text) (old new : O) (look : Look) (journal : Option Text) (texts : List Text)
       (said : Explanation) (result : Result Report CommandFault) → IfErr result (λ e. (e ≡ OutOfMemory) × IsErr (said_of said)) →
-      IsExplained gives form look journal files texts (said_of said) → (HoldsBack form journal → new ≡ old) →
-      IfErr result (λ e. e ≡ OutOfMemory → IsCutShort gives form options states files (taken old) (taken new))
+      IsExplained gives is_c form look allowed journal files texts (said_of said) → (HoldsBack form journal → new ≡ old) →
+      IfErr result (λ e. e ≡ OutOfMemory → IsCutShort gives is_c form options states allowed files (taken old) (taken new))
   cut_reported taken old new look journal texts said (Ok report) err is held = tt
   cut_reported taken old new look journal texts said (Err e) err is held =
       λ short. cut_unwritten taken old new look journal texts said err.1 is held
 
   -- what is said of them
-  pub explained_of : (look : Look) (journal : Option Text) (r : ReadFiles) (told : Told) (said : Explanation) → AreReadIn gives files r →
-      IsToldUnder form look journal (map (λ name. name.now) r.names.items) (map (λ text. text.items) r.texts.items) r.unread.items told →
-      IsToldOrUnwritten told r.unread.items journal said →
-      IsExplained gives form look journal files (map (λ text. text.items) r.texts.items) (said_of said)
-  explained_of look journal r told (Said t unread) are is (same, all) = rw (same, all) (record { names = _; read = are; told = is })
-  explained_of look journal r told (Unwritten name why) are is same = (same, record { names = _; unread = _; read = are })
+  pub explained_of : (look : Look) (journal : Option Text) (f : FoundFiles) (told : Told) (said : Explanation) → AreFoundIn is_c gives files f →
+      IsToldWith (drifts_of form allowed f) (worth_of look allowed f) form look journal (map (λ name. name.now) f.names.items)
+      (map (λ text. text.items) f.texts.items) f.unread.items told → IsToldOrUnwritten told f.unread.items journal said →
+      IsExplained gives is_c form look allowed journal files (map (λ text. text.items) f.texts.items) (said_of said)
+  explained_of look journal f told (Said t unread) are is (same, all) =
+      rw (same, all) (record { names = _; codes = _; read = are.read; found = are.found; told = is })
+  explained_of look journal f told (Unwritten name why) are is same = (same, record { names = _; unread = _; read = are.read })
 
 -- what went out of it
 pub sent_of_said : {O : Type 0} (taken : O → Option Text) (old new : O) (form : Form) (journal : Option Text) (told : Told)

@@ -1,3 +1,4 @@
+pub mod After
 pub mod ButOne
 pub mod Covered
 pub mod Drawing
@@ -7,13 +8,13 @@ pub mod Faults
 pub mod FindingRuns
 pub mod Firsts
 pub mod Formatting
+pub mod FoundFiles
 pub mod InTurn
 pub mod Lengths
 pub mod MoreDrawn
 pub mod MoreParsed
 pub mod NewServers
 pub mod OneAnalysis
-pub mod OneAnnotation
 pub mod OneAnswer
 pub mod OneCheck
 pub mod OneComparison

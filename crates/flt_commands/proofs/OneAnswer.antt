@@ -1,7 +1,6 @@
 -- A command line has one answer at most.
 use Rattle.std.proofs.Common.{◌≡◌, ◌≢◌, ℕ, Bool, true, false, List, Option, Some, None, Result, Ok, Err, codes, refl, sym, ap, unwrap_or, ◌∙◌}
 use Rattle.std.specs.Str.{bytes_eq}
-use Rattle.flt_commands.proofs.OneAnnotation.{annotations_once}
 use Rattle.flt_commands.proofs.OneComparison.{compares_once}
 use Rattle.flt_commands.proofs.OneExtraction.{extracts_once}
 use Rattle.flt_commands.proofs.OneLayout.{layouts_said_once}
@@ -86,7 +85,7 @@ module _ (gives : Giving) (one : GivesOne gives) where
   gives_one (Run workers quiet script files) = but_once (Some script)
   gives_one (Replay journal files) = but_once (Some journal)
   gives_one (Show timeline picture journal files) = but_once (Some journal)
-  gives_one (Explain form colour states journal warnings files) = annotations_once gives one
+  gives_one (Explain form colour states journal warnings is_c files) = one
   gives_one (Extract of_map files) = one
   gives_one (Format mode files) = one
   gives_one (Pages names) = one
@@ -117,7 +116,7 @@ module _ (checked : SaysOne IsChecked) (analysed : SaysOne IsAnalysed) (thinned 
   said_once gives shown showing (Replay journal files) texts more a b has one x y =
       says_once gives one (names_of (Replay journal files)) IsReplayed replayed texts more a b x y
   said_once gives shown showing (Show timeline picture journal files) texts more a b has one x y = absurd has
-  said_once gives shown showing (Explain form colour states journal warnings files) texts more a b has one x y = absurd has
+  said_once gives shown showing (Explain form colour states journal warnings is_c files) texts more a b has one x y = absurd has
   said_once gives shown showing (Extract of_map files) texts more a b has one x y =
       says_once gives one (names_of (Extract of_map files)) (IsExtracted of_map files) (extracts_once of_map files) texts more a b x y
   said_once gives shown showing (Format modes.Print files) texts more a b has one x y =

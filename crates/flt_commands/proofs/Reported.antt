@@ -106,18 +106,16 @@ unread_none (EmittedInto driver) good = refl
 unread_none (Compared why) good = refl
 
 -- of what `explain` says, where no file is named for a journal
-pub quiet_for : (form : Form) (colour : Colour) (states : ℕ) (journal : Option Text) (warnings : Choice)
-    (files : List Text) (before : List ℕ)
+pub quiet_for : (form : Form) (colour : Colour) (states : ℕ) (journal : Option Text) (warnings : Choice) (is_c : Bool) (files : List Text) (before : List ℕ)
     (said : Result Answer Failure) (result : Result Report CommandFault) → IsFound journal said before →
     IfOk result (λ report. IsReported said report.output.items report.status) →
     IfOk result (λ report. report.status ≢ 2 → report.remark.items ≡ before) →
-    IfOk result (λ report. report.status ≢ 2 → NamesNoJournal (Some (Explain form colour states journal warnings files)) →
-    report.remark.items ≡ [])
-quiet_for form colour states (Some name) warnings files before said (Ok report) found reported same = λ good names. absurd names
-quiet_for form colour states None warnings files before (Ok answer) (Ok report) found reported same =
+    IfOk result (λ report. report.status ≢ 2 → NamesNoJournal (Some (Explain form colour states journal warnings is_c files)) → report.remark.items ≡ [])
+quiet_for form colour states (Some name) warnings is_c files before said (Ok report) found reported same = λ good names. absurd names
+quiet_for form colour states None warnings is_c files before (Ok answer) (Ok report) found reported same =
     λ good names. same good ∙ found ∙ ap (λ lines. lines ++ []) (unread_none answer (λ two. good (reported.1 ∙ two)))
-quiet_for form colour states None warnings files before (Err f) (Ok report) found reported same = λ good names. absurd (good reported.1.1)
-quiet_for form colour states journal warnings files before said (Err e) found reported same = tt
+quiet_for form colour states None warnings is_c files before (Err f) (Ok report) found reported same = λ good names. absurd (good reported.1.1)
+quiet_for form colour states journal warnings is_c files before said (Err e) found reported same = tt
 
 -- ---- of a request, and of the words that ask for it
 
@@ -188,9 +186,9 @@ put_anyway written does folder texts (Err f) is = λ other. tt
 
 kept_anyway : (written : Text → Text → Type 0) (does : List Attempt → Type 0) (request : Asked) (texts : List Text)
     (said : Result Answer Failure) → IsKept written does request texts said → IsKept written any request texts said
-kept_anyway written does (Explain form colour states journal warnings files) texts (Ok answer) is =
+kept_anyway written does (Explain form colour states journal warnings is_c files) texts (Ok answer) is =
     written_anyway written (does []) journal answer is
-kept_anyway written does (Explain form colour states journal warnings files) texts (Err f) is = tt
+kept_anyway written does (Explain form colour states journal warnings is_c files) texts (Err f) is = tt
 kept_anyway written does (Show timeline (Some picture) journal files) texts said is = is
 kept_anyway written does (Format Write files) texts (Ok answer) is = changed_anyway written (does []) answer is
 kept_anyway written does (Format Write files) texts (Err f) is = tt

@@ -1,11 +1,10 @@
 -- What went out of what is said, and when.
-use Rattle.std.proofs.Common.{◌≡◌, ℕ, List, [], Option, Some, None, take, take-append-drop, drop, inl, refl}
+use Rattle.std.proofs.Common.{◌≡◌, ℕ, Bool, List, [], Option, Some, None, take, take-append-drop, drop, inl, refl}
 use Rattle.std.proofs.Math.Path.{subst}
 use Rattle.std.proofs.KnownBytes.{Appends-nil, Appends-trans}
 use Rattle.std.specs.Io.KnownBytes.{Appends}
 use Rattle.flt_commands.proofs.InTurn.{no_lines}
 use Rattle.flt_commands.specs.Allowed.{options_of}
-use Rattle.flt_commands.specs.Annotated.{gives_annotations}
 use Rattle.flt_commands.specs.Explain.{IsCutIn, IsCutShort, IsCutUnder}
 use Rattle.flt_commands.specs.Commands.{IsCutShort as IsCutShortFor}
 use Rattle.flt_commands.specs.Explain as explain
@@ -44,10 +43,9 @@ pub cut_under : (form : Form) (options : WarningOptions) (states : ℕ) (names t
     IsCutUnder form options states names texts old old
 cut_under form options states names texts old = explain.none_out (Appends-nil old)
 
--- where nothing went out, what `explain` says of files is cut short at once
-pub cut_short : (gives : Giving) (form : Form) (options : WarningOptions) (states : ℕ) (files : List Text) (old : Option Text) →
-    IsCutShort gives form options states files old old
-cut_short gives form options states files old = explain.none_read (Appends-nil old)
+pub cut_short : (gives : Giving) (is_c : Bool) (form : Form) (options : WarningOptions) (states : ℕ) (allowed files : List Text) (old : Option Text) →
+    IsCutShort gives is_c form options states allowed files old old
+cut_short gives is_c form options states allowed files old = explain.none_read (Appends-nil old)
 
 -- the same of whatever is asked for
 pub cut_short_for : (gives : Giving) (request : Option Asked) (old : Option Text) → IsCutShortFor gives request old old
@@ -58,8 +56,8 @@ cut_short_for gives (Some (Thin file cert)) old = Appends-nil old
 cut_short_for gives (Some (Run workers quiet script files)) old = Appends-nil old
 cut_short_for gives (Some (Replay journal files)) old = Appends-nil old
 cut_short_for gives (Some (Show timeline picture journal files)) old = Appends-nil old
-cut_short_for gives (Some (Explain form colour states journal warnings files)) old =
-    cut_short (gives_annotations gives) form (options_of warnings) states files old
+cut_short_for gives (Some (Explain form colour states journal warnings is_c files)) old =
+    cut_short gives is_c form (options_of warnings) states warnings.allowed files old
 cut_short_for gives (Some (Extract of_map files)) old = Appends-nil old
 cut_short_for gives (Some (Format mode files)) old = Appends-nil old
 cut_short_for gives (Some (Pages names)) old = Appends-nil old

@@ -4,7 +4,6 @@ use Rattle.std.specs.Io.KnownBytes.{Appends}
 use Rattle.std.specs.Prelude.{◌≡◌, ◌≢◌, ℕ, Bool, List, [], ◌∷◌, ◌++◌, Option, Some, None, Result, Ok, Err, IfOk, OnOk, codes, drop, map, unwrap_or, ⊤}
 use Rattle.flt_commands.specs.Allowed.{options_of}
 use Rattle.flt_commands.specs.Analyse.{IsAnalysed}
-use Rattle.flt_commands.specs.Annotated.{gives_annotations}
 use Rattle.flt_commands.specs.Answer.{ending_of, output, remark, status_of}
 use Rattle.flt_commands.specs.Attempts.{Attempt}
 use Rattle.flt_commands.specs.Check.{IsChecked}
@@ -36,7 +35,7 @@ use Rattle.flt_commands.specs.declared.report.Report.{Report}
 -- ---- what is said
 
 -- what the names may give: all their bytes, and of a name that is a text alone what is kept of them. `explain` reads all, since a FILE may
--- be a journal, and of C files their annotations; so does `check` of a text and its certificate in one input
+-- be a journal or C; so does `check` of a text and its certificate in one input
 abbrev pub giving_for : Asked → Giving → Giving
 giving_for (Check file cert) = gives_but (Some (unwrap_or cert file))
 giving_for (Analyse file) = gives_but None
@@ -44,7 +43,6 @@ giving_for (Thin file cert) = gives_but (Some (unwrap_or cert file))
 giving_for (Run workers quiet script files) = gives_but (Some script)
 giving_for (Replay journal files) = gives_but (Some journal)
 giving_for (Show timeline picture journal files) = gives_but (Some journal)
-giving_for (Explain form colour states journal warnings files) = gives_annotations
 giving_for (Emit part file cert) = gives_but cert
 giving_for (EmitInto folder file cert) = gives_but cert
 giving_for request = λ gives. gives
@@ -64,8 +62,8 @@ IsSaid shown gives (Run workers quiet script files) = Says gives (names_of (Run 
 IsSaid shown gives (Replay journal files) = Says gives (names_of (Replay journal files)) IsReplayed
 IsSaid shown gives (Show timeline picture journal files) =
     Says gives (names_of (Show timeline picture journal files)) (IsShown timeline picture)
-IsSaid shown gives (Explain form colour states journal warnings files) =
-    IsExplained gives form (look_in colour shown states warnings) journal files
+IsSaid shown gives (Explain form colour states journal warnings is_c files) =
+    IsExplained gives is_c form (look_in colour shown states warnings) warnings.allowed journal files
 IsSaid shown gives (Extract of_map files) = Says gives (names_of (Extract of_map files)) (IsExtracted of_map files)
 IsSaid shown gives (Format mode files) = IsFormatSaid gives mode files
 IsSaid shown gives (Pages names) = Says gives (names_of (Pages names)) (λ texts. ArePaged names)
@@ -94,7 +92,7 @@ IsRemarkedAfter before (Err f) bytes = bytes ≡ before ++ (failure_line f ++ 10
 -- what may stand before it: which files of `explain` and `format` aren't read; why a file isn't written or has no layout; that no run
 -- is found; and which files of a driver are as they were or aren't written
 abbrev pub IsBefore : Asked → Result Answer Failure → List ℕ → Type 0
-IsBefore (Explain form colour states journal warnings files) said bytes = IsFound journal said bytes
+IsBefore (Explain form colour states journal warnings is_c files) said bytes = IsFound journal said bytes
 IsBefore (Show timeline picture journal files) said bytes = OnOk said (bytes ≡ [])
 IsBefore (Format mode files) said bytes = IfOk said (λ answer. bytes ≡ remarks_in answer)
 IsBefore (EmitInto folder file cert) said bytes = bytes ≡ remark_in said
@@ -109,18 +107,18 @@ IsRemarked request said bytes = (before : List ℕ) × IsBefore request said bef
 -- nothing goes out before all is known, but of `explain` of files, and there only where a form isn't one document and no file is named
 -- for a journal
 abbrev pub HoldsBack : Option Asked → Type 0
-HoldsBack (Some (Explain form colour states journal warnings files)) = explain.HoldsBack form journal
+HoldsBack (Some (Explain form colour states journal warnings is_c files)) = explain.HoldsBack form journal
 HoldsBack request = Unit {0}
 
 -- where memory runs out, nothing went out, or of `explain` what is told of the first files that are read
 abbrev pub IsCutShort : Giving → Option Asked → Option Text → Option Text → Type 0
-IsCutShort gives (Some (Explain form colour states journal warnings files)) old new =
-    explain.IsCutShort (gives_annotations gives) form (options_of warnings) states files old new
+IsCutShort gives (Some (Explain form colour states journal warnings is_c files)) old new =
+    explain.IsCutShort gives is_c form (options_of warnings) states warnings.allowed files old new
 IsCutShort gives request old new = Appends old new []
 
 -- no file is named for the journal of a finding, and no folder for a driver
 abbrev pub NamesNoJournal : Option Asked → Type 0
-NamesNoJournal (Some (Explain form colour states (Some journal) warnings files)) = ⊥
+NamesNoJournal (Some (Explain form colour states (Some journal) warnings is_c files)) = ⊥
 NamesNoJournal (Some (EmitInto folder file cert)) = ⊥
 NamesNoJournal request = Unit {0}
 
@@ -148,7 +146,7 @@ AreThose request report texts said = texts ≡ texts_in report
 -- there; where layouts are written, each goes into its file; a driver's parts go into its folder; where no file is named for a picture or a
 -- journal, and no layout and no driver is written, nothing is done, and all that is written stays as it was
 abbrev pub IsKept : (Text → Text → Type 0) → (List Attempt → Type 0) → Asked → List Text → Result Answer Failure → Type 0
-IsKept written does (Explain form colour states journal warnings files) texts said = IfOk said (IsWritten written (does []) journal)
+IsKept written does (Explain form colour states journal warnings is_c files) texts said = IfOk said (IsWritten written (does []) journal)
 IsKept written does (Show timeline (Some picture) journal files) texts said = IfOk said (IsDrawn written picture (drop 1 texts))
 IsKept written does (Format Write files) texts said = IfOk said (AreChanged written (does []))
 IsKept written does (EmitInto folder file cert) texts said = ArePut written does folder texts said

@@ -3,7 +3,7 @@ use Rattle.std.specs.Borrow.{Bor}
 use Rattle.std.specs.Io.{StartsWith}
 use Rattle.std.specs.Io.KnownBytes.{Appends}
 use Rattle.std.specs.List.{AllZip, list_all}
-use Rattle.std.specs.Prelude.{◌≡◌, ℕ, List, [], ◌∷◌, ◌++◌, Bool, map, true, false, Option, Some, None, Result, Ok, Err, length, take}
+use Rattle.std.specs.Prelude.{◌≡◌, ℕ, List, [], ◌∷◌, ◌++◌, Bool, map, true, false, Option, Some, None, Result, Ok, Err, length, max, take}
 use Rattle.flt_pages.specs.Pages.{has_page, title}
 use Rattle.flt_forms.specs.Lines.{AreLines}
 use Rattle.flt_forms.specs.Sarif.{IsSarif}
@@ -27,6 +27,8 @@ use Rattle.flt_words.specs.declared.request.Form.TheVariants.{Html, Human, Lines
 use Rattle.flt_warning_details.specs.declared.options.WarningOptions.{WarningOptions}
 use Rattle.flt_words.specs.Request.{Choice}
 use Rattle.flt_commands.specs.Allowed.{options_of}
+use Rattle.flt_commands.specs.Annotated.{AreFound, gives_annotations}
+use Rattle.flt_commands.specs.Drifts.{drifts_status, drifts_told}
 use Rattle.flt_commands.specs.FindingRuns.{AreRuns}
 use Rattle.flt_commands.specs.InTurn.{AreFirstLines}
 use Rattle.flt_commands.specs.Inputs.{AreRead, Giving, Text, unread_names}
@@ -62,15 +64,15 @@ pub record IsToldWithRuns (options : WarningOptions) (sources : List Source) (un
   pub document : IsSarif options sources unread runs t.explained.output.items t.explained.status
 
 -- what is told in a form: reports, a sentence or a JSON object for each finding, a SARIF document, which tells of these files that they
--- aren't read, or a page on reports
-abbrev pub IsTold : Form → WarningOptions → List Source → List UnreadFile → Told → Type 0
-IsTold Human options sources unread t = AreReports options (texts_of sources) t.explained.output.items t.explained.status
-IsTold Short options sources unread t = AreLines Sentence options sources None t.explained.output.items t.explained.status
-IsTold Lines options sources unread t = AreLines Object options sources None t.explained.output.items t.explained.status
-IsTold Sarif options sources unread t = IsSarif options sources unread [] t.explained.output.items t.explained.status
-IsTold LinesWithRuns options sources unread t = AreToldWithRuns options sources t
-IsTold SarifWithRuns options sources unread t = IsToldWithRuns options sources unread t
-IsTold Html options sources unread t = IsPageOn options sources t.explained.output.items t.explained.status
+-- aren't read, or a page on reports, in which these drifts come before them
+abbrev pub IsTold : Form → WarningOptions → Text → List Source → List UnreadFile → Told → Type 0
+IsTold Human options drifts sources unread t = AreReports options (texts_of sources) t.explained.output.items t.explained.status
+IsTold Short options drifts sources unread t = AreLines Sentence options sources None t.explained.output.items t.explained.status
+IsTold Lines options drifts sources unread t = AreLines Object options sources None t.explained.output.items t.explained.status
+IsTold Sarif options drifts sources unread t = IsSarif options sources unread [] t.explained.output.items t.explained.status
+IsTold LinesWithRuns options drifts sources unread t = AreToldWithRuns options sources t
+IsTold SarifWithRuns options drifts sources unread t = IsToldWithRuns options sources unread t
+IsTold Html options drifts sources unread t = IsPageOn options drifts sources t.explained.output.items t.explained.status
 
 -- what came of the findings of these texts in runs, of each that is reported by itself; nothing is looked for where that is neither told
 -- nor written into a file
@@ -97,33 +99,63 @@ pub record HasReport (look : Look) (sources : List Source) (notes : List Noted) 
   pub status : ℕ
   pub print : IsPrint look sources notes printed status
 
--- for people all of what is printed is the reports with the notes, to the letter; a page has these without colours, with pictures. The
--- runs in other forms are those that a report has
-abbrev pub IsPrintTold : Form → Look → List Source → Told → Type 0
-IsPrintTold Human look sources e = IsPrint look sources e.noted e.explained.output.items e.explained.status
-IsPrintTold Html look sources e = IsPaged look sources e.noted e.explained.output.items e.explained.status
-IsPrintTold LinesWithRuns look sources e = HasReport look sources e.noted
-IsPrintTold SarifWithRuns look sources e = HasReport look sources e.noted
-IsPrintTold _ look sources e = Unit {0}
+-- for people all of what is printed is the reports with the notes, to the letter; a page has these without colours, after these drifts, with
+-- pictures. The runs in other forms are those that a report has
+abbrev pub IsPrintTold : Form → Look → Text → List Source → Told → Type 0
+IsPrintTold Human look drifts sources e = IsPrint look sources e.noted e.explained.output.items e.explained.status
+IsPrintTold Html look drifts sources e = IsPaged look drifts sources e.noted e.explained.output.items e.explained.status
+IsPrintTold LinesWithRuns look drifts sources e = HasReport look sources e.noted
+IsPrintTold SarifWithRuns look drifts sources e = HasReport look sources e.noted
+IsPrintTold _ look drifts sources e = Unit {0}
 
 -- the same of names and what they give, beside these files, with what came of the findings of these texts
-pub record IsToldUnder (form : Form) (look : Look) (journal : Option Text) (names texts : List Text) (unread : List UnreadFile) (e : Told) :
-    Type 0 where
+pub record IsToldUnder (form : Form) (look : Look) (journal : Option Text) (drifts : Text) (names texts : List Text) (unread : List UnreadFile)
+    (e : Told) : Type 0 where
   pub sources : List Source
   pub named : names_in sources ≡ map (told_name form) names
   pub given : texts_of sources ≡ texts
-  pub told : IsTold form look.options sources unread e
+  pub told : IsTold form look.options drifts sources unread e
   pub noted : AreNotedFor form journal texts e.noted
   pub notes : IsNoteTold form texts look.states e
-  pub print : IsPrintTold form look sources e
+  pub print : IsPrintTold form look drifts sources e
 
--- the same of those of these files that are read: they give these texts, and these others aren't read
-pub record IsToldOf (gives : Giving) (form : Form) (look : Look) (journal : Option Text) (files texts : List Text)
-    (unread : List UnreadFile)
-    (e : Told) : Type 0 where
+-- this is what is told of texts, after drifts that are worth this status
+pub record IsAfter (drifts : Text) (worth : ℕ) (own e : Told) : Type 0 where
+  pub output : e.explained.output.items ≡ drifts ++ own.explained.output.items
+  pub status : e.explained.status ≡ max own.explained.status worth
+  pub noted : e.noted ≡ own.noted
+
+-- the same of names and what they give, after these first drifts, and with these within a page
+pub record IsToldAfter (first within : Text) (worth : ℕ) (form : Form) (look : Look) (journal : Option Text) (names texts : List Text)
+    (unread : List UnreadFile) (e : Told) : Type 0 where
+  pub own : Told
+  pub told : IsToldUnder form look journal within names texts unread own
+  pub after : IsAfter first worth own e
+
+-- the drifts that come before what a form prints of texts: a page has them within it
+abbrev pub first_in : Form → Text → Text
+first_in Html drifts = []
+first_in form drifts = drifts
+
+abbrev pub within_in : Form → Text → Text
+within_in Html drifts = drifts
+within_in form drifts = []
+
+-- the same, where these are all drifts
+abbrev pub IsToldWith : Text → ℕ → Form → Look → Option Text → List Text → List Text → List UnreadFile → Told → Type 0
+IsToldWith drifts worth form look journal names texts unread e =
+    IsToldAfter (first_in form drifts) (within_in form drifts) worth form look journal names texts unread e
+
+-- the same of those of these files that are read: they give these texts, those that are C have these drifts but for kinds of these names,
+-- and these others aren't read
+pub record IsToldOf (gives : Giving) (is_c : Bool) (form : Form) (look : Look) (allowed : List Text) (journal : Option Text) (files texts : List Text)
+    (unread : List UnreadFile) (e : Told) : Type 0 where
   pub names : List Text
-  pub read : AreRead gives files names texts (unread_names unread)
-  pub told : IsToldUnder form look journal names texts unread e
+  pub codes : List (Option Text)
+  pub read : AreRead (gives_annotations is_c gives) files names texts (unread_names unread)
+  pub found : AreFound is_c gives names texts codes
+  pub told : IsToldWith (drifts_told form allowed names codes) (drifts_status look.options.is_strict allowed codes) form look journal names texts
+      unread e
 
 -- those of these files that are read give these texts
 pub record GiveTexts (gives : Giving) (files texts : List Text) : Type 0 where
@@ -131,12 +163,15 @@ pub record GiveTexts (gives : Giving) (files texts : List Text) : Type 0 where
   pub unread : List Text
   pub read : AreRead gives files names texts unread
 
--- what is said of the bytes of each FILE that is read; a journal may not be written
-abbrev pub IsExplained : Giving → Form → Look → Option Text → List Text → List Text → Result Answer Failure → Type 0
-IsExplained gives form look journal files texts (Ok (Explained e unread)) = IsToldOf gives form look journal files texts unread.items e
-IsExplained gives form look journal files texts (Ok _) = ⊥
-IsExplained gives form look journal files texts (Err (CannotWrite name why)) = (journal ≡ Some name.now) × GiveTexts gives files texts
-IsExplained gives form look journal files texts (Err _) = ⊥
+-- what is said of the bytes of each FILE that is read, of a C file by its annotations, after the drifts of all C files but for kinds of these
+-- names; a journal may not be written
+abbrev pub IsExplained : Giving → Bool → Form → Look → List Text → Option Text → List Text → List Text → Result Answer Failure → Type 0
+IsExplained gives is_c form look allowed journal files texts (Ok (Explained e unread)) =
+    IsToldOf gives is_c form look allowed journal files texts unread.items e
+IsExplained gives is_c form look allowed journal files texts (Ok _) = ⊥
+IsExplained gives is_c form look allowed journal files texts (Err (CannotWrite name why)) =
+    (journal ≡ Some name.now) × GiveTexts (gives_annotations is_c gives) files texts
+IsExplained gives is_c form look allowed journal files texts (Err _) = ⊥
 
 -- whether there are colours: as the words say, or where these leave it to the terminal, whether it shows them
 abbrev pub is_coloured : Colour → Bool → Bool
@@ -213,13 +248,20 @@ pub data IsCutUnder (form : Form) (options : WarningOptions) (states : ℕ) (nam
   some_out : (sources : List Source) → names_in sources ≡ map (told_name form) names → texts_of sources ≡ texts →
       IsCutIn form options states sources old new → IsCutUnder form options states names texts old new
 
--- the same of those of these files that are read
-pub data IsCutShort (gives : Giving) (form : Form) (options : WarningOptions) (states : ℕ) (files : List Text) (old new : Option Text) :
+-- the same after these drifts; or nothing went out
+pub data IsCutAfter (drifts : Text) (form : Form) (options : WarningOptions) (states : ℕ) (names texts : List Text) (old new : Option Text) :
     Type 0 where
-  none_read : Appends old new [] → IsCutShort gives form options states files old new
-  some_read : (names texts missing : List Text) → AreRead gives files names texts missing →
-      IsCutUnder form options states names texts old new →
-      IsCutShort gives form options states files old new
+  nothing_out : Appends old new [] → IsCutAfter drifts form options states names texts old new
+  drifts_out : (between : Option Text) → Appends old between drifts → IsCutUnder form options states names texts between new →
+      IsCutAfter drifts form options states names texts old new
+
+-- the same of those of these files that are read
+pub data IsCutShort (gives : Giving) (is_c : Bool) (form : Form) (options : WarningOptions) (states : ℕ) (allowed files : List Text) (old new : Option Text) :
+    Type 0 where
+  none_read : Appends old new [] → IsCutShort gives is_c form options states allowed files old new
+  some_read : (names texts missing : List Text) (codes : List (Option Text)) → AreRead (gives_annotations is_c gives) files names texts missing →
+      AreFound is_c gives names texts codes → IsCutAfter (first_in form (drifts_told form allowed names codes)) form options states names texts old new →
+      IsCutShort gives is_c form options states allowed files old new
 
 -- ---- pages
 

@@ -66,19 +66,19 @@ pub record HasPage (sources : List Source) (notes : List Noted) (printed written
   pub drawn : HasPictures sources notes pictures
   pub page : IsPage (map shown_text sources) printed pictures written
 
--- a page on what is reported of texts
-pub record IsPageOn (options : WarningOptions) (sources : List Source) (written : Text) (status : ℕ) : Type 0 where
+-- a page on what is reported of texts, after these drifts
+pub record IsPageOn (options : WarningOptions) (drifts : Text) (sources : List Source) (written : Text) (status : ℕ) : Type 0 where
   pub printed : Text
   pub notes : List Noted
   pub reports : AreReports options (texts_of sources) printed status
-  pub page : HasPage sources notes printed written
+  pub page : HasPage sources notes (drifts ++ printed) written
 
 -- without colours
 abbrev pub plain : Look → Look
 plain look = record { coloured = false; states = look.states; options = look.options }
 
--- a page on what is printed of texts without colours
-pub record IsPaged (look : Look) (sources : List Source) (notes : List Noted) (written : Text) (status : ℕ) : Type 0 where
+-- a page on what is printed of texts without colours, after these drifts
+pub record IsPaged (look : Look) (drifts : Text) (sources : List Source) (notes : List Noted) (written : Text) (status : ℕ) : Type 0 where
   pub printed : Text
   pub print : IsPrint (plain look) sources notes printed status
-  pub page : HasPage sources notes printed written
+  pub page : HasPage sources notes (drifts ++ printed) written

@@ -8,6 +8,7 @@ pub mod Clean
 pub mod Commands
 pub mod Compare
 pub mod Drawn
+pub mod Drifts
 pub mod Driver
 pub mod Emit
 pub mod EmitInto

@@ -1,14 +1,15 @@
-//! Inputs in which C files give their annotations.
+//! The texts that files give: of a C file the annotations at their places, with the file itself beside them.
 
-ghost use Rattle.std.specs.Prelude.{◌≡◌, IfOk, option_map};
+ghost use Rattle.std.specs.Prelude.{◌≡◌, ◌&&◌, ◌⊎◌, ◌++◌, ◌∷◌, [], List, None, Some, IfOk, OnErr, OnOk, false, map, option_map, true};
+ghost use Rattle.std.specs.List.{list_any};
 ghost use Rattle.flt_commands.specs.Annotated as spec;
+ghost use Rattle.flt_commands.specs.Inputs.{is_standard as is_standard_name};
 
-use crate::inputs::Inputs;
-use crate::pieces::Pieces;
+use crate::inputs::{Inputs, is_standard};
 use crate::unread::Unread;
-use flt_c::{PlaceFlaw, in_place};
+use flt_c::in_place;
+use flt_forms::UnreadFile;
 use std::alloc::{AllocError, Global};
-use std::cell::Cell;
 
 /// Whether a file is one of C alone, or a header, by the ending of its name.
 fn is_plain_c_file(name: &[u8]) -> bool
@@ -32,73 +33,137 @@ fn is_c_file(name: &str) -> bool
     is_plain_c_file(name) || is_cpp_file(name)
 }
 
-/// Inputs in which each C file gives its annotations at their places, and one whose annotations make no text gives nothing.
-#[derive(Drop)]
-pub(crate) struct Annotated<'a, I: Inputs> {
-    inputs: &'a I,
-    /// The flaw of the C file that was read last, if it has one.
-    flaw: Cell<Option<PlaceFlaw>>,
+/// Whether a file is taken for C: by the ending of its name, or since all are.
+fn is_taken_for_c(all: bool, name: &str) -> bool
+    ensures { result ≡ spec.is_taken_for_c all name.now }
+{
+    all || is_c_file(name)
 }
 
-impl<'a, I: Inputs> Annotated<'a, I> {
-    /// Those among these inputs.
-    pub(crate) fn new(inputs: &'a I) -> Annotated<'a, I>
-        ensures { result.inputs.now ≡ inputs.now }
-    {
-        let flaw = Cell::new(None);
-        Annotated { inputs, flaw }
-    }
+/// The text of a file, and the C file in which it is, if it is one's annotations.
+#[derive(Drop)]
+struct Found {
+    text: Vec<u8>,
+    code: Option<Vec<u8>>,
+}
 
-    /// The annotations of a file at their places; none if they make no text.
-    fn laid(&self, alloc: Global, file: Vec<u8>) -> Result<Option<Vec<u8>>, AllocError>
-        ensures { IfOk result (λ found. spec.AreLaid file.items (option_map (λ text. text.items) found)) }
+/// The annotations of a C file at their places, or why they make no text.
+fn laid(alloc: Global, file: Vec<u8>) -> Result<Result<Found, Unread>, AllocError>
+    ensures found { IfOk result (λ done. IfOk done (λ f. spec.AreLaid file.items (Some f.text.items))) }
+    ensures code { IfOk result (λ done. IfOk done (λ f. option_map (λ code. code.items) f.code ≡ Some file.items)) }
+    ensures flawed { IfOk result (λ done. OnErr done (spec.AreLaid file.items None)) }
+{
+    let code = Vec::from_slice(alloc, file.as_slice())?;
+    match in_place(alloc, file)? {
+        Ok(text) => {
+            let code = Some(code);
+            Ok(Ok(Found { text, code }))
+        }
+        Err(flaw) => Ok(Err(Unread::Flawed(flaw))),
+    }
+}
+
+/// The text that a name gives, of a file that is taken for C its annotations at their places, or why it gives none.
+#[tactic(auto, using(crate::proofs::FoundFiles::found_in_c, crate::proofs::FoundFiles::unlaid))]
+fn found_in<I: Inputs>(
+    alloc: Global,
+    inputs: &I,
+    all: bool,
+    name: &str,
+) -> Result<Result<Found, Unread>, AllocError>
+    ensures found { IfOk result (λ done. IfOk done (λ f.
+        spec.GivesFound all (I.gives inputs.now) name.now f.text.items (option_map (λ code. code.items) f.code))) }
+    ensures missing { IfOk result (λ done. OnErr done (spec.gives_annotations all (I.gives inputs.now) name.now None)) }
+{
+    let Some(file) = inputs.read(alloc, name)? else {
+        return Ok(Err(inputs.why(name)));
+    };
+    if is_taken_for_c(all, name) {
+        return laid(alloc, file);
+    }
+    let code = None;
+    Ok(Ok(Found { text: file, code }))
+}
+
+/// The text that one name gives after others, or why it gives none. The standard input gives its bytes once, and `is_used` says whether it is
+/// among the others.
+fn find_one<I: Inputs>(
+    alloc: Global,
+    inputs: &I,
+    all: bool,
+    is_used: bool,
+    name: &str,
+) -> Result<Result<Found, Unread>, AllocError>
+    ensures found { IfOk result (λ done. IfOk done (λ f.
+        spec.GivesFound all (I.gives inputs.now) name.now f.text.items (option_map (λ code. code.items) f.code))) }
+    ensures once { IfOk result (λ done. OnOk done (is_standard_name name.now && is_used ≡ false)) }
+    ensures missing { IfOk result (λ done. OnErr done
+        ((is_standard_name name.now && is_used ≡ true) ⊎ spec.gives_annotations all (I.gives inputs.now) name.now None)) }
+{
+    if is_used && is_standard(name) {
+        return Ok(Err(Unread::Again));
+    }
+    found_in(alloc, inputs, all, name)
+}
+
+/// The names of some files that are read, their texts, the C files in which these are, and the files that aren't read.
+#[derive(Drop)]
+pub(crate) struct FoundFiles<'a> {
+    pub(crate) names: Vec<&'a str>,
+    pub(crate) texts: Vec<Vec<u8>>,
+    /// Of each text the C file whose annotations it is, if it is a C file's.
+    pub(crate) codes: Vec<Option<Vec<u8>>>,
+    pub(crate) unread: Vec<UnreadFile>,
+}
+
+impl<'a> FoundFiles<'a> {
+    /// Adds one name, with the text that it gives or why it gives none. `is_used` says whether the standard input is among those before it.
+    fn add<I: Inputs>(
+        &mut self,
+        alloc: Global,
+        inputs: &I,
+        all: bool,
+        is_used: bool,
+        name: &'a str,
+    ) -> Result<(), AllocError>
+        ensures { (before : List (List ℕ)) → spec.AreFoundIn all (I.gives inputs.now) before self.old →
+            is_used ≡ list_any is_standard_name before →
+            OnOk result (spec.AreFoundIn all (I.gives inputs.now) (before ++ name.entry.now ∷ []) self.new) }
     {
-        match in_place(alloc, file)? {
-            Ok(text) => Ok(Some(text)),
-            Err(flaw) => {
-                self.flaw.set(Some(flaw));
-                Ok(None)
+        match find_one(alloc, inputs, all, is_used, name)? {
+            Ok(found) => {
+                self.names.push(name)?;
+                self.texts.push(found.text)?;
+                self.codes.push(found.code)?;
+            }
+            Err(why) => {
+                let file = why.file(alloc, name)?;
+                self.unread.push(file)?;
             }
         }
-    }
-
-    /// The same for the C file of a name; none if it isn't read.
-    fn read_c(&self, alloc: Global, name: &str) -> Result<Option<Vec<u8>>, AllocError>
-        ensures { IfOk result (λ found. spec.gives_laid (I.gives self.now.inputs.now) name.now (option_map (λ text. text.items) found)) }
-    {
-        match self.inputs.read(alloc, name)? {
-            Some(file) => self.laid(alloc, file),
-            None => Ok(None),
-        }
+        Ok(())
     }
 }
 
-impl<I: Inputs> Inputs for Annotated<'_, I> {
-    ghost use Rattle.flt_commands.specs.Annotated.{gives_annotations};
-
-    ghost gives = { λ annotated. gives_annotations (I.gives annotated.inputs.now) };
-
-    fn read(&self, alloc: Global, name: &str) -> Result<Option<Vec<u8>>, AllocError> {
-        self.flaw.set(None);
-        if is_c_file(name) {
-            return self.read_c(alloc, name);
-        }
-        self.inputs.read(alloc, name)
+/// The text that each name gives, in order, or why it gives none. The standard input gives its bytes once.
+pub(crate) fn find_each<'a, I: Inputs>(
+    alloc: Global,
+    inputs: &I,
+    all: bool,
+    names: &[&'a str],
+) -> Result<FoundFiles<'a>, AllocError>
+    ensures { IfOk result (spec.AreFoundIn all (I.gives inputs.now) (map (λ name. name.now) names.now)) }
+{
+    let mut found = FoundFiles {
+        names: Vec::new(alloc),
+        texts: Vec::new(alloc),
+        codes: Vec::new(alloc),
+        unread: Vec::new(alloc),
+    };
+    let mut is_used = false;
+    for name in names {
+        found.add(alloc, inputs, all, is_used, name)?;
+        is_used = is_used || is_standard(name);
     }
-
-    fn read_pieces(&self, alloc: Global, name: &str) -> Result<Option<Pieces>, AllocError> {
-        let Some(text) = self.read(alloc, name)? else {
-            return Ok(None);
-        };
-        let mut pieces = Pieces::new(alloc);
-        pieces.push(text)?;
-        Ok(Some(pieces))
-    }
-
-    fn why(&self, name: &str) -> Unread {
-        match self.flaw.get() {
-            Some(flaw) => Unread::Flawed(flaw),
-            None => self.inputs.why(name),
-        }
-    }
+    Ok(found)
 }

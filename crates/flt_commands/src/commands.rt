@@ -185,6 +185,7 @@ fn report_of<'a, R: Threads + Wait + Sync, I: Inputs, P: Pictures, O: Sink, W: W
             states,
             journal,
             warnings,
+            is_c,
             files,
         } => {
             let asked = Asked {
@@ -193,6 +194,8 @@ fn report_of<'a, R: Threads + Wait + Sync, I: Inputs, P: Pictures, O: Sink, W: W
                 states,
                 journal,
                 options: options_of(&warnings),
+                allowed: warnings.allowed.as_slice(),
+                is_c,
             };
             let mut search = Search {
                 watch,

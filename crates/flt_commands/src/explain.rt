@@ -8,13 +8,16 @@ ghost use Rattle.flt_commands.specs.Remarks.{unread_in};
 ghost use Rattle.flt_notes.specs.Noted.{AreNotes, first_journal};
 ghost use Rattle.flt_details.specs.Reports.{texts_of};
 
+use crate::after::explain_after;
+use crate::annotated::find_each;
 use crate::answer::Answer;
+use crate::drifts::drifted;
 use crate::failure::Failure;
 use crate::fault::CommandFault;
 use crate::finding_runs::runs_of;
 use crate::html::page_on;
 use crate::in_turn::lines_in_turn;
-use crate::inputs::{Inputs, Pictures, read_each};
+use crate::inputs::{Inputs, Pictures};
 use crate::remarks::unread_lines;
 use crate::report::Contents;
 use crate::unwritten::Unwritten;
@@ -92,6 +95,10 @@ pub struct Asked<'a> {
     pub journal: Option<&'a str>,
     /// Which warnings are left out, and whether they count.
     pub options: WarningOptions,
+    /// The names of the kinds that are left out, of which those of drifts count here.
+    pub allowed: &'a [&'a str],
+    /// Whether each file is taken for C, whatever its name ends with.
+    pub is_c: bool,
 }
 
 /// The same options, for reports for people.
@@ -135,16 +142,17 @@ fn unsent(explained: Explained, noted: Items<Noted>) -> Told
     }
 }
 
-/// The page on some texts, of which nothing has gone out.
+/// The page on some texts, after these drifts, of which nothing has gone out.
 fn told_page<O: Sink, W: SearchWatch>(
     alloc: Global,
     asked: Asked<'_>,
+    drifts: &[u8],
     sources: &[Source<'_>],
     out: &mut O,
     watch: &mut W,
 ) -> Result<Told, CommandFault>
-    ensures page { IfOk result (λ t. IsPageOn asked.entry.options sources.now t.explained.output.items t.explained.status) }
-    ensures paged { IfOk result (λ t. IsPaged (spec.look_of asked.entry) sources.now t.noted t.explained.output.items t.explained.status) }
+    ensures page { IfOk result (λ t. IsPageOn asked.entry.options drifts.now sources.now t.explained.output.items t.explained.status) }
+    ensures paged { IfOk result (λ t. IsPaged (spec.look_of asked.entry) drifts.now sources.now t.noted t.explained.output.items t.explained.status) }
     ensures noted { IfOk result (λ t. AreNotes (texts_of sources.now) t.noted) }
     ensures sent { IfOk result (λ t. t.sent ≡ 0) }
     ensures held { out.new ≡ out.old }
@@ -157,8 +165,9 @@ fn told_page<O: Sink, W: SearchWatch>(
         options: asked.options,
     };
     let told = explain(alloc, plain, sources, out, watch)?;
-    let printed = told.explained.output.as_slice();
-    let output = page_on(alloc, sources, printed, told.noted.as_slice())?;
+    let mut printed = Vec::from_slice(alloc, drifts)?;
+    printed.extend_from_slice(told.explained.output.as_slice())?;
+    let output = page_on(alloc, sources, printed.as_slice(), told.noted.as_slice())?;
     let status = told.explained.status;
     Ok(unsent(Explained { output, status }, told.noted))
 }
@@ -214,23 +223,26 @@ fn sarif_with_runs<O: Sink, W: SearchWatch>(
     Ok(unsent(explained, noted))
 }
 
-/// The output for some texts, in a form, with files that aren't read. Each text's part is written as soon as it is made, unless the form is
+/// The output for some texts, in a form, with files that aren't read; a page has these drifts before all else. Each text's part is written as soon as it is made, unless the form is
 /// one document.
 #[tactic(auto, using(crate::proofs::Sent::none_sent, crate::proofs::Faults::write_of, crate::proofs::Faults::memory_of))]
 fn told_in_turn<O: Sink, W: SearchWatch>(
     alloc: Global,
     asked: Asked<'_>,
+    drifts: &[u8],
     sources: &[Source<'_>],
     unread: &[UnreadFile],
     out: &mut O,
     watch: &mut W,
 ) -> Result<Told, CommandFault>
-    ensures told { IfOk result (spec.IsTold asked.entry.form asked.entry.options sources.now unread.now) }
+    ensures told { IfOk result (spec.IsTold asked.entry.form asked.entry.options drifts.now sources.now unread.now) }
     ensures noted { IfOk result (λ t. spec.AreNotedFor asked.entry.form None (texts_of sources.now) t.noted) }
     ensures notes { IfOk result (spec.IsNoteTold asked.entry.form (texts_of sources.now) asked.entry.states) }
-    ensures print { IfOk result (spec.IsPrintTold asked.entry.form (spec.look_of asked.entry) sources.now) }
+    ensures print { IfOk result (spec.IsPrintTold asked.entry.form (spec.look_of asked.entry) drifts.now sources.now) }
     ensures sent { IfOk result (λ t. Appends (O.taken out.old) (O.taken out.new) (take t.sent t.explained.output.items)) }
     ensures early { IfOk result (spec.GoesOutEarly asked.entry.form asked.entry.options (texts_of sources.now) asked.entry.states) }
+    ensures cut { IfOk result (λ t.
+        spec.IsCutIn asked.entry.form asked.entry.options asked.entry.states sources.now (O.taken out.old) (O.taken out.new)) }
     ensures held { spec.HoldsBack asked.entry.form None → out.new ≡ out.old }
     ensures fine { OnOk result (O.failures out.new ≡ O.failures out.old) }
     ensures write { IfErr result (λ e. e ≡ CommandFault.Write → O.failures out.new ≢ O.failures out.old) }
@@ -254,7 +266,7 @@ fn told_in_turn<O: Sink, W: SearchWatch>(
         )),
         Form::LinesWithRuns => lines_with_runs(alloc, asked, sources, out, watch),
         Form::SarifWithRuns => sarif_with_runs(alloc, asked, sources, unread, out, watch),
-        Form::Html => told_page(alloc, asked, sources, out, watch),
+        Form::Html => told_page(alloc, asked, drifts, sources, out, watch),
     }
 }
 
@@ -263,15 +275,16 @@ fn told_in_turn<O: Sink, W: SearchWatch>(
 fn told_whole<O: Sink, W: SearchWatch>(
     alloc: Global,
     asked: Asked<'_>,
+    drifts: &[u8],
     sources: &[Source<'_>],
     unread: &[UnreadFile],
     out: &mut O,
     watch: &mut W,
 ) -> Result<Told, CommandFault>
-    ensures told { IfOk result (spec.IsTold asked.entry.form asked.entry.options sources.now unread.now) }
+    ensures told { IfOk result (spec.IsTold asked.entry.form asked.entry.options drifts.now sources.now unread.now) }
     ensures noted { IfOk result (λ t. AreNotes (texts_of sources.now) t.noted) }
     ensures notes { IfOk result (spec.IsNoteTold asked.entry.form (texts_of sources.now) asked.entry.states) }
-    ensures print { IfOk result (spec.IsPrintTold asked.entry.form (spec.look_of asked.entry) sources.now) }
+    ensures print { IfOk result (spec.IsPrintTold asked.entry.form (spec.look_of asked.entry) drifts.now sources.now) }
     ensures sent { IfOk result (λ t. Appends (O.taken out.old) (O.taken out.new) (take t.sent t.explained.output.items)) }
     ensures held { out.new ≡ out.old }
     ensures err { IfErr result (λ e. e ≡ CommandFault.OutOfMemory) }
@@ -284,29 +297,32 @@ fn told_whole<O: Sink, W: SearchWatch>(
         Form::Sarif => sarif(alloc, asked.options, sources, unread, &[])?,
         Form::LinesWithRuns => return lines_with_runs(alloc, asked, sources, out, watch),
         Form::SarifWithRuns => return sarif_with_runs(alloc, asked, sources, unread, out, watch),
-        Form::Html => return told_page(alloc, asked, sources, out, watch),
+        Form::Html => return told_page(alloc, asked, drifts, sources, out, watch),
     };
     let told = explain(alloc, held, sources, out, watch)?;
     Ok(unsent(explained, told.noted))
 }
 
-/// The output for some texts, in a form, with files that aren't read. If a file is named for a journal, nothing is written before all is
+/// The output for some texts, in a form, with files that aren't read; a page has these drifts before all else. If a file is named for a journal, nothing is written before all is
 /// known.
 #[tactic(auto, using(crate::proofs::Sent::cut_nowhere))]
 fn told<O: Sink, W: SearchWatch>(
     alloc: Global,
     asked: Asked<'_>,
+    drifts: &[u8],
     sources: &[Source<'_>],
     unread: &[UnreadFile],
     out: &mut O,
     watch: &mut W,
 ) -> Result<Told, CommandFault>
-    ensures told { IfOk result (spec.IsTold asked.entry.form asked.entry.options sources.now unread.now) }
+    ensures told { IfOk result (spec.IsTold asked.entry.form asked.entry.options drifts.now sources.now unread.now) }
     ensures noted { IfOk result (λ t. spec.AreNotedFor asked.entry.form (option_map (λ name. name.now) asked.entry.journal)
         (texts_of sources.now) t.noted) }
     ensures notes { IfOk result (spec.IsNoteTold asked.entry.form (texts_of sources.now) asked.entry.states) }
-    ensures print { IfOk result (spec.IsPrintTold asked.entry.form (spec.look_of asked.entry) sources.now) }
+    ensures print { IfOk result (spec.IsPrintTold asked.entry.form (spec.look_of asked.entry) drifts.now sources.now) }
     ensures sent { IfOk result (λ t. Appends (O.taken out.old) (O.taken out.new) (take t.sent t.explained.output.items)) }
+    ensures cut { IfOk result (λ t.
+        spec.IsCutIn asked.entry.form asked.entry.options asked.entry.states sources.now (O.taken out.old) (O.taken out.new)) }
     ensures held { spec.HoldsBack asked.entry.form (option_map (λ name. name.now) asked.entry.journal) → out.new ≡ out.old }
     ensures fine { OnOk result (O.failures out.new ≡ O.failures out.old) }
     ensures write { IfErr result (λ e. e ≡ CommandFault.Write → O.failures out.new ≢ O.failures out.old) }
@@ -314,16 +330,17 @@ fn told<O: Sink, W: SearchWatch>(
         spec.IsCutIn asked.entry.form asked.entry.options asked.entry.states sources.now (O.taken out.old) (O.taken out.new)) }
 {
     match asked.journal {
-        Some(_) => told_whole(alloc, asked, sources, unread, out, watch),
-        None => told_in_turn(alloc, asked, sources, unread, out, watch),
+        Some(_) => told_whole(alloc, asked, drifts, sources, unread, out, watch),
+        None => told_in_turn(alloc, asked, drifts, sources, unread, out, watch),
     }
 }
 
-/// The output for the texts of some files, in a form, with files that aren't read.
+/// The output for the texts of some files, in a form, with files that aren't read; a page has these drifts before all else.
 #[tactic(auto, using(crate::proofs::Sent::cut_under))]
-fn explain_read<O: Sink, W: SearchWatch>(
+pub(crate) fn explain_read<O: Sink, W: SearchWatch>(
     alloc: Global,
     asked: Asked<'_>,
+    drifts: &[u8],
     names: &[&str],
     texts: &[Vec<u8>],
     unread: &[UnreadFile],
@@ -331,10 +348,11 @@ fn explain_read<O: Sink, W: SearchWatch>(
     watch: &mut W,
 ) -> Result<Told, CommandFault>
     requires { length texts.now ≡ length names.now }
-    ensures told { IfOk result
-        (spec.IsToldUnder asked.entry.form (spec.look_of asked.entry) (option_map (λ name. name.now) asked.entry.journal)
-        (map (λ name. name.now) names.now) (map (λ text. text.items) texts.now) unread.now) }
+    ensures told { IfOk result (spec.IsToldUnder asked.entry.form (spec.look_of asked.entry) (option_map (λ name. name.now) asked.entry.journal)
+        drifts.now (map (λ name. name.now) names.now) (map (λ text. text.items) texts.now) unread.now) }
     ensures sent { IfOk result (λ t. Appends (O.taken out.old) (O.taken out.new) (take t.sent t.explained.output.items)) }
+    ensures cut { IfOk result (λ t. spec.IsCutUnder asked.entry.form asked.entry.options asked.entry.states (map (λ name. name.now) names.now)
+        (map (λ text. text.items) texts.now) (O.taken out.old) (O.taken out.new)) }
     ensures held { spec.HoldsBack asked.entry.form (option_map (λ name. name.now) asked.entry.journal) → out.new ≡ out.old }
     ensures fine { OnOk result (O.failures out.new ≡ O.failures out.old) }
     ensures write { IfErr result (λ e. e ≡ CommandFault.Write → O.failures out.new ≢ O.failures out.old) }
@@ -346,7 +364,7 @@ fn explain_read<O: Sink, W: SearchWatch>(
     let names = told_names(alloc, asked.form, names)?;
     let sources = sources(alloc, names.as_slice(), texts)?;
     let sources = sources.as_slice();
-    told(alloc, asked, sources, unread, out, watch)
+    told(alloc, asked, drifts, sources, unread, out, watch)
 }
 
 /// Writes the journal of the first finding that has one, if there is one, into a file that is none of the inputs. Returns why that failed,
@@ -393,9 +411,21 @@ fn keep<'a, P: Pictures>(
     }
 }
 
-/// The outcome of `explain`, in a form, for those of its names that can be read; `contents` becomes the texts that these give, and `remark`
-/// whole lines on the others. The journal of the first finding that has one is written into a file, if one is named; else the output for
-/// each text is written as soon as it is made, unless the form is one document.
+/// The drifts that come before what a form prints of texts, and those that it has within a page.
+fn placed(alloc: Global, form: Form, drifts: Vec<u8>) -> (Vec<u8>, Vec<u8>)
+    ensures first { result.0.items ≡ spec.first_in form drifts.items }
+    ensures within { result.1.items ≡ spec.within_in form drifts.items }
+{
+    match form {
+        Form::Html => (Vec::new(alloc), drifts),
+        _ => (drifts, Vec::new(alloc)),
+    }
+}
+
+/// The outcome of `explain`, in a form, for those of its names that can be read, of C files for their annotations, after the drifts of these;
+/// `contents` becomes the texts that the names give, and `remark` whole lines on the others. The journal of the first finding that has one is
+/// written into a file, if one is named; else the drifts are written first and the output for each text as soon as it is made, unless the
+/// form is one document.
 #[tactic(auto, using(crate::proofs::Sent::cut_short))]
 pub fn explain_files<'a, I: Inputs, P: Pictures, O: Sink, W: SearchWatch>(
     alloc: Global,
@@ -408,8 +438,8 @@ pub fn explain_files<'a, I: Inputs, P: Pictures, O: Sink, W: SearchWatch>(
     contents: &mut Contents,
     remark: &mut Vec<u8>,
 ) -> Result<Explanation<'a>, CommandFault>
-    ensures said { IfOk result (λ said. spec.IsExplained (I.gives inputs.now) asked.entry.form (spec.look_of asked.entry)
-        (option_map (λ name. name.now) asked.entry.journal) (map (λ name. name.now) files.now)
+    ensures said { IfOk result (λ said. spec.IsExplained (I.gives inputs.now) asked.entry.is_c asked.entry.form (spec.look_of asked.entry)
+        (map (λ name. name.now) asked.entry.allowed.now) (option_map (λ name. name.now) asked.entry.journal) (map (λ name. name.now) files.now)
         (map (λ text. text.items) contents.new.texts.items) (spec.said_of said)) }
     ensures unread { IfOk result (λ said. IfOk (spec.said_of said) (λ answer. remark.new.items ≡ unread_in answer)) }
     ensures written { IfOk result (λ said. IfOk (spec.said_of said) (spec.IsWritten (P.written pictures.new) (pictures.new ≡ pictures.old)
@@ -419,17 +449,30 @@ pub fn explain_files<'a, I: Inputs, P: Pictures, O: Sink, W: SearchWatch>(
     ensures fine { OnOk result (O.failures out.new ≡ O.failures out.old) }
     ensures write { IfErr result (λ e. e ≡ CommandFault.Write → O.failures out.new ≢ O.failures out.old) }
     ensures memory { IfErr result (λ e. e ≡ CommandFault.OutOfMemory →
-        spec.IsCutShort (I.gives inputs.now) asked.entry.form asked.entry.options asked.entry.states (map (λ name. name.now) files.now)
-        (O.taken out.old) (O.taken out.new)) }
+        spec.IsCutShort (I.gives inputs.now) asked.entry.is_c asked.entry.form asked.entry.options asked.entry.states
+        (map (λ name. name.now) asked.entry.allowed.now) (map (λ name. name.now) files.now) (O.taken out.old) (O.taken out.new)) }
 {
-    let read = read_each(alloc, inputs, files)?;
-    let names = read.names;
-    let unread = read.unread;
-    contents.texts = read.texts;
+    let found = find_each(alloc, inputs, asked.is_c, files)?;
+    let names = found.names;
+    let codes = found.codes;
+    let unread = found.unread;
+    contents.texts = found.texts;
     *remark = unread_lines(alloc, unread.as_slice())?;
-    let told = explain_read(
+    let drifts = drifted(
+        alloc,
+        asked.form,
+        asked.allowed,
+        names.as_slice(),
+        codes.as_slice(),
+    )?;
+    let worth = drifts.worth(asked.options.is_strict);
+    let (first, within) = placed(alloc, asked.form, drifts.printed);
+    let told = explain_after(
         alloc,
         asked,
+        first,
+        within.as_slice(),
+        worth,
         names.as_slice(),
         contents.texts.as_slice(),
         unread.as_slice(),

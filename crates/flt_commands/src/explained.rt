@@ -3,14 +3,12 @@
 ghost use Rattle.std.specs.Io.KnownBytes.{Appends};
 ghost use Rattle.std.specs.Prelude.{◌≡◌, ◌≢◌, [], Bool, IfErr, IfOk, OnOk, Some, map, option_map, take};
 ghost use Rattle.flt_commands.specs.Allowed.{options_of};
-ghost use Rattle.flt_commands.specs.Annotated.{gives_annotations};
 ghost use Rattle.flt_commands.specs.Attempts.{Does};
 ghost use Rattle.flt_commands.specs.Commands.{IsAnswered, NamesNoJournal};
 ghost use Rattle.flt_commands.specs.Explain as spec;
 ghost use Rattle.flt_words.specs.Request.{Choice, Explain};
 ghost use Rattle.flt_words.specs.declared.request.Colour.{Colour};
 
-use crate::annotated::Annotated;
 use crate::clean::{covered_texts_break_nothing, driven_texts_break_nothing};
 use crate::explain::{Asked, explain_files};
 use crate::fault::CommandFault;
@@ -22,8 +20,8 @@ use flt_notes::SearchWatch;
 use flt_syntax::fails_exactly_where_nothing_is_spelled;
 use std::alloc::Global;
 
-/// The report on `explain` for some files, for C files by their annotations. The output for a file is written as soon as it is made, unless
-/// all of it is held back.
+/// The report on `explain` for some files, for C files by their annotations, after the drifts of these. The output for a file is written as
+/// soon as it is made, unless all of it is held back.
 pub(crate) fn report_on_files<'a, I: Inputs, P: Pictures, O: Sink, W: SearchWatch>(
     alloc: Global,
     asked: Asked<'a>,
@@ -34,33 +32,31 @@ pub(crate) fn report_on_files<'a, I: Inputs, P: Pictures, O: Sink, W: SearchWatc
     watch: &mut W,
 ) -> Result<Report, CommandFault>
     ensures answered { (colour : Colour) → (shown : Bool) → (warnings : Choice) → asked.entry.coloured ≡ spec.is_coloured colour shown →
-        asked.entry.options ≡ options_of warnings →
+        asked.entry.options ≡ options_of warnings → map (λ name. name.now) asked.entry.allowed.now ≡ warnings.allowed →
         IfOk result (IsAnswered shown (I.gives inputs.now) (P.written pictures.new)
         (Does (pictures.new ≡ pictures.old) (P.tried pictures.old) (P.tried pictures.new))
         (Explain asked.entry.form colour asked.entry.states (option_map (λ name. name.now) asked.entry.journal) warnings
-        (map (λ name. name.now) files.now))) }
+        asked.entry.is_c (map (λ name. name.now) files.now))) }
     ensures quiet { (colour : Colour) → (warnings : Choice) → IfOk result (λ report. report.status ≢ 2 →
-        NamesNoJournal
-        (Some (Explain asked.entry.form colour asked.entry.states (option_map (λ name. name.now) asked.entry.journal) warnings
-        (map (λ name. name.now) files.now))) → report.remark.items ≡ []) }
+        NamesNoJournal (Some (Explain asked.entry.form colour asked.entry.states (option_map (λ name. name.now) asked.entry.journal) warnings
+        asked.entry.is_c (map (λ name. name.now) files.now))) → report.remark.items ≡ []) }
     ensures sent { IfOk result (λ report. Appends (O.taken out.old) (O.taken out.new) (take report.sent report.output.items)) }
     ensures held { spec.HoldsBack asked.entry.form (option_map (λ name. name.now) asked.entry.journal) → out.new ≡ out.old }
     ensures fine { OnOk result (O.failures out.new ≡ O.failures out.old) }
     ensures write { IfErr result (λ e. e ≡ CommandFault.Write → O.failures out.new ≢ O.failures out.old) }
     ensures memory { IfErr result (λ e. e ≡ CommandFault.OutOfMemory →
-        spec.IsCutShort (gives_annotations (I.gives inputs.now)) asked.entry.form asked.entry.options asked.entry.states
-        (map (λ name. name.now) files.now) (O.taken out.old) (O.taken out.new)) }
+        spec.IsCutShort (I.gives inputs.now) asked.entry.is_c asked.entry.form asked.entry.options asked.entry.states
+        (map (λ name. name.now) asked.entry.allowed.now) (map (λ name. name.now) files.now) (O.taken out.old) (O.taken out.new)) }
 {
     covered_texts_break_nothing();
     driven_texts_break_nothing();
     fails_exactly_where_nothing_is_spelled();
     let mut contents = Contents::new(alloc);
     let mut remark = Vec::new(alloc);
-    let inputs = Annotated::new(inputs);
     let said = explain_files(
         alloc,
         asked,
-        &inputs,
+        inputs,
         files,
         pictures,
         out,

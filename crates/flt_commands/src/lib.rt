@@ -1,6 +1,7 @@
 //! The commands of `fltstack`, over inputs and writers of any kind, and over the files and streams of the system.
 #![tactic(auto)]
 
+mod after;
 mod allowed;
 mod analyse;
 mod annotated;
@@ -10,6 +11,7 @@ mod clean;
 mod commands;
 mod compare;
 mod deadlock;
+mod drifts;
 mod driver;
 mod emit;
 mod emit_into;

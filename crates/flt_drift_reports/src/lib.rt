@@ -1,7 +1,10 @@
-//! Reports for people on where C files and their annotations differ. It exports `report_drifts`.
+//! Reports for people on where C files and their annotations differ (`report`), and their lines (`line`).
 #![tactic(auto)]
 
+mod line;
 mod report;
 mod words;
 
+pub use line::drift_lines;
 pub use report::report_drifts;
+pub use words::code;

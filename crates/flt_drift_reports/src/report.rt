@@ -68,7 +68,7 @@ fn shown_byte(byte: u8) -> u8
 // ---- pieces
 
 /// Adds bytes as they are.
-fn put(out: &mut Vec<u8>, bytes: &[u8]) -> Result<(), AllocError>
+pub(crate) fn put(out: &mut Vec<u8>, bytes: &[u8]) -> Result<(), AllocError>
     ensures { OnOk result (out.new.items ≡ out.old.items ++ bytes.now) }
 {
     out.extend_from_slice(bytes)
@@ -95,7 +95,7 @@ fn put_row(out: &mut Vec<u8>, byte: u8, count: usize) -> Result<(), AllocError>
 }
 
 /// The digits of a number.
-fn digits(alloc: Global, number: usize) -> Result<Vec<u8>, AllocError>
+pub(crate) fn digits(alloc: Global, number: usize) -> Result<Vec<u8>, AllocError>
     ensures { IfOk result (λ digits. digits.items ≡ decimal number) }
 {
     let digits = format!(in alloc; "{number}")?;
@@ -122,7 +122,7 @@ fn put_beside(
 
 /// Adds the line with the code and the message of a drift.
 #[tactic(auto, unfolding(crate::specs::Report::message))]
-fn put_message(out: &mut Vec<u8>, file: &[u8], drift: Drift) -> Result<(), AllocError>
+pub(crate) fn put_message(out: &mut Vec<u8>, file: &[u8], drift: Drift) -> Result<(), AllocError>
     ensures { OnOk result (out.new.items ≡ out.old.items ++ spec.message file.now drift) }
 {
     put(out, heading(drift.kind))?;

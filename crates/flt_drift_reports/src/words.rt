@@ -6,7 +6,7 @@ ghost use Rattle.flt_drift_reports.specs.Words as spec;
 use flt_drift::DriftKind;
 
 /// The code of a kind: `C00` to `C05`.
-pub(crate) fn code(kind: DriftKind) -> &'static str
+pub fn code(kind: DriftKind) -> &'static str
     ensures { result.now ≡ spec.code kind }
 {
     match kind {

@@ -77,6 +77,10 @@ strict_rule = record (new_rule (codes "strict")) { long = Some (codes "strict");
 abbrev pub allow_rule : Rule
 allow_rule = record (new_rule (codes "allow")) { long = Some (codes "allow"); value_names = 1; action = Some Append }
 
+-- `--c`
+abbrev pub c_rule : Rule
+c_rule = record (new_rule (codes "c")) { long = Some (codes "c"); action = Some SetTrue }
+
 -- `--timeline`
 abbrev pub timeline_rule : Rule
 timeline_rule = record (new_rule (codes "timeline")) { long = Some (codes "timeline"); action = Some SetTrue }
@@ -142,11 +146,11 @@ replay_app = with_rule (with_rule (with_rule (with_rule bare_replay_app timeline
 abbrev pub bare_explain_app : App
 bare_explain_app = new_app (codes "explain")
 
--- `explain [--form FORM] [--color WHEN] [--states N] [--journal FILE] [--runs] [--strict] [--allow KIND].. FILE..`
+-- `explain [--form FORM] [--color WHEN] [--states N] [--journal FILE] [--runs] [--strict] [--allow KIND].. [--c] FILE..`
 abbrev pub explain_app : App
 explain_app =
-    with_rule (with_rule (with_rule (with_rule (with_rule (with_rule (with_rule (with_rule bare_explain_app form_rule) colour_rule)
-    states_rule) written_rule) runs_rule) strict_rule) allow_rule) texts_rule
+    with_rule (with_rule (with_rule (with_rule (with_rule (with_rule (with_rule (with_rule (with_rule bare_explain_app form_rule) colour_rule)
+    states_rule) written_rule) runs_rule) strict_rule) allow_rule) c_rule) texts_rule
 
 abbrev pub bare_extract_app : App
 bare_extract_app = new_app (codes "extract")

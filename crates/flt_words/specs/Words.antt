@@ -109,12 +109,13 @@ part_named name =
 abbrev pub part_of : List Row → Option Part
 part_of rows = option_map_or part_named (first_of (codes "part") rows) (Some Source)
 
--- the name of a kind of warning
+-- the name of a kind of warning, of a text or of a C file
 abbrev pub is_kind : Text → Bool
 is_kind name =
     bytes_eq name (codes "W00") || (bytes_eq name (codes "W01") || (bytes_eq name (codes "W02") || (bytes_eq name (codes "W03")
-    || (bytes_eq name (codes "W04") || (bytes_eq name (codes "W05") || (bytes_eq name (codes "W06")
-    || bytes_eq name (codes "W07")))))))
+    || (bytes_eq name (codes "W04") || (bytes_eq name (codes "W05") || (bytes_eq name (codes "W06") || (bytes_eq name (codes "W07")
+    || (bytes_eq name (codes "C00") || (bytes_eq name (codes "C01") || (bytes_eq name (codes "C02") || (bytes_eq name (codes "C03")
+    || bytes_eq name (codes "C04"))))))))))))
 
 -- some names of kinds; none at all where one isn't the name of a kind
 abbrev pub kinds_in : List Text → Option (List Text)
@@ -187,10 +188,10 @@ have_pages [] = false
 have_pages names = list_all has_page names
 
 -- for people names that have pages ask for these, all else for reports
-abbrev pub explain_of : Form → Colour → ℕ → Option Text → Choice → List Text → Asked
-explain_of Human colour states journal warnings files =
-    if have_pages files then Pages files else Explain Human colour states journal warnings files
-explain_of form colour states journal warnings files = Explain form colour states journal warnings files
+abbrev pub explain_of : Form → Colour → ℕ → Option Text → Choice → Bool → List Text → Asked
+explain_of Human colour states journal warnings is_c files =
+    if have_pages files then Pages files else Explain Human colour states journal warnings is_c files
+explain_of form colour states journal warnings is_c files = Explain form colour states journal warnings is_c files
 
 -- in a form, with colours at some time and with the file into which a journal is written;
 -- a kind of warning that there isn't asks for nothing
@@ -198,7 +199,7 @@ unfoldable pub explain_with : List Row → Form → Colour → Option Text → O
 explain_with rows form colour journal =
     option_map (λ allowed. explain_of form colour (states_of rows) journal
     (record { strict = is_set (codes "strict") rows; allowed = allowed })
-    (files_of rows)) (allowed_of rows)
+    (is_set (codes "c") rows) (files_of rows)) (allowed_of rows)
 
 -- in a form and with colours at some time; `-` is no file into which a journal is written, and asks for nothing
 unfoldable pub explain_in : List Row → Form → Colour → Option Asked

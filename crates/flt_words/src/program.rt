@@ -179,7 +179,18 @@ fn allow_argument<'a>(alloc: Global) -> Arg<'a>
         .long("allow")
         .value_name("KIND")
         .action(ArgAction::Append)
-        .help("Leave a kind of warning out, as `W03`; it may be given several times")
+        .help("Leave a kind of warning out, as `W03` or `C02`; it may be given several times")
+}
+
+/// The flag `--c`.
+fn c_argument<'a>(alloc: Global) -> Arg<'a>
+    ensures rule { rule_of result ≡ spec.c_rule }
+    ensures own { result.global ≡ false }
+{
+    Arg::new(alloc, "c")
+        .long("c")
+        .action(ArgAction::SetTrue)
+        .help("Take each FILE for C, whatever its name ends with")
 }
 
 /// The flag `--timeline`.
@@ -378,10 +389,10 @@ fn bare_explain<'a>(alloc: Global) -> Command<'a>
             "Says all that is wrong with filters' texts, where it comes from, how to get there and how to fix it",
         )
         .override_usage(
-            "fltstack explain [--form <FORM>] [--color <WHEN>] [--states <N>] [--journal <JOURNAL>] [--runs] [--strict] [--allow <KIND>]... <FILE>...\n       fltstack explain <R01 to R15, W00 to W07, V1 to V8, E01 to E08, a call or a status>...",
+            "fltstack explain [--form <FORM>] [--color <WHEN>] [--states <N>] [--journal <JOURNAL>] [--runs] [--strict] [--allow <KIND>]... [--c] <FILE>...\n       fltstack explain <R01 to R15, W00 to W07, V1 to V8, E01 to E08, a call or a status>...",
         )
         .after_help(
-            "Prints a report for each finding, with a run that breaks something because of it, and last what `analyse`\nsays (exit 1), or a report for each warning and `nothing found` (exit 0; with `--strict` warnings make it 1).\nWhere a text doesn't parse, it says where and why (exit 2). `--form short` prints a line for each of them,\n`--form lines` a JSON object, `--form sarif` a SARIF document. `--form html` is a page with the texts, the reports and\npictures. A comment `# allow W03: why`, alone on the line before a statement, leaves a warning out there. Of rules,\nwarnings, violations, faults of a text, calls or statuses it prints the pages (exit 0); `./R02` is a file of that name.\nOf a C file (`.c`, `.h`, `.cc`, `.cpp`) it reads the annotations, and its places are those of the C file. Errors go to\nthe standard error with exit 2.\n\nExample: fltstack explain examples/leaked_context.flt",
+            "Prints a report for each finding, with a run that breaks something because of it, and last what `analyse`\nsays (exit 1), or a report for each warning and `nothing found` (exit 0; with `--strict` warnings make it 1).\nWhere a text doesn't parse, it says where and why (exit 2). `--form short` prints a line for each of them,\n`--form lines` a JSON object, `--form sarif` a SARIF document. `--form html` is a page with the texts, the reports and\npictures. A comment `# allow W03: why`, alone on the line before a statement, leaves a warning out there. Of rules,\nwarnings, violations, faults of a text, calls or statuses it prints the pages (exit 0); `./R02` is a file of that name.\nOf a C file (`.c`, `.h`, `.cc`, `.cpp`; with `--c` any) it reads the annotations, and its places are those of the C\nfile; first it warns where C and annotations differ, as `compare` does, but not in the forms `lines` and `sarif`.\nErrors go to the standard error with exit 2.\n\nExample: fltstack explain examples/leaked_context.flt",
         )
 }
 
@@ -395,6 +406,7 @@ fn explain_command<'a>(alloc: Global) -> Result<Command<'a>, AllocError>
     let command = with_argument(command, runs_argument(alloc));
     let command = with_argument(command, strict_argument(alloc));
     let command = with_argument(command, allow_argument(alloc));
+    let command = with_argument(command, c_argument(alloc));
     with_argument(
         command,
         texts_argument(

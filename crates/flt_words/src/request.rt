@@ -35,7 +35,7 @@ pub enum Colour {
 pub struct WarningChoice<'a> {
     /// Whether a warning that is shown counts as a finding does for the exit status.
     pub is_strict: bool,
-    /// The kinds that are left out, by name: each is one of `W00` to `W07`.
+    /// The kinds that are left out, by name: each is one of `W00` to `W07`, or of `C00` to `C04`.
     pub allowed: Vec<&'a str>,
 }
 
@@ -109,6 +109,8 @@ pub enum Request<'a> {
         /// The file into which the journal of the first finding that has one is written.
         journal: Option<&'a str>,
         warnings: WarningChoice<'a>,
+        /// Whether each file is taken for C, whatever its name ends with.
+        is_c: bool,
         files: Vec<&'a str>,
     },
     /// Print the text of the annotations of some C files.

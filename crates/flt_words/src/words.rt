@@ -27,19 +27,19 @@ pub const DEFAULT_STATES: u32 = 40_000;
 
 /// The error if no form has the given name.
 const NO_FORM: &str =
-    "error: `--form` takes `human`, `html`, `short`, `lines` or `sarif`\n\nUsage: fltstack explain [--form <FORM>] [--color <WHEN>] [--states <N>] [--journal <JOURNAL>] [--runs] [--strict] [--allow <KIND>]... <FILE>...\n\nFor more information, try '--help'.\n";
+    "error: `--form` takes `human`, `html`, `short`, `lines` or `sarif`\n\nUsage: fltstack explain [--form <FORM>] [--color <WHEN>] [--states <N>] [--journal <JOURNAL>] [--runs] [--strict] [--allow <KIND>]... [--c] <FILE>...\n\nFor more information, try '--help'.\n";
 
 /// The error if no time of colours has the given name.
 const NO_COLOUR: &str =
-    "error: `--color` takes `auto`, `always` or `never`\n\nUsage: fltstack explain [--form <FORM>] [--color <WHEN>] [--states <N>] [--journal <JOURNAL>] [--runs] [--strict] [--allow <KIND>]... <FILE>...\n\nFor more information, try '--help'.\n";
+    "error: `--color` takes `auto`, `always` or `never`\n\nUsage: fltstack explain [--form <FORM>] [--color <WHEN>] [--states <N>] [--journal <JOURNAL>] [--runs] [--strict] [--allow <KIND>]... [--c] <FILE>...\n\nFor more information, try '--help'.\n";
 
 /// The error if no kind of warning has the given name.
 const NO_KIND: &str =
-    "error: `--allow` takes `W00` to `W07`\n\nUsage: fltstack explain [--form <FORM>] [--color <WHEN>] [--states <N>] [--journal <JOURNAL>] [--runs] [--strict] [--allow <KIND>]... <FILE>...\n\nFor more information, try '--help'.\n";
+    "error: `--allow` takes `W00` to `W07`, and `C00` to `C04`\n\nUsage: fltstack explain [--form <FORM>] [--color <WHEN>] [--states <N>] [--journal <JOURNAL>] [--runs] [--strict] [--allow <KIND>]... [--c] <FILE>...\n\nFor more information, try '--help'.\n";
 
 /// The error if a journal would be written to the standard input.
 const NO_JOURNAL: &str =
-    "error: `--journal` takes the name of a file\n\nUsage: fltstack explain [--form <FORM>] [--color <WHEN>] [--states <N>] [--journal <JOURNAL>] [--runs] [--strict] [--allow <KIND>]... <FILE>...\n\nFor more information, try '--help'.\n";
+    "error: `--journal` takes the name of a file\n\nUsage: fltstack explain [--form <FORM>] [--color <WHEN>] [--states <N>] [--journal <JOURNAL>] [--runs] [--strict] [--allow <KIND>]... [--c] <FILE>...\n\nFor more information, try '--help'.\n";
 
 /// The error if a picture would be written to the standard input.
 const NO_PICTURE: &str =
@@ -235,7 +235,19 @@ fn is_kind(name: &str) -> bool
 {
     matches!(
         name,
-        "W00" | "W01" | "W02" | "W03" | "W04" | "W05" | "W06" | "W07"
+        "W00"
+            | "W01"
+            | "W02"
+            | "W03"
+            | "W04"
+            | "W05"
+            | "W06"
+            | "W07"
+            | "C00"
+            | "C01"
+            | "C02"
+            | "C03"
+            | "C04"
     )
 }
 
@@ -340,10 +352,11 @@ fn explain_of<'a>(
     states: u32,
     journal: Option<&'a str>,
     warnings: WarningChoice<'a>,
+    is_c: bool,
     files: Vec<&'a str>,
 ) -> Request<'a>
     ensures { asked_of result ≡ Some (spec.explain_of form colour states (option_map (λ name. name.now) journal.entry)
-        (choice_of warnings.entry) (map (λ name. name.now) files.entry.items)) }
+        (choice_of warnings.entry) is_c (map (λ name. name.now) files.entry.items)) }
 {
     match form {
         Form::Human if have_pages(files.as_slice()) => Request::Pages { names: files },
@@ -353,6 +366,7 @@ fn explain_of<'a>(
             states,
             journal,
             warnings,
+            is_c,
             files,
         },
     }
@@ -377,8 +391,17 @@ fn explain_with<'a>(
         is_strict: is_set(explain, "strict"),
         allowed,
     };
+    let is_c = is_set(explain, "c");
     let files = files_of(alloc, explain)?;
-    Ok(explain_of(form, colour, states_of(explain), journal, warnings, files))
+    Ok(explain_of(
+        form,
+        colour,
+        states_of(explain),
+        journal,
+        warnings,
+        is_c,
+        files,
+    ))
 }
 
 /// The request of the matches of `explain`, given the form and the time of colours.

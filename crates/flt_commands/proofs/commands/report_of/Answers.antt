@@ -166,7 +166,8 @@ pub returns-in-Explain-clause-answers : goal.returns-in-Explain-clause-answers
 returns-in-Explain-clause-answers g c =
     answers_asked _ _ (rw c.in-Explain.is at c.in_ok-text.ensures) c.args.coloured _ _ _ _
     (rw c.as_slice-files-in-Explain.ensures.value at (c.report_on_files.ensures.answered c.in-Explain.colour c.args.coloured
-    (choice_of c.in-Explain.warnings) c.is_coloured.ensures c.options_of.ensures))
+    (choice_of c.in-Explain.warnings) c.is_coloured.ensures c.options_of.ensures
+    (rw c.as_slice-in-Explain.ensures.value refl)))
 
 pub returns-in-Explain-clause-quiet : goal.returns-in-Explain-clause-quiet
 returns-in-Explain-clause-quiet g c =
@@ -177,7 +178,8 @@ returns-in-Explain-clause-quiet g c =
 pub returns-in-Explain-clause-memory : goal.returns-in-Explain-clause-memory
 returns-in-Explain-clause-memory g c =
     cut_asked _ _ (rw c.in-Explain.is at c.in_ok-text.ensures) _ _ _ _
-    (rw (c.as_slice-files-in-Explain.ensures.value, c.options_of.ensures) at c.report_on_files.ensures.memory)
+    (rw (c.as_slice-files-in-Explain.ensures.value, c.as_slice-in-Explain.ensures.value, c.options_of.ensures)
+    at c.report_on_files.ensures.memory)
 
 pub returns-in-Explain-clause-held : goal.returns-in-Explain-clause-held
 returns-in-Explain-clause-held g c = held_asked _ _ (rw c.in-Explain.is at c.in_ok-text.ensures) _ _ c.report_on_files.ensures.held

@@ -8,18 +8,18 @@ use Rattle.flt_commands.proofs.explained.report_on_files.Goals as goal
 pub returns-in_err-said-clause-memory : goal.returns-in_err-said-clause-memory
 returns-in_err-said-clause-memory g c =
     let fails : c.from_residual.result ≡ Err c.in_err-said.field-0.0 = search rules in
-    rw fails (rw c.new-inputs.ensures at c.in_err-said.ensures.memory)
+    rw fails c.in_err-said.ensures.memory
 
 pub returns-in_err-before-clause-memory : goal.returns-in_err-before-clause-memory
 returns-in_err-before-clause-memory g c =
     let fails : c.from_residual-in_err-before.result ≡ Err OutOfMemory = search rules in
-    rw fails (λ short. cut_named _ _ _ _ _ g.O.Sink.taken _ _ _ c.in_err-before.ensures.none c.in_ok-said.ensures.held)
+    rw fails (λ short. cut_named _ _ _ _ _ _ _ g.O.Sink.taken _ _ _ c.in_err-before.ensures.none c.in_ok-said.ensures.held)
 
 pub returns-clause-answered : goal.returns-clause-answered
 returns-clause-answered g c =
-    λ colour shown warnings look chosen. let request = Explain c.args.asked.form colour c.args.asked.states
-    (option_map (λ name. name.now) c.args.asked.journal) warnings (map (λ name. name.now) c.args.files.now) in
-    let said = rw (look, chosen, c.new-inputs.ensures) at c.in_ok-said.ensures.said in
+    λ colour shown warnings look chosen allowed. let request = Explain c.args.asked.form colour c.args.asked.states
+    (option_map (λ name. name.now) c.args.asked.journal) warnings c.args.asked.is_c (map (λ name. name.now) c.args.files.now) in
+    let said = rw (look, chosen, allowed) at c.in_ok-said.ensures.said in
     answered_of c.covered_texts_break_nothing.ensures c.driven_texts_break_nothing.ensures
     c.fails_exactly_where_nothing_is_spelled.ensures.nowhere shown _ _ _ request _ _ _ said c.in_ok-said.ensures.written
     (those_of _ _ c.report_on_explanation.ensures.texts) c.report_on_explanation.ensures.reported
@@ -27,8 +27,8 @@ returns-clause-answered g c =
 
 pub returns-clause-quiet : goal.returns-clause-quiet
 returns-clause-quiet g c =
-    λ colour warnings. quiet_for c.args.asked.form colour c.args.asked.states _ warnings _ _ _ _ c.in_ok-before.ensures.found
-    c.report_on_explanation.ensures.reported c.report_on_explanation.ensures.quiet
+    λ colour warnings. quiet_for c.args.asked.form colour c.args.asked.states _ warnings c.args.asked.is_c _ _ _ _ c.in_ok-before.ensures.found c.report_on_explanation.ensures.reported
+    c.report_on_explanation.ensures.quiet
 
 pub returns-clause-sent : goal.returns-clause-sent
 returns-clause-sent g c =
@@ -36,5 +36,5 @@ returns-clause-sent g c =
 
 pub returns-clause-memory : goal.returns-clause-memory
 returns-clause-memory g c =
-    cut_reported _ _ _ _ _ g.O.Sink.taken _ _ _ _ _ _ _ c.report_on_explanation.ensures.err
-    (rw c.new-inputs.ensures at c.in_ok-said.ensures.said) c.in_ok-said.ensures.held
+    cut_reported _ _ _ _ _ _ _ g.O.Sink.taken _ _ _ _ _ _ _ c.report_on_explanation.ensures.err
+    c.in_ok-said.ensures.said c.in_ok-said.ensures.held

@@ -9,4 +9,5 @@ returns c =
     let five = c.with_argument-command-5.ensures _ _ four c.runs_argument.ensures.rule c.runs_argument.ensures.own in
     let six = c.with_argument-command-6.ensures _ _ five c.strict_argument.ensures.rule c.strict_argument.ensures.own in
     let seven = c.with_argument-command-7.ensures _ _ six c.allow_argument.ensures.rule c.allow_argument.ensures.own in
-    c.with_argument.ensures _ _ seven c.texts_argument.ensures.rule c.texts_argument.ensures.own
+    let eight = c.with_argument-command-8.ensures _ _ seven c.c_argument.ensures.rule c.c_argument.ensures.own in
+    c.with_argument.ensures _ _ eight c.texts_argument.ensures.rule c.texts_argument.ensures.own

@@ -10,6 +10,6 @@ returns c =
     let rows = rows_of (found_of c.args.explain.now) in
     let allowed : Some (map (λ s. s.now) c.in-Some.allowed.items) ≡ allowed_of rows =
     sym (ap (option_map (λ kinds. map (λ s. s.now) kinds.items)) c.in-Some.is) ∙ c.in_ok-allowed.ensures in
-    rw (c.explain_of.ensures, c.is_set.ensures, c.states_of.ensures, c.in_ok-files.ensures)
+    rw (c.explain_of.ensures, c.is_set.ensures, c.is_set-is_c.ensures, c.states_of.ensures, c.in_ok-files.ensures)
     (ap (option_map (λ kinds. explain_of c.args.form c.args.colour (states_of rows) (option_map (λ s. s.now) c.args.journal)
-    (record { strict = is_set (codes "strict") rows; allowed = kinds }) (files_of rows))) allowed)
+    (record { strict = is_set (codes "strict") rows; allowed = kinds }) (is_set (codes "c") rows) (files_of rows))) allowed)

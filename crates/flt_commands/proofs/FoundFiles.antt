@@ -1,0 +1,89 @@
+-- What files give, of C files their annotations with the file itself beside them.
+use Rattle.std.proofs.Common.{◌⊎◌, inl, inr, ◌≡◌, ◌∙◌, ℕ, List, [], ◌∷◌, ◌++◌, ◌&&◌, Bool, true, false, Bor, Vec, Global, Option, Some, None, Result, Ok, Err, IfOk, OnErr, ap, sym, length, map, option_map, string_bytes, refl}
+use Rattle.std.proofs.Math.Path.{subst}
+use Rattle.std.proofs.lemmas.List.{length-map, map_push}
+use Rattle.std.specs.List.{list_any}
+use Rattle.flt_c.specs.InPlace.{in_place}
+use Rattle.flt_forms.specs.declared.unread.UnreadFile.{UnreadFile}
+use Rattle.flt_commands.proofs.SomeRead.{missing_more, read_lengths, read_more}
+use Rattle.flt_commands.specs.Annotated.{AreFound, AreFoundIn, AreLaid, GivesFound, codes_in, found, gives_annotations, gives_laid_if, is_taken_for_c, no_file}
+use Rattle.flt_commands.specs.Inputs.{Giving, IsMissing, Text, is_standard, none}
+use Rattle.flt_commands.specs.declared.annotated.Found.{Found}
+use Rattle.flt_commands.specs.declared.annotated.FoundFiles.{FoundFiles}
+use Rattle.flt_commands.specs.declared.unread.Unread.{Unread}
+
+-- the C file of a text, or none
+abbrev code_of : Found → Option Text
+code_of f = option_map (λ code. code.items) f.code
+
+-- ---- of one name
+
+-- what isn't read gives nothing, whether it is C or not
+nothing_if : (is_c : Bool) (gives : Giving) (name : Text) → gives name None → gives_laid_if is_c gives name None
+nothing_if true gives name none = inr none
+nothing_if false gives name none = none
+
+pub nothing_given : (all : Bool) (gives : Giving) (name : Text) → gives name None → gives_annotations all gives name None
+nothing_given all gives name none = nothing_if (is_taken_for_c all name) gives name none
+
+-- what is found is what C files that give their annotations give
+found_if : (all : Bool) (gives : Giving) (name text : Text) (code : Option Text) → GivesFound all gives name text code →
+    gives_annotations all gives name (Some text)
+found_if all gives name text None is = subst (λ b. gives_laid_if b gives name (Some text)) (sym is.0) is.1
+found_if all gives name text (Some code) is =
+    subst (λ b. gives_laid_if b gives name (Some text)) (sym is.0) (record { file = code; given = is.1.0; laid = is.1.1 })
+
+module _ (all : Bool) (gives : Giving) (name file : Text) (is : is_taken_for_c all name ≡ true) (given : gives name (Some file)) where
+  found_one : (f : Found) → AreLaid file (Some f.text.items) → code_of f ≡ Some file → GivesFound all gives name f.text.items (code_of f)
+  found_one f laid code = rw code (is, (given, laid))
+
+  pub found_in_c : (result : Result (Result Found Unread) AllocError) →
+      IfOk result (λ done. IfOk done (λ f. AreLaid file (Some f.text.items))) →
+      IfOk result (λ done. IfOk done (λ f. code_of f ≡ Some file)) →
+      IfOk result (λ done. IfOk done (λ f. GivesFound all gives name f.text.items (code_of f)))
+  found_in_c (Ok (Ok f)) laid code = found_one f laid code
+  found_in_c (Ok (Err why)) laid code = tt
+  found_in_c (Err e) laid code = tt
+
+  pub unlaid : (result : Result (Result Found Unread) AllocError) → IfOk result (λ done. OnErr done (AreLaid file None)) →
+      IfOk result (λ done. OnErr done (gives_annotations all gives name None))
+  unlaid (Ok (Ok f)) flawed = tt
+  unlaid (Ok (Err why)) flawed =
+      subst (λ b. gives_laid_if b gives name None) (sym is) (inl (record { file = file; given = given; laid = flawed }))
+  unlaid (Err e) flawed = tt
+
+-- ---- of several names
+
+module _ (all : Bool) (gives : Giving) (before : List Text) (name : Bor Text) (old new : FoundFiles) (are : AreFoundIn all gives before old) where
+  -- a name more that gives a text
+  pub found_more : (f : Found) → GivesFound all gives name.now f.text.items (code_of f) → is_standard name.now && list_any is_standard before ≡ false →
+      new.names.items ≡ old.names.items ++ name ∷ [] → new.texts.items ≡ old.texts.items ++ f.text ∷ [] →
+      new.codes.items ≡ old.codes.items ++ f.code ∷ [] → new.unread.items ≡ old.unread.items → AreFoundIn all gives (before ++ name.now ∷ []) new
+  found_more f one other named put coded same =
+      let names : map (λ (n : Bor Text). n.now) new.names.items ≡ map (λ (n : Bor Text). n.now) old.names.items ++ name.now ∷ [] =
+      ap (map (λ (n : Bor Text). n.now)) named ∙ map_push (λ n. n.now) old.names.items name in
+      let texts : map (λ (t : Vec ℕ Global). t.items) new.texts.items ≡ map (λ (t : Vec ℕ Global). t.items) old.texts.items ++ f.text.items ∷ [] =
+      ap (map (λ (t : Vec ℕ Global). t.items)) put ∙ map_push (λ t. t.items) old.texts.items f.text in
+      let codes : codes_in new ≡ codes_in old ++ code_of f ∷ [] =
+      ap (map (option_map (λ (t : Vec ℕ Global). t.items))) coded ∙ map_push (option_map (λ t. t.items)) old.codes.items f.code in
+      record {
+        read = rw same (read_more (gives_annotations all gives) before name old.names.items old.texts.items old.unread.items are.read f.text
+            new.names.items new.texts.items (found_if all gives name.now f.text.items (code_of f) one) other named put);
+        found = rw (names, texts, codes) (found name.now f.text.items (code_of f) are.found one);
+      }
+
+  -- a name more that gives none
+  pub unfound_more : (file : UnreadFile) → string_bytes file.name ≡ name.now → IsMissing (gives_annotations all gives) before name.now →
+      new.names.items ≡ old.names.items → new.texts.items ≡ old.texts.items → new.codes.items ≡ old.codes.items →
+      new.unread.items ≡ old.unread.items ++ file ∷ [] → AreFoundIn all gives (before ++ name.now ∷ []) new
+  unfound_more file same lost names texts codes put = record {
+    read = rw (names, texts) (missing_more (gives_annotations all gives) before name old.names.items old.texts.items old.unread.items are.read file
+        new.unread.items same lost put);
+    found = rw (names, texts, codes) are.found;
+  }
+
+-- as many texts as names are found
+pub found_many : (all : Bool) (gives : Giving) (names : List Text) (f : FoundFiles) → AreFoundIn all gives names f → length f.texts.items ≡ length f.names.items
+found_many all gives names f are =
+    sym (length-map f.texts.items (λ t. t.items)) ∙ read_lengths (gives_annotations all gives) names _ _ _ are.read
+    ∙ length-map f.names.items (λ n. n.now)
