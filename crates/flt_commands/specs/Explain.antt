@@ -146,32 +146,33 @@ abbrev pub IsToldWith : Text → ℕ → Form → Look → Option Text → List 
 IsToldWith drifts worth form look journal names texts unread e =
     IsToldAfter (first_in form drifts) (within_in form drifts) worth form look journal names texts unread e
 
--- the same of those of these files that are read: they give these texts, those that are C have these drifts but for kinds of these names,
--- and these others aren't read
-pub record IsToldOf (gives : Giving) (is_c : Bool) (form : Form) (look : Look) (allowed : List Text) (journal : Option Text) (files texts : List Text)
-    (unread : List UnreadFile) (e : Told) : Type 0 where
+-- the same of those of these files that are read: they give these texts, of which these C files have the annotations, with the drifts of
+-- these but for kinds of these names, and these others aren't read
+pub record IsToldOf (gives : Giving) (is_c : Bool) (form : Form) (look : Look) (allowed : List Text) (journal : Option Text)
+    (files : List Text) (codes : List (Option Text)) (texts : List Text) (unread : List UnreadFile) (e : Told) : Type 0 where
   pub names : List Text
-  pub codes : List (Option Text)
   pub read : AreRead (gives_annotations is_c gives) files names texts (unread_names unread)
   pub found : AreFound is_c gives names texts codes
   pub told : IsToldWith (drifts_told form allowed names codes) (drifts_status look.options.is_strict allowed codes) form look journal names texts
       unread e
 
--- those of these files that are read give these texts
-pub record GiveTexts (gives : Giving) (files texts : List Text) : Type 0 where
+-- those of these files that are read give these texts, of which these C files have the annotations
+pub record GiveTexts (gives : Giving) (is_c : Bool) (files : List Text) (codes : List (Option Text)) (texts : List Text) : Type 0 where
   pub names : List Text
   pub unread : List Text
-  pub read : AreRead gives files names texts unread
+  pub read : AreRead (gives_annotations is_c gives) files names texts unread
+  pub found : AreFound is_c gives names texts codes
 
 -- what is said of the bytes of each FILE that is read, of a C file by its annotations, after the drifts of all C files but for kinds of these
 -- names; a journal may not be written
-abbrev pub IsExplained : Giving → Bool → Form → Look → List Text → Option Text → List Text → List Text → Result Answer Failure → Type 0
-IsExplained gives is_c form look allowed journal files texts (Ok (Explained e unread)) =
-    IsToldOf gives is_c form look allowed journal files texts unread.items e
-IsExplained gives is_c form look allowed journal files texts (Ok _) = ⊥
-IsExplained gives is_c form look allowed journal files texts (Err (CannotWrite name why)) =
-    (journal ≡ Some name.now) × GiveTexts (gives_annotations is_c gives) files texts
-IsExplained gives is_c form look allowed journal files texts (Err _) = ⊥
+abbrev pub IsExplained : Giving → Bool → Form → Look → List Text → Option Text → List Text → List (Option Text) → List Text →
+    Result Answer Failure → Type 0
+IsExplained gives is_c form look allowed journal files codes texts (Ok (Explained e unread)) =
+    IsToldOf gives is_c form look allowed journal files codes texts unread.items e
+IsExplained gives is_c form look allowed journal files codes texts (Ok _) = ⊥
+IsExplained gives is_c form look allowed journal files codes texts (Err (CannotWrite name why)) =
+    (journal ≡ Some name.now) × GiveTexts gives is_c files codes texts
+IsExplained gives is_c form look allowed journal files codes texts (Err _) = ⊥
 
 -- whether there are colours: as the words say, or where these leave it to the terminal, whether it shows them
 abbrev pub is_coloured : Colour → Bool → Bool

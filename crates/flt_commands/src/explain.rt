@@ -423,7 +423,8 @@ fn placed(alloc: Global, form: Form, drifts: Vec<u8>) -> (Vec<u8>, Vec<u8>)
 }
 
 /// The outcome of `explain`, in a form, for those of its names that can be read, of C files for their annotations, after the drifts of these;
-/// `contents` becomes the texts that the names give, and `remark` whole lines on the others. The journal of the first finding that has one is
+/// `contents` becomes the texts that the names give, `codes` the C files of which texts are the annotations, and `remark` whole lines on the
+/// names that give none. The journal of the first finding that has one is
 /// written into a file, if one is named; else the drifts are written first and the output for each text as soon as it is made, unless the
 /// form is one document.
 #[tactic(auto, using(crate::proofs::Sent::cut_short))]
@@ -436,11 +437,12 @@ pub fn explain_files<'a, I: Inputs, P: Pictures, O: Sink, W: SearchWatch>(
     out: &mut O,
     watch: &mut W,
     contents: &mut Contents,
+    codes: &mut Vec<Option<Vec<u8>>>,
     remark: &mut Vec<u8>,
 ) -> Result<Explanation<'a>, CommandFault>
     ensures said { IfOk result (λ said. spec.IsExplained (I.gives inputs.now) asked.entry.is_c asked.entry.form (spec.look_of asked.entry)
         (map (λ name. name.now) asked.entry.allowed.now) (option_map (λ name. name.now) asked.entry.journal) (map (λ name. name.now) files.now)
-        (map (λ text. text.items) contents.new.texts.items) (spec.said_of said)) }
+        (map (option_map (λ code. code.items)) codes.new.items) (map (λ text. text.items) contents.new.texts.items) (spec.said_of said)) }
     ensures unread { IfOk result (λ said. IfOk (spec.said_of said) (λ answer. remark.new.items ≡ unread_in answer)) }
     ensures written { IfOk result (λ said. IfOk (spec.said_of said) (spec.IsWritten (P.written pictures.new) (pictures.new ≡ pictures.old)
         (option_map (λ name. name.now) asked.entry.journal))) }
@@ -454,9 +456,9 @@ pub fn explain_files<'a, I: Inputs, P: Pictures, O: Sink, W: SearchWatch>(
 {
     let found = find_each(alloc, inputs, asked.is_c, files)?;
     let names = found.names;
-    let codes = found.codes;
     let unread = found.unread;
     contents.texts = found.texts;
+    *codes = found.codes;
     *remark = unread_lines(alloc, unread.as_slice())?;
     let drifts = drifted(
         alloc,

@@ -52,6 +52,7 @@ pub(crate) fn report_on_files<'a, I: Inputs, P: Pictures, O: Sink, W: SearchWatc
     driven_texts_break_nothing();
     fails_exactly_where_nothing_is_spelled();
     let mut contents = Contents::new(alloc);
+    let mut codes = Vec::new(alloc);
     let mut remark = Vec::new(alloc);
     let said = explain_files(
         alloc,
@@ -62,8 +63,9 @@ pub(crate) fn report_on_files<'a, I: Inputs, P: Pictures, O: Sink, W: SearchWatc
         out,
         watch,
         &mut contents,
+        &mut codes,
         &mut remark,
     )?;
     let before = explain_remark(alloc, remark, asked.journal, &said)?;
-    report_on_explanation(alloc, before, said, contents)
+    report_on_explanation(alloc, before, said, contents, codes)
 }

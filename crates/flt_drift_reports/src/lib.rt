@@ -6,5 +6,5 @@ mod report;
 mod words;
 
 pub use line::drift_lines;
-pub use report::report_drifts;
+pub use report::{has_difference, report_drifts};
 pub use words::code;

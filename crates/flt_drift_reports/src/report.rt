@@ -257,7 +257,7 @@ fn put_report(
 }
 
 /// Whether code and annotations differ in one of some drifts, which may be notes.
-fn has_difference(drifts: &[Drift]) -> bool
+pub fn has_difference(drifts: &[Drift]) -> bool
     ensures { result ≡ spec.has_difference drifts.now }
 {
     drifts.iter().any(|drift| is_difference(drift.kind))
