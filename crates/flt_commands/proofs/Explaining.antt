@@ -43,8 +43,8 @@ holds_some form journal name same = rw same tt
 
 -- ---- of names and what they give
 
-pub told_under : (form : Form) (look : Look) (journal : Option Text) (drifts : Text) (names texts : List Text) (unread : List UnreadFile) (sources : List Source)
-    (result : Result Told CommandFault) → names_in sources ≡ map (told_name form) names → texts_of sources ≡ texts →
+pub told_under : (form : Form) (look : Look) (journal : Option Text) (drifts : Text) (names texts : List Text) (unread : List UnreadFile)
+    (sources : List Source) (result : Result Told CommandFault) → names_in sources ≡ map (told_name form) names → texts_of sources ≡ texts →
     IfOk result (IsTold form look.options drifts sources unread) → IfOk result (λ t. AreNotedFor form journal (texts_of sources) t.noted) →
     IfOk result (IsNoteTold form (texts_of sources) look.states) → IfOk result (IsPrintTold form look drifts sources) →
     IfOk result (IsToldUnder form look journal drifts names texts unread)
@@ -92,18 +92,20 @@ worth_of look allowed f = drifts_status look.options.is_strict allowed (codes_in
 module _ (gives : Giving) (is_c : Bool) (form : Form) (options : WarningOptions) (states : ℕ) (allowed files : List Text) where
   -- what is told of those that are read is cut short
   pub cut_read : (f : FoundFiles) (old new : Option Text) → AreFoundIn is_c gives files f →
-      IsCutAfter (first_in form (drifts_of form allowed f)) form options states (map (λ name. name.now) f.names.items) (map (λ text. text.items) f.texts.items)
-      old new → IsCutShort gives is_c form options states allowed files old new
+      IsCutAfter (first_in form (drifts_of form allowed f)) form options states (map (λ name. name.now) f.names.items)
+      (map (λ text. text.items) f.texts.items) old new → IsCutShort gives is_c form options states allowed files old new
   cut_read f old new are cut = explain.some_read _ _ _ _ are.read are.found cut
 
   -- nothing went out where a file is named for a journal
   pub cut_named : {O : Type 0} (taken : O → Option Text) (old new : O) (journal : Option (Bor Text)) → journal ≢ None →
-      (HoldsBack form (option_map (λ name. name.now) journal) → new ≡ old) → IsCutShort gives is_c form options states allowed files (taken old) (taken new)
+      (HoldsBack form (option_map (λ name. name.now) journal) → new ≡ old) →
+      IsCutShort gives is_c form options states allowed files (taken old) (taken new)
   cut_named taken old new journal named held =
       rw (held (holds_named form journal named)) (cut_short gives is_c form options states allowed files (taken old))
 
   -- nor where its journal isn't written
-  pub cut_unwritten : {O : Type 0} (taken : O → Option Text) (old new : O) (look : Look) (journal : Option Text) (codes : List (Option Text))
+  pub cut_unwritten : {O : Type 0} (taken : O → Option Text) (old new : O) (look : Look) (journal : Option Text)
+      (codes : List (Option Text))
       (texts : List Text) (said : Explanation) → IsErr (said_of said) →
       IsExplained gives is_c form look allowed journal files codes texts (said_of said) → (HoldsBack form journal → new ≡ old) →
       IsCutShort gives is_c form options states allowed files (taken old) (taken new)
@@ -123,7 +125,8 @@ module _ (gives : Giving) (is_c : Bool) (form : Form) (options : WarningOptions)
       λ short. cut_unwritten taken old new look journal codes texts said err.1 is held
 
   -- what is said of them
-  pub explained_of : (look : Look) (journal : Option Text) (f : FoundFiles) (told : Told) (said : Explanation) → AreFoundIn is_c gives files f →
+  pub explained_of : (look : Look) (journal : Option Text) (f : FoundFiles) (told : Told) (said : Explanation) →
+      AreFoundIn is_c gives files f →
       IsToldWith (drifts_of form allowed f) (worth_of look allowed f) form look journal (map (λ name. name.now) f.names.items)
       (map (λ text. text.items) f.texts.items) f.unread.items told → IsToldOrUnwritten told f.unread.items journal said →
       IsExplained gives is_c form look allowed journal files (codes_in f) (map (λ text. text.items) f.texts.items) (said_of said)

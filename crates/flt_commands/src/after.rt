@@ -59,7 +59,8 @@ fn explain_held<O: Sink, W: SearchWatch>(
     requires back { spec.HoldsBack asked.entry.form (option_map (λ name. name.now) asked.entry.journal) }
     requires each { length texts.now ≡ length names.now }
     ensures told { IfOk result (spec.IsToldAfter first.items within.now worth asked.entry.form (spec.look_of asked.entry)
-        (option_map (λ name. name.now) asked.entry.journal) (map (λ name. name.now) names.now) (map (λ text. text.items) texts.now) unread.now) }
+        (option_map (λ name. name.now) asked.entry.journal) (map (λ name. name.now) names.now) (map (λ text. text.items) texts.now)
+        unread.now) }
     ensures sent { IfOk result (λ t. t.sent ≡ 0) }
     ensures held { out.new ≡ out.old }
     ensures err { IfErr result (λ e. e ≡ CommandFault.OutOfMemory) }
@@ -84,7 +85,8 @@ fn explain_early<O: Sink, W: SearchWatch>(
 ) -> Result<Told, CommandFault>
     requires { length texts.now ≡ length names.now }
     ensures told { IfOk result (spec.IsToldAfter first.items within.now worth asked.entry.form (spec.look_of asked.entry)
-        (option_map (λ name. name.now) asked.entry.journal) (map (λ name. name.now) names.now) (map (λ text. text.items) texts.now) unread.now) }
+        (option_map (λ name. name.now) asked.entry.journal) (map (λ name. name.now) names.now) (map (λ text. text.items) texts.now)
+        unread.now) }
     ensures sent { IfOk result (λ t. Appends (O.taken out.old) (O.taken out.new) (take t.sent t.explained.output.items)) }
     ensures fine { OnOk result (O.failures out.new ≡ O.failures out.old) }
     ensures write { IfErr result (λ e. e ≡ CommandFault.Write → O.failures out.new ≢ O.failures out.old) }
@@ -117,7 +119,8 @@ pub(crate) fn explain_after<O: Sink, W: SearchWatch>(
 ) -> Result<Told, CommandFault>
     requires { length texts.now ≡ length names.now }
     ensures told { IfOk result (spec.IsToldAfter first.items within.now worth asked.entry.form (spec.look_of asked.entry)
-        (option_map (λ name. name.now) asked.entry.journal) (map (λ name. name.now) names.now) (map (λ text. text.items) texts.now) unread.now) }
+        (option_map (λ name. name.now) asked.entry.journal) (map (λ name. name.now) names.now) (map (λ text. text.items) texts.now)
+        unread.now) }
     ensures sent { IfOk result (λ t. Appends (O.taken out.old) (O.taken out.new) (take t.sent t.explained.output.items)) }
     ensures held { spec.HoldsBack asked.entry.form (option_map (λ name. name.now) asked.entry.journal) → out.new ≡ out.old }
     ensures fine { OnOk result (O.failures out.new ≡ O.failures out.old) }

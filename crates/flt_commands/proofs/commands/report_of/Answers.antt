@@ -52,7 +52,8 @@ returns-in-Run-default-true-default-default-clause-answers g c =
     c.fails_exactly_where_nothing_is_spelled.ensures.nowhere _ _ _ does _ request _ _
     _ (rw c.in-Run-default-true-default-default.is at c.in_ok-text.ensures)
     (rw c.as_slice-files.ensures.value at c.run_files-said.ensures) refl
-    (those_of _ _ c.report_on-in-Run-default-true-default-default.ensures.texts) c.report_on-in-Run-default-true-default-default.ensures.codes
+    (those_of _ _ c.report_on-in-Run-default-true-default-default.ensures.texts)
+    c.report_on-in-Run-default-true-default-default.ensures.codes
     c.report_on-in-Run-default-true-default-default.ensures.reported (remarked_after request _ _ _
     c.new-in-Run-default-true-default-default.ensures.items c.report_on-in-Run-default-true-default-default.ensures.remarked)
 
@@ -97,7 +98,8 @@ returns-in_ok-before-in-Show-clause-answers g c =
     (map (λ name. name.now) c.in-Show.files.items) _ _ c.show_files-said.result c.show_files-said.ensures.drawn
     c.show_files-said.ensures.untouched)
     (those_after _ _ _ _ _ c.report_on-in-Show.ensures.texts c.report_on-in-Show.ensures.journal said.2)
-    c.report_on-in-Show.ensures.codes c.report_on-in-Show.ensures.reported (remarked_after request _ _ _ c.in_ok-before-in-Show.ensures c.report_on-in-Show.ensures.remarked)
+    c.report_on-in-Show.ensures.codes c.report_on-in-Show.ensures.reported
+    (remarked_after request _ _ _ c.in_ok-before-in-Show.ensures c.report_on-in-Show.ensures.remarked)
 
 pub returns-in-Extract-clause-answers : goal.returns-in-Extract-clause-answers
 returns-in-Extract-clause-answers g c =
@@ -133,7 +135,8 @@ returns-in-Emit-clause-answers g c =
     (g.P.Pictures.tried c.args.pictures.now) in
     answers_of c.covered_texts_break_nothing.ensures c.driven_texts_break_nothing.ensures
     c.fails_exactly_where_nothing_is_spelled.ensures.nowhere _ _ _ does _ request _ _ _
-    (rw c.in-Emit.is at c.in_ok-text.ensures) c.emit_files-said.ensures refl (those_of _ _ c.report_on-in-Emit.ensures.texts) c.report_on-in-Emit.ensures.codes
+    (rw c.in-Emit.is at c.in_ok-text.ensures) c.emit_files-said.ensures refl (those_of _ _ c.report_on-in-Emit.ensures.texts)
+    c.report_on-in-Emit.ensures.codes
     c.report_on-in-Emit.ensures.reported (remarked_after request _ _ _ c.new-in-Emit.ensures.items c.report_on-in-Emit.ensures.remarked)
 
 pub returns-in_ok-before-in-EmitInto-clause-answers : goal.returns-in_ok-before-in-EmitInto-clause-answers

@@ -13,7 +13,13 @@ returns-in_err-told-clause-memory g c =
     let fails : c.from_residual-in_err-told.result ≡ Err c.in_err-told.field-0.0 = search rules in
     rw fails
     (λ short. cut_read _ _ _ _ _ _ _ c.in_ok-found.found _ _ c.in_ok-found.ensures
-    (rw (c.as_slice-2.ensures.value, c.as_slice-3.ensures.value, c.as_slice-4.ensures.value, c.as_slice-5.ensures.value, c.in_ok-drifts.ensures.printed)
+    (rw (
+      c.as_slice-2.ensures.value,
+      c.as_slice-3.ensures.value,
+      c.as_slice-4.ensures.value,
+      c.as_slice-5.ensures.value,
+      c.in_ok-drifts.ensures.printed,
+    )
     at (c.in_err-told.ensures.memory short)))
 
 pub returns-in_err-said-clause-memory : goal.returns-in_err-said-clause-memory
