@@ -351,8 +351,7 @@ module _ (law : Law) (runs : LawOfRuns) (nowhere : SpelledFailsNowhere) where
 
   explains_clean : (gives : Giving) (is_c : Bool) (form : Form) (colour : Colour) (states : ℕ) (look : Look) (journal : Option Text)
       (warnings : Choice) (files : List Text) (codes : List (Option Text)) (texts : List Text) (said : Result Answer Failure)
-      (bytes : List ℕ)
-      (status : ℕ) → IsExplained gives is_c form look warnings.allowed journal files codes texts said → IsReported said bytes status →
+      (bytes : List ℕ) (status : ℕ) → IsExplained gives is_c form look warnings.allowed journal files codes texts said → IsReported said bytes status →
       status ≡ 0 → IsClean (Explain form colour states journal warnings is_c files) texts
   explains_clean gives is_c form colour states look journal warnings files codes texts (Ok answer) bytes status said reported good =
       explained gives is_c form colour states look journal warnings files codes texts answer said (sym reported.1 ∙ good)
@@ -361,8 +360,7 @@ module _ (law : Law) (runs : LawOfRuns) (nowhere : SpelledFailsNowhere) where
 
   -- where this is said of what is asked for, and reported with the status 0, the text breaks nothing
   pub clean_of : (shown : Bool) (gives : Giving) (request : Asked) (codes : List (Option Text)) (texts : List Text)
-      (said : Result Answer Failure)
-      (bytes : List ℕ) (status : ℕ) →
+      (said : Result Answer Failure) (bytes : List ℕ) (status : ℕ) →
       IsSaid shown gives request codes texts said → IsReported said bytes status → status ≡ 0 → IsClean request texts
   clean_of shown gives (Check file cert) codes texts said bytes status is reported good =
       says_clean gives _ texts IsChecked _ said bytes status (λ answer is well. checked texts answer file cert is well) is reported good
@@ -377,8 +375,7 @@ module _ (law : Law) (runs : LawOfRuns) (nowhere : SpelledFailsNowhere) where
   clean_of shown gives (Show timeline picture journal files) codes texts said bytes status is reported good = tt
   clean_of shown gives (Explain form colour states journal warnings is_c files) codes texts said bytes status is reported good =
       explains_clean gives is_c form colour states (look_in colour shown states warnings) journal warnings files codes texts said bytes
-      status
-      is reported good
+      status is reported good
   clean_of shown gives (Extract of_map files) codes texts said bytes status is reported good = tt
   clean_of shown gives (Format mode files) codes texts said bytes status is reported good = tt
   clean_of shown gives (Pages names) codes texts said bytes status is reported good = tt

@@ -104,9 +104,8 @@ module _ (checked : SaysOne IsChecked) (analysed : SaysOne IsAnalysed) (thinned 
     (nowhere : SpelledFailsNowhere) where
   -- of what is asked for one thing is said at most
   pub said_once : (gives : Giving) (shown showing : Bool) (request : Asked) (codes others : List (Option Text)) (texts more : List Text)
-      (a b : Result Answer Failure) →
-      HasOneAnswer request → GivesOne gives → IsSaid shown gives request codes texts a → IsSaid showing gives request others more b →
-      AreSame a b
+      (a b : Result Answer Failure) → HasOneAnswer request → GivesOne gives → IsSaid shown gives request codes texts a →
+      IsSaid showing gives request others more b → AreSame a b
   said_once gives shown showing (Check file cert) codes others texts more a b has one x y =
       says_once gives one (names_of (Check file cert)) IsChecked checked texts more a b x y
   said_once gives shown showing (Analyse file) codes others texts more a b has one x y =
@@ -117,8 +116,8 @@ module _ (checked : SaysOne IsChecked) (analysed : SaysOne IsAnalysed) (thinned 
   said_once gives shown showing (Replay journal files) codes others texts more a b has one x y =
       says_once gives one (names_of (Replay journal files)) IsReplayed replayed texts more a b x y
   said_once gives shown showing (Show timeline picture journal files) codes others texts more a b has one x y = absurd has
-  said_once gives shown showing (Explain form colour states journal warnings is_c files) codes others texts more a b has one x y = absurd
-      has
+  said_once gives shown showing (Explain form colour states journal warnings is_c files) codes others texts more a b has one x y =
+      absurd has
   said_once gives shown showing (Extract of_map files) codes others texts more a b has one x y =
       says_once gives one (names_of (Extract of_map files)) (IsExtracted of_map files) (extracts_once of_map files) texts more a b x y
   said_once gives shown showing (Format modes.Print files) codes others texts more a b has one x y =

@@ -52,8 +52,8 @@ those_after bytes texts journal said (Err f) same kept is = tt
 
 -- the C files that a report is given are those that it has
 pub codes_given : (codes : Vec (Option (Vec ℕ Global)) Global) (result : Result Report CommandFault) →
-    IfOk result (λ report. report.codes ≡ codes) → IfOk result (λ report. map (option_map (λ code. code.items)) codes.items ≡ codes_of
-    report)
+    IfOk result (λ report. report.codes ≡ codes) →
+    IfOk result (λ report. map (option_map (λ code. code.items)) codes.items ≡ codes_of report)
 codes_given codes (Ok report) same =
     ap (λ (cs : Vec (Option (Vec ℕ Global)) Global). map (option_map (λ (code : Vec ℕ Global). code.items)) cs.items) (sym same)
 codes_given codes (Err f) same = tt
@@ -125,8 +125,7 @@ unread_none (Compared why) good = refl
 
 -- of what `explain` says, where no file is named for a journal
 pub quiet_for : (form : Form) (colour : Colour) (states : ℕ) (journal : Option Text) (warnings : Choice) (is_c : Bool) (files : List Text)
-    (before : List ℕ)
-    (said : Result Answer Failure) (result : Result Report CommandFault) → IsFound journal said before →
+    (before : List ℕ) (said : Result Answer Failure) (result : Result Report CommandFault) → IsFound journal said before →
     IfOk result (λ report. IsReported said report.output.items report.status) →
     IfOk result (λ report. report.status ≢ 2 → report.remark.items ≡ before) →
     IfOk result (λ report. report.status ≢ 2 → NamesNoJournal (Some (Explain form colour states journal warnings is_c files)) →
@@ -134,8 +133,8 @@ pub quiet_for : (form : Form) (colour : Colour) (states : ℕ) (journal : Option
 quiet_for form colour states (Some name) warnings is_c files before said (Ok report) found reported same = λ good names. absurd names
 quiet_for form colour states None warnings is_c files before (Ok answer) (Ok report) found reported same =
     λ good names. same good ∙ found ∙ ap (λ lines. lines ++ []) (unread_none answer (λ two. good (reported.1 ∙ two)))
-quiet_for form colour states None warnings is_c files before (Err f) (Ok report) found reported same = λ good names. absurd
-    (good reported.1.1)
+quiet_for form colour states None warnings is_c files before (Err f) (Ok report) found reported same =
+    λ good names. absurd (good reported.1.1)
 quiet_for form colour states journal warnings is_c files before said (Err e) found reported same = tt
 
 -- ---- of a request, and of the words that ask for it
