@@ -80,7 +80,7 @@ fn part(
 
 /// The drifts of files as they are printed, and whether there is one that isn't a note.
 #[derive(Drop)]
-pub(crate) struct Drifted {
+pub(crate) struct PrintedDrifts {
     pub(crate) printed: Vec<u8>,
     is_some: bool,
 }
@@ -88,7 +88,7 @@ pub(crate) struct Drifted {
 /// Adds the drifts of the C file of a name.
 fn add_code(
     alloc: Global,
-    drifted: &mut Drifted,
+    drifted: &mut PrintedDrifts,
     form: Form,
     allowed: &[&str],
     name: &str,
@@ -109,7 +109,7 @@ fn add_code(
 /// Adds the drifts of the file of a name, if it is a C file.
 fn add_file(
     alloc: Global,
-    drifted: &mut Drifted,
+    drifted: &mut PrintedDrifts,
     form: Form,
     allowed: &[&str],
     name: &str,
@@ -146,13 +146,13 @@ pub(crate) fn drifted(
     allowed: &[&str],
     names: &[&str],
     files: &[Option<Vec<u8>>],
-) -> Result<Drifted, AllocError>
+) -> Result<PrintedDrifts, AllocError>
     ensures printed { IfOk result (λ d. d.printed.items ≡ spec.drifts_told form (map (λ name. name.now) allowed.now)
         (map (λ name. name.now) names.now) (map (option_map (λ code. code.items)) files.now)) }
     ensures some { IfOk result (λ d. d.is_some
         ≡ list_any (spec.is_drifted (map (λ name. name.now) allowed.now)) (map (option_map (λ code. code.items)) files.now)) }
 {
-    let mut drifted = Drifted {
+    let mut drifted = PrintedDrifts {
         printed: Vec::new(alloc),
         is_some: false,
     };
@@ -171,7 +171,7 @@ pub(crate) fn drifted(
     Ok(drifted)
 }
 
-impl Drifted {
+impl PrintedDrifts {
     /// The exit status: 1 if warnings count and there is a drift that isn't a note.
     pub(crate) fn worth(&self, is_strict: bool) -> u8
         ensures { result ≡ spec.worth is_strict self.now.is_some }
