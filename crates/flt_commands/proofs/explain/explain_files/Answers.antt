@@ -30,6 +30,7 @@ returns-clause-said g c =
       c.as_slice-4.ensures.value,
       c.as_slice-5.ensures.value,
       c.as_slice-6.ensures.value,
+      c.as_slice-7.ensures.value,
       c.worth.ensures,
       c.in_ok-drifts.ensures.printed,
       c.in_ok-drifts.ensures.some,
