@@ -109,9 +109,28 @@ impl<'a> CFile<'a> {
         })
     }
 
-    /// A place of a client.
+    /// The byte of a place of the client, from 0.
+    pub(crate) fn byte_of(&self, encoding: Encoding, spot: Spot) -> usize {
+        byte_of(self.bytes, encoding, spot)
+    }
+
+    /// A place of the client.
     pub(crate) fn place_of(&self, encoding: Encoding, spot: Spot) -> Position {
-        self.lines.place(byte_of(self.bytes, encoding, spot))
+        self.lines.place(self.byte_of(encoding, spot))
+    }
+
+    /// Whether the byte of the file is of an expression, of which the text has none, where it has another byte.
+    fn is_expression(&self, at: usize, text: &[u8], byte: usize) -> bool {
+        match (self.bytes.get(at), text.get(byte)) {
+            (Some(own), Some(b' ')) => *own != b' ',
+            _ => false,
+        }
+    }
+
+    /// Whether a byte of the file, which is the other one of the text, is in the expression of a lock or ends one.
+    pub(crate) fn is_taken_off(&self, at: usize, text: &[u8], byte: usize) -> bool {
+        self.is_expression(at, text, byte)
+            || self.is_expression(at.saturating_sub(1), text, byte.saturating_sub(1))
     }
 
     /// Whether an annotation begins in the line of a place, before it.

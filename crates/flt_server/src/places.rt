@@ -87,20 +87,23 @@ impl Document<'_> {
         end.line != place.line || end.column < place.column
     }
 
-    /// The byte of a place of the C file, from 0; none if the place is in C code.
-    fn byte_annotated(&self, c_file: &CFile<'_>, place: Position) -> Option<usize> {
+    /// The byte of a place of the client, from 0; none if the place is in C code, or in the expression of a lock.
+    fn byte_annotated(&self, c_file: &CFile<'_>, spot: Spot) -> Option<usize> {
+        let at = c_file.byte_of(self.encoding, spot);
+        let place = c_file.lines.place(at);
         let byte = self.byte_in(place);
-        if c_file.has_begun(place) && !self.ends_before(byte, place) {
+        let is_text = c_file.has_begun(place) && !self.ends_before(byte, place);
+        if is_text && !c_file.is_taken_off(at, self.text, byte) {
             Some(byte)
         } else {
             None
         }
     }
 
-    /// The byte of a place, from 0; none if the place is in C code.
+    /// The byte of a place, from 0; none if nothing is read there.
     pub(crate) fn byte_at(&self, spot: Spot) -> Option<usize> {
         match &self.c_file {
-            Some(c_file) => self.byte_annotated(c_file, c_file.place_of(self.encoding, spot)),
+            Some(c_file) => self.byte_annotated(c_file, spot),
             None => Some(byte_of(self.text, self.encoding, spot)),
         }
     }
