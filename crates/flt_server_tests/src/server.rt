@@ -1,4 +1,4 @@
-//! A session in which each kind of body and each question comes.
+//! A session with the server, in which each kind of body and each question comes.
 
 ghost use Rattle.std.specs.Prelude.{⊤};
 
