@@ -1,4 +1,4 @@
-//! A session in which each kind of body and each question comes, about texts and about a C file.
+//! A session with the server, in which each kind of body and each question comes, about texts and about a C file.
 
 ghost use Rattle.std.specs.Prelude.{⊤};
 
