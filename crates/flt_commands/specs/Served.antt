@@ -4,7 +4,7 @@ use Rattle.std.specs.Str.Lossy.{utf8_lossy}
 use Rattle.json.specs.Json.{string}
 use Rattle.json.specs.Print.{print}
 use Rattle.json.specs.Tree.{json_tokens}
-use Rattle.flt_details.specs.declared.sources.Source.{Source}
+use Rattle.flt_reports.specs.declared.file_text.FileText.{FileText}
 use Rattle.flt_frames.specs.Handling.{IsServed, IsServedSoFar, Reply}
 use Rattle.flt_notes.specs.Whole.{IsPrint, Look}
 use Rattle.flt_notes.specs.declared.noted.Noted.{Noted}
@@ -21,9 +21,10 @@ look = record { coloured = false; states = 40000; options = options_of (record {
 
 -- this is what `explain` prints of a file of this name and this text, to the letter
 pub record IsExplained (name text printed : Text) : Type 0 where
-  pub source : Source
+  pub source : FileText
   pub named : source.name.now ≡ name
   pub given : source.text.now ≡ text
+  pub shown : source.file.now ≡ text
   pub notes : List Noted
   pub status : ℕ
   pub print : IsPrint look (source ∷ []) notes printed status
