@@ -124,8 +124,8 @@ IsPrintTold LinesWithRuns look drifts sources e = HasReport look sources e.noted
 IsPrintTold SarifWithRuns look drifts sources e = HasReport look sources e.noted
 IsPrintTold _ look drifts sources e = Unit {0}
 
--- the same of names and what they give, where these are the C files among the files, beside those that aren't read, with what came of the
--- findings of these texts
+-- the same of names and what they give, where these C files have the annotations of some of the texts, beside the files that aren't read,
+-- with what came of the findings of these texts
 pub record IsToldUnder (form : Form) (look : Look) (journal : Option Text) (drifts : Text) (names texts : List Text)
     (codes : List (Option Text)) (unread : List UnreadFile) (e : Told) : Type 0 where
   pub sources : List FileText

@@ -406,9 +406,9 @@ pub(crate) fn explain_read<O: Sink, W: SearchWatch>(
     watch: &mut W,
 ) -> Result<Told, CommandFault>
     requires { length texts.now ≡ length names.now }
-    ensures told { IfOk result (spec.IsToldUnder asked.entry.form (spec.look_of asked.entry) (option_map (λ name. name.now) asked.entry.journal)
-        drifts.now (map (λ name. name.now) names.now) (map (λ text. text.items) texts.now)
-        (map (option_map (λ code. code.items)) codes.now) unread.now) }
+    ensures told { IfOk result (spec.IsToldUnder asked.entry.form (spec.look_of asked.entry)
+        (option_map (λ name. name.now) asked.entry.journal) drifts.now (map (λ name. name.now) names.now)
+        (map (λ text. text.items) texts.now) (map (option_map (λ code. code.items)) codes.now) unread.now) }
     ensures sent { IfOk result (λ t. Appends (O.taken out.old) (O.taken out.new) (take t.sent t.explained.output.items)) }
     ensures cut { IfOk result (λ t. spec.IsCutUnder asked.entry.form asked.entry.options asked.entry.states
         (map (λ name. name.now) names.now) (map (λ text. text.items) texts.now) (O.taken out.old) (O.taken out.new)) }
@@ -500,7 +500,8 @@ pub fn explain_files<'a, I: Inputs, P: Pictures, O: Sink, W: SearchWatch>(
 ) -> Result<Explanation<'a>, CommandFault>
     ensures said { IfOk result (λ said. spec.IsExplained (I.gives inputs.now) asked.entry.is_c asked.entry.form (spec.look_of asked.entry)
         (map (λ name. name.now) asked.entry.allowed.now) (option_map (λ name. name.now) asked.entry.journal)
-        (map (λ name. name.now) files.now) (map (option_map (λ code. code.items)) codes.new.items) (map (λ text. text.items) contents.new.texts.items) (spec.said_of said)) }
+        (map (λ name. name.now) files.now) (map (option_map (λ code. code.items)) codes.new.items)
+        (map (λ text. text.items) contents.new.texts.items) (spec.said_of said)) }
     ensures unread { IfOk result (λ said. IfOk (spec.said_of said) (λ answer. remark.new.items ≡ unread_in answer)) }
     ensures written { IfOk result (λ said. IfOk (spec.said_of said) (spec.IsWritten (P.written pictures.new) (pictures.new ≡ pictures.old)
         (option_map (λ name. name.now) asked.entry.journal))) }
