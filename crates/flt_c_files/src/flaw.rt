@@ -1,4 +1,4 @@
-//! What is wrong with the annotations of a C file, in words.
+//! The flaws of a C file's annotations, in words.
 
 ghost use Rattle.std.specs.Prelude.{◌≡◌};
 ghost use Rattle.flt_c_files.specs.Flaws as spec;

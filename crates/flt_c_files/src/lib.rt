@@ -1,4 +1,4 @@
-//! C files as commands and the editor's server take them: which files are C by their names, and what is wrong with annotations, in words.
+//! C files as commands and the editor's server take them: which files are C by their names, and the flaws of annotations in words.
 #![tactic(auto)]
 
 mod flaw;

@@ -120,7 +120,7 @@ fn put_beside(
     Ok(())
 }
 
-/// Adds what a drift is: one sentence, without an end of its line.
+/// Adds a drift in one sentence, without an end of its line.
 #[tactic(auto, unfolding(crate::specs::Report::sentence))]
 fn put_sentence(out: &mut Vec<u8>, file: &[u8], drift: Drift) -> Result<(), AllocError>
     ensures { OnOk result (out.new.items ≡ out.old.items ++ spec.sentence file.now drift) }
@@ -272,8 +272,8 @@ pub fn has_difference(drifts: &[Drift]) -> bool
     drifts.iter().any(|drift| is_difference(drift.kind))
 }
 
-/// What a drift of a C file is: one sentence with the words of C and of the annotation, without an end of its line. Bytes that a terminal would
-/// obey are shown as blanks.
+/// The drift of a C file in one sentence, with the words of C and of the annotation, without an end of its line. Bytes that a terminal
+/// would obey are shown as blanks.
 ///
 /// # Errors
 ///

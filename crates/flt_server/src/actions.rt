@@ -1,7 +1,6 @@
-//! Quick fixes of a fault or a finding: an editor may write the word that is probably meant, or release a context or a lock that is held at the end
-//! of a path.
-//! An edit for a finding is offered only if its callback has fewer findings after it. No other callback's depend on it. In a C file only words are
-//! written: what is missing in a callback is missing in its code, too.
+//! Quick fixes of a fault or a finding: an editor may write the word that is probably meant, or release a context or a lock that is held at
+//! the end of a path. An edit for a finding is offered only if its callback has fewer findings after it. No other callback's depend on it.
+//! In a C file only words are written: a call that an annotation lacks its code lacks, too.
 
 use crate::edits::{Edit, findings_in, is_better, put_action};
 use crate::faults::is_too_long;

@@ -88,8 +88,8 @@ pub(crate) fn annotated_in(alloc: Global, bytes: &[u8]) -> Result<Option<Annotat
     }
 }
 
-/// Whether text may be written at a place of the line in which an annotation begins here. It may not right after the annotation's marker; a
-/// line of a comment over several lines has none, and begins with the first column.
+/// Whether text may be written at a place of the line in which an annotation begins here. It must not be right after the annotation's
+/// marker; a line of a comment over several lines has none, and begins with the first column.
 fn goes_on(start: Place, place: Position) -> bool {
     start.column < place.column || start.column == 1
 }

@@ -24,7 +24,7 @@ fn region_in(c_file: &CFile<'_>, start: usize, length: usize) -> Region {
     region_of(&c_file.lines, part)
 }
 
-/// What differs, and how to fix it.
+/// The difference, and how to fix it.
 fn message_of(alloc: Global, c_file: &CFile<'_>, drift: Drift) -> Result<Vec<u8>, AllocError> {
     let mut out = drift_sentence(alloc, c_file.bytes, drift)?;
     add_line(&mut out, help(drift.kind).as_bytes())?;
