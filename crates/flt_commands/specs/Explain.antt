@@ -160,7 +160,8 @@ within_in Html drifts = drifts
 within_in form drifts = []
 
 -- the same, where these are all drifts
-abbrev pub IsToldWith : Text → ℕ → Form → Look → Option Text → List Text → List Text → List (Option Text) → List UnreadFile → Told → Type 0
+abbrev pub IsToldWith : Text → ℕ → Form → Look → Option Text → List Text → List Text → List (Option Text) → List UnreadFile → Told →
+    Type 0
 IsToldWith drifts worth form look journal names texts codes unread e =
     IsToldAfter (first_in form drifts) (within_in form drifts) worth form look journal names texts codes unread e
 

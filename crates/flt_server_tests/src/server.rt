@@ -1,4 +1,4 @@
-//! A session in which each kind of body and each question comes.
+//! A session with the server, in which each kind of body and each question comes, about texts and about a C file.
 
 ghost use Rattle.std.specs.Prelude.{⊤};
 
@@ -29,7 +29,7 @@ type Row<'a> = (&'a str, &'a str, &'a str, u8);
 
 const GOES_ON: u8 = 2;
 
-static ROWS: [Row<'static>; 27] = [
+static ROWS: [Row<'static>; 36] = [
     (
         "{",
         "{\"jsonrpc\":\"2.0\",\"id\":null,\"error\":{\"code\":-32700,\"message\":\"the body isn't JSON\"}}",
@@ -168,6 +168,60 @@ static ROWS: [Row<'static>; 27] = [
         "{\"id\":14,\"method\":\"textDocument/codeAction\",\"params\":{\"textDocument\":{\"uri\":\"file:///b\"},\"range\":{\"start\":{\"line\":4,\"character\":0},\"end\":{\"line\":4,\"character\":30}}}}",
         "{\"jsonrpc\":\"2.0\",\"id\":14,\"result\":[{\"title\":\"Write `KeReleaseSpinLock data` before this\",\"kind\":\"quickfix\",\"edit\":{\"changes\":{\"file:///b\":[{\"range\":{\"start\":{\"line\":4,\"character\":2},\"end\":{\"line\":4,\"character\":2}},\"newText\":\"KeReleaseSpinLock data\\n  \"}]}}}]}",
         "",
+        GOES_ON,
+    ),
+    (
+        "{\"method\":\"textDocument/didOpen\",\"params\":{\"textDocument\":{\"uri\":\"file:///d.c\",\"text\":\"/* ü */ f(); //@flt filter a altitude 1 lock spin data\\n//@flt pre read {\\nKeAcquireSpinLock(l); //@flt KeAcquireSpinLock data\\n//@flt KeReleaseSpinLok data\\n//@flt return NO_CALLBACK }\\n\"}}}",
+        "",
+        "{\"jsonrpc\":\"2.0\",\"method\":\"textDocument/publishDiagnostics\",\"params\":{\"uri\":\"file:///d.c\",\"diagnostics\":[{\"range\":{\"start\":{\"line\":3,\"character\":7},\"end\":{\"line\":3,\"character\":23}},\"severity\":1,\"code\":\"E03\",\"source\":\"fltstack\"",
+        GOES_ON,
+    ),
+    (
+        "{\"id\":20,\"method\":\"textDocument/codeAction\",\"params\":{\"textDocument\":{\"uri\":\"file:///d.c\"},\"range\":{\"start\":{\"line\":3,\"character\":10},\"end\":{\"line\":3,\"character\":10}}}}",
+        "{\"jsonrpc\":\"2.0\",\"id\":20,\"result\":[{\"title\":\"Write `KeReleaseSpinLock` instead of `KeReleaseSpinLok`\",\"kind\":\"quickfix\",\"edit\":{\"changes\":{\"file:///d.c\":[{\"range\":{\"start\":{\"line\":3,\"character\":7},\"end\":{\"line\":3,\"character\":23}},\"newText\":\"KeReleaseSpinLock\"}]}}}]}",
+        "",
+        GOES_ON,
+    ),
+    (
+        "{\"id\":21,\"method\":\"textDocument/hover\",\"params\":{\"textDocument\":{\"uri\":\"file:///d.c\"},\"position\":{\"line\":2,\"character\":5}}}",
+        "{\"jsonrpc\":\"2.0\",\"id\":21,\"result\":null}",
+        "",
+        GOES_ON,
+    ),
+    (
+        "{\"id\":22,\"method\":\"textDocument/completion\",\"params\":{\"textDocument\":{\"uri\":\"file:///d.c\"},\"position\":{\"line\":2,\"character\":5}}}",
+        "{\"jsonrpc\":\"2.0\",\"id\":22,\"result\":[]}",
+        "",
+        GOES_ON,
+    ),
+    (
+        "{\"method\":\"textDocument/didChange\",\"params\":{\"textDocument\":{\"uri\":\"file:///d.c\"},\"contentChanges\":[{\"text\":\"/* ü */ f(); //@flt filter a altitude 1 lock spin data\\n//@flt pre read {\\nKeAcquireSpinLock(l); //@flt KeAcquireSpinLock data\\n//@flt KeReleaseSpinLock data\\n//@flt return NO_CALLBACK }\\n\"}]}}",
+        "",
+        "{\"jsonrpc\":\"2.0\",\"method\":\"textDocument/publishDiagnostics\",\"params\":{\"uri\":\"file:///d.c\",\"diagnostics\":[{\"range\":{\"start\":{\"line\":3,\"character\":7},\"end\":{\"line\":3,\"character\":24}},\"severity\":2,\"code\":\"C01\",\"source\":\"fltstack\"",
+        GOES_ON,
+    ),
+    (
+        "{\"id\":23,\"method\":\"textDocument/hover\",\"params\":{\"textDocument\":{\"uri\":\"file:///d.c\"},\"position\":{\"line\":3,\"character\":26}}}",
+        "{\"jsonrpc\":\"2.0\",\"id\":23,\"result\":{\"contents\":{\"kind\":\"plaintext\",\"value\":\"Where this is reached:\\n  data: held\\n  `data` is held\\n  at most DISPATCH_LEVEL\\n  the operation is IRP or fast I/O\\n  other variables of contexts and operations are NULL\\n\"}}}",
+        "",
+        GOES_ON,
+    ),
+    (
+        "{\"id\":24,\"method\":\"textDocument/definition\",\"params\":{\"textDocument\":{\"uri\":\"file:///d.c\"},\"position\":{\"line\":3,\"character\":26}}}",
+        "{\"jsonrpc\":\"2.0\",\"id\":24,\"result\":{\"uri\":\"file:///d.c\",\"range\":{\"start\":{\"line\":0,\"character\":50},\"end\":{\"line\":0,\"character\":54}}}}",
+        "",
+        GOES_ON,
+    ),
+    (
+        "{\"method\":\"textDocument/didOpen\",\"params\":{\"textDocument\":{\"uri\":\"file:///e.h\",\"text\":\"int a;\\n\"}}}",
+        "",
+        "{\"jsonrpc\":\"2.0\",\"method\":\"textDocument/publishDiagnostics\",\"params\":{\"uri\":\"file:///e.h\",\"diagnostics\":[]}}",
+        GOES_ON,
+    ),
+    (
+        "{\"method\":\"textDocument/didOpen\",\"params\":{\"textDocument\":{\"uri\":\"file:///f.cc\",\"text\":\"//@flt filter a altitude 1\\n/* no end\\n\"}}}",
+        "",
+        "{\"jsonrpc\":\"2.0\",\"method\":\"textDocument/publishDiagnostics\",\"params\":{\"uri\":\"file:///f.cc\",\"diagnostics\":[{\"range\":{\"start\":{\"line\":1,\"character\":0},\"end\":{\"line\":1,\"character\":1}},\"severity\":1,\"source\":\"fltstack\",\"message\":\"comment without end\"}]}}",
         GOES_ON,
     ),
     (
