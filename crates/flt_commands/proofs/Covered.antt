@@ -1,5 +1,5 @@
 -- What is covered breaks nothing, and an exit status 0 says that something is covered.
-use Rattle.std.proofs.Common.{◌⊎◌, inl, inr, ◌≡◌, ℕ, zero, suc, ◌+◌, List, [], ◌∷◌, ◌++◌, Bool, None, Option, Result, Ok, Err, take, drop, max, refl, sym, ◌∙◌, arith}
+use Rattle.std.proofs.Common.{◌⊎◌, inl, inr, ◌≡◌, ℕ, zero, suc, ◌+◌, List, [], ◌∷◌, ◌++◌, Bool, None, Option, Result, Ok, Err, map, take, drop, max, refl, sym, ◌∙◌, arith}
 use Rattle.std.proofs.Math.Path.{subst}
 use Rattle.std.specs.Borrow.{Bor}
 use Rattle.flt_syntax.specs.declared.fault.SyntaxFault.{SyntaxFault}
@@ -25,9 +25,11 @@ use Rattle.flt_forms.specs.declared.as_lines.Style.TheVariants.{Object, Sentence
 use Rattle.flt_notes.specs.Reported.{AreAllReports, AreParts, IsNoticeReport, IsStatus, IsText, IsTextReport}
 use Rattle.flt_notes.specs.Reported as reports
 use Rattle.flt_notes.specs.Whole.{Look}
-use Rattle.flt_details.specs.Reports.{IsJudged, IsKnown, texts_of}
+use Rattle.flt_details.specs.Reports.{IsJudged, IsKnown, texts_of as plain_texts_of}
 use Rattle.flt_notes.specs.declared.explaining.Told.{Told}
 use Rattle.flt_details.specs.declared.sources.Source.{Source}
+use Rattle.flt_reports.specs.FileText.{plain, texts_of}
+use Rattle.flt_reports.specs.declared.file_text.FileText.{FileText}
 use Rattle.flt_warning_details.specs.Options.{warned_status}
 use Rattle.flt_warning_details.specs.declared.detail.WarningDetail.{WarningDetail}
 use Rattle.flt_warning_details.specs.declared.options.WarningOptions.{WarningOptions}
@@ -44,6 +46,7 @@ use Rattle.flt_model.specs.Runs.{breaks}
 use Rattle.flt_syntax.specs.Spelling.{Spells}
 use Rattle.flt_tree.specs.declared.filter.Filter.{Filter}
 use Rattle.flt_commands.proofs.OnePlace.{zipped_once}
+use Rattle.flt_commands.proofs.Plain.{same_texts}
 use Rattle.flt_commands.specs.Analyse.{IsAnalysed}
 use Rattle.flt_commands.specs.Answer.{status_of, told_status}
 use Rattle.flt_commands.specs.Check.{Decides, HasPoints, IsAnswer, IsChecked}
@@ -240,7 +243,7 @@ module _ (law : Law) (runs : LawOfRuns) (nowhere : SpelledFailsNowhere) where
 
   in_lines : (style : Style) (options : WarningOptions) (runs : ℕ → ℕ → List Token) (number : ℕ) (sources : List Source)
       (before printed : List ℕ) (status : ℕ) → AreLinesFrom style options runs number sources before printed status → status ≡ 0 →
-      EachBreaksNothing (texts_of sources)
+      EachBreaksNothing (plain_texts_of sources)
   in_lines style options runs number [] before printed status said good = tt
   in_lines style options runs number (s ∷ ss) before printed status (part, first, others, own, rest, greatest) good =
       let zeros = both_zero first others (sym greatest ∙ good) in (
@@ -250,7 +253,7 @@ module _ (law : Law) (runs : LawOfRuns) (nowhere : SpelledFailsNowhere) where
 
   in_results : (options : WarningOptions) (names : List (Bor (List ℕ))) (runs : ℕ → ℕ → List Token) (number : ℕ) (sources : List Source)
       (tokens : List Token) (status : ℕ) → AreResults options names runs number sources tokens status → status ≡ 0 →
-      EachBreaksNothing (texts_of sources)
+      EachBreaksNothing (plain_texts_of sources)
   in_results options names runs number [] tokens status said good = tt
   in_results options names runs number (s ∷ ss) tokens status (part, others_tokens, first, others, own, rest, joined, greatest) good =
       let zeros = both_zero first others (sym greatest ∙ good) in (
@@ -268,25 +271,31 @@ module _ (law : Law) (runs : LawOfRuns) (nowhere : SpelledFailsNowhere) where
       reported options filters (t ∷ u ∷ ts) is.reports status is.findings is.files is.are good
 
   in_document : (options : WarningOptions) (sources : List Source) (missed : List UnreadFile) (runs : List FindingRun) (printed : List ℕ)
-      (status : ℕ) → IsSarif options sources missed runs printed status → status ≡ 0 → EachBreaksNothing (texts_of sources)
+      (status : ℕ) → IsSarif options sources missed runs printed status → status ≡ 0 → EachBreaksNothing (plain_texts_of sources)
   unfolding IsSarif
   in_document options sources missed runs printed status (run, is, same) good =
       in_results options _ _ 0 sources is.results status is.found good
 
-  told_well : (form : Form) (options : WarningOptions) (drifts : Text) (sources : List Source) (missed : List UnreadFile) (t : Told) →
+  told_well : (form : Form) (options : WarningOptions) (drifts : Text) (sources : List FileText) (missed : List UnreadFile) (t : Told) →
       IsTold form options drifts sources missed t → t.explained.status ≡ 0 → EachBreaksNothing (texts_of sources)
   told_well Human options drifts sources missed t told good =
       all_reported options told.filters (texts_of sources) t.explained.output.items t.explained.status told.are good
   told_well Short options drifts sources missed t told good =
-      in_lines Sentence options no_member 0 sources [] t.explained.output.items t.explained.status told good
+      subst EachBreaksNothing (same_texts sources)
+      (in_lines Sentence options no_member 0 (map plain sources) [] t.explained.output.items t.explained.status told good)
   told_well Lines options drifts sources missed t told good =
-      in_lines Object options no_member 0 sources [] t.explained.output.items t.explained.status told good
+      subst EachBreaksNothing (same_texts sources)
+      (in_lines Object options no_member 0 (map plain sources) [] t.explained.output.items t.explained.status told good)
   told_well Sarif options drifts sources missed t told good =
-      in_document options sources missed [] t.explained.output.items t.explained.status told good
+      subst EachBreaksNothing (same_texts sources)
+      (in_document options (map plain sources) missed [] t.explained.output.items t.explained.status told good)
   told_well LinesWithRuns options drifts sources missed t told good =
-      in_lines Object options (own_member sources told.runs.now) 0 sources [] t.explained.output.items t.explained.status told.lines good
+      subst EachBreaksNothing (same_texts sources)
+      (in_lines Object options (own_member (map plain sources) told.runs.now) 0 (map plain sources) [] t.explained.output.items
+      t.explained.status told.lines good)
   told_well SarifWithRuns options drifts sources missed t told good =
-      in_document options sources missed told.runs t.explained.output.items t.explained.status told.document good
+      subst EachBreaksNothing (same_texts sources)
+      (in_document options (map plain sources) missed told.runs t.explained.output.items t.explained.status told.document good)
   told_well Html options drifts sources missed t told good =
       all_reported options told.reports.filters (texts_of sources) told.printed t.explained.status told.reports.are good
 
@@ -295,28 +304,28 @@ module _ (law : Law) (runs : LawOfRuns) (nowhere : SpelledFailsNowhere) where
   own_zero status [] good = good
   own_zero status (file ∷ files) good = absurd (omega (arith, good))
 
-  explained : (gives : Giving) (is_c : Bool) (form : Form) (colour : Colour) (states : ℕ) (look : Look) (journal : Option Text) (warnings : Choice)
-      (files texts : List Text) (answer : Answer) →
-      IsExplained gives is_c form look warnings.allowed journal files texts (Ok answer) → status_of answer ≡ 0 →
+  explained : (gives : Giving) (is_c : Bool) (form : Form) (colour : Colour) (states : ℕ) (look : Look) (journal : Option Text)
+      (warnings : Choice) (files : List Text) (codes : List (Option Text)) (texts : List Text) (answer : Answer) →
+      IsExplained gives is_c form look warnings.allowed journal files codes texts (Ok answer) → status_of answer ≡ 0 →
       IsClean (Explain form colour states journal warnings is_c files) texts
-  explained gives is_c form colour states look journal warnings files texts (Explained e missed) said good =
+  explained gives is_c form colour states look journal warnings files codes texts (Explained e missed) said good =
       let zeros = both_zero said.told.own.explained.status _ (sym said.told.after.status ∙ own_zero e.explained.status missed.items good) in
       subst EachBreaksNothing said.told.told.given
       (told_well form look.options _ said.told.told.sources missed.items said.told.own said.told.told.told zeros.0)
-  explained gives is_c form colour states look journal warnings files texts (Shown rows v) said good = absurd said
-  explained gives is_c form colour states look journal warnings files texts (has_text b) said good = absurd said
-  explained gives is_c form colour states look journal warnings files texts (has_layouts mode outcomes) said good = absurd said
-  explained gives is_c form colour states look journal warnings files texts (has_pages t) said good = absurd said
-  explained gives is_c form colour states look journal warnings files texts (Emitted b) said good = absurd said
-  explained gives is_c form colour states look journal warnings files texts (NotEmitted w) said good = absurd said
-  explained gives is_c form colour states look journal warnings files texts (EmittedInto d) said good = absurd said
-  explained gives is_c form colour states look journal warnings files texts (Compared w) said good = absurd said
-  explained gives is_c form colour states look journal warnings files texts (has_run ran) said good = absurd said
-  explained gives is_c form colour states look journal warnings files texts (FileRefused n f) said good = absurd said
-  explained gives is_c form colour states look journal warnings files texts Accepted said good = absurd said
-  explained gives is_c form colour states look journal warnings files texts (Refused f) said good = absurd said
-  explained gives is_c form colour states look journal warnings files texts (Written c) said good = absurd said
-  explained gives is_c form colour states look journal warnings files texts (Judged v) said good = absurd said
+  explained gives is_c form colour states look journal warnings files codes texts (Shown rows v) said good = absurd said
+  explained gives is_c form colour states look journal warnings files codes texts (has_text b) said good = absurd said
+  explained gives is_c form colour states look journal warnings files codes texts (has_layouts mode outcomes) said good = absurd said
+  explained gives is_c form colour states look journal warnings files codes texts (has_pages t) said good = absurd said
+  explained gives is_c form colour states look journal warnings files codes texts (Emitted b) said good = absurd said
+  explained gives is_c form colour states look journal warnings files codes texts (NotEmitted w) said good = absurd said
+  explained gives is_c form colour states look journal warnings files codes texts (EmittedInto d) said good = absurd said
+  explained gives is_c form colour states look journal warnings files codes texts (Compared w) said good = absurd said
+  explained gives is_c form colour states look journal warnings files codes texts (has_run ran) said good = absurd said
+  explained gives is_c form colour states look journal warnings files codes texts (FileRefused n f) said good = absurd said
+  explained gives is_c form colour states look journal warnings files codes texts Accepted said good = absurd said
+  explained gives is_c form colour states look journal warnings files codes texts (Refused f) said good = absurd said
+  explained gives is_c form colour states look journal warnings files codes texts (Written c) said good = absurd said
+  explained gives is_c form colour states look journal warnings files codes texts (Judged v) said good = absurd said
 
   -- what is emitted is covered
   covered : (emitting : Emitting) (has : Cert → Type 0) (refuses : Answer → Type 0) (text : Text) (answer : Answer) →
@@ -349,39 +358,41 @@ module _ (law : Law) (runs : LawOfRuns) (nowhere : SpelledFailsNowhere) where
   says_clean gives names texts IsSaidOf P (Ok answer) bytes status holds (given result there said) reported good =
       holds answer said (sym reported.1 ∙ good)
 
-  explains_clean : (gives : Giving) (is_c : Bool) (form : Form) (colour : Colour) (states : ℕ) (look : Look) (journal : Option Text) (warnings : Choice)
-      (files texts : List Text) (said : Result Answer Failure) (bytes : List ℕ) (status : ℕ) →
-      IsExplained gives is_c form look warnings.allowed journal files texts said → IsReported said bytes status → status ≡ 0 → IsClean (Explain form colour states journal warnings is_c files) texts
-  explains_clean gives is_c form colour states look journal warnings files texts (Ok answer) bytes status said reported good =
-      explained gives is_c form colour states look journal warnings files texts answer said (sym reported.1 ∙ good)
-  explains_clean gives is_c form colour states look journal warnings files texts (Err f) bytes status said reported good =
+  explains_clean : (gives : Giving) (is_c : Bool) (form : Form) (colour : Colour) (states : ℕ) (look : Look) (journal : Option Text)
+      (warnings : Choice) (files : List Text) (codes : List (Option Text)) (texts : List Text) (said : Result Answer Failure)
+      (bytes : List ℕ) (status : ℕ) → IsExplained gives is_c form look warnings.allowed journal files codes texts said → IsReported said bytes status →
+      status ≡ 0 → IsClean (Explain form colour states journal warnings is_c files) texts
+  explains_clean gives is_c form colour states look journal warnings files codes texts (Ok answer) bytes status said reported good =
+      explained gives is_c form colour states look journal warnings files codes texts answer said (sym reported.1 ∙ good)
+  explains_clean gives is_c form colour states look journal warnings files codes texts (Err f) bytes status said reported good =
       absurd (omega (arith, reported.1.1, good))
 
   -- where this is said of what is asked for, and reported with the status 0, the text breaks nothing
-  pub clean_of : (shown : Bool) (gives : Giving) (request : Asked) (texts : List Text) (said : Result Answer Failure)
-      (bytes : List ℕ) (status : ℕ) →
-      IsSaid shown gives request texts said → IsReported said bytes status → status ≡ 0 → IsClean request texts
-  clean_of shown gives (Check file cert) texts said bytes status is reported good =
+  pub clean_of : (shown : Bool) (gives : Giving) (request : Asked) (codes : List (Option Text)) (texts : List Text)
+      (said : Result Answer Failure) (bytes : List ℕ) (status : ℕ) →
+      IsSaid shown gives request codes texts said → IsReported said bytes status → status ≡ 0 → IsClean request texts
+  clean_of shown gives (Check file cert) codes texts said bytes status is reported good =
       says_clean gives _ texts IsChecked _ said bytes status (λ answer is well. checked texts answer file cert is well) is reported good
-  clean_of shown gives (Analyse file) texts said bytes status is reported good =
+  clean_of shown gives (Analyse file) codes texts said bytes status is reported good =
       says_clean gives _ texts IsAnalysed _ said bytes status (λ answer is well. analysed texts answer file is well) is reported good
-  clean_of shown gives (Thin file cert) texts said bytes status is reported good =
+  clean_of shown gives (Thin file cert) codes texts said bytes status is reported good =
       says_clean gives _ texts IsThinned _ said bytes status (λ answer is well. thinned texts answer file cert is well) is reported good
-  clean_of shown gives (Run workers quiet script files) texts said bytes status is reported good =
+  clean_of shown gives (Run workers quiet script files) codes texts said bytes status is reported good =
       says_clean gives _ texts IsRan _ said bytes status
       (λ answer is well. driven texts answer workers quiet script files is well) is reported good
-  clean_of shown gives (Replay journal files) texts said bytes status is reported good = tt
-  clean_of shown gives (Show timeline picture journal files) texts said bytes status is reported good = tt
-  clean_of shown gives (Explain form colour states journal warnings is_c files) texts said bytes status is reported good =
-      explains_clean gives is_c form colour states (look_in colour shown states warnings) journal warnings files texts said bytes status is reported good
-  clean_of shown gives (Extract of_map files) texts said bytes status is reported good = tt
-  clean_of shown gives (Format mode files) texts said bytes status is reported good = tt
-  clean_of shown gives (Pages names) texts said bytes status is reported good = tt
-  clean_of shown gives (Compare files) texts said bytes status is reported good = tt
-  clean_of shown gives (Emit part file cert) texts said bytes status is reported good =
+  clean_of shown gives (Replay journal files) codes texts said bytes status is reported good = tt
+  clean_of shown gives (Show timeline picture journal files) codes texts said bytes status is reported good = tt
+  clean_of shown gives (Explain form colour states journal warnings is_c files) codes texts said bytes status is reported good =
+      explains_clean gives is_c form colour states (look_in colour shown states warnings) journal warnings files codes texts said bytes
+      status is reported good
+  clean_of shown gives (Extract of_map files) codes texts said bytes status is reported good = tt
+  clean_of shown gives (Format mode files) codes texts said bytes status is reported good = tt
+  clean_of shown gives (Pages names) codes texts said bytes status is reported good = tt
+  clean_of shown gives (Compare files) codes texts said bytes status is reported good = tt
+  clean_of shown gives (Emit part file cert) codes texts said bytes status is reported good =
       says_clean gives _ texts (IsEmitted part) _ said bytes status
       (λ answer is well. emitted texts answer part file cert is well) is reported good
-  clean_of shown gives (EmitInto folder file cert) texts said bytes status is reported good =
+  clean_of shown gives (EmitInto folder file cert) codes texts said bytes status is reported good =
       says_clean gives _ texts (IsEmittedInto folder) _ said bytes status
       (λ answer is well. emitted_into texts answer folder file cert is well) is reported good
-  clean_of shown gives Serve texts said bytes status is reported good = tt
+  clean_of shown gives Serve codes texts said bytes status is reported good = tt

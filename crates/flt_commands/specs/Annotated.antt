@@ -45,7 +45,8 @@ GivesFound all gives name text (Some code) = (is_taken_for_c all name ≡ true) 
 -- so does each of these names, in order
 pub data AreFound (all : Bool) (gives : Giving) : List Text → List Text → List (Option Text) → Type 0 where
   no_file : AreFound all gives [] [] []
-  found : {names texts : List Text} {codes : List (Option Text)} (name text : Text) (code : Option Text) → AreFound all gives names texts codes →
+  found : {names texts : List Text} {codes : List (Option Text)} (name text : Text) (code : Option Text) →
+      AreFound all gives names texts codes →
       GivesFound all gives name text code → AreFound all gives (names ++ name ∷ []) (texts ++ text ∷ []) (codes ++ code ∷ [])
 
 -- the C files among some files, or none

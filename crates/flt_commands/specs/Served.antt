@@ -7,11 +7,11 @@ use Rattle.json.specs.Tree.{json_tokens}
 use Rattle.flt_c.specs.InPlace.{in_place}
 use Rattle.flt_c.specs.declared.laying.PlaceFlaw.{PlaceFlaw}
 use Rattle.flt_c_files.specs.Names.{is_c_file}
-use Rattle.flt_details.specs.declared.sources.Source.{Source}
 use Rattle.flt_forms.specs.declared.unread.UnreadFile.{UnreadFile}
 use Rattle.flt_frames.specs.Handling.{IsServed, IsServedSoFar, Reply}
 use Rattle.flt_notes.specs.Whole.{IsPrint, Look}
 use Rattle.flt_notes.specs.declared.noted.Noted.{Noted}
+use Rattle.flt_reports.specs.declared.file_text.FileText.{FileText}
 use Rattle.flt_words.specs.declared.request.Form.TheVariants.{Human}
 use Rattle.flt_commands.specs.Allowed.{options_of}
 use Rattle.flt_commands.specs.Drifts.{drifts_told}
@@ -26,11 +26,12 @@ use Rattle.flt_session.specs.declared.phase.Phase.TheVariants.{Fresh}
 abbrev pub look : Look
 look = record { coloured = false; states = 40000; options = options_of (record { strict = false; allowed = [] }) }
 
--- this is what `explain` prints of this text under this name, to the letter
-pub record IsExplained (name text printed : Text) : Type 0 where
-  pub source : Source
+-- this is what `explain` prints of this text in a file of this name, whose lines it shows, to the letter
+pub record IsExplained (name file text printed : Text) : Type 0 where
+  pub source : FileText
   pub named : source.name.now ≡ name
   pub given : source.text.now ≡ text
+  pub shown : source.file.now ≡ file
   pub notes : List Noted
   pub status : ℕ
   pub print : IsPrint look (source ∷ []) notes printed status
@@ -38,7 +39,7 @@ pub record IsExplained (name text printed : Text) : Type 0 where
 -- the same of a C file of this name whose annotations, where they stand in it, are this text: after the drifts of the file
 pub record IsExplainedInC (name file annotations printed : Text) : Type 0 where
   pub own : Text
-  pub explained : IsExplained name annotations own
+  pub explained : IsExplained name file annotations own
   pub after : printed ≡ drifts_told Human [] (name ∷ []) (Some file ∷ []) ++ own
 
 -- this is what it says on the standard error of a file of this name that isn't read
@@ -54,7 +55,7 @@ IsSaidOfLaid name file (Err flaw) printed = IsUnread name printed
 
 abbrev pub IsSaidIf : Bool → Text → Text → Text → Type 0
 IsSaidIf true name file printed = IsSaidOfLaid name file (in_place file) printed
-IsSaidIf false name file printed = IsExplained name file printed
+IsSaidIf false name file printed = IsExplained name file file printed
 
 -- this is what `explain` says of a file of this name and these bytes, which is C or not by the ending of its name
 abbrev pub IsSaid : Text → Text → Text → Type 0

@@ -64,8 +64,8 @@ fn found_in<I: Inputs>(
     Ok(Ok(Found { text: file, code }))
 }
 
-/// The text that one name gives after others, or why it gives none. The standard input gives its bytes once, and `is_used` says whether it is
-/// among the others.
+/// The text that one name gives after others, or why it gives none. The standard input gives its bytes once, and `is_used` says whether it
+/// is among the others.
 fn find_one<I: Inputs>(
     alloc: Global,
     inputs: &I,

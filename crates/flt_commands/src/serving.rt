@@ -10,10 +10,10 @@ use crate::remarks::lines_on_file;
 use crate::unread::Unread;
 use flt_c::{PlaceFlaw, in_place};
 use flt_c_files::is_c_file;
-use flt_details::Source;
 use flt_frames::{Incoming, ServeFault, serve};
 use flt_model::{Sink, WriteFault};
 use flt_notes::{Asking, UnwatchedSearch, explain};
+use flt_reports::FileText;
 use flt_server::Server;
 use flt_session::Reporter;
 use flt_warning_details::WarningOptions;
@@ -55,11 +55,11 @@ fn asking() -> Asking
     }
 }
 
-/// The output of `explain` for a text under a name.
-fn printed(alloc: Global, name: &str, text: &[u8]) -> Result<Vec<u8>, AllocError>
-    ensures { IfOk result (λ out. spec.IsExplained name.now text.now out.items) }
+/// The output of `explain` for a text in a file of a name, whose lines it shows.
+fn printed(alloc: Global, name: &str, file: &[u8], text: &[u8]) -> Result<Vec<u8>, AllocError>
+    ensures { IfOk result (λ out. spec.IsExplained name.now file.now text.now out.items) }
 {
-    let sources = [Source { name, text }];
+    let sources = [FileText { name, text, file }];
     let mut out = Nowhere { failures: 0 };
     let mut watch = UnwatchedSearch;
     match explain(alloc, asking(), &sources, &mut out, &mut watch) {
@@ -79,7 +79,7 @@ fn printed_after(
 {
     let files = [Some(Vec::from_slice(alloc, file)?)];
     let drifts = drifted(alloc, Form::Human, &[], &[name], &files)?;
-    let own = printed(alloc, name, annotations)?;
+    let own = printed(alloc, name, file, annotations)?;
     let mut out = drifts.printed;
     out.extend_from_slice(own.as_slice())?;
     Ok(out)
@@ -112,7 +112,7 @@ fn printed_for(alloc: Global, name: &str, file: &[u8]) -> Result<Vec<u8>, AllocE
     if is_c_file(name) {
         printed_in_c(alloc, name, file)
     } else {
-        printed(alloc, name, file)
+        printed(alloc, name, file, file)
     }
 }
 
