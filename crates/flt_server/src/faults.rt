@@ -15,8 +15,10 @@ use std::alloc::{AllocError, Global};
 /// The greatest number of bytes of a text that is read.
 const MAX_TEXT: usize = 65_536;
 
-/// The mark with which further lines of a report begin.
-const MARK: &[u8] = b"   = ";
+/// The marks with which further lines of a report begin.
+const NOTE: &[u8] = b"   = note: ";
+
+const HELP: &[u8] = b"   = help: ";
 
 /// The members that each diagnostic begins with, after its place: a severity of the protocol, and the number of the rule or the fault.
 pub(crate) fn put_kind(writer: &mut Writer, severity: usize, code: &str) -> Result<(), AllocError> {
@@ -25,10 +27,18 @@ pub(crate) fn put_kind(writer: &mut Writer, severity: usize, code: &str) -> Resu
     put_string(writer, "source", "fltstack")
 }
 
+/// The words of a further line of a report.
+fn words_of(line: &[u8]) -> &[u8] {
+    match line.strip_prefix(NOTE) {
+        Some(words) => words,
+        None => line.strip_prefix(HELP).unwrap_or(line),
+    }
+}
+
 fn add_notes(alloc: Global, out: &mut Vec<u8>, notes: &[u8]) -> Result<(), AllocError> {
     let lines = lines_of(alloc, notes)?;
     for line in lines.as_slice() {
-        add_line(out, line.strip_prefix(MARK).unwrap_or(line))?;
+        add_line(out, words_of(line))?;
     }
     Ok(())
 }
