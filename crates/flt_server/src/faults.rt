@@ -96,16 +96,6 @@ pub(crate) fn put_unread(
     }
 }
 
-/// Why a text isn't read that is too long: of a C file each annotation is in its line and at its column.
-fn length_words(document: &Document<'_>) -> &'static str {
-    match &document.c_file {
-        Some(_) => {
-            "annotations have at most 65,536 bytes, with the blanks and lines before them: these aren't analysed"
-        }
-        None => "a text has at most 65,536 bytes: this one isn't analysed",
-    }
-}
-
 /// The diagnostic of a text that is too long to be read, at its first byte.
 pub(crate) fn put_unanalysed(
     writer: &mut Writer,
@@ -114,7 +104,11 @@ pub(crate) fn put_unanalysed(
     writer.begin_object()?;
     document.put_part(writer, "range", Part { start: 0, end: 0 })?;
     put_kind(writer, 1, "E06")?;
-    put_string(writer, "message", length_words(document))?;
+    put_string(
+        writer,
+        "message",
+        "a text has at most 65,536 bytes: this one isn't analysed",
+    )?;
     writer.end_object()
 }
 
@@ -136,7 +130,7 @@ pub(crate) fn put_unread_in_c(
     put_spared(
         writer,
         document,
-        "the file has more than 262,144 bytes, too many to be read while it is edited: `fltstack explain` reads it",
+        "the file has more than 65,536 bytes, too many to be read while it is edited: `fltstack explain` reads it",
     )
 }
 
