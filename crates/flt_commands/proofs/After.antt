@@ -5,7 +5,6 @@ use Rattle.std.proofs.Math.Seq.{take-append-add, take-length}
 use Rattle.std.proofs.lemmas.List.{take_min}
 use Rattle.std.proofs.KnownBytes.{Appends-nil, Appends-trans}
 use Rattle.std.specs.Io.KnownBytes.{Appends}
-use Rattle.flt_details.specs.Reports.{texts_of}
 use Rattle.flt_details.specs.declared.sources.Source.{Source}
 use Rattle.flt_forms.specs.declared.as_lines.Style.{Style}
 use Rattle.flt_forms.specs.declared.as_lines.Style.TheVariants.{Object, Sentence}
@@ -14,6 +13,8 @@ use Rattle.flt_forms.specs.Lines.{AreLines}
 use Rattle.flt_notes.specs.Reported.{AreWhole, IsAllButLast}
 use Rattle.flt_notes.specs.Whole.{Look}
 use Rattle.flt_notes.specs.declared.explaining.Told.{Told}
+use Rattle.flt_reports.specs.FileText.{plain, texts_of}
+use Rattle.flt_reports.specs.declared.file_text.FileText.{FileText}
 use Rattle.flt_warning_details.specs.declared.options.WarningOptions.{WarningOptions}
 use Rattle.flt_words.specs.declared.request.Form.{Form}
 use Rattle.flt_words.specs.declared.request.Form.TheVariants.{Html, Human, Lines, LinesWithRuns, Sarif, SarifWithRuns, Short}
@@ -49,7 +50,7 @@ all_lines style options sources t old new told early sent =
     }
 
 pub cut_told : {O : Type 0} (taken : O → Option Text) (old new : O) (form : Form) (options : WarningOptions) (states : ℕ) (drifts : Text)
-    (sources : List Source) (unread : List UnreadFile) (t : Told) → IsTold form options drifts sources unread t →
+    (sources : List FileText) (unread : List UnreadFile) (t : Told) → IsTold form options drifts sources unread t →
     GoesOutEarly form options (texts_of sources) states t →
     Appends (taken old) (taken new) (take t.sent t.explained.output.items) → (HoldsBack form None → new ≡ old) →
     IsCutIn form options states sources (taken old) (taken new)
@@ -59,16 +60,16 @@ cut_told taken old new Human options states drifts sources unread t told early s
   are = whole_of options (texts_of sources) states _ early;
 }
 cut_told taken old new Short options states drifts sources unread t told early sent held =
-    all_lines Sentence options sources t (taken old) (taken new) told early sent
+    all_lines Sentence options (map plain sources) t (taken old) (taken new) told early sent
 cut_told taken old new Lines options states drifts sources unread t told early sent held =
-    all_lines Object options sources t (taken old) (taken new) told early sent
+    all_lines Object options (map plain sources) t (taken old) (taken new) told early sent
 cut_told taken old new Sarif options states drifts sources unread t told early sent held = rw (held tt) (Appends-nil (taken old))
 cut_told taken old new Html options states drifts sources unread t told early sent held = rw (held tt) (Appends-nil (taken old))
 cut_told taken old new LinesWithRuns options states drifts sources unread t told early sent held = rw (held tt) (Appends-nil (taken old))
 cut_told taken old new SarifWithRuns options states drifts sources unread t told early sent held = rw (held tt) (Appends-nil (taken old))
 
 pub cut_result : {O : Type 0} (taken : O → Option Text) (old new : O) (form : Form) (options : WarningOptions) (states : ℕ)
-    (drifts : Text) (sources : List Source) (unread : List UnreadFile) (result : Result Told CommandFault) →
+    (drifts : Text) (sources : List FileText) (unread : List UnreadFile) (result : Result Told CommandFault) →
     IfOk result (IsTold form options drifts sources unread) →
     IfOk result (GoesOutEarly form options (texts_of sources) states) →
     IfOk result (λ t. Appends (taken old) (taken new) (take t.sent t.explained.output.items)) → (HoldsBack form None → new ≡ old) →
@@ -78,7 +79,7 @@ cut_result taken old new form options states drifts sources unread (Ok t) told e
 cut_result taken old new form options states drifts sources unread (Err e) told early sent held = tt
 
 -- the same of names and what they give
-pub cut_anyway : (form : Form) (options : WarningOptions) (states : ℕ) (names texts : List Text) (sources : List Source)
+pub cut_anyway : (form : Form) (options : WarningOptions) (states : ℕ) (names texts : List Text) (sources : List FileText)
     (result : Result Told CommandFault) (old new : Option Text) → names_in sources ≡ map (told_name form) names → texts_of sources ≡ texts →
     IfOk result (λ t. IsCutIn form options states sources old new) → IfOk result (λ t. IsCutUnder form options states names texts old new)
 cut_anyway form options states names texts sources (Ok t) old new named given cut = explain.some_out sources named given cut

@@ -1,5 +1,5 @@
 -- What is covered breaks nothing, and an exit status 0 says that something is covered.
-use Rattle.std.proofs.Common.{◌⊎◌, inl, inr, ◌≡◌, ℕ, zero, suc, ◌+◌, List, [], ◌∷◌, ◌++◌, Bool, None, Option, Result, Ok, Err, take, drop, max, refl, sym, ◌∙◌, arith}
+use Rattle.std.proofs.Common.{◌⊎◌, inl, inr, ◌≡◌, ℕ, zero, suc, ◌+◌, List, [], ◌∷◌, ◌++◌, Bool, None, Option, Result, Ok, Err, map, take, drop, max, refl, sym, ◌∙◌, arith}
 use Rattle.std.proofs.Math.Path.{subst}
 use Rattle.std.specs.Borrow.{Bor}
 use Rattle.flt_syntax.specs.declared.fault.SyntaxFault.{SyntaxFault}
@@ -25,9 +25,11 @@ use Rattle.flt_forms.specs.declared.as_lines.Style.TheVariants.{Object, Sentence
 use Rattle.flt_notes.specs.Reported.{AreAllReports, AreParts, IsNoticeReport, IsStatus, IsText, IsTextReport}
 use Rattle.flt_notes.specs.Reported as reports
 use Rattle.flt_notes.specs.Whole.{Look}
-use Rattle.flt_details.specs.Reports.{IsJudged, IsKnown, texts_of}
+use Rattle.flt_details.specs.Reports.{IsJudged, IsKnown, texts_of as plain_texts_of}
 use Rattle.flt_notes.specs.declared.explaining.Told.{Told}
 use Rattle.flt_details.specs.declared.sources.Source.{Source}
+use Rattle.flt_reports.specs.FileText.{plain, texts_of}
+use Rattle.flt_reports.specs.declared.file_text.FileText.{FileText}
 use Rattle.flt_warning_details.specs.Options.{warned_status}
 use Rattle.flt_warning_details.specs.declared.detail.WarningDetail.{WarningDetail}
 use Rattle.flt_warning_details.specs.declared.options.WarningOptions.{WarningOptions}
@@ -44,6 +46,7 @@ use Rattle.flt_model.specs.Runs.{breaks}
 use Rattle.flt_syntax.specs.Spelling.{Spells}
 use Rattle.flt_tree.specs.declared.filter.Filter.{Filter}
 use Rattle.flt_commands.proofs.OnePlace.{zipped_once}
+use Rattle.flt_commands.proofs.Plain.{same_texts}
 use Rattle.flt_commands.specs.Analyse.{IsAnalysed}
 use Rattle.flt_commands.specs.Answer.{status_of, told_status}
 use Rattle.flt_commands.specs.Check.{Decides, HasPoints, IsAnswer, IsChecked}
@@ -240,7 +243,7 @@ module _ (law : Law) (runs : LawOfRuns) (nowhere : SpelledFailsNowhere) where
 
   in_lines : (style : Style) (options : WarningOptions) (runs : ℕ → ℕ → List Token) (number : ℕ) (sources : List Source)
       (before printed : List ℕ) (status : ℕ) → AreLinesFrom style options runs number sources before printed status → status ≡ 0 →
-      EachBreaksNothing (texts_of sources)
+      EachBreaksNothing (plain_texts_of sources)
   in_lines style options runs number [] before printed status said good = tt
   in_lines style options runs number (s ∷ ss) before printed status (part, first, others, own, rest, greatest) good =
       let zeros = both_zero first others (sym greatest ∙ good) in (
@@ -250,7 +253,7 @@ module _ (law : Law) (runs : LawOfRuns) (nowhere : SpelledFailsNowhere) where
 
   in_results : (options : WarningOptions) (names : List (Bor (List ℕ))) (runs : ℕ → ℕ → List Token) (number : ℕ) (sources : List Source)
       (tokens : List Token) (status : ℕ) → AreResults options names runs number sources tokens status → status ≡ 0 →
-      EachBreaksNothing (texts_of sources)
+      EachBreaksNothing (plain_texts_of sources)
   in_results options names runs number [] tokens status said good = tt
   in_results options names runs number (s ∷ ss) tokens status (part, others_tokens, first, others, own, rest, joined, greatest) good =
       let zeros = both_zero first others (sym greatest ∙ good) in (
@@ -268,25 +271,31 @@ module _ (law : Law) (runs : LawOfRuns) (nowhere : SpelledFailsNowhere) where
       reported options filters (t ∷ u ∷ ts) is.reports status is.findings is.files is.are good
 
   in_document : (options : WarningOptions) (sources : List Source) (missed : List UnreadFile) (runs : List FindingRun) (printed : List ℕ)
-      (status : ℕ) → IsSarif options sources missed runs printed status → status ≡ 0 → EachBreaksNothing (texts_of sources)
+      (status : ℕ) → IsSarif options sources missed runs printed status → status ≡ 0 → EachBreaksNothing (plain_texts_of sources)
   unfolding IsSarif
   in_document options sources missed runs printed status (run, is, same) good =
       in_results options _ _ 0 sources is.results status is.found good
 
-  told_well : (form : Form) (options : WarningOptions) (drifts : Text) (sources : List Source) (missed : List UnreadFile) (t : Told) →
+  told_well : (form : Form) (options : WarningOptions) (drifts : Text) (sources : List FileText) (missed : List UnreadFile) (t : Told) →
       IsTold form options drifts sources missed t → t.explained.status ≡ 0 → EachBreaksNothing (texts_of sources)
   told_well Human options drifts sources missed t told good =
       all_reported options told.filters (texts_of sources) t.explained.output.items t.explained.status told.are good
   told_well Short options drifts sources missed t told good =
-      in_lines Sentence options no_member 0 sources [] t.explained.output.items t.explained.status told good
+      subst EachBreaksNothing (same_texts sources)
+      (in_lines Sentence options no_member 0 (map plain sources) [] t.explained.output.items t.explained.status told good)
   told_well Lines options drifts sources missed t told good =
-      in_lines Object options no_member 0 sources [] t.explained.output.items t.explained.status told good
+      subst EachBreaksNothing (same_texts sources)
+      (in_lines Object options no_member 0 (map plain sources) [] t.explained.output.items t.explained.status told good)
   told_well Sarif options drifts sources missed t told good =
-      in_document options sources missed [] t.explained.output.items t.explained.status told good
+      subst EachBreaksNothing (same_texts sources)
+      (in_document options (map plain sources) missed [] t.explained.output.items t.explained.status told good)
   told_well LinesWithRuns options drifts sources missed t told good =
-      in_lines Object options (own_member sources told.runs.now) 0 sources [] t.explained.output.items t.explained.status told.lines good
+      subst EachBreaksNothing (same_texts sources)
+      (in_lines Object options (own_member (map plain sources) told.runs.now) 0 (map plain sources) [] t.explained.output.items
+      t.explained.status told.lines good)
   told_well SarifWithRuns options drifts sources missed t told good =
-      in_document options sources missed told.runs t.explained.output.items t.explained.status told.document good
+      subst EachBreaksNothing (same_texts sources)
+      (in_document options (map plain sources) missed told.runs t.explained.output.items t.explained.status told.document good)
   told_well Html options drifts sources missed t told good =
       all_reported options told.reports.filters (texts_of sources) told.printed t.explained.status told.reports.are good
 

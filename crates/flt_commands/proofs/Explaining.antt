@@ -3,20 +3,20 @@ use Rattle.std.proofs.Common.{◌≡◌, ◌≢◌, ℕ, true, false, List, Bor,
 use Rattle.std.proofs.Math.Path.{subst}
 use Rattle.std.proofs.KnownBytes.{Appends-nil}
 use Rattle.std.specs.Io.KnownBytes.{Appends}
-use Rattle.flt_details.specs.Reports.{texts_of}
-use Rattle.flt_details.specs.declared.sources.Source.{Source}
 use Rattle.flt_forms.specs.declared.unread.UnreadFile.{UnreadFile}
 use Rattle.flt_notes.specs.Whole.{IsPrint, Look, look_for}
 use Rattle.flt_notes.specs.declared.explaining.Asking.{Asking}
 use Rattle.flt_notes.specs.declared.explaining.Told.{Told}
 use Rattle.flt_notes.specs.declared.noted.Noted.{Noted}
+use Rattle.flt_reports.specs.FileText.{texts_of}
+use Rattle.flt_reports.specs.declared.file_text.FileText.{FileText}
 use Rattle.flt_warning_details.specs.declared.options.WarningOptions.{WarningOptions}
 use Rattle.flt_words.specs.declared.request.Form.{Form}
 use Rattle.flt_commands.proofs.Sent.{cut_short}
 use Rattle.flt_commands.specs.Annotated.{AreFoundIn, codes_in}
 use Rattle.flt_commands.specs.Answer.{sent_in}
 use Rattle.flt_commands.specs.Commands.{IsReported}
-use Rattle.flt_commands.specs.Explain.{AreNotedFor, HasReport, HoldsBack, IsCutAfter, IsCutIn, IsCutShort, IsCutUnder, IsExplained, IsNoteTold, IsPrintTold, IsSent, IsTold, IsToldOrUnwritten, IsToldUnder, IsToldWith, first_in, look_of, names_in, said_of, told_name}
+use Rattle.flt_commands.specs.Explain.{AreNotedFor, HasReport, HoldsBack, IsCutAfter, IsCutIn, IsCutShort, IsCutUnder, IsExplained, IsNoteTold, IsPrintTold, IsSent, IsTold, IsToldOrUnwritten, IsToldUnder, IsToldWith, files_in, files_of, first_in, look_of, names_in, said_of, told_name}
 use Rattle.flt_commands.specs.Drifts.{drifts_status, drifts_told}
 use Rattle.flt_commands.specs.Explain as explain
 use Rattle.flt_commands.specs.Inputs.{Giving, Text}
@@ -43,24 +43,26 @@ holds_some form journal name same = rw same tt
 
 -- ---- of names and what they give
 
-pub told_under : (form : Form) (look : Look) (journal : Option Text) (drifts : Text) (names texts : List Text) (unread : List UnreadFile)
-    (sources : List Source) (result : Result Told CommandFault) → names_in sources ≡ map (told_name form) names → texts_of sources ≡ texts →
+pub told_under : (form : Form) (look : Look) (journal : Option Text) (drifts : Text) (names texts : List Text) (codes : List (Option Text))
+    (unread : List UnreadFile) (sources : List FileText) (result : Result Told CommandFault) →
+    names_in sources ≡ map (told_name form) names → texts_of sources ≡ texts → files_in sources ≡ files_of codes texts →
     IfOk result (IsTold form look.options drifts sources unread) → IfOk result (λ t. AreNotedFor form journal (texts_of sources) t.noted) →
     IfOk result (IsNoteTold form (texts_of sources) look.states) → IfOk result (IsPrintTold form look drifts sources) →
-    IfOk result (IsToldUnder form look journal drifts names texts unread)
-told_under form look journal drifts names texts unread sources (Ok t) named given told noted notes print = record {
+    IfOk result (IsToldUnder form look journal drifts names texts codes unread)
+told_under form look journal drifts names texts codes unread sources (Ok t) named given shown told noted notes print = record {
   sources = sources;
   named = named;
   given = given;
+  shown = shown;
   told = told;
   noted = subst (λ ts. AreNotedFor form journal ts t.noted) given noted;
   notes = subst (λ ts. IsNoteTold form ts look.states t) given notes;
   print = print;
 }
-told_under form look journal drifts names texts unread sources (Err e) named given told noted notes print = tt
+told_under form look journal drifts names texts codes unread sources (Err e) named given shown told noted notes print = tt
 
 -- a report has these notes, if they are those of one that is asked for so
-pub reported : (asked : Asked) (asking : Asking) (sources : List Source) (t : Told) (notes : List Noted) →
+pub reported : (asked : Asked) (asking : Asking) (sources : List FileText) (t : Told) (notes : List Noted) →
     asking.coloured ≡ asked.coloured → asking.states ≡ asked.states → asking.options ≡ asked.options →
     IsPrint (look_for asking) sources t.noted t.explained.output.items t.explained.status → notes ≡ t.noted →
     HasReport (look_of asked) sources notes
@@ -71,7 +73,7 @@ reported asked asking sources t notes coloured states options print same = recor
 }
 
 -- what went out before memory ran out is cut short under these names
-pub cut_some : (form : Form) (options : WarningOptions) (states : ℕ) (names texts : List Text) (sources : List Source)
+pub cut_some : (form : Form) (options : WarningOptions) (states : ℕ) (names texts : List Text) (sources : List FileText)
     (result : Result Told CommandFault)
     (old new : Option Text) → names_in sources ≡ map (told_name form) names → texts_of sources ≡ texts →
     IfErr result (λ e. e ≡ OutOfMemory → IsCutIn form options states sources old new) →
@@ -128,7 +130,7 @@ module _ (gives : Giving) (is_c : Bool) (form : Form) (options : WarningOptions)
   pub explained_of : (look : Look) (journal : Option Text) (f : FoundFiles) (told : Told) (said : Explanation) →
       AreFoundIn is_c gives files f →
       IsToldWith (drifts_of form allowed f) (worth_of look allowed f) form look journal (map (λ name. name.now) f.names.items)
-      (map (λ text. text.items) f.texts.items) f.unread.items told → IsToldOrUnwritten told f.unread.items journal said →
+      (map (λ text. text.items) f.texts.items) (codes_in f) f.unread.items told → IsToldOrUnwritten told f.unread.items journal said →
       IsExplained gives is_c form look allowed journal files (codes_in f) (map (λ text. text.items) f.texts.items) (said_of said)
   explained_of look journal f told (Said t unread) are is (same, all) =
       rw (same, all) (record { names = _; read = are.read; found = are.found; told = is })

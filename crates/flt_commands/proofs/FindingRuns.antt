@@ -3,8 +3,6 @@ use Rattle.std.proofs.Common.{◌≡◌, ℕ, suc, ◌+◌, ◌<◌, List, [], �
 use Rattle.std.proofs.Math.Path.{subst}
 use Rattle.std.proofs.Math.Seq.{take-suc}
 use Rattle.std.proofs.lemmas.Grind.{common_steps}
-use Rattle.flt_details.specs.Reports.{texts_of}
-use Rattle.flt_details.specs.declared.sources.Source.{Source}
 use Rattle.flt_forms.specs.declared.run.FindingRun.{FindingRun}
 use Rattle.flt_flows.specs.Flows.{IsFlow}
 use Rattle.flt_flows.specs.Running.{run_of}
@@ -12,21 +10,23 @@ use Rattle.flt_flows.specs.declared.flows.Flow.{Flow}
 use Rattle.flt_model.specs.Program.{by_altitude, filters_of}
 use Rattle.flt_notes.specs.Noted.{own_of}
 use Rattle.flt_notes.specs.declared.noted.Noted.{Noted}
+use Rattle.flt_reports.specs.FileText.{texts_of}
+use Rattle.flt_reports.specs.declared.file_text.FileText.{FileText}
 use Rattle.flt_search.specs.declared.judging.Broken.{Broken}
 use Rattle.flt_tree.specs.declared.tree.Tree.{Tree}
 use Rattle.flt_commands.specs.FindingRuns as spec
 use Rattle.flt_commands.specs.FindingRuns.{AreRunsOf, AreTrees, IsAdded, IsNext, IsOneMore, run_by}
 
 -- the texts of one more source
-texts_push : (ss : List Source) (s : Source) → texts_of (ss ++ s ∷ []) ≡ texts_of ss ++ s.text.now ∷ []
+texts_push : (ss : List FileText) (s : FileText) → texts_of (ss ++ s ∷ []) ≡ texts_of ss ++ s.text.now ∷ []
 texts_push [] s = refl
 texts_push (t ∷ ss) s = rw (texts_push ss s) refl
 
-texts_long : (ss : List Source) → length (texts_of ss) ≡ length ss
+texts_long : (ss : List FileText) → length (texts_of ss) ≡ length ss
 texts_long [] = refl
 texts_long (t ∷ ss) = rw (texts_long ss) refl
 
-module _ (all : List Source) (i : ℕ) (d : Source) (within : i < length all) where
+module _ (all : List FileText) (i : ℕ) (d : FileText) (within : i < length all) where
   one_source_more : take (i + 1) all ≡ take i all ++ get_or all i d ∷ []
   one_source_more =
       let next : take (suc i) all ≡ take i all ++ get_or all i d ∷ [] = take-suc all i d within in

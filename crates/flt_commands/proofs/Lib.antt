@@ -26,6 +26,7 @@ pub mod OneReading
 pub mod OneThin
 pub mod OneVerdict
 pub mod Paged
+pub mod Plain
 pub mod Putting
 pub mod Readings
 pub mod Reported

@@ -52,6 +52,7 @@ fn explain_held<O: Sink, W: SearchWatch>(
     worth: u8,
     names: &[&str],
     texts: &[Vec<u8>],
+    codes: &[Option<Vec<u8>>],
     unread: &[UnreadFile],
     out: &mut O,
     watch: &mut W,
@@ -60,12 +61,14 @@ fn explain_held<O: Sink, W: SearchWatch>(
     requires each { length texts.now ≡ length names.now }
     ensures told { IfOk result (spec.IsToldAfter first.items within.now worth asked.entry.form (spec.look_of asked.entry)
         (option_map (λ name. name.now) asked.entry.journal) (map (λ name. name.now) names.now) (map (λ text. text.items) texts.now)
-        unread.now) }
+        (map (option_map (λ code. code.items)) codes.now) unread.now) }
     ensures sent { IfOk result (λ t. t.sent ≡ 0) }
     ensures held { out.new ≡ out.old }
     ensures err { IfErr result (λ e. e ≡ CommandFault.OutOfMemory) }
 {
-    let own = explain_read(alloc, asked, within, names, texts, unread, out, watch)?;
+    let own = explain_read(
+        alloc, asked, within, names, texts, codes, unread, out, watch,
+    )?;
     let told = told_after(first, worth, 0, own)?;
     Ok(told)
 }
@@ -79,6 +82,7 @@ fn explain_early<O: Sink, W: SearchWatch>(
     worth: u8,
     names: &[&str],
     texts: &[Vec<u8>],
+    codes: &[Option<Vec<u8>>],
     unread: &[UnreadFile],
     out: &mut O,
     watch: &mut W,
@@ -86,7 +90,7 @@ fn explain_early<O: Sink, W: SearchWatch>(
     requires { length texts.now ≡ length names.now }
     ensures told { IfOk result (spec.IsToldAfter first.items within.now worth asked.entry.form (spec.look_of asked.entry)
         (option_map (λ name. name.now) asked.entry.journal) (map (λ name. name.now) names.now) (map (λ text. text.items) texts.now)
-        unread.now) }
+        (map (option_map (λ code. code.items)) codes.now) unread.now) }
     ensures sent { IfOk result (λ t. Appends (O.taken out.old) (O.taken out.new) (take t.sent t.explained.output.items)) }
     ensures fine { OnOk result (O.failures out.new ≡ O.failures out.old) }
     ensures write { IfErr result (λ e. e ≡ CommandFault.Write → O.failures out.new ≢ O.failures out.old) }
@@ -96,7 +100,9 @@ fn explain_early<O: Sink, W: SearchWatch>(
 {
     put_all(out, first.as_slice())?;
     let before = first.len();
-    let own = explain_read(alloc, asked, within, names, texts, unread, out, watch)?;
+    let own = explain_read(
+        alloc, asked, within, names, texts, codes, unread, out, watch,
+    )?;
     let sent = before + min(own.sent, own.explained.output.len());
     let told = told_after(first, worth, sent, own)?;
     Ok(told)
@@ -113,6 +119,7 @@ pub(crate) fn explain_after<O: Sink, W: SearchWatch>(
     worth: u8,
     names: &[&str],
     texts: &[Vec<u8>],
+    codes: &[Option<Vec<u8>>],
     unread: &[UnreadFile],
     out: &mut O,
     watch: &mut W,
@@ -120,7 +127,7 @@ pub(crate) fn explain_after<O: Sink, W: SearchWatch>(
     requires { length texts.now ≡ length names.now }
     ensures told { IfOk result (spec.IsToldAfter first.items within.now worth asked.entry.form (spec.look_of asked.entry)
         (option_map (λ name. name.now) asked.entry.journal) (map (λ name. name.now) names.now) (map (λ text. text.items) texts.now)
-        unread.now) }
+        (map (option_map (λ code. code.items)) codes.now) unread.now) }
     ensures sent { IfOk result (λ t. Appends (O.taken out.old) (O.taken out.new) (take t.sent t.explained.output.items)) }
     ensures held { spec.HoldsBack asked.entry.form (option_map (λ name. name.now) asked.entry.journal) → out.new ≡ out.old }
     ensures fine { OnOk result (O.failures out.new ≡ O.failures out.old) }
@@ -131,10 +138,10 @@ pub(crate) fn explain_after<O: Sink, W: SearchWatch>(
 {
     if holds_back(asked) {
         return explain_held(
-            alloc, asked, first, within, worth, names, texts, unread, out, watch,
+            alloc, asked, first, within, worth, names, texts, codes, unread, out, watch,
         );
     }
     explain_early(
-        alloc, asked, first, within, worth, names, texts, unread, out, watch,
+        alloc, asked, first, within, worth, names, texts, codes, unread, out, watch,
     )
 }

@@ -1,12 +1,14 @@
 //! The answer of `explain` to the names that it is given: reports of files, or pages.
 
 ghost use Rattle.std.specs.Io.KnownBytes.{Appends};
-ghost use Rattle.std.specs.Prelude.{◌≡◌, ◌≢◌, [], None, IfErr, IfOk, OnErr, OnOk, length, map, option_map, string_bytes, take};
+ghost use Rattle.std.specs.Prelude.{◌≡◌, ◌≢◌, [], None, IfErr, IfOk, OnErr, OnOk, get_or, length, map, option_map, string_bytes, take};
 ghost use Rattle.flt_commands.specs.Explain as spec;
 ghost use Rattle.flt_commands.specs.Html.{IsPageOn, IsPaged};
 ghost use Rattle.flt_commands.specs.Remarks.{unread_in};
+ghost use Rattle.flt_forms.specs.Lines.{AreLines};
+ghost use Rattle.flt_forms.specs.Sarif.{IsSarif};
 ghost use Rattle.flt_notes.specs.Noted.{AreNotes, first_journal};
-ghost use Rattle.flt_details.specs.Reports.{texts_of};
+ghost use Rattle.flt_reports.specs.FileText.{plain, texts_of};
 
 use crate::after::explain_after;
 use crate::annotated::find_each;
@@ -23,10 +25,11 @@ use crate::report::Contents;
 use crate::unwritten::Unwritten;
 use flt_details::{Explained, Source};
 use flt_driven::journal_bytes;
-use flt_forms::{Style, UnreadFile, lines, sarif};
+use flt_forms::{FindingRun, Style, UnreadFile, lines, sarif};
 use flt_model::Sink;
 use flt_notes::{Asking, Noted, SearchWatch, Told, explain, first_journal};
 use flt_pages::page;
+use flt_reports::FileText;
 use flt_warning_details::WarningOptions;
 use flt_words::{Form, visible};
 use sqlite_items::Items;
@@ -54,25 +57,78 @@ fn told_names(alloc: Global, form: Form, names: &[&str]) -> Result<Vec<String>, 
     Ok(told)
 }
 
-/// The texts, each under its name.
+/// The file in which a text is: the C file of its number among all, if the text is the annotations of one, or the text itself.
+fn file_of<'s>(codes: &'s [Option<Vec<u8>>], number: usize, text: &'s [u8]) -> &'s [u8]
+    ensures { result.now ≡ spec.file_of (get_or (map (option_map (λ code. code.items)) codes.now) number None) text.now }
+{
+    match codes.get(number) {
+        Some(Some(code)) => code.as_slice(),
+        _ => text,
+    }
+}
+
+/// The texts, each under the name of its file, and with that file.
 fn sources<'s>(
     alloc: Global,
     names: &'s [String],
     texts: &'s [Vec<u8>],
-) -> Result<Vec<Source<'s>>, AllocError>
+    codes: &'s [Option<Vec<u8>>],
+) -> Result<Vec<FileText<'s>>, AllocError>
     requires { length texts.now ≡ length names.now }
     ensures texts { IfOk result (λ found. texts_of found.items ≡ map (λ text. text.items) texts.now) }
     ensures names { IfOk result (λ found. spec.names_in found.items ≡ map string_bytes names.now) }
+    ensures files { IfOk result (λ found. spec.files_in found.items
+        ≡ spec.files_of (map (option_map (λ code. code.items)) codes.now) (map (λ text. text.items) texts.now)) }
 {
     let mut found = Vec::new(alloc);
     for (number, text) in texts.iter().enumerate() {
-        let name = names[number].as_str();
-        found.push(Source {
-            name,
-            text: text.as_slice(),
+        let text = text.as_slice();
+        found.push(FileText {
+            name: names[number].as_str(),
+            text,
+            file: file_of(codes, number, text),
         })?;
     }
     Ok(found)
+}
+
+/// The texts by themselves.
+fn plain_of<'s>(alloc: Global, sources: &[FileText<'s>]) -> Result<Vec<Source<'s>>, AllocError>
+    ensures { IfOk result (λ found. found.items ≡ map plain sources.now) }
+{
+    let mut found = Vec::new(alloc);
+    for source in sources {
+        found.push(source.plain())?;
+    }
+    Ok(found)
+}
+
+/// The lines of some texts, with the runs of their findings if these are given.
+fn lines_of(
+    alloc: Global,
+    style: Style,
+    options: WarningOptions,
+    sources: &[FileText<'_>],
+    runs: Option<&[FindingRun]>,
+) -> Result<Explained, AllocError>
+    ensures { IfOk result (λ e. AreLines style options (map plain sources.now) runs.entry e.output.items e.status) }
+{
+    let plain = plain_of(alloc, sources)?;
+    lines(alloc, style, options, plain.as_slice(), runs)
+}
+
+/// The same as a document, with files that aren't read.
+fn sarif_of(
+    alloc: Global,
+    options: WarningOptions,
+    sources: &[FileText<'_>],
+    unread: &[UnreadFile],
+    runs: &[FindingRun],
+) -> Result<Explained, AllocError>
+    ensures { IfOk result (λ e. IsSarif options (map plain sources.now) unread.now runs.now e.output.items e.status) }
+{
+    let plain = plain_of(alloc, sources)?;
+    sarif(alloc, options, plain.as_slice(), unread, runs)
 }
 
 /// The outcome of `explain` for files.
@@ -147,7 +203,7 @@ fn told_page<O: Sink, W: SearchWatch>(
     alloc: Global,
     asked: Asked<'_>,
     drifts: &[u8],
-    sources: &[Source<'_>],
+    sources: &[FileText<'_>],
     out: &mut O,
     watch: &mut W,
 ) -> Result<Told, CommandFault>
@@ -177,7 +233,7 @@ fn told_page<O: Sink, W: SearchWatch>(
 fn lines_with_runs<O: Sink, W: SearchWatch>(
     alloc: Global,
     asked: Asked<'_>,
-    sources: &[Source<'_>],
+    sources: &[FileText<'_>],
     out: &mut O,
     watch: &mut W,
 ) -> Result<Told, CommandFault>
@@ -190,7 +246,7 @@ fn lines_with_runs<O: Sink, W: SearchWatch>(
 {
     let told = explain(alloc, asking(asked, true), sources, out, watch)?;
     let runs = runs_of(alloc, sources, told.noted.as_slice())?;
-    let explained = lines(
+    let explained = lines_of(
         alloc,
         Style::Object,
         asked.options,
@@ -205,7 +261,7 @@ fn lines_with_runs<O: Sink, W: SearchWatch>(
 fn sarif_with_runs<O: Sink, W: SearchWatch>(
     alloc: Global,
     asked: Asked<'_>,
-    sources: &[Source<'_>],
+    sources: &[FileText<'_>],
     unread: &[UnreadFile],
     out: &mut O,
     watch: &mut W,
@@ -219,7 +275,7 @@ fn sarif_with_runs<O: Sink, W: SearchWatch>(
 {
     let told = explain(alloc, asking(asked, true), sources, out, watch)?;
     let runs = runs_of(alloc, sources, told.noted.as_slice())?;
-    let explained = sarif(alloc, asked.options, sources, unread, runs.as_slice())?;
+    let explained = sarif_of(alloc, asked.options, sources, unread, runs.as_slice())?;
     let noted = told.noted;
     Ok(unsent(explained, noted))
 }
@@ -231,7 +287,7 @@ fn told_in_turn<O: Sink, W: SearchWatch>(
     alloc: Global,
     asked: Asked<'_>,
     drifts: &[u8],
-    sources: &[Source<'_>],
+    sources: &[FileText<'_>],
     unread: &[UnreadFile],
     out: &mut O,
     watch: &mut W,
@@ -262,7 +318,7 @@ fn told_in_turn<O: Sink, W: SearchWatch>(
             lines_in_turn(alloc, Style::Object, options, sources, out)?,
         )),
         Form::Sarif => Ok(unsent(
-            sarif(alloc, options, sources, unread, &[])?,
+            sarif_of(alloc, options, sources, unread, &[])?,
             Items::new(alloc),
         )),
         Form::LinesWithRuns => lines_with_runs(alloc, asked, sources, out, watch),
@@ -277,7 +333,7 @@ fn told_whole<O: Sink, W: SearchWatch>(
     alloc: Global,
     asked: Asked<'_>,
     drifts: &[u8],
-    sources: &[Source<'_>],
+    sources: &[FileText<'_>],
     unread: &[UnreadFile],
     out: &mut O,
     watch: &mut W,
@@ -293,9 +349,9 @@ fn told_whole<O: Sink, W: SearchWatch>(
     let held = asking(asked, true);
     let explained = match asked.form {
         Form::Human => return Ok(explain(alloc, held, sources, out, watch)?),
-        Form::Short => lines(alloc, Style::Sentence, asked.options, sources, None)?,
-        Form::Lines => lines(alloc, Style::Object, asked.options, sources, None)?,
-        Form::Sarif => sarif(alloc, asked.options, sources, unread, &[])?,
+        Form::Short => lines_of(alloc, Style::Sentence, asked.options, sources, None)?,
+        Form::Lines => lines_of(alloc, Style::Object, asked.options, sources, None)?,
+        Form::Sarif => sarif_of(alloc, asked.options, sources, unread, &[])?,
         Form::LinesWithRuns => return lines_with_runs(alloc, asked, sources, out, watch),
         Form::SarifWithRuns => return sarif_with_runs(alloc, asked, sources, unread, out, watch),
         Form::Html => return told_page(alloc, asked, drifts, sources, out, watch),
@@ -311,7 +367,7 @@ fn told<O: Sink, W: SearchWatch>(
     alloc: Global,
     asked: Asked<'_>,
     drifts: &[u8],
-    sources: &[Source<'_>],
+    sources: &[FileText<'_>],
     unread: &[UnreadFile],
     out: &mut O,
     watch: &mut W,
@@ -344,13 +400,15 @@ pub(crate) fn explain_read<O: Sink, W: SearchWatch>(
     drifts: &[u8],
     names: &[&str],
     texts: &[Vec<u8>],
+    codes: &[Option<Vec<u8>>],
     unread: &[UnreadFile],
     out: &mut O,
     watch: &mut W,
 ) -> Result<Told, CommandFault>
     requires { length texts.now ≡ length names.now }
     ensures told { IfOk result (spec.IsToldUnder asked.entry.form (spec.look_of asked.entry)
-        (option_map (λ name. name.now) asked.entry.journal) drifts.now (map (λ name. name.now) names.now) (map (λ text. text.items) texts.now) unread.now) }
+        (option_map (λ name. name.now) asked.entry.journal) drifts.now (map (λ name. name.now) names.now)
+        (map (λ text. text.items) texts.now) (map (option_map (λ code. code.items)) codes.now) unread.now) }
     ensures sent { IfOk result (λ t. Appends (O.taken out.old) (O.taken out.new) (take t.sent t.explained.output.items)) }
     ensures cut { IfOk result (λ t. spec.IsCutUnder asked.entry.form asked.entry.options asked.entry.states
         (map (λ name. name.now) names.now) (map (λ text. text.items) texts.now) (O.taken out.old) (O.taken out.new)) }
@@ -363,7 +421,7 @@ pub(crate) fn explain_read<O: Sink, W: SearchWatch>(
         (O.taken out.old) (O.taken out.new)) }
 {
     let names = told_names(alloc, asked.form, names)?;
-    let sources = sources(alloc, names.as_slice(), texts)?;
+    let sources = sources(alloc, names.as_slice(), texts, codes)?;
     let sources = sources.as_slice();
     told(alloc, asked, drifts, sources, unread, out, watch)
 }
@@ -442,7 +500,8 @@ pub fn explain_files<'a, I: Inputs, P: Pictures, O: Sink, W: SearchWatch>(
 ) -> Result<Explanation<'a>, CommandFault>
     ensures said { IfOk result (λ said. spec.IsExplained (I.gives inputs.now) asked.entry.is_c asked.entry.form (spec.look_of asked.entry)
         (map (λ name. name.now) asked.entry.allowed.now) (option_map (λ name. name.now) asked.entry.journal)
-        (map (λ name. name.now) files.now) (map (option_map (λ code. code.items)) codes.new.items) (map (λ text. text.items) contents.new.texts.items) (spec.said_of said)) }
+        (map (λ name. name.now) files.now) (map (option_map (λ code. code.items)) codes.new.items)
+        (map (λ text. text.items) contents.new.texts.items) (spec.said_of said)) }
     ensures unread { IfOk result (λ said. IfOk (spec.said_of said) (λ answer. remark.new.items ≡ unread_in answer)) }
     ensures written { IfOk result (λ said. IfOk (spec.said_of said) (spec.IsWritten (P.written pictures.new) (pictures.new ≡ pictures.old)
         (option_map (λ name. name.now) asked.entry.journal))) }
@@ -477,6 +536,7 @@ pub fn explain_files<'a, I: Inputs, P: Pictures, O: Sink, W: SearchWatch>(
         worth,
         names.as_slice(),
         contents.texts.as_slice(),
+        codes.as_slice(),
         unread.as_slice(),
         out,
         watch,

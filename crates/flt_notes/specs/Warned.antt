@@ -6,13 +6,14 @@ use Rattle.flt_tree.specs.declared.tree.Tree.{Tree}
 use Rattle.flt_notes.specs.declared.warned.WarnedText.{WarnedText}
 
 -- a text with warnings: whether marks of a terminal colour their reports, how many states a search for a run goes on from at most, its
--- tree alone, its filter, its name and its bytes
+-- tree alone, its filter, the name and the bytes of its file, and its own bytes
 pub record Warned : Type 0 where
   pub coloured : Bool
   pub states : ℕ
   pub own : List Tree
   pub filter : Filter
   pub name : Text
+  pub file : Text
   pub text : Text
 
 abbrev pub warned_of : WarnedText → Warned
@@ -21,6 +22,7 @@ warned_of t = record {
   states = t.states;
   own = t.own.now;
   filter = t.tree.now.filter;
-  name = t.name.now;
+  name = t.file.name.now;
+  file = t.file.lines.now;
   text = t.lines.now;
 }

@@ -13,7 +13,7 @@ use Rattle.flt_notes.specs.Warned.{Warned}
 pub record IsReportWithRun (x : Warned) (d : WarningDetail) (printed : List ℕ) : Type 0 where
   pub run : List ℕ
   pub are : AreRunLines x d.circle run
-  pub whole : printed ≡ warning_report x.coloured x.name x.text d ++ run
+  pub whole : printed ≡ warning_report x.coloured x.name x.file x.text d ++ run
 
 -- the same, if it is shown
 abbrev pub IsReportIf : Bool → Warned → WarningDetail → List ℕ → Type 0

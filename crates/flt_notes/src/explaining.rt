@@ -2,7 +2,7 @@
 
 ghost use Rattle.std.specs.Prelude.{◌≡◌, ◌≢◌, ◌≤◌, true, false, IfOk, IfErr, OnOk, length, take};
 ghost use Rattle.std.specs.Io.KnownBytes.{Appends};
-ghost use Rattle.flt_details.specs.Reports.{texts_of};
+ghost use Rattle.flt_reports.specs.FileText.{texts_of};
 ghost use Rattle.flt_notes.specs.Noted.{AreNotes};
 ghost use Rattle.flt_notes.specs.Reported as spec;
 ghost use Rattle.flt_notes.specs.Told.{Tells};
@@ -14,8 +14,9 @@ use crate::output::Output;
 use crate::printing::Stage;
 use crate::readings::read_all;
 use crate::together::Printed;
-use flt_details::{Explained, Source};
+use flt_details::Explained;
 use flt_model::Sink;
+use flt_reports::FileText;
 use flt_search::SearchWatch;
 use flt_warning_details::WarningOptions;
 use sqlite_items::Items;
@@ -61,13 +62,13 @@ fn finished(printed: Printed) -> Told
     }
 }
 
-/// Reports on some texts for people: each finding with the lines that show it, a path that leads there, how to fix it, and a journal that
-/// breaks what its rule prevents, if one is found. Journals are looked for by one search for all findings of a text, up to so many states:
-/// if several texts parse and the text's filter meets another one on an operation, half of them on all that parse, and on the filter alone
-/// for the findings without a journal there. The last line of each text is that of `analyse`, or `nothing found`; after those of several
-/// texts a line says how many findings there are, and in how many of the texts. Before `nothing found` a text has its warnings that no
-/// comment of it allows, and how many they are. A text that doesn't parse and begins as a certificate, a journal or a script is taken for
-/// one: its report says why a line of it is malformed, and its last line is that of `check`, `replay` or `run`, or `nothing found`. A
+/// Reports on some texts for people: each finding with the lines of its file that show it, a path that leads there, how to fix it, and a
+/// journal that breaks what its rule prevents, if one is found. Journals are looked for by one search for all findings of a text, up to so
+/// many states: if several texts parse and the text's filter meets another one on an operation, half of them on all that parse, and on the
+/// filter alone for the findings without a journal there. The last line of each text is that of `analyse`, or `nothing found`; after those
+/// of several texts a line says how many findings there are, and in how many of the texts. Before `nothing found` a text has its warnings
+/// that no comment of it allows, and how many they are. A text that doesn't parse and begins as a certificate, a journal or a script is taken
+/// for one: its report says why a line of it is malformed, and its last line is that of `check`, `replay` or `run`, or `nothing found`. A
 /// script is taken for one for the filters of the texts that parse, or, if none does, for whichever filters it detaches.
 ///
 /// Unless it is held back, the report of each text but the last is put out before the next one's findings are looked for.
@@ -79,7 +80,7 @@ fn finished(printed: Printed) -> Told
 pub fn explain<O: Sink, W: SearchWatch>(
     alloc: Global,
     asking: Asking,
-    sources: &[Source<'_>],
+    sources: &[FileText<'_>],
     out: &mut O,
     watch: &mut W,
 ) -> Result<Told, ExplainFault>

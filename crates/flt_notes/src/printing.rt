@@ -26,13 +26,13 @@ use crate::setters::Setter;
 use crate::totals::Tally;
 use crate::warned::WarnedText;
 use crate::warnings::promise_and_warnings;
-use flt_details::{Source, fault_line, findings_line};
+use flt_details::{fault_line, findings_line};
 use flt_explain::{Finding, findings};
 use flt_graph::{Graph, lower};
 use flt_model::Violation;
 use flt_places::Lines;
 use flt_reasons::{Kind, Notice, describe};
-use flt_reports::{Report, report_findings, report_unread};
+use flt_reports::{FileText, Report, ShownFile, report_findings, report_unread};
 use flt_schedules::{
     Outcome, Outlook, Schedule, Scheduled, Suspect, Suspects, only, outcomes_among,
 };
@@ -69,7 +69,7 @@ pub(crate) struct Stage<'a> {
 /// A text that parses: the number of its tree, its tree, its points, its findings and its warnings.
 #[derive(Clone, Copy)]
 pub(crate) struct Known<'a> {
-    pub(crate) source: Source<'a>,
+    pub(crate) source: FileText<'a>,
     pub(crate) place: usize,
     pub(crate) tree: &'a Tree,
     pub(crate) graph: &'a Graph,
@@ -174,7 +174,7 @@ impl Stage<'_> {
     {
         let setter = Setter::of(
             self.alloc,
-            known.source,
+            known.source.text,
             known.tree,
             known.found,
             outlook.unset(),
@@ -392,13 +392,18 @@ impl Stage<'_> {
             known.entry.details.now said.items) }
     {
         let lines = Lines::of(self.alloc, known.source.text)?;
+        let file_lines = Lines::of(self.alloc, known.source.file)?;
+        let file = ShownFile {
+            name: known.source.name,
+            lines: &file_lines,
+        };
         let text = WarnedText {
             alloc: self.alloc,
             coloured: self.coloured,
             states: self.states,
             own: only(self.trees, known.place),
             tree: known.tree,
-            name: known.source.name,
+            file,
             lines: &lines,
         };
         promise_and_warnings(&text, known.details, watch)
@@ -465,7 +470,7 @@ impl Stage<'_> {
     /// The report of a text that parses. Its points, its findings and its warnings are computed here.
     fn parsed_part<W: SearchWatch>(
         &self,
-        source: Source<'_>,
+        source: FileText<'_>,
         place: usize,
         watch: &mut W,
     ) -> Result<Part, AllocError>
@@ -490,7 +495,7 @@ impl Stage<'_> {
     }
 
     /// The report of a text that doesn't parse.
-    fn unread_part(&self, source: Source<'_>, fault: SyntaxFault) -> Result<Part, AllocError>
+    fn unread_part(&self, source: FileText<'_>, fault: SyntaxFault) -> Result<Part, AllocError>
         requires unread { IsUnread source.text.now fault }
         ensures report { IfOk result (spec.HasReport self.now.options (filters_of self.now.trees.now) source.entry.text.now) }
         ensures print { IfOk result (spec.IsUnreadPart (spec.look_of self.now) source.entry) }
@@ -527,7 +532,7 @@ impl Stage<'_> {
     }
 
     /// The report of a certificate, a journal or a script.
-    fn notice_part(&self, source: Source<'_>, notice: &Notice<'_>) -> Result<Part, AllocError>
+    fn notice_part(&self, source: FileText<'_>, notice: &Notice<'_>) -> Result<Part, AllocError>
         ensures report { IfOk result (spec.ClosesNotice notice.now) }
         ensures print { IfOk result (spec.PrintsNotice (spec.look_of self.now) self.now.trees.now source.entry notice.now) }
         ensures silent { IfOk result (λ p. spec.IsSilent self.now.trees.now self.now.states p.output) }
@@ -545,7 +550,7 @@ impl Stage<'_> {
     }
 
     /// The report of a text that is taken for a certificate, a journal or a script.
-    fn other_part(&self, source: Source<'_>, kind: Kind) -> Result<Part, AllocError>
+    fn other_part(&self, source: FileText<'_>, kind: Kind) -> Result<Part, AllocError>
         requires other { IsOther source.text.now kind }
         ensures report { IfOk result (spec.HasReport self.now.options (filters_of self.now.trees.now) source.entry.text.now) }
         ensures print { IfOk result (spec.IsNoticePart (spec.look_of self.now) self.now.trees.now source.entry) }

@@ -4,7 +4,7 @@
 ghost use Rattle.std.specs.Prelude.{◌≡◌, ◌≤◌, ◌-◌, IfOk, IfSome, length, slice_get, string_bytes};
 ghost use Rattle.flt_notes.specs.Again as spec;
 
-use flt_details::{Judged, Source, judge};
+use flt_details::{Judged, judge};
 use flt_explain::Finding;
 use flt_graph::Graph;
 use flt_rules::{Operation, number};
@@ -185,18 +185,18 @@ impl Setter {
     /// If memory is refused.
     pub(crate) fn of(
         alloc: Global,
-        source: Source<'_>,
+        text: &[u8],
         tree: &Tree,
         found: &[Finding],
         unset: Unset,
     ) -> Result<Option<Setter>, AllocError>
-        ensures { IfOk result (λ s. IfSome s (spec.IsSetter source.entry.text.now)) }
+        ensures { IfOk result (λ s. IfSome s (spec.IsSetter text.now)) }
     {
         if !unset.stream && !unset.instance {
             return Ok(None);
         }
         match added_lines(alloc, &tree.filter, unset)? {
-            Some(added) => setter_with(alloc, source.text, found, added),
+            Some(added) => setter_with(alloc, text, found, added),
             None => Ok(None),
         }
     }

@@ -1,6 +1,7 @@
 //! A text with warnings.
 
 use flt_places::Lines;
+use flt_reports::ShownFile;
 use flt_tree::Tree;
 use std::alloc::Global;
 
@@ -14,6 +15,7 @@ pub(crate) struct WarnedText<'a> {
     /// The tree of the text, alone.
     pub(crate) own: &'a [Tree],
     pub(crate) tree: &'a Tree,
-    pub(crate) name: &'a str,
+    /// The file in which the text is.
+    pub(crate) file: ShownFile<'a>,
     pub(crate) lines: &'a Lines<'a>,
 }

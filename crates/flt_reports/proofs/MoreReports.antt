@@ -29,8 +29,8 @@ one_report_more R groups i one r all more less is kept new after =
     let next : i + 1 ≡ suc i = omega arith in
     rw (next, after) (one_more R groups all i one r less is kept new)
 
-module _ (coloured : Bool) (name text : Text) (f : Filter) (g : Graph) (traces : Traces) where
-  numbers_are : (groups : List Group) (all : List Report) → AllZip (IsReport coloured name text f g traces) groups all →
+module _ (coloured : Bool) (name file text : Text) (f : Filter) (g : Graph) (traces : Traces) where
+  numbers_are : (groups : List Group) (all : List Report) → AllZip (IsReport coloured name file text f g traces) groups all →
       numbers_of all ≡ map number_of groups
   numbers_are [] [] each = refl
   numbers_are [] (r ∷ all) each = absurd each
@@ -40,21 +40,23 @@ module _ (coloured : Bool) (name text : Text) (f : Filter) (g : Graph) (traces :
 
   -- the findings that have reports are the firsts of the groups
   firsts_of : (found : List Finding) (all : List Report) → AreTraces g found traces →
-      AllZip (IsReport coloured name text f g traces) traces.groups all → AreFirsts found (numbers_of all)
+      AllZip (IsReport coloured name file text f g traces) traces.groups all → AreFirsts found (numbers_of all)
   firsts_of found all traced each =
       subst (AreFirsts found) (sym (numbers_are traces.groups all each ∙ ap (map number_of) traced.groups)) (are_firsts found traces.shown)
 
 -- the findings of reports are the firsts of the groups
-pub reports_are_firsts : (coloured : Bool) (name text : Text) (f : Filter) (g : Graph) (found : List Finding) (all : List Report) →
-    AreReports coloured name text f g found all → AreFirsts found (numbers_of all)
-reports_are_firsts coloured name text f g found all are = firsts_of coloured name text f g are.traces found all are.traced are.each
+pub reports_are_firsts : (coloured : Bool) (name file text : Text) (f : Filter) (g : Graph) (found : List Finding) (all : List Report) →
+    AreReports coloured name file text f g found all → AreFirsts found (numbers_of all)
+reports_are_firsts coloured name file text f g found all are =
+    firsts_of coloured name file text f g are.traces found all are.traced are.each
 
 -- the same where the lines are those of the text
-pub reports_are : (coloured : Bool) (name text lines : Text) (f : Filter) (g : Graph) (found : List Finding) (traces : Traces)
-    (all : List Report) → lines ≡ text → AreTraces g found traces → AllZip (IsReport coloured name lines f g traces) traces.groups all →
-    AreReports coloured name text f g found all
-reports_are coloured name text lines f g found traces all same traced each = record {
+pub reports_are : (coloured : Bool) (name file text lines : Text) (f : Filter) (g : Graph) (found : List Finding) (traces : Traces)
+    (all : List Report) → lines ≡ text → AreTraces g found traces →
+    AllZip (IsReport coloured name file lines f g traces) traces.groups all →
+    AreReports coloured name file text f g found all
+reports_are coloured name file text lines f g found traces all same traced each = record {
   traces = traces;
   traced = traced;
-  each = subst (λ t. AllZip (IsReport coloured name t f g traces) traces.groups all) same each;
+  each = subst (λ t. AllZip (IsReport coloured name file t f g traces) traces.groups all) same each;
 }

@@ -11,6 +11,7 @@ use Rattle.flt_tree.specs.Names.{Text}
 use Rattle.flt_tree.specs.declared.filter.Position.{Position}
 use Rattle.flt_details.specs.Closing.{fault_name}
 use Rattle.flt_details.specs.Page.{shown}
+use Rattle.flt_reports.specs.FileText.{excerpt}
 use Rattle.flt_reports.specs.Heading.{at_place, heading}
 use Rattle.flt_reports.specs.Marks.{drawn, width}
 use Rattle.flt_reports.specs.declared.marks.Stroke.TheVariants as strokes
@@ -26,33 +27,34 @@ site_of s = record { place = place_of s; length = length s.bytes.now }
 abbrev pub meant_told : Text → Text
 meant_told meant = if length meant == 0 then [] else 32 ∷ shown meant
 
--- the line in which a text is refused, with marks under what stands there, and which word is meant
-unfoldable pub spot_drawn : Bool → Text → Spot → Text → Text
-spot_drawn coloured text s meant =
-    drawn coloured (width s.fault.line) 0 (line_of text s.fault.line) (site_of s) strokes.Error ++ (meant_told meant ++ 10 ∷ [])
+-- what is shown for the line in which a text is refused, with marks under what stands there, and which word is meant
+unfoldable pub spot_drawn : Bool → Text → Text → Spot → Text → Text
+spot_drawn coloured file text s meant =
+    drawn coloured (width s.fault.line) 0 (excerpt file text s.fault.line) (line_of text s.fault.line) (site_of s) strokes.Error
+    ++ (meant_told meant ++ 10 ∷ [])
 
 -- the same; nothing where the text is so large that it isn't cut into tokens
-unfoldable pub picture : Bool → Text → Spot → Text → Option Token → Text
-picture coloured text s meant None = []
-picture coloured text s meant (Some token) = spot_drawn coloured text s meant
+unfoldable pub picture : Bool → Text → Text → Spot → Text → Option Token → Text
+picture coloured file text s meant None = []
+picture coloured file text s meant (Some token) = spot_drawn coloured file text s meant
 
 -- what is wrong and where, the line with its marks, and how to fix it
-unfoldable pub fault_report : Bool → Text → Text → Spot → Text → Text → Text → Text
-fault_report coloured name text s title meant notes =
+unfoldable pub fault_report : Bool → Text → Text → Text → Spot → Text → Text → Text → Text
+fault_report coloured name file text s title meant notes =
     heading coloured (Some (fault_name s.fault.kind)) title name ++ (at_place (place_of s)
-    ++ (10 ∷ (picture coloured text s meant s.token ++ notes)))
+    ++ (10 ∷ (picture coloured file text s meant s.token ++ notes)))
 
 -- the report of a text's trouble, in the words that say it
-unfoldable pub trouble_report : Bool → Text → Text → Trouble → Text
-trouble_report coloured name text t = fault_report coloured name text t.spot (title_of t) (meant_of t) (notes_of t)
+unfoldable pub trouble_report : Bool → Text → Text → Text → Trouble → Text
+trouble_report coloured name file text t = fault_report coloured name file text t.spot (title_of t) (meant_of t) (notes_of t)
 
 -- the same; nothing where it has no trouble
-abbrev pub report_of : Bool → Text → Text → Option Trouble → Text
-report_of coloured name text None = []
-report_of coloured name text (Some t) = trouble_report coloured name text t
+abbrev pub report_of : Bool → Text → Text → Text → Option Trouble → Text
+report_of coloured name file text None = []
+report_of coloured name file text (Some t) = trouble_report coloured name file text t
 
 -- these lines are the report of a text that doesn't parse; there are none where it does
-pub record IsFaultReport (coloured : Bool) (name text lines : Text) : Type 0 where
+pub record IsFaultReport (coloured : Bool) (name file text lines : Text) : Type 0 where
   pub trouble : Option Trouble
   pub described : IsDescribed text trouble
-  pub told : lines ≡ report_of coloured name text trouble
+  pub told : lines ≡ report_of coloured name file text trouble

@@ -64,10 +64,10 @@ paths_told text g callback a =
     ++ (path_lines text g callback (codes "   = other path: ") (other_way a) ++ notes a)
 
 -- the lines that show a finding, and the paths to it; nothing where it isn't known what shows it
-unfoldable pub shown_part : Bool → Text → Graph → Finding → Text → Option Shown → Text
-shown_part coloured text g found subject None = []
-shown_part coloured text g found subject (Some s) =
-    shown_lines coloured text g found subject s ++ paths_told text g found.callback s.answer
+unfoldable pub shown_part : Bool → Text → Text → Graph → Finding → Text → Option Shown → Text
+shown_part coloured file text g found subject None = []
+shown_part coloured file text g found subject (Some s) =
+    shown_lines coloured file text g found subject s ++ paths_told text g found.callback s.answer
 
 -- ---- the others of its group
 
@@ -106,7 +106,7 @@ note_told note = if length note == 0 then [] else headed (codes "   = note: ") (
 -- ---- all of it
 
 -- what is wrong and where, what shows it, where the others of its group are, and how to fix it
-unfoldable pub finding_report : Bool → Text → Text → Graph → Finding → Words → Option Shown → List Traced → Text
-finding_report coloured name text g found w s others =
-    head_lines coloured name text g found w ++ (shown_part coloured text g found w.subject.items s
+unfoldable pub finding_report : Bool → Text → Text → Text → Graph → Finding → Words → Option Shown → List Traced → Text
+finding_report coloured name file text g found w s others =
+    head_lines coloured name text g found w ++ (shown_part coloured file text g found w.subject.items s
     ++ (others_told others ++ (help_told w.help.items ++ note_told w.note.items)))

@@ -65,7 +65,7 @@ unfoldable pub line_once : Bool → ℕ → ℕ → Text → ℕ → Text
 line_once coloured margin before line number =
     if number == before then [] else gap before number ++ numbered_line coloured margin number line
 
--- a site in its line with signs under it
-unfoldable pub drawn : Bool → ℕ → ℕ → Text → Site → Stroke → Text
-drawn coloured margin before line site stroke =
-    line_once coloured margin before (without_return line) site.place.line ++ marked coloured margin (without_return line) site stroke
+-- a site with signs under it, below what is shown for its line
+unfoldable pub drawn : Bool → ℕ → ℕ → Text → Text → Site → Stroke → Text
+drawn coloured margin before excerpt line site stroke =
+    line_once coloured margin before (without_return excerpt) site.place.line ++ marked coloured margin (without_return line) site stroke

@@ -1,4 +1,4 @@
--- The lines of a text that show a finding, with marks. This project's own program.
+-- The lines of a file that show a finding, with marks. This project's own program.
 use Rattle.std.specs.Prelude.{ℕ, Bool, List, [], ◌∷◌, ◌++◌, Option, Some, None}
 use Rattle.flt_explain.specs.declared.finding.Finding.{Finding}
 use Rattle.flt_graph.specs.Graph.{span_at}
@@ -13,6 +13,7 @@ use Rattle.flt_ways.specs.declared.answer.Answer.{Answer}
 use Rattle.flt_ways.specs.declared.answer.Way.{Way}
 use Rattle.flt_details.specs.Tracing.{other_way, way_of}
 use Rattle.flt_details.specs.declared.tracing.Shown.{Shown}
+use Rattle.flt_reports.specs.FileText.{excerpt}
 use Rattle.flt_reports.specs.MarkOrder.{all_placed, last_line}
 use Rattle.flt_reports.specs.MarkWords.{mark_told}
 use Rattle.flt_reports.specs.Marks.{drawn, width}
@@ -57,14 +58,15 @@ unfoldable pub stroke : Sign → Stroke
 stroke sign.Point = strokes.Error
 stroke _ = strokes.Aside
 
--- the marks of a finding, each in its line, with what it says, where this line was drawn before
-unfoldable pub all_drawn : Bool → ℕ → Text → Graph → Finding → Text → Answer → ℕ → List (Mark Sign) → Text
-all_drawn coloured margin text g found subject a before [] = []
-all_drawn coloured margin text g found subject a before (m ∷ marks) =
-    drawn coloured margin before (line_of text m.site.place.line) m.site (stroke m.sign) ++ (mark_told g found subject a m.sign
-    ++ all_drawn coloured margin text g found subject a m.site.place.line marks)
+-- the marks of a finding, each under what is shown for its line, with what it says, where this line was drawn before
+unfoldable pub all_drawn : Bool → ℕ → Text → Text → Graph → Finding → Text → Answer → ℕ → List (Mark Sign) → Text
+all_drawn coloured margin file text g found subject a before [] = []
+all_drawn coloured margin file text g found subject a before (m ∷ marks) =
+    drawn coloured margin before (excerpt file text m.site.place.line) (line_of text m.site.place.line) m.site (stroke m.sign)
+    ++ (mark_told g found subject a m.sign ++ all_drawn coloured margin file text g found subject a m.site.place.line marks)
 
 -- all of them
-unfoldable pub shown_lines : Bool → Text → Graph → Finding → Text → Shown → Text
-shown_lines coloured text g found subject s =
-    all_drawn coloured (width (last_line found.line (marks_of text g found s))) text g found subject s.answer 0 (marks_of text g found s)
+unfoldable pub shown_lines : Bool → Text → Text → Graph → Finding → Text → Shown → Text
+shown_lines coloured file text g found subject s =
+    all_drawn coloured (width (last_line found.line (marks_of text g found s))) file text g found subject s.answer 0
+    (marks_of text g found s)

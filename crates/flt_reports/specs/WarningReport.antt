@@ -10,6 +10,7 @@ use Rattle.flt_warning_details.specs.declared.detail.RelatedPlace.{RelatedPlace}
 use Rattle.flt_warning_details.specs.declared.detail.WarningDetail.{WarningDetail}
 use Rattle.flt_warnings.specs.Kinds.{kind_name}
 use Rattle.flt_warnings.specs.declared.warning.Site.{Site as Point}
+use Rattle.flt_reports.specs.FileText.{excerpt}
 use Rattle.flt_reports.specs.Finding.{head_told, help_told, note_told, numbers_told}
 use Rattle.flt_reports.specs.Heading.{at_place, warning_heading}
 use Rattle.flt_reports.specs.MarkOrder.{all_placed, last_line}
@@ -72,21 +73,21 @@ unfoldable pub mark_words : List RelatedPlace → Option ℕ → Text
 mark_words related None = 10 ∷ []
 mark_words related (Some number) = words_of (slice_get related number)
 
--- each mark in its line, with what it says, where this line was drawn before
-unfoldable pub all_drawn : Bool → ℕ → Text → List RelatedPlace → ℕ → List (Mark (Option ℕ)) → Text
-all_drawn coloured margin text related before [] = []
-all_drawn coloured margin text related before (m ∷ marks) =
-    drawn coloured margin before (line_of text m.site.place.line) m.site (stroke m.sign) ++ (mark_words related m.sign
-    ++ all_drawn coloured margin text related m.site.place.line marks)
+-- each mark under what is shown for its line, with what it says, where this line was drawn before
+unfoldable pub all_drawn : Bool → ℕ → Text → Text → List RelatedPlace → ℕ → List (Mark (Option ℕ)) → Text
+all_drawn coloured margin file text related before [] = []
+all_drawn coloured margin file text related before (m ∷ marks) =
+    drawn coloured margin before (excerpt file text m.site.place.line) (line_of text m.site.place.line) m.site (stroke m.sign)
+    ++ (mark_words related m.sign ++ all_drawn coloured margin file text related m.site.place.line marks)
 
 -- all of them
-unfoldable pub places_drawn : Bool → Text → WarningDetail → Text
-places_drawn coloured text d =
-    all_drawn coloured (width (last_line d.marks.statement.first.line (marks_of text d))) text d.related 0 (marks_of text d)
+unfoldable pub places_drawn : Bool → Text → Text → WarningDetail → Text
+places_drawn coloured file text d =
+    all_drawn coloured (width (last_line d.marks.statement.first.line (marks_of text d))) file text d.related 0 (marks_of text d)
 
 -- ---- all of it
 
 -- what a warning says and where, its places, what to write, and what may come of it
-unfoldable pub warning_report : Bool → Text → Text → WarningDetail → Text
-warning_report coloured name text d =
-    head_lines coloured name d ++ (places_drawn coloured text d ++ (help_told d.help ++ note_told d.note))
+unfoldable pub warning_report : Bool → Text → Text → Text → WarningDetail → Text
+warning_report coloured name file text d =
+    head_lines coloured name d ++ (places_drawn coloured file text d ++ (help_told d.help ++ note_told d.note))

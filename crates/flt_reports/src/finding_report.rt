@@ -6,6 +6,7 @@ ghost use Rattle.flt_details.specs.Page.{Writes};
 ghost use Rattle.flt_reports.specs.Finding as spec;
 ghost use Rattle.flt_reports.specs.Indents.{headed};
 
+use crate::file_text::ShownFile;
 use crate::heading::{tell_heading, tell_place};
 use crate::indents::begin;
 use crate::shown_lines::draw_shown;
@@ -13,7 +14,7 @@ use crate::way_lines::tell_way;
 use flt_details::{Page, Scene, Shown, Words};
 use flt_explain::Finding;
 use flt_origins::Traced;
-use flt_places::lines_of;
+use flt_places::{Lines, lines_of};
 use flt_rules::Rule;
 use flt_ways::Answer;
 use std::alloc::{AllocError, Global};
@@ -122,18 +123,19 @@ fn tell_shown(
     alloc: Global,
     page: &mut Page,
     coloured: bool,
+    file: &Lines<'_>,
     scene: &Scene<'_>,
     finding: &Finding,
     subject: &[u8],
     shown: Option<&Shown>,
 ) -> Result<(), AllocError>
     ensures { Writes result page.old page.new
-        (spec.shown_part coloured scene.now.lines.now scene.now.graph.now finding.now subject.now (option_copied shown.entry)) }
+        (spec.shown_part coloured file.now scene.now.lines.now scene.now.graph.now finding.now subject.now (option_copied shown.entry)) }
 {
     let Some(shown) = shown else {
         return Ok(());
     };
-    draw_shown(alloc, page, coloured, scene, finding, subject, shown)?;
+    draw_shown(alloc, page, coloured, file, scene, finding, subject, shown)?;
     tell_ways(page, scene, finding.callback, shown)
 }
 
@@ -207,14 +209,14 @@ pub(crate) fn tell_note(page: &mut Page, note: &[u8]) -> Result<(), AllocError>
 
 // ---- all of it
 
-/// Writes the report of a finding: its title and place, the lines and paths that show it, the lines of the others of its group, and how to
-/// fix it.
+/// Writes the report of a finding in a text that is in a file: its title and place, the file's lines and the paths that show it, the lines
+/// of the others of its group, and how to fix it.
 #[tactic(auto, unfolding(crate::specs::Finding::finding_report))]
 pub(crate) fn report_finding(
     alloc: Global,
     page: &mut Page,
     coloured: bool,
-    name: &str,
+    file: ShownFile<'_>,
     scene: &Scene<'_>,
     finding: &Finding,
     words: &Words,
@@ -222,12 +224,14 @@ pub(crate) fn report_finding(
     others: &[Traced],
 ) -> Result<(), AllocError>
     ensures { Writes result page.old page.new
-        (spec.finding_report coloured name.now scene.now.lines.now scene.now.graph.now finding.now words.now (option_copied shown.entry)
-        others.now) }
+        (spec.finding_report coloured file.entry.name.now file.entry.lines.now scene.now.lines.now scene.now.graph.now finding.now words.now
+        (option_copied shown.entry) others.now) }
 {
     let subject = words.subject.as_slice();
-    tell_head(page, coloured, name, scene, finding, words)?;
-    tell_shown(alloc, page, coloured, scene, finding, subject, shown)?;
+    tell_head(page, coloured, file.name, scene, finding, words)?;
+    tell_shown(
+        alloc, page, coloured, file.lines, scene, finding, subject, shown,
+    )?;
     tell_others(page, others)?;
     tell_help(alloc, page, words.help.as_slice())?;
     tell_note(page, words.note.as_slice())

@@ -64,7 +64,13 @@ fn draw(page: &mut Page, coloured: bool, marked: &MarkedLine<'_>) -> Result<(), 
         place: place_of(marked),
         length: marked.marked,
     };
-    Drawing::new(coloured, marked.line).draw(page, marked.shown, &site, Stroke::Error)?;
+    Drawing::new(coloured, marked.line).draw(
+        page,
+        marked.shown,
+        marked.shown,
+        &site,
+        Stroke::Error,
+    )?;
     tell_meant(page, marked.meant)
 }
 

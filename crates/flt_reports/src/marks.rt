@@ -162,25 +162,25 @@ impl Drawing {
         page.run(sign_of(stroke), signs(line, site), plain(self.coloured))
     }
 
-    /// Draws a site in its line with signs under it; the line only if it isn't the last one drawn. The words of the mark follow on the
-    /// page.
+    /// Draws signs under a site in a line, below the excerpt for that line; the excerpt only if its line isn't the last one drawn. The
+    /// words of the mark follow on the page.
     #[tactic(auto, unfolding(crate::specs::Marks::drawn))]
     pub(crate) fn draw(
         &mut self,
         page: &mut Page,
+        excerpt: &[u8],
         line: &[u8],
         site: &Site,
         stroke: Stroke,
     ) -> Result<(), AllocError>
         ensures drawn { Writes result page.old page.new
-            (spec.drawn self.old.coloured self.old.margin self.old.last line.now site.now stroke) }
+            (spec.drawn self.old.coloured self.old.margin self.old.last excerpt.now line.now site.now stroke) }
         ensures coloured { OnOk result (self.new.coloured ≡ self.old.coloured) }
         ensures margin { OnOk result (self.new.margin ≡ self.old.margin) }
         ensures last { OnOk result (self.new.last ≡ site.now.place.line) }
     {
-        let line = without_return(line);
-        self.draw_once(page, line, site.place.line)?;
+        self.draw_once(page, without_return(excerpt), site.place.line)?;
         self.last = site.place.line;
-        self.draw_marks(page, line, site, stroke)
+        self.draw_marks(page, without_return(line), site, stroke)
     }
 }

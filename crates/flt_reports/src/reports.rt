@@ -9,8 +9,9 @@ ghost use Rattle.flt_reports.specs.Finding.{finding_report};
 ghost use Rattle.flt_reports.specs.Reports as spec;
 
 use crate::fault_report::report_fault;
+use crate::file_text::{FileText, ShownFile};
 use crate::finding_report::report_finding;
-use flt_details::{Page, Scene, Source, Traces, Words, words_of};
+use flt_details::{Page, Scene, Traces, Words, words_of};
 use flt_explain::Finding;
 use flt_graph::Graph;
 use flt_origins::Group;
@@ -34,21 +35,21 @@ pub struct Report {
 fn lines_in(
     alloc: Global,
     coloured: bool,
-    name: &str,
+    file: ShownFile<'_>,
     scene: &Scene<'_>,
     traces: &Traces,
     group: &Group,
     words: &Words,
 ) -> Result<Vec<u8>, AllocError>
-    ensures { IfOk result (λ lines. lines.items ≡ finding_report coloured name.now scene.now.lines.now scene.now.graph.now
-        group.now.first.finding words.now (slice_get traces.now.shown group.now.first.number) group.now.others) }
+    ensures { IfOk result (λ lines. lines.items ≡ finding_report coloured file.entry.name.now file.entry.lines.now scene.now.lines.now
+        scene.now.graph.now group.now.first.finding words.now (slice_get traces.now.shown group.now.first.number) group.now.others) }
 {
     let mut page = Page::new(alloc);
     let finding = group.first.finding;
     let shown = traces.shown(&group.first);
     let others = group.others.as_slice();
     report_finding(
-        alloc, &mut page, coloured, name, scene, &finding, words, shown, others,
+        alloc, &mut page, coloured, file, scene, &finding, words, shown, others,
     )?;
     Ok(page.out)
 }
@@ -57,17 +58,17 @@ fn lines_in(
 fn group_lines(
     alloc: Global,
     coloured: bool,
-    name: &str,
+    file: ShownFile<'_>,
     scene: &Scene<'_>,
     traces: &Traces,
     group: &Group,
 ) -> Result<Vec<u8>, AllocError>
-    ensures { IfOk result (λ lines. spec.AreLines coloured name.now scene.now.lines.now scene.now.tree.now.filter scene.now.graph.now
-        traces.now group.now lines.items) }
+    ensures { IfOk result (λ lines. spec.AreLines coloured file.entry.name.now file.entry.lines.now scene.now.lines.now
+        scene.now.tree.now.filter scene.now.graph.now traces.now group.now lines.items) }
 {
     let finding = group.first.finding;
     let words = words_of(alloc, scene, &finding, traces.shown(&group.first))?;
-    let lines = lines_in(alloc, coloured, name, scene, traces, group, &words)?;
+    let lines = lines_in(alloc, coloured, file, scene, traces, group, &words)?;
     Ok(lines)
 }
 
@@ -75,15 +76,16 @@ fn group_lines(
 fn report_of(
     alloc: Global,
     coloured: bool,
-    name: &str,
+    file: ShownFile<'_>,
     scene: &Scene<'_>,
     traces: &Traces,
     group: &Group,
 ) -> Result<Report, AllocError>
     ensures { IfOk result
-        (spec.IsReport coloured name.now scene.now.lines.now scene.now.tree.now.filter scene.now.graph.now traces.now group.now) }
+        (spec.IsReport coloured file.entry.name.now file.entry.lines.now scene.now.lines.now scene.now.tree.now.filter scene.now.graph.now
+        traces.now group.now) }
 {
-    let lines = group_lines(alloc, coloured, name, scene, traces, group)?;
+    let lines = group_lines(alloc, coloured, file, scene, traces, group)?;
     Ok(Report {
         finding: group.first.number,
         is_behind: traces.is_behind(&group.first),
@@ -95,17 +97,17 @@ fn report_of(
 fn report_groups(
     alloc: Global,
     coloured: bool,
-    name: &str,
+    file: ShownFile<'_>,
     scene: &Scene<'_>,
     traces: &Traces,
 ) -> Result<Items<Report>, AllocError>
     ensures { IfOk result
-        (AllZip (spec.IsReport coloured name.now scene.now.lines.now scene.now.tree.now.filter scene.now.graph.now traces.now)
-        traces.now.groups) }
+        (AllZip (spec.IsReport coloured file.entry.name.now file.entry.lines.now scene.now.lines.now scene.now.tree.now.filter
+        scene.now.graph.now traces.now) traces.now.groups) }
 {
     let mut all = Items::new(alloc);
     for group in traces.groups.as_slice() {
-        all.push(report_of(alloc, coloured, name, scene, traces, group)?)?;
+        all.push(report_of(alloc, coloured, file, scene, traces, group)?)?;
     }
     Ok(all)
 }
@@ -120,23 +122,28 @@ fn report_groups(
 pub fn report_findings(
     alloc: Global,
     coloured: bool,
-    source: Source<'_>,
+    source: FileText<'_>,
     tree: &Tree,
     graph: &Graph,
     found: &[Finding],
 ) -> Result<Items<Report>, AllocError>
     ensures reports { IfOk result
-        (spec.AreReports coloured source.entry.name.now source.entry.text.now tree.now.filter graph.now found.now) }
+        (spec.AreReports coloured source.entry.name.now source.entry.file.now source.entry.text.now tree.now.filter graph.now found.now) }
     ensures firsts { IfOk result (λ all. AreFirsts found.now (spec.numbers_of all)) }
 {
     let lines = Lines::of(alloc, source.text)?;
+    let file_lines = Lines::of(alloc, source.file)?;
+    let file = ShownFile {
+        name: source.name,
+        lines: &file_lines,
+    };
     let scene = Scene {
         lines: &lines,
         tree,
         graph,
     };
     let traces = Traces::of(alloc, graph, found)?;
-    let reports = report_groups(alloc, coloured, source.name, &scene, &traces)?;
+    let reports = report_groups(alloc, coloured, file, &scene, &traces)?;
     Ok(reports)
 }
 
@@ -173,9 +180,9 @@ pub fn report_nothing(alloc: Global, name: &str) -> Result<Vec<u8>, AllocError>
 pub fn report_unread(
     alloc: Global,
     coloured: bool,
-    source: Source<'_>,
+    source: FileText<'_>,
 ) -> Result<Vec<u8>, AllocError>
-    ensures { IfOk result (λ lines. IsFaultReport coloured source.entry.name.now source.entry.text.now lines.items) }
+    ensures { IfOk result (λ lines. IsFaultReport coloured source.entry.name.now source.entry.file.now source.entry.text.now lines.items) }
 {
     report_fault(alloc, coloured, source)
 }

@@ -1,4 +1,4 @@
-//! The lines of a text that show a finding, with marks: its point, its origin, and the point where paths meet.
+//! The lines of a file that show a finding, with marks: its point, its origin, and the point where paths meet.
 
 ghost use Rattle.std.specs.Prelude.{◌≡◌, option_copied, IfOk, OnOk};
 ghost use Rattle.flt_details.specs.Tracing.{other_way, way_of};
@@ -6,12 +6,14 @@ ghost use Rattle.flt_details.specs.Page.{Writes};
 ghost use Rattle.flt_reports.specs.MarkOrder.{all_placed};
 ghost use Rattle.flt_reports.specs.Shown as spec;
 
+use crate::file_text::excerpt;
 use crate::mark_order::{Mark, add_mark, last_line};
 use crate::mark_words::{Sign, tell_mark};
 use crate::marks::{Drawing, Stroke};
 use flt_details::{Page, Scene, Shown};
 use flt_explain::Finding;
 use flt_origins::{Cause, Origin};
+use flt_places::Lines;
 use std::alloc::{AllocError, Global};
 
 // ---- which marks
@@ -103,6 +105,7 @@ fn stroke(sign: Sign) -> Stroke
 fn draw_marks(
     page: &mut Page,
     drawing: &mut Drawing,
+    file: &Lines<'_>,
     scene: &Scene<'_>,
     finding: &Finding,
     subject: &[u8],
@@ -110,33 +113,45 @@ fn draw_marks(
     marks: &[Mark<Sign>],
 ) -> Result<(), AllocError>
     ensures { Writes result page.old page.new
-        (spec.all_drawn drawing.old.coloured drawing.old.margin scene.now.lines.now scene.now.graph.now finding.now subject.now
+        (spec.all_drawn drawing.old.coloured drawing.old.margin file.now scene.now.lines.now scene.now.graph.now finding.now subject.now
         shown.now.answer drawing.old.last marks.now) }
 {
     for mark in marks {
-        let line = scene.lines.line(mark.site.place.line);
-        drawing.draw(page, line, &mark.site, stroke(mark.sign))?;
+        let number = mark.site.place.line;
+        let line = scene.lines.line(number);
+        let excerpt = excerpt(&*file, &*scene.lines, number);
+        drawing.draw(page, excerpt, line, &mark.site, stroke(mark.sign))?;
         tell_mark(page, scene, finding, subject, shown, mark.sign)?;
     }
     Ok(())
 }
 
-/// Draws the lines that show a finding, in their order in the text: on a path, or, if no path is known, its point and its possible origin.
+/// Draws the lines of a file that show a finding, in their order: on a path, or, if no path is known, its point and its possible origin.
 #[tactic(auto, unfolding(crate::specs::Shown::shown_lines))]
 pub(crate) fn draw_shown(
     alloc: Global,
     page: &mut Page,
     coloured: bool,
+    file: &Lines<'_>,
     scene: &Scene<'_>,
     finding: &Finding,
     subject: &[u8],
     shown: &Shown,
 ) -> Result<(), AllocError>
     ensures { Writes result page.old page.new
-        (spec.shown_lines coloured scene.now.lines.now scene.now.graph.now finding.now subject.now shown.now) }
+        (spec.shown_lines coloured file.now scene.now.lines.now scene.now.graph.now finding.now subject.now shown.now) }
 {
     let marks = marks_of(alloc, scene, finding, shown)?;
     let marks = marks.as_slice();
     let mut drawing = Drawing::new(coloured, last_line(finding.line, marks));
-    draw_marks(page, &mut drawing, scene, finding, subject, shown, marks)
+    draw_marks(
+        page,
+        &mut drawing,
+        file,
+        scene,
+        finding,
+        subject,
+        shown,
+        marks,
+    )
 }

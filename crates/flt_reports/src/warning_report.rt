@@ -5,6 +5,7 @@ ghost use Rattle.flt_details.specs.Page.{Writes};
 ghost use Rattle.flt_reports.specs.MarkOrder.{all_placed};
 ghost use Rattle.flt_reports.specs.WarningReport as spec;
 
+use crate::file_text::{ShownFile, excerpt};
 use crate::finding_report::{tell_callback, tell_help, tell_note, tell_numbers};
 use crate::heading::{tell_place, tell_warning_heading};
 use crate::mark_order::{Mark, add_mark, last_line};
@@ -156,16 +157,24 @@ fn tell_mark(
 fn draw_marks(
     page: &mut Page,
     drawing: &mut Drawing,
+    file: &Lines<'_>,
     lines: &Lines<'_>,
     related: &[RelatedPlace],
     marks: &[Mark<Option<usize>>],
 ) -> Result<(), AllocError>
     ensures { Writes result page.old page.new
-        (spec.all_drawn drawing.old.coloured drawing.old.margin lines.now related.now drawing.old.last marks.now) }
+        (spec.all_drawn drawing.old.coloured drawing.old.margin file.now lines.now related.now drawing.old.last marks.now) }
 {
     for mark in marks {
-        let line = lines.line(mark.site.place.line);
-        drawing.draw(page, line, &mark.site, stroke(mark.sign))?;
+        let number = mark.site.place.line;
+        let excerpt = excerpt(&*file, &*lines, number);
+        drawing.draw(
+            page,
+            excerpt,
+            lines.line(number),
+            &mark.site,
+            stroke(mark.sign),
+        )?;
         tell_mark(page, related, mark.sign)?;
     }
     Ok(())
@@ -177,16 +186,18 @@ fn draw_places(
     alloc: Global,
     page: &mut Page,
     coloured: bool,
+    file: &Lines<'_>,
     lines: &Lines<'_>,
     detail: &WarningDetail,
 ) -> Result<(), AllocError>
-    ensures { Writes result page.old page.new (spec.places_drawn coloured lines.now detail.now) }
+    ensures { Writes result page.old page.new (spec.places_drawn coloured file.now lines.now detail.now) }
 {
     let marks = marks_of(alloc, lines, detail)?;
     let marks = marks.as_slice();
     let first = detail.marks.statement.first.line;
     let mut drawing = Drawing::new(coloured, last_line(first, marks));
-    draw_marks(page, &mut drawing, lines, detail.related.as_slice(), marks)
+    let related = detail.related.as_slice();
+    draw_marks(page, &mut drawing, file, lines, related, marks)
 }
 
 // ---- all of it
@@ -197,20 +208,21 @@ fn tell(
     alloc: Global,
     page: &mut Page,
     coloured: bool,
-    name: &str,
+    file: ShownFile<'_>,
     lines: &Lines<'_>,
     detail: &WarningDetail,
 ) -> Result<(), AllocError>
-    ensures { Writes result page.old page.new (spec.warning_report coloured name.now lines.now detail.now) }
+    ensures { Writes result page.old page.new
+        (spec.warning_report coloured file.entry.name.now file.entry.lines.now lines.now detail.now) }
 {
-    tell_head_lines(page, coloured, name, detail)?;
-    draw_places(alloc, page, coloured, lines, detail)?;
+    tell_head_lines(page, coloured, file.name, detail)?;
+    draw_places(alloc, page, coloured, file.lines, lines, detail)?;
     tell_help(alloc, page, detail.help.as_slice())?;
     tell_note(page, detail.note.as_slice())
 }
 
-/// The report of a warning in a file of this name, which has these lines: its title and place, the lines of its places, what to write, and
-/// what may result from it, in whole lines. With `coloured`, escape sequences of a terminal colour them.
+/// The report of a warning in a text of these lines, which is in this file: its title and place, the file's lines at its places, what to
+/// write, and what may result from it, in whole lines. With `coloured`, escape sequences of a terminal colour them.
 ///
 /// # Errors
 ///
@@ -218,13 +230,14 @@ fn tell(
 pub fn report_warning(
     alloc: Global,
     coloured: bool,
-    name: &str,
+    file: ShownFile<'_>,
     lines: &Lines<'_>,
     detail: &WarningDetail,
 ) -> Result<Vec<u8>, AllocError>
-    ensures { IfOk result (λ report. report.items ≡ spec.warning_report coloured name.now lines.now detail.now) }
+    ensures { IfOk result (λ report. report.items
+        ≡ spec.warning_report coloured file.entry.name.now file.entry.lines.now lines.now detail.now) }
 {
     let mut page = Page::new(alloc);
-    tell(alloc, &mut page, coloured, name, lines, detail)?;
+    tell(alloc, &mut page, coloured, file, lines, detail)?;
     Ok(page.out)
 }

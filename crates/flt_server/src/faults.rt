@@ -15,8 +15,10 @@ use std::alloc::{AllocError, Global};
 /// The greatest number of bytes of a text that is read.
 const MAX_TEXT: usize = 65_536;
 
-/// The mark with which further lines of a report begin.
-const MARK: &[u8] = b"   = ";
+/// The marks with which further lines of a report begin.
+const NOTE: &[u8] = b"   = note: ";
+
+const HELP: &[u8] = b"   = help: ";
 
 /// The members that each diagnostic begins with, after its place: a severity of the protocol, and the number of the rule or the fault.
 pub(crate) fn put_kind(writer: &mut Writer, severity: usize, code: &str) -> Result<(), AllocError> {
@@ -25,10 +27,18 @@ pub(crate) fn put_kind(writer: &mut Writer, severity: usize, code: &str) -> Resu
     put_string(writer, "source", "fltstack")
 }
 
+/// The words of a further line of a report.
+fn words_of(line: &[u8]) -> &[u8] {
+    match line.strip_prefix(NOTE) {
+        Some(words) => words,
+        None => line.strip_prefix(HELP).unwrap_or(line),
+    }
+}
+
 fn add_notes(alloc: Global, out: &mut Vec<u8>, notes: &[u8]) -> Result<(), AllocError> {
     let lines = lines_of(alloc, notes)?;
     for line in lines.as_slice() {
-        add_line(out, line.strip_prefix(MARK).unwrap_or(line))?;
+        add_line(out, words_of(line))?;
     }
     Ok(())
 }
@@ -102,6 +112,28 @@ pub(crate) fn put_unanalysed(
     writer.end_object()
 }
 
+/// The diagnostic that says that something isn't looked at while a text is edited, at the first byte.
+fn put_spared(writer: &mut Writer, document: &Document<'_>, words: &str) -> Result<(), AllocError> {
+    writer.begin_object()?;
+    document.put_part(writer, "range", Part { start: 0, end: 0 })?;
+    put_number(writer, "severity", 3)?;
+    put_string(writer, "source", "fltstack")?;
+    put_string(writer, "message", words)?;
+    writer.end_object()
+}
+
+/// The diagnostic that says that a C file is too long to be read while it is edited.
+pub(crate) fn put_unread_in_c(
+    writer: &mut Writer,
+    document: &Document<'_>,
+) -> Result<(), AllocError> {
+    put_spared(
+        writer,
+        document,
+        "the file has more than 65,536 bytes, too many to be read while it is edited: `fltstack explain` reads it",
+    )
+}
+
 /// The diagnostic that says how many others aren't sent, at the place of the first of them.
 pub(crate) fn put_rest(
     alloc: Global,
@@ -121,21 +153,16 @@ pub(crate) fn put_rest(
     writer.end_object()
 }
 
-/// The diagnostic that says that warnings aren't searched for, at the first byte.
+/// The diagnostic that says that warnings aren't searched for.
 pub(crate) fn put_unsearched(
     writer: &mut Writer,
     document: &Document<'_>,
 ) -> Result<(), AllocError> {
-    writer.begin_object()?;
-    document.put_part(writer, "range", Part { start: 0, end: 0 })?;
-    put_number(writer, "severity", 3)?;
-    put_string(writer, "source", "fltstack")?;
-    put_string(
+    put_spared(
         writer,
-        "message",
+        document,
         "the text uses values of contexts too often to be searched for warnings while it is edited: `fltstack explain` has them",
-    )?;
-    writer.end_object()
+    )
 }
 
 /// Whether a text has more bytes than are read.

@@ -35,6 +35,7 @@ returns-clause-said g c =
       c.as_slice-5.ensures.value,
       c.as_slice-6.ensures.value,
       c.as_slice-7.ensures.value,
+      c.as_slice-8.ensures.value,
       c.placed.ensures.first,
       c.placed.ensures.within,
       c.worth.ensures,

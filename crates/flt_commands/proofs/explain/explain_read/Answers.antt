@@ -11,7 +11,8 @@ returns-clause-told g c =
     map (told_name c.args.asked.form) (map (λ (n : Bor (List ℕ)). n.now) c.args.names.now) =
     c.in_ok-sources.ensures.names ∙ ap (λ ns. map string_bytes ns) c.as_slice.ensures.value ∙ c.in_ok-names.ensures
     ∙ sym (mapped_twice (λ (n : Bor (List ℕ)). n.now) (told_name c.args.asked.form) c.args.names.now) in
-    told_under _ _ _ _ _ _ _ _ _ named c.in_ok-sources.ensures.texts (rw c.as_slice-sources.ensures.value at c.told.ensures.told)
+    told_under _ _ _ _ _ _ _ _ _ _ named c.in_ok-sources.ensures.texts c.in_ok-sources.ensures.files
+    (rw c.as_slice-sources.ensures.value at c.told.ensures.told)
     (rw c.as_slice-sources.ensures.value at c.told.ensures.noted) (rw c.as_slice-sources.ensures.value at c.told.ensures.notes)
     (rw c.as_slice-sources.ensures.value at c.told.ensures.print)
 

@@ -1,5 +1,5 @@
 use Rattle.std.proofs.Common.{take}
-use Rattle.flt_details.specs.Reports.{texts_of}
+use Rattle.flt_reports.specs.FileText.{texts_of}
 use Rattle.flt_commands.specs.FindingRuns.{AreTrees}
 use Rattle.flt_commands.proofs.finding_runs.parsed_of.Given as goal
 
