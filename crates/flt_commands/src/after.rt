@@ -1,7 +1,7 @@
 //! The output of `explain` for some texts, after the drifts of C files.
 
 ghost use Rattle.std.specs.Io.KnownBytes.{Appends};
-ghost use Rattle.std.specs.Prelude.{◌≡◌, ◌≢◌, ⊥, IfErr, IfOk, IsTrue, OnOk, false, length, map, option_map, take};
+ghost use Rattle.std.specs.Prelude.{◌≡◌, ◌≢◌, IfErr, IfOk, IsTrue, OnOk, false, length, map, option_map, take};
 ghost use Rattle.flt_commands.specs.Explain as spec;
 
 use crate::explain::{Asked, explain_read};
@@ -110,7 +110,7 @@ fn explain_early<O: Sink, W: SearchWatch>(
 
 /// The output for the texts of some files, in a form, with files that aren't read, after some drifts, or with some within a page. The first
 /// drifts are written at once, and the output for each text as soon as it is made, unless all of it is held back.
-#[tactic(auto, using(crate::proofs::Sent::none_sent, crate::proofs::After::nothing_after))]
+#[tactic(auto, using(crate::proofs::Sent::none_sent, crate::proofs::AfterDrifts::nothing_after))]
 pub(crate) fn explain_after<O: Sink, W: SearchWatch>(
     alloc: Global,
     asked: Asked<'_>,
