@@ -1,7 +1,7 @@
 //! The output of `explain` for some texts, after the drifts of C files.
 
 ghost use Rattle.std.specs.Io.KnownBytes.{Appends};
-ghost use Rattle.std.specs.Prelude.{◌≡◌, ◌≢◌, ⊥, IfErr, IfOk, IsTrue, OnOk, false, length, map, option_map, take};
+ghost use Rattle.std.specs.Prelude.{◌≡◌, ◌≢◌, IfErr, IfOk, IsTrue, OnOk, false, length, map, option_map, take};
 ghost use Rattle.flt_commands.specs.Explain as spec;
 
 use crate::explain::{Asked, explain_read};
