@@ -57,7 +57,7 @@ fn explain_held<O: Sink, W: SearchWatch>(
     out: &mut O,
     watch: &mut W,
 ) -> Result<Told, CommandFault>
-    requires back { spec.HoldsBack asked.entry.form (option_map (λ name. name.now) asked.entry.journal) }
+    requires back { spec.HoldsBack asked.form (option_map (λ name. name.now) asked.journal) }
     requires each { length texts.now ≡ length names.now }
     ensures told { IfOk result (spec.IsToldAfter first.items within.now worth asked.entry.form (spec.look_of asked.entry)
         (option_map (λ name. name.now) asked.entry.journal) (map (λ name. name.now) names.now) (map (λ text. text.items) texts.now)

@@ -80,7 +80,7 @@ fn part(
 
 /// The drifts of files as they are printed, and whether there is one that isn't a note.
 #[derive(Drop)]
-pub(crate) struct PrintedDrifts {
+pub(crate) struct Drifted {
     pub(crate) printed: Vec<u8>,
     is_some: bool,
 }
@@ -88,7 +88,7 @@ pub(crate) struct PrintedDrifts {
 /// Adds the drifts of the C file of a name.
 fn add_code(
     alloc: Global,
-    drifted: &mut PrintedDrifts,
+    drifted: &mut Drifted,
     form: Form,
     allowed: &[&str],
     name: &str,
@@ -109,7 +109,7 @@ fn add_code(
 /// Adds the drifts of the file of a name, if it is a C file.
 fn add_file(
     alloc: Global,
-    drifted: &mut PrintedDrifts,
+    drifted: &mut Drifted,
     form: Form,
     allowed: &[&str],
     name: &str,
@@ -146,13 +146,13 @@ pub(crate) fn tell_drifts(
     allowed: &[&str],
     names: &[&str],
     files: &[Option<Vec<u8>>],
-) -> Result<PrintedDrifts, AllocError>
+) -> Result<Drifted, AllocError>
     ensures printed { IfOk result (λ d. d.printed.items ≡ spec.drifts_told form (map (λ name. name.now) allowed.now)
         (map (λ name. name.now) names.now) (map (option_map (λ code. code.items)) files.now)) }
     ensures some { IfOk result (λ d. d.is_some
         ≡ list_any (spec.is_drifted (map (λ name. name.now) allowed.now)) (map (option_map (λ code. code.items)) files.now)) }
 {
-    let mut drifted = PrintedDrifts {
+    let mut drifted = Drifted {
         printed: Vec::new(alloc),
         is_some: false,
     };
@@ -171,7 +171,7 @@ pub(crate) fn tell_drifts(
     Ok(drifted)
 }
 
-impl PrintedDrifts {
+impl Drifted {
     /// The exit status: 1 if warnings count and there is a drift that isn't a note.
     pub(crate) fn worth(&self, is_strict: bool) -> u8
         ensures { result ≡ spec.worth is_strict self.now.is_some }
