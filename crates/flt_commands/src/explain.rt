@@ -13,7 +13,7 @@ ghost use Rattle.flt_reports.specs.FileText.{plain, texts_of};
 use crate::after::explain_after;
 use crate::annotated::find_each;
 use crate::answer::Answer;
-use crate::drifts::drifted;
+use crate::drifts::tell_drifts;
 use crate::failure::Failure;
 use crate::fault::CommandFault;
 use crate::finding_runs::runs_of;
@@ -519,7 +519,7 @@ pub fn explain_files<'a, I: Inputs, P: Pictures, O: Sink, W: SearchWatch>(
     contents.texts = found.texts;
     *codes = found.codes;
     *remark = unread_lines(alloc, unread.as_slice())?;
-    let drifts = drifted(
+    let drifts = tell_drifts(
         alloc,
         asked.form,
         asked.allowed,

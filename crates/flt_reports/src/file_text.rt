@@ -19,7 +19,7 @@ pub struct FileText<'a> {
 impl<'a> FileText<'a> {
     /// The text by itself.
     pub fn plain(self) -> Source<'a>
-        ensures { result ≡ spec.plain self }
+        ensures { result ≡ spec.plain self.entry }
     {
         Source {
             name: self.name,

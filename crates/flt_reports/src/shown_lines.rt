@@ -119,7 +119,7 @@ fn draw_marks(
     for mark in marks {
         let number = mark.site.place.line;
         let line = scene.lines.line(number);
-        let excerpt = excerpt(file, scene.lines, number);
+        let excerpt = excerpt(&*file, &*scene.lines, number);
         drawing.draw(page, excerpt, line, &mark.site, stroke(mark.sign))?;
         tell_mark(page, scene, finding, subject, shown, mark.sign)?;
     }

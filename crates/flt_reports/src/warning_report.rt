@@ -167,7 +167,7 @@ fn draw_marks(
 {
     for mark in marks {
         let number = mark.site.place.line;
-        let excerpt = excerpt(file, lines, number);
+        let excerpt = excerpt(&*file, &*lines, number);
         drawing.draw(
             page,
             excerpt,
