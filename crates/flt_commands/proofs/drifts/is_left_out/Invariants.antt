@@ -6,5 +6,5 @@ use Rattle.flt_commands.proofs.drifts.is_left_out.Given as goal
 
 abbrev pub invariant-loop-name : goal.invariant-loop-name
 invariant-loop-name l =
-    list_any (bytes_eq (code l.kind)) (map (λ name. name.now) (drop l.name-index l.allowed))
-    ≡ list_any (bytes_eq (code l.kind)) (map (λ name. name.now) l.allowed)
+    list_any (bytes_eq (code l.fn.kind)) (map (λ name. name.now) (drop l.name-index l.allowed))
+    ≡ list_any (bytes_eq (code l.fn.kind)) (map (λ name. name.now) l.allowed)
