@@ -1,5 +1,5 @@
 -- What `explain` of files comes to, and what went out of it.
-use Rattle.std.proofs.Common.{◌≡◌, ◌≢◌, ℕ, true, false, List, Bor, Option, Some, None, Result, Ok, Err, IfErr, IfOk, IsErr, flat_map, map, option_map, refl, take}
+use Rattle.std.proofs.Common.{◌≡◌, ◌≢◌, ℕ, Bool, true, false, List, Bor, Option, Some, None, Result, Ok, Err, IfErr, IfOk, IsErr, flat_map, map, option_map, refl, take}
 use Rattle.std.proofs.Math.Path.{subst}
 use Rattle.std.proofs.KnownBytes.{Appends-nil}
 use Rattle.std.specs.Io.KnownBytes.{Appends}
