@@ -12,7 +12,7 @@ use flt_model::{Sink, put_all};
 use flt_notes::{SearchWatch, Told};
 use flt_words::Form;
 use std::alloc::{AllocError, Global};
-use std::cmp::{max, min};
+use std::cmp::max;
 
 /// The output for texts after drifts that are worth this status, when so many bytes of all of it are written already.
 fn told_after(first: Vec<u8>, worth: u8, sent: usize, own: Told) -> Result<Told, AllocError>
@@ -103,7 +103,7 @@ fn explain_early<O: Sink, W: SearchWatch>(
     let own = explain_read(
         alloc, asked, within, names, texts, codes, unread, out, watch,
     )?;
-    let sent = before + min(own.sent, own.explained.output.len());
+    let sent = before + own.sent.min(own.explained.output.len());
     let told = told_after(first, worth, sent, own)?;
     Ok(told)
 }
