@@ -283,6 +283,15 @@ impl<'a> Course<'a> {
         }
         Ok(Some(all))
     }
+
+    /// The callback and the operation of each activation.
+    fn into_actives(self) -> Items<Active>
+        ensures { result ≡ self.entry.actives }
+    {
+        let Course { world, actives } = self;
+        drop(world);
+        actives
+    }
 }
 
 /// Runs a journal on these filters; none if it isn't a run on them.
@@ -291,11 +300,18 @@ pub(crate) fn run_of(stage: &Stage<'_, '_>, journal: &Journal) -> Result<Option<
     ensures { IfOk result (λ run. run ≡ spec.run_of stage.now.stack.now journal.now) }
 {
     let mut course = Course::new(stage)?;
-    match course.take_all(stage, journal)? {
-        Some(taken) => Ok(Some(Run {
+    match course.take_all(stage, journal) {
+        Ok(Some(taken)) => Ok(Some(Run {
             taken,
-            actives: course.actives,
+            actives: course.into_actives(),
         })),
-        None => Ok(None),
+        Ok(None) => {
+            drop(course);
+            Ok(None)
+        }
+        Err(fault) => {
+            drop(course);
+            Err(fault)
+        }
     }
 }

@@ -325,6 +325,15 @@ impl<'a> Monitor<'a> {
         }
         self.entry_rule(alloc, stack, last, room)
     }
+
+    /// The world that it has come to.
+    fn into_world(self) -> World<'a>
+        ensures { result ≡ self.entry.world }
+    {
+        let Monitor { world, ledger } = self;
+        drop(ledger);
+        world
+    }
 }
 
 /// The verdict about a journal on a stack.
@@ -333,7 +342,9 @@ fn verdict_on(alloc: Global, stack: &Stack<'_>, journal: &Journal) -> Result<Ver
 {
     let mut monitor = opening(alloc, stack)?;
     let mut room = no_room(alloc);
-    monitor.verdict(alloc, stack, journal, &mut room)
+    let verdict = monitor.verdict(alloc, stack, journal, &mut room);
+    drop(monitor);
+    verdict
 }
 
 /// The monitor before the first entry.
@@ -398,11 +409,17 @@ pub fn world_after<'a>(
 {
     let mut monitor = opening(alloc, stack)?;
     let mut room = no_room(alloc);
-    if !monitor.runs(alloc, stack, journal.entries(), &mut room)? {
-        return Ok(None);
+    match monitor.runs(alloc, stack, journal.entries(), &mut room) {
+        Ok(true) => Ok(Some(monitor.into_world())),
+        Ok(false) => {
+            drop(monitor);
+            Ok(None)
+        }
+        Err(fault) => {
+            drop(monitor);
+            Err(fault)
+        }
     }
-    let Monitor { world, ledger: _ } = monitor;
-    Ok(Some(world))
 }
 
 /// The least of the violations of statuses, levels, lock discipline and places that the last entry of a journal breaks, whatever else it
@@ -425,5 +442,7 @@ pub fn broken_rule_at_last(
     let stack = Stack::of(alloc, trees)?;
     let mut monitor = opening(alloc, &stack)?;
     let mut room = no_room(alloc);
-    monitor.last_rule(alloc, &stack, before, *last, &mut room)
+    let rule = monitor.last_rule(alloc, &stack, before, *last, &mut room);
+    drop(monitor);
+    rule
 }

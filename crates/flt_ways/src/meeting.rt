@@ -1,6 +1,6 @@
 //! The search for two paths that meet with different locks.
 
-use crate::choices::{Branch, branches_to, path_along};
+use crate::choices::{Branch, Path, branches_to, path_along};
 use crate::cover::Cover;
 use crate::ground::Ground;
 use crate::possible::Possible;
@@ -95,6 +95,24 @@ impl Search {
     }
 }
 
+/// A path to the moment of a number, and then past the last branch.
+fn path_to(
+    alloc: Global,
+    ground: &Ground<'_>,
+    search: &Search,
+    number: usize,
+    last: Option<Branch>,
+) -> Result<Option<Path>, AllocError> {
+    let branches = branches_to(alloc, search, number, last)?;
+    path_along(
+        alloc,
+        ground,
+        search.manner.clean,
+        branches.as_slice(),
+        Possible::ALL,
+    )
+}
+
 /// The paths to a pair that no part stopped.
 fn ways_to(
     alloc: Global,
@@ -103,17 +121,17 @@ fn ways_to(
     finding: &Finding,
     pair: Pair,
 ) -> Result<Sought, AllocError> {
-    let clean = search.manner.clean;
     let last = Branch {
         point: finding.point,
         granted: pair.granted,
     };
-    let branches = branches_to(alloc, search, pair.number, Some(last))?;
-    let others = branches_to(alloc, search, pair.other, None)?;
-    let first = path_along(alloc, ground, clean, branches.as_slice(), Possible::ALL)?;
-    let second = path_along(alloc, ground, clean, others.as_slice(), Possible::ALL)?;
+    let first = path_to(alloc, ground, search, pair.number, Some(last))?;
+    let second = path_to(alloc, ground, search, pair.other, None)?;
     match (first, second) {
-        (Some(first), Some(second)) => Ok(Sought::of(clean, Found::Two(first, second))),
+        (Some(first), Some(second)) => Ok(Sought::of(
+            search.manner.clean,
+            Found::Two(first, second),
+        )),
         _ => Ok(Sought::Unknown),
     }
 }
@@ -125,15 +143,15 @@ enum Came {
     Stopped(Stop),
 }
 
-fn meeting_with(
+/// The result of a search that has reached the entry alone.
+fn meeting_of(
     alloc: Global,
+    search: &mut Search,
     ground: &mut Ground<'_>,
     finding: &Finding,
-    manner: Manner,
     budget: &mut Budget,
     covers: &mut Vec<Cover>,
 ) -> Result<Came, AllocError> {
-    let mut search = Search::open(alloc, ground, manner)?;
     search.reach_all(alloc, ground, budget.limit())?;
     budget.take(search.looked);
     let is_all = search.is_all();
@@ -144,13 +162,28 @@ fn meeting_with(
                 ..
             },
         ) => Ok(Came::Stopped(stop)),
-        Some(pair) => Ok(Came::To(ways_to(alloc, ground, &search, finding, pair)?)),
+        Some(pair) => Ok(Came::To(ways_to(alloc, ground, search, finding, pair)?)),
         None if is_all => {
             let number = search.write_down(alloc, ground, covers)?;
             Ok(Came::To(Sought::Nothing(number)))
         }
         None => Ok(Came::To(Sought::Unknown)),
     }
+}
+
+/// The result of a search in this manner.
+fn meeting_with(
+    alloc: Global,
+    ground: &mut Ground<'_>,
+    finding: &Finding,
+    manner: Manner,
+    budget: &mut Budget,
+    covers: &mut Vec<Cover>,
+) -> Result<Came, AllocError> {
+    let mut search = Search::open(alloc, ground, manner)?;
+    let came = meeting_of(alloc, &mut search, ground, finding, budget, covers);
+    drop(search);
+    came
 }
 
 /// Looks for two paths that meet as the finding says: if `clean`, only past points where no rule is broken.
