@@ -1,2 +1,3 @@
 mod Flagged
+mod Plainly
 mod Wrapped

@@ -4,7 +4,7 @@ use Rattle.std.specs.Str.{bytes_eq}
 use Rattle.flt_c.specs.declared.letter.Letter.{Letter}
 use Rattle.flt_c.specs.declared.letter.Part.{Part}
 use Rattle.flt_c.specs.declared.letter.Part.TheVariants as part
-use Rattle.flt_drift.specs.Locks.{LockState, called, guard, locks_in, no_locks, read, taken as argument_taken}
+use Rattle.flt_drift.specs.Locks.{LockState, called, guard, is_still, locks_in, no_locks, read, taken as argument_taken}
 use Rattle.flt_drift.specs.Marks.{before_of, said_by_code, said_by_note}
 use Rattle.flt_drift.specs.Names.{c_operation_of, call_of, is_major_function, lock_call_of}
 use Rattle.flt_drift.specs.Parts.{is_aside, is_blank, is_code, is_note, is_of_word, same_part}
@@ -411,6 +411,26 @@ locked at p b s =
     with_locks (read at p b (length s.marks) s.locks) (with_option (argument_taken at p b (length s.marks) s.locks) s)
 
 -- ---- a file
+
+-- what ends before a letter or begins with it
+unfoldable pub turned : ℕ → Part → ℕ → State → State
+turned at p b s = locked at p b (noted at p b (cut at p b (left p (ended p b s))))
+
+-- no word ends before a letter
+abbrev pub keeps_word : Part → ℕ → State → Bool
+keeps_word p b s = is_empty s.word || same_part s.spoken.part p && is_of_word p b
+
+-- no comment `@flt-call` does
+abbrev pub keeps_stage : Part → State → Bool
+keeps_stage p s = is_aside p || not (is_under_way s.stage)
+
+-- no stretch begins at it, and no annotation of the line
+abbrev pub keeps_line : Part → ℕ → Line → Bool
+keeps_line p b line = is_blank b || not (line.noted && is_code p || not line.here && is_note p)
+
+-- with a letter what is being read goes on
+abbrev pub is_plain : Part → ℕ → State → Bool
+is_plain p b s = keeps_word p b s && keeps_stage p s && keeps_line p b s.line && is_still p b s.locks
 
 -- one letter more, as this part
 unfoldable pub taken_as : ℕ → Part → ℕ → State → State

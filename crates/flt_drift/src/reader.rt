@@ -217,6 +217,13 @@ fn lined(part: Part, b: u8, line: Line) -> Line
     }
 }
 
+/// Whether no stretch begins at a letter, and no annotation of the line.
+fn keeps_line(part: Part, b: u8, line: Line) -> bool
+    ensures { result ≡ spec.keeps_line part b line }
+{
+    is_blank(b) || !((line.noted && is_code(part)) || (!line.here && is_note(part)))
+}
+
 /// Whether a comment `@flt-call` is being read.
 fn is_under_way(stage: Stage) -> bool
     ensures { result ≡ spec.is_under_way stage }
@@ -421,11 +428,18 @@ impl Reader {
         Ok(())
     }
 
+    /// Whether no word ends before a letter.
+    fn keeps_word(&self, part: Part, b: u8) -> bool
+        ensures { result ≡ spec.keeps_word part b (spec.state_in self.now) }
+    {
+        self.word.is_empty() || (same_part(self.spoken.part, part) && is_of_word(part, b))
+    }
+
     /// Ends the word if a letter doesn't belong to it.
     fn ended(&mut self, part: Part, b: u8) -> Result<(), AllocError>
         ensures { OnOk result (spec.state_in self.new ≡ spec.ended part b (spec.state_in self.old)) }
     {
-        if !(self.word.is_empty() || (same_part(self.spoken.part, part) && is_of_word(part, b))) {
+        if !self.keeps_word(part, b) {
             self.end_word()?;
         }
         Ok(())
@@ -500,16 +514,45 @@ impl Reader {
         Ok(())
     }
 
-    /// Takes one more letter, as this part.
-    #[tactic(auto, unfolding(crate::specs::Reading::taken_as))]
-    fn take_as(&mut self, at: usize, part: Part, b: u8) -> Result<(), AllocError>
-        ensures { OnOk result (spec.state_in self.new ≡ spec.taken_as at part b (spec.state_in self.old)) }
+    /// Whether what is being read goes on with a letter.
+    fn is_plain(&self, part: Part, b: u8) -> bool
+        ensures { result ≡ spec.is_plain part b (spec.state_in self.now) }
+    {
+        self.keeps_word(part, b)
+            && (is_aside(part) || !is_under_way(self.stage))
+            && keeps_line(part, b, self.line)
+            && self.locks.is_still(part, b)
+    }
+
+    /// Ends what ends before a letter, and begins what begins with it.
+    #[tactic(auto, unfolding(crate::specs::Reading::turned))]
+    fn turn(&mut self, at: usize, part: Part, b: u8) -> Result<(), AllocError>
+        ensures { OnOk result (spec.state_in self.new ≡ spec.turned at part b (spec.state_in self.old)) }
     {
         self.ended(part, b)?;
         self.leave(part)?;
         self.cut(at, part, b)?;
         self.note(at, part, b)?;
-        self.lock(at, part, b)?;
+        self.lock(at, part, b)
+    }
+
+    /// Does the same, unless there is nothing to do.
+    fn turn_unless_plain(&mut self, at: usize, part: Part, b: u8) -> Result<(), AllocError>
+        ensures { OnOk result (spec.state_in self.new ≡ spec.turned at part b (spec.state_in self.old)) }
+    {
+        if self.is_plain(part, b) {
+            Ok(())
+        } else {
+            self.turn(at, part, b)
+        }
+    }
+
+    /// Takes one more letter, as this part.
+    #[tactic(auto, unfolding(crate::specs::Reading::taken_as, crate::specs::Reading::turned))]
+    fn take_as(&mut self, at: usize, part: Part, b: u8) -> Result<(), AllocError>
+        ensures { OnOk result (spec.state_in self.new ≡ spec.taken_as at part b (spec.state_in self.old)) }
+    {
+        self.turn_unless_plain(at, part, b)?;
         self.grow(at, part, b)?;
         self.line = lined(part, b, self.line);
         self.code = coded(part, b, self.code);
