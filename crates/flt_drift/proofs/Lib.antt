@@ -1,3 +1,6 @@
 mod Flagged
-mod Plainly
+mod GoingOn
+mod OverRuns
+mod Raising
+mod Shorter
 mod Wrapped

@@ -412,9 +412,9 @@ locked at p b s =
 
 -- ---- a file
 
--- what ends before a letter or begins with it
+-- what else than a word ends before a letter or begins with it
 unfoldable pub turned : ℕ → Part → ℕ → State → State
-turned at p b s = locked at p b (noted at p b (cut at p b (left p (ended p b s))))
+turned at p b s = locked at p b (noted at p b (cut at p b (left p s)))
 
 -- no word ends before a letter
 abbrev pub keeps_word : Part → ℕ → State → Bool
@@ -424,13 +424,13 @@ keeps_word p b s = is_empty s.word || same_part s.spoken.part p && is_of_word p 
 abbrev pub keeps_stage : Part → State → Bool
 keeps_stage p s = is_aside p || not (is_under_way s.stage)
 
--- no stretch begins at it, and no annotation of the line
+-- no stretch begins with it, and no annotation of the line
 abbrev pub keeps_line : Part → ℕ → Line → Bool
 keeps_line p b line = is_blank b || not (line.noted && is_code p || not line.here && is_note p)
 
--- with a letter what is being read goes on
-abbrev pub is_plain : Part → ℕ → State → Bool
-is_plain p b s = keeps_word p b s && keeps_stage p s && keeps_line p b s.line && is_still p b s.locks
+-- nothing but a word ends or begins
+abbrev pub goes_on : Part → ℕ → State → Bool
+goes_on p b s = keeps_stage p s && keeps_line p b s.line && is_still p b s.locks
 
 -- one letter more, as this part
 unfoldable pub taken_as : ℕ → Part → ℕ → State → State
@@ -439,6 +439,11 @@ taken_as at p b s = passed p b (grown at p b (locked at p b (noted at p b (cut a
 -- one letter more
 abbrev pub taken : ℕ → Letter → State → State
 taken at letter s = taken_as at (seen s.line letter) letter.byte s
+
+-- some letters more, from a place on
+abbrev pub taken_all : ℕ → List Letter → State → State
+taken_all at [] s = s
+taken_all at (letter ∷ letters) s = taken_all (at + 1) letters (taken at letter s)
 
 -- nothing is read
 abbrev pub start : State

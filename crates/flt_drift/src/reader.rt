@@ -2,11 +2,13 @@
 
 ghost use Rattle.std.specs.Prelude.{◌≡◌, ◌++◌, [], ◌∷◌, IfOk, OnOk};
 ghost use Rattle.flt_drift.specs.Reading as spec;
+ghost use Rattle.flt_drift.specs.Runs as runs;
 
 use crate::lock::Locks;
 use crate::mark::{Mark, MarkKind};
 use crate::names::{c_operation_of, call_of, is_major_function, lock_call_of};
 use crate::part::{is_aside, is_blank, is_code, is_note, is_of_word, same_part};
+use crate::run::{Run, after, before, put_bytes, run_count};
 use crate::word::{Before, Entry, before_of, said_by_code, said_by_note};
 use crate::wrapper::Wrappers;
 use flt_c::{Letter, Part};
@@ -514,12 +516,11 @@ impl Reader {
         Ok(())
     }
 
-    /// Whether what is being read goes on with a letter.
-    fn is_plain(&self, part: Part, b: u8) -> bool
-        ensures { result ≡ spec.is_plain part b (spec.state_in self.now) }
+    /// Whether nothing but a word ends before a letter or begins with it.
+    fn goes_on(&self, part: Part, b: u8) -> bool
+        ensures { result ≡ spec.goes_on part b (spec.state_in self.now) }
     {
-        self.keeps_word(part, b)
-            && (is_aside(part) || !is_under_way(self.stage))
+        (is_aside(part) || !is_under_way(self.stage))
             && keeps_line(part, b, self.line)
             && self.locks.is_still(part, b)
     }
@@ -529,7 +530,6 @@ impl Reader {
     fn turn(&mut self, at: usize, part: Part, b: u8) -> Result<(), AllocError>
         ensures { OnOk result (spec.state_in self.new ≡ spec.turned at part b (spec.state_in self.old)) }
     {
-        self.ended(part, b)?;
         self.leave(part)?;
         self.cut(at, part, b)?;
         self.note(at, part, b)?;
@@ -537,10 +537,10 @@ impl Reader {
     }
 
     /// Does the same, unless there is nothing to do.
-    fn turn_unless_plain(&mut self, at: usize, part: Part, b: u8) -> Result<(), AllocError>
+    fn turn_unless_on(&mut self, at: usize, part: Part, b: u8) -> Result<(), AllocError>
         ensures { OnOk result (spec.state_in self.new ≡ spec.turned at part b (spec.state_in self.old)) }
     {
-        if self.is_plain(part, b) {
+        if self.goes_on(part, b) {
             Ok(())
         } else {
             self.turn(at, part, b)
@@ -548,11 +548,11 @@ impl Reader {
     }
 
     /// Takes one more letter, as this part.
-    #[tactic(auto, unfolding(crate::specs::Reading::taken_as, crate::specs::Reading::turned))]
     fn take_as(&mut self, at: usize, part: Part, b: u8) -> Result<(), AllocError>
         ensures { OnOk result (spec.state_in self.new ≡ spec.taken_as at part b (spec.state_in self.old)) }
     {
-        self.turn_unless_plain(at, part, b)?;
+        self.ended(part, b)?;
+        self.turn_unless_on(at, part, b)?;
         self.grow(at, part, b)?;
         self.line = lined(part, b, self.line);
         self.code = coded(part, b, self.code);
@@ -565,6 +565,65 @@ impl Reader {
     {
         let part = seen(self.line, letter);
         self.take_as(at, part, letter.byte)
+    }
+
+    /// Whether the line isn't at its first letter, and no comment `@flt-call` and no argument is being read.
+    fn is_calm(&self) -> bool
+        ensures { result ≡ runs.is_calm (spec.state_in self.now) }
+    {
+        !self.line.fresh && !is_under_way(self.stage) && self.locks.has_no_argument()
+    }
+
+    /// Whether a word of code is being read.
+    fn is_code_word(&self) -> bool
+        ensures { result ≡ runs.is_code_word (spec.state_in self.now) }
+    {
+        !self.code.brace && !self.line.noted && self.locks.has_no_line()
+    }
+
+    /// Whether a word of an annotation is being read, and none of a remark or of the declaration of a lock.
+    fn is_note_word(&self) -> bool
+        ensures { result ≡ runs.is_note_word (spec.state_in self.now) }
+    {
+        self.line.here && !self.line.remark && self.locks.has_other_line()
+    }
+
+    /// The run that goes on with the word.
+    fn word_run(&self) -> Run
+        ensures { result ≡ runs.word_run self.now.spoken.part (spec.state_in self.now) }
+    {
+        match self.spoken.part {
+            Part::Code if self.is_code_word() => Run::Word(Part::Code),
+            Part::Note if self.is_note_word() => Run::Word(Part::Note),
+            _ => Run::No,
+        }
+    }
+
+    /// The run that goes on.
+    fn run(&self) -> Run
+        ensures { result ≡ runs.run_in (spec.state_in self.now) }
+    {
+        if !self.is_calm() {
+            return Run::No;
+        }
+        if !self.word.is_empty() {
+            return self.word_run();
+        }
+        if self.locks.has_no_line() {
+            Run::Idle
+        } else {
+            Run::No
+        }
+    }
+
+    /// Takes some letters of a run.
+    fn take_run(&mut self, run: Run, letters: &[Letter]) -> Result<(), AllocError>
+        ensures { OnOk result (spec.state_in self.new ≡ runs.run_taken run letters.now (spec.state_in self.old)) }
+    {
+        match run {
+            Run::Word(_) => put_bytes(&mut self.word, letters),
+            Run::No | Run::Idle => Ok(()),
+        }
     }
 
     /// Ends the file.
@@ -583,8 +642,18 @@ pub(crate) fn marks(alloc: Global, letters: &[Letter]) -> Result<Vec<Mark>, Allo
     ensures { IfOk result (λ found. found.items ≡ spec.marks_of letters.now) }
 {
     let mut reader = Reader::new(alloc);
-    for (at, letter) in letters.iter().enumerate() {
-        reader.take(at, *letter)?;
+    let mut at: usize = 0;
+    while at < letters.len() {
+        let rest = after(letters, at);
+        let run = reader.run();
+        let n = run_count(run, rest);
+        if n == 0 {
+            reader.take(at, letters[at])?;
+            at += 1;
+        } else {
+            reader.take_run(run, before(rest, n))?;
+            at += n;
+        }
     }
     reader.end()?;
     Ok(reader.marks)

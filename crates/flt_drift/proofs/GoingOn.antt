@@ -1,4 +1,4 @@
--- A letter with which what is being read goes on changes nothing but the word, its line and its code.
+-- Where nothing but a word ends or begins with a letter, nothing else changes.
 use Rattle.std.proofs.Common.{◌≡◌, ℕ, Bool, true, false, length, refl, sym, ap, subst, ◌∙◌}
 use Rattle.std.specs.Prelude.{◌&&◌, ◌||◌, not, ◌==◌, if◌then◌else◌, Option, Some, None}
 use Rattle.flt_c.specs.declared.letter.Part.{Part}
@@ -7,22 +7,26 @@ use Rattle.flt_c.specs.declared.lock.LockLine.{LockLine}
 use Rattle.flt_c.specs.declared.lock.LockLine.TheVariants as l
 use Rattle.flt_drift.specs.Locks.{LockState, argument_with, coded, is_no_argument, is_same_line, is_still, lined, noted as line_noted, read, taken as argument_taken, taken_by}
 use Rattle.flt_drift.specs.Parts.{is_aside, is_blank, is_code, is_note}
-use Rattle.flt_drift.specs.Reading.{State, annotated, begun, cut, end_word, ended, is_plain, is_under_way, keeps_line, keeps_stage, keeps_word, left, locked, marked, noted, refused, turned, with_locks, with_option}
+use Rattle.flt_drift.specs.Reading.{State, annotated, begun, cut, end_word, ended, goes_on, is_under_way, keeps_line, keeps_stage, keeps_word, left, locked, marked, noted, refused, turned, with_locks, with_option}
 use Rattle.flt_drift.specs.declared.mark.MarkKind.TheVariants as k
 use Rattle.flt_drift.specs.declared.lock.Argument.{Argument}
 use Rattle.flt_drift.specs.declared.lock.Argument.TheVariants as argument
 
-differ : false ≡ true → ⊥
+pub differ : false ≡ true → ⊥
 differ e = cc
 
-both : (x y : Bool) → (x && y) ≡ true → (x ≡ true) × (y ≡ true)
+pub both : (x y : Bool) → (x && y) ≡ true → (x ≡ true) × (y ≡ true)
 both true true e = (refl, refl)
 both true false e = elim (differ e) [ ]
 both false y e = elim (differ e) [ ]
 
-not_true : (x : Bool) → not x ≡ true → x ≡ false
+pub not_true : (x : Bool) → not x ≡ true → x ≡ false
 not_true true e = elim (differ e) [ ]
 not_true false e = refl
+
+pub or_false : (x : Bool) → (x || false) ≡ x
+or_false true = refl
+or_false false = refl
 
 -- ---- locks
 
@@ -77,11 +81,11 @@ locks_stay at p b marks s h =
 
 -- ---- all of it
 
-taken_first : (x : Bool) (t u : State) → x ≡ true → (if x then t else u) ≡ t
+pub taken_first : (x : Bool) (t u : State) → x ≡ true → (if x then t else u) ≡ t
 taken_first true t u e = refl
 taken_first false t u e = elim (differ e) [ ]
 
-taken_second : (x : Bool) (t u : State) → x ≡ false → (if x then t else u) ≡ u
+pub taken_second : (x : Bool) (t u : State) → x ≡ false → (if x then t else u) ≡ u
 taken_second true t u e = elim (differ (sym e)) [ ]
 taken_second false t u e = refl
 
@@ -103,7 +107,7 @@ no_note true other false true e = refl
 no_note false true false true e = elim (differ e) [ ]
 no_note false false false true e = elim (differ e) [ ]
 
-word_stays : (p : Part) (b : ℕ) (s : State) → keeps_word p b s ≡ true → ended p b s ≡ s
+pub word_stays : (p : Part) (b : ℕ) (s : State) → keeps_word p b s ≡ true → ended p b s ≡ s
 word_stays p b s h = taken_first (keeps_word p b s) s (end_word s) h
 
 stage_stays : (p : Part) (s : State) → keeps_stage p s ≡ true → left p s ≡ s
@@ -127,14 +131,12 @@ lock_stays at p b s h =
     ∙ ap (λ r. with_locks r s) (locks_stay at p b (length s.marks) s.locks h)
 
 -- nothing is left to do
-pub plain_stays : (at : ℕ) (p : Part) (b : ℕ) (s : State) → is_plain p b s ≡ true → turned at p b s ≡ s
+pub turn_stays : (at : ℕ) (p : Part) (b : ℕ) (s : State) → goes_on p b s ≡ true → turned at p b s ≡ s
 unfolding turned
-plain_stays at p b s h =
-    let locks = both (keeps_word p b s && keeps_stage p s && keeps_line p b s.line) (is_still p b s.locks) h in
-    let lines = both (keeps_word p b s && keeps_stage p s) (keeps_line p b s.line) locks.0 in
-    let words = both (keeps_word p b s) (keeps_stage p s) lines.0 in
-    ap (λ u. locked at p b (noted at p b (cut at p b (left p u)))) (word_stays p b s words.0)
-    ∙ (ap (λ u. locked at p b (noted at p b (cut at p b u))) (stage_stays p s words.1)
+turn_stays at p b s h =
+    let locks = both (keeps_stage p s && keeps_line p b s.line) (is_still p b s.locks) h in
+    let lines = both (keeps_stage p s) (keeps_line p b s.line) locks.0 in
+    ap (λ u. locked at p b (noted at p b (cut at p b u))) (stage_stays p s lines.0)
     ∙ (ap (λ u. locked at p b (noted at p b u)) (cut_stays at p b s lines.1)
     ∙ (ap (λ u. locked at p b u) (note_stays at p b s lines.1)
-    ∙ lock_stays at p b s locks.1)))
+    ∙ lock_stays at p b s locks.1))
