@@ -180,6 +180,17 @@ pub fn lock_line_after(line: LockLine, b: u8) -> LockLine
     }
 }
 
+/// The same. Most bytes are of lines that declare no lock.
+fn next_line(line: LockLine, b: u8) -> LockLine
+    ensures { result ≡ spec.after line b }
+{
+    if matches!(line, LockLine::Other) && b != b'\n' {
+        line
+    } else {
+        lock_line_after(line, b)
+    }
+}
+
 /// Whether the last byte of a line belongs to the expression of a lock or is the `=` before it.
 pub fn is_expression(line: LockLine) -> bool
     ensures { result ≡ spec.is_expression line }
@@ -200,7 +211,7 @@ pub(crate) fn take_off(text: &mut Vec<u8>)
 {
     let mut line = LockLine::Nothing;
     for byte in text.iter_mut() {
-        line = lock_line_after(line, *byte);
+        line = next_line(line, *byte);
         *byte = plain_byte(line, *byte);
     }
 }

@@ -8,7 +8,7 @@ use Rattle.flt_c.specs.declared.letter.Part.{Part}
 use Rattle.flt_c.specs.declared.letter.Part.TheVariants as part
 use Rattle.flt_drift.proofs.GoingOn.{both, differ, not_true, or_false, taken_first, turn_stays, word_stays}
 use Rattle.flt_drift.specs.Locks.{is_no_argument, is_nothing, is_other, is_still}
-use Rattle.flt_drift.specs.Parts.{is_blank, is_code, is_note, is_of_word, is_word_byte, same_part}
+use Rattle.flt_drift.specs.Parts.{is_blank, is_note, is_of_word, is_word_byte, same_part}
 use Rattle.flt_drift.specs.Reading.{State, coded, ended, goes_on, grown, is_empty, is_under_way, keeps_line, keeps_stage, keeps_word, line_on, lined, marks_from, marks_of, passed, seen, spoken_with, taken, taken_as, turned}
 use Rattle.flt_drift.specs.Runs.{is_calm, is_code_word, is_idle_in, is_in, is_note_word, run_count, run_in, run_taken, with_word, word_run}
 use Rattle.flt_drift.specs.declared.reader.Code.{Code}

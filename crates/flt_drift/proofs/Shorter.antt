@@ -2,7 +2,7 @@
 use Rattle.std.proofs.Common.{◌≡◌, ℕ, ◌+◌, ◌<◌, Bool, true, false, List, [], ◌∷◌, ap, arith, length, refl}
 use Rattle.std.proofs.lemmas.Bool.{ltb-true}
 use Rattle.std.proofs.lemmas.Slice.Eq.{bytes_eq-Decides}
-use Rattle.std.specs.Prelude.{◌&&◌, nat_lt, Option, Some, None}
+use Rattle.std.specs.Prelude.{◌&&◌, nat_lt, None}
 use Rattle.std.specs.Str.{bytes_eq}
 use Rattle.flt_drift.proofs.GoingOn.{both}
 use Rattle.flt_drift.specs.Names.{call_of, calls, lock_call_of, lock_calls, place_from}

@@ -1,5 +1,5 @@
 -- What marks say of the calls, statuses and operations, noted once, so that they aren't searched for each mark. This project's own rule.
-use Rattle.std.specs.Prelude.{ℕ, zero, suc, Bool, true, false, List, [], ◌∷◌, ◌++◌, if◌then◌else◌, length, nat_lt, slice_set, Option, Some, None}
+use Rattle.std.specs.Prelude.{ℕ, zero, suc, Bool, true, List, [], ◌∷◌, ◌++◌, if◌then◌else◌, length, nat_lt, slice_set, Option, Some, None}
 use Rattle.std.specs.List.{list_any}
 use Rattle.flt_drift.specs.Drifts.{calls, names, answers, registers_pre, registers_post, heads_pre, heads_post}
 use Rattle.flt_drift.specs.Names.{calls as calls_named, statuses, operations}

@@ -380,6 +380,28 @@ line_on p b line = record {
   closing = line.closing || line.fresh && (is_code p && b == 125);
 }
 
+-- a remark may begin
+abbrev pub remarked : Part → ℕ → Line → Line
+remarked p b line = record {
+  remark = line.remark || is_note p && b == 35;
+  alone = line.alone;
+  noted = line.noted;
+  here = line.here;
+  fresh = line.fresh;
+  closing = line.closing;
+}
+
+-- the line begins with a letter, or goes on
+abbrev pub begun_by : Part → ℕ → Line → Line
+begun_by p b line = record {
+  remark = line.remark;
+  alone = line.alone;
+  noted = line.noted;
+  here = line.here;
+  fresh = false;
+  closing = line.closing || line.fresh && (is_code p && b == 125);
+}
+
 -- what is known of the line after a letter
 abbrev pub lined : Part → ℕ → Line → Line
 lined p b line = if b == 10 then line_ended line else line_on p b line

@@ -1,5 +1,5 @@
 -- Runs of letters with which nothing begins or ends: letters of a word, and letters of no word. This project's own rule.
-use Rattle.std.specs.Prelude.{ℕ, ◌+◌, Bool, true, false, not, ◌&&◌, ◌||◌, if◌then◌else◌, ◌==◌, List, [], ◌∷◌, ◌++◌, map}
+use Rattle.std.specs.Prelude.{ℕ, ◌+◌, Bool, false, not, ◌&&◌, if◌then◌else◌, ◌==◌, List, [], ◌∷◌, ◌++◌, map}
 use Rattle.flt_c.specs.declared.letter.Letter.{Letter}
 use Rattle.flt_c.specs.declared.letter.Part.{Part}
 use Rattle.flt_c.specs.declared.letter.Part.TheVariants as part

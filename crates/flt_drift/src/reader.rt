@@ -182,40 +182,51 @@ fn entry_after(b: u8, entry: Entry) -> Entry
     }
 }
 
-/// The state of the code after a letter.
-fn coded(part: Part, b: u8, code: Code) -> Code
-    ensures { result ≡ spec.coded part b code }
+/// Takes a letter of the code.
+fn pass_code(code: &mut Code, part: Part, b: u8)
+    ensures { code.new ≡ spec.coded part b code.old }
 {
     if is_code(part) && !is_blank(b) {
-        Code {
-            brace: b == b'{',
-            entry: entry_after(b, code.entry),
-        }
-    } else {
-        code
+        code.brace = b == b'{';
+        code.entry = entry_after(b, code.entry);
     }
 }
 
-/// The state of the line after a letter.
-fn lined(part: Part, b: u8, line: Line) -> Line
-    ensures { result ≡ spec.lined part b line }
+/// Takes a letter that may begin a remark.
+fn pass_remark(line: &mut Line, part: Part, b: u8)
+    ensures { line.new ≡ spec.remarked part b line.old }
+{
+    if is_note(part) && b == b'#' {
+        line.remark = true;
+    }
+}
+
+/// Takes a letter that may be the first of its line.
+fn pass_first(line: &mut Line, part: Part, b: u8)
+    ensures { line.new ≡ spec.begun_by part b line.old }
+{
+    if line.fresh {
+        line.fresh = false;
+        line.closing = line.closing || (is_code(part) && b == b'}');
+    }
+}
+
+/// Takes a letter of the line.
+fn pass_line(line: &mut Line, part: Part, b: u8)
+    ensures { line.new ≡ spec.lined part b line.old }
 {
     if b == b'\n' {
-        Line {
+        *line = Line {
             remark: false,
             alone: false,
             noted: line.noted || line.here || line.closing,
             here: false,
             fresh: true,
             closing: false,
-        }
+        };
     } else {
-        Line {
-            remark: line.remark || (is_note(part) && b == b'#'),
-            fresh: false,
-            closing: line.closing || (line.fresh && is_code(part) && b == b'}'),
-            ..line
-        }
+        pass_remark(line, part, b);
+        pass_first(line, part, b);
     }
 }
 
@@ -554,8 +565,8 @@ impl Reader {
         self.ended(part, b)?;
         self.turn_unless_on(at, part, b)?;
         self.grow(at, part, b)?;
-        self.line = lined(part, b, self.line);
-        self.code = coded(part, b, self.code);
+        pass_line(&mut self.line, part, b);
+        pass_code(&mut self.code, part, b);
         Ok(())
     }
 

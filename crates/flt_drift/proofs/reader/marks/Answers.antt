@@ -1,4 +1,4 @@
-use Rattle.std.proofs.Common.{◌≡◌, ◌-◌, ◌≤◌, ap, arith, drop, length, length-drop, take, ◌∙◌}
+use Rattle.std.proofs.Common.{◌≡◌, ◌≤◌, ap, arith, drop, length, length-drop, take, ◌∙◌}
 use Rattle.flt_drift.proofs.OverRuns.{run_on}
 use Rattle.flt_drift.specs.Reading.{state_in}
 use Rattle.flt_drift.specs.Runs.{run_count, run_in, run_taken}
