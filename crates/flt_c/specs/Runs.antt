@@ -57,6 +57,10 @@ abbrev pub plain_count : Plain → List ℕ → ℕ
 plain_count plain [] = 0
 plain_count plain (b ∷ z) = if is_plain plain b then plain_count plain z + 1 else 0
 
+-- with how many bytes a line goes on, unless it begins
+abbrev pub run_in : Bool → List ℕ → ℕ
+run_in fresh z = if fresh then 0 else plain_count (p.Until 10) z
+
 -- ---- what is read after them
 
 -- the place so many bytes further on in a line

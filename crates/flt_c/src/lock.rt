@@ -180,17 +180,6 @@ pub fn lock_line_after(line: LockLine, b: u8) -> LockLine
     }
 }
 
-/// The same. Most bytes are of lines that declare no lock.
-fn next_line(line: LockLine, b: u8) -> LockLine
-    ensures { result ≡ spec.after line b }
-{
-    if matches!(line, LockLine::Other) && b != b'\n' {
-        line
-    } else {
-        lock_line_after(line, b)
-    }
-}
-
 /// Whether the last byte of a line belongs to the expression of a lock or is the `=` before it.
 pub fn is_expression(line: LockLine) -> bool
     ensures { result ≡ spec.is_expression line }
@@ -205,13 +194,24 @@ fn plain_byte(line: LockLine, b: u8) -> u8
     if is_expression(line) { b' ' } else { b }
 }
 
+/// Whether a line declares no lock, as most lines do.
+fn is_other(line: LockLine) -> bool
+    ensures { result ≡ spec.is_other line }
+{
+    matches!(line, LockLine::Other)
+}
+
 /// Turns the expressions of locks into blanks.
 pub(crate) fn take_off(text: &mut Vec<u8>)
     ensures { text.new.items ≡ spec.plain text.old.items }
 {
     let mut line = LockLine::Nothing;
+    let mut other = false;
     for byte in text.iter_mut() {
-        line = next_line(line, *byte);
-        *byte = plain_byte(line, *byte);
+        if !other || *byte == b'\n' {
+            line = lock_line_after(line, *byte);
+            other = is_other(line);
+            *byte = plain_byte(line, *byte);
+        }
     }
 }
