@@ -14,11 +14,13 @@ use Rattle.flt_c.specs.declared.place.Place.{Place}
 use Rattle.flt_c.specs.declared.run.Plain.{Plain}
 use Rattle.flt_c.specs.declared.run.Plain.TheVariants as p
 use Rattle.flt_c.specs.declared.scan.Scanner.{Scanner}
+use Rattle.flt_c.specs.declared.text.Line.{Line}
 use Rattle.flt_c.specs.Fronts.{begins_directive, front_after, is_lenient, is_space}
+use Rattle.flt_c.specs.InPlace.{laid}
 use Rattle.flt_c.specs.Laws.{beside}
 use Rattle.flt_c.specs.Letters.{is_aside, is_plain_comment, letter_of, letters_from, with_letters}
 use Rattle.flt_c.specs.Modes.{is_note, turn}
-use Rattle.flt_c.specs.Runs.{add_run, further, is_end, is_plain, is_run_aside, is_special, lettered, passed, plain_count, plain_in, plain_in_code, run_part}
+use Rattle.flt_c.specs.Runs.{add_run, further, is_end, is_plain, is_run_aside, is_special, lettered, passed, plain_count, plain_in, plain_in_code, run_in, run_part}
 use Rattle.flt_c.specs.Scan.{added, continuation, read, step, with_front}
 use Rattle.flt_c.specs.Texts.{Text, after, put_all}
 
@@ -371,3 +373,23 @@ letters_run_on file out more s next before aside rest (suc n) i some e l a t p =
       column = rw p (omega (arith, column));
       depth = rw p (omega (arith, deep));
     }
+
+-- ---- lines that are laid in their places
+
+lay_over : (z : List ℕ) (n last : ℕ) (lines : List Line) → n ≤ plain_count (p.Until 10) z →
+    laid last false z lines ≡ take n z ++ laid last false (drop n z) lines
+lay_over z zero last lines h = refl
+lay_over [] (suc n) last lines h = absurd (omega (arith, h))
+lay_over (b ∷ z) (suc n) last lines h =
+    let first = counted (p.Until 10) b z n h (is_plain (p.Until 10) b) refl in
+    let i = inside 10 b first.0 in
+    let one : laid last false (b ∷ z) lines ≡ b ∷ laid last false z lines = rw i.feed refl in
+    one ∙ ap (λ l. b ∷ l) (lay_over z n last lines first.1)
+
+-- the loop over bytes goes on over a run
+pub lay_on : (out all z : List ℕ) (fresh : Bool) (n last : ℕ) (lines : List Line) → out ++ laid last fresh z lines ≡ all → 0 < n →
+    n ≡ run_in fresh z → (out ++ take n z) ++ laid last fresh (drop n z) lines ≡ all
+lay_on out all z true n last lines i some e = absurd (omega (arith, some, e))
+lay_on out all z false n last lines i some e =
+    let fits : n ≤ plain_count (p.Until 10) z = omega (arith, e) in
+    append_assoc out (take n z) (laid last false (drop n z) lines) ∙ (ap (λ l. out ++ l) (sym (lay_over z n last lines fits)) ∙ i)

@@ -73,3 +73,8 @@ plain_from line (b ∷ z) = let on = after line b in plain_byte on b ∷ plain_f
 -- a text with blanks for the expressions of locks
 abbrev pub plain : List ℕ → List ℕ
 plain text = plain_from l.Nothing text
+
+-- a line declares no lock
+abbrev pub is_other : LockLine → Bool
+is_other l.Other = true
+is_other _ = false

@@ -11,9 +11,10 @@ use Rattle.flt_c.specs.declared.place.Place.{Place}
 use Rattle.flt_c.specs.declared.run.Plain.{Plain}
 use Rattle.flt_c.specs.declared.run.Plain.TheVariants as p
 use Rattle.flt_c.specs.declared.scan.Scanner.{Scanner}
-use Rattle.flt_c.specs.Fronts.{is_code, is_directive, is_space}
+use Rattle.flt_c.specs.Fronts.{is_code, is_directive, is_space, next_depth, next_front}
 use Rattle.flt_c.specs.Letters.{is_marked, is_plain_comment}
 use Rattle.flt_c.specs.Modes.{is_note}
+use Rattle.flt_c.specs.Scan.{grouping, noting, opening}
 use Rattle.flt_c.specs.Texts.{Text}
 
 -- ---- which bytes are plain
@@ -55,6 +56,10 @@ is_plain (p.Until last) b = not (is_end last b)
 abbrev pub plain_count : Plain → List ℕ → ℕ
 plain_count plain [] = 0
 plain_count plain (b ∷ z) = if is_plain plain b then plain_count plain z + 1 else 0
+
+-- with how many bytes a line goes on, unless it begins
+abbrev pub run_in : Bool → List ℕ → ℕ
+run_in fresh z = if fresh then 0 else plain_count (p.Until 10) z
 
 -- ---- what is read after them
 
@@ -119,3 +124,47 @@ run_part s aside =
     if is_note s.mode then part.Note
     else (if aside then part.Aside
     else (if is_code s.mode && not (is_directive s.front || nat_lt 0 s.depth) then part.Code else part.Other))
+
+-- ---- the parts of one byte more
+
+-- where what is read in a mode began
+abbrev pub with_opening : Scanner → Mode → Scanner
+with_opening s new = record {
+  mode = s.mode;
+  front = s.front;
+  depth = s.depth;
+  at = s.at;
+  last = s.last;
+  opened = opening s new;
+  group = s.group;
+  joined = s.joined;
+  noted = s.noted;
+}
+
+-- what the line begins with, and the groups
+abbrev pub with_front_of : Scanner → ℕ → Scanner
+with_front_of s b = record {
+  mode = s.mode;
+  front = next_front s.mode s.front b;
+  depth = next_depth s.mode s.front s.depth b;
+  at = s.at;
+  last = s.last;
+  opened = s.opened;
+  group = grouping s b;
+  joined = s.joined;
+  noted = s.noted;
+}
+
+-- the last annotation of the line
+abbrev pub with_note : Scanner → ℕ → Mode → Scanner
+with_note s b mode = record {
+  mode = s.mode;
+  front = s.front;
+  depth = s.depth;
+  at = s.at;
+  last = s.last;
+  opened = s.opened;
+  group = s.group;
+  joined = s.joined;
+  noted = noting s b mode;
+}

@@ -1,11 +1,14 @@
 //! The annotations of a C file, laid in their places.
 
-ghost use Rattle.std.specs.Prelude.{◌≡◌, ◌++◌, [], ◌∷◌, true, replicate, IfOk, OnOk, MatchResult, Ok, Err};
+ghost use Rattle.std.specs.Prelude.{◌≡◌, ◌≤◌, ◌++◌, [], ◌∷◌, true, length, replicate, IfOk, OnOk, MatchResult, Ok, Err};
 ghost use Rattle.flt_c.specs.InPlace as spec;
+ghost use Rattle.flt_c.specs.Runs as runs;
 ghost use Rattle.flt_c.specs.Texts.{text_in};
 
 use crate::files::{FileFlaw, Flaw, extract};
 use crate::place::Place;
+use crate::run::{Plain, plain_count};
+use crate::scan::{after, before};
 use crate::text::{Annotations, Line};
 use std::alloc::{AllocError, Global};
 
@@ -37,6 +40,18 @@ fn put_gap(out: &mut Vec<u8>, last: usize, at: Place) -> Result<(), AllocError>
     Ok(())
 }
 
+/// The number of bytes with which a line goes on.
+fn run_in(fresh: bool, rest: &[u8]) -> usize
+    ensures value { result ≡ runs.run_in fresh rest.now }
+    ensures within { result ≤ length rest.now }
+{
+    if fresh {
+        0
+    } else {
+        plain_count(Plain::Until(b'\n'), rest)
+    }
+}
+
 /// The bytes of lines that begin at these places, laid there.
 fn laid(alloc: Global, bytes: &[u8], lines: &[Line]) -> Result<Vec<u8>, AllocError>
     ensures { IfOk result (λ out. out.items ≡ spec.laid 0 true bytes.now lines.now) }
@@ -45,16 +60,22 @@ fn laid(alloc: Global, bytes: &[u8], lines: &[Line]) -> Result<Vec<u8>, AllocErr
     let mut last = 0;
     let mut fresh = true;
     let mut lines = lines;
-    for byte in bytes {
-        if fresh {
-            if let [line, others @ ..] = lines {
+    let mut rest = bytes;
+    while let [byte, ..] = rest {
+        let run = run_in(fresh, rest);
+        if 0 < run {
+            out.extend_from_slice(before(rest, run))?;
+            rest = after(rest, run);
+        } else {
+            if let (true, [line, others @ ..]) = (fresh, lines) {
                 put_gap(&mut out, last, line.place)?;
                 last = line.place.line;
                 lines = others;
             }
+            out.push(*byte)?;
+            fresh = *byte == b'\n';
+            rest = after(rest, 1);
         }
-        out.push(*byte)?;
-        fresh = *byte == b'\n';
     }
     Ok(out)
 }

@@ -194,13 +194,24 @@ fn plain_byte(line: LockLine, b: u8) -> u8
     if is_expression(line) { b' ' } else { b }
 }
 
+/// Whether a line declares no lock, as most lines do.
+fn is_other(line: LockLine) -> bool
+    ensures { result ≡ spec.is_other line }
+{
+    matches!(line, LockLine::Other)
+}
+
 /// Turns the expressions of locks into blanks.
 pub(crate) fn take_off(text: &mut Vec<u8>)
     ensures { text.new.items ≡ spec.plain text.old.items }
 {
     let mut line = LockLine::Nothing;
+    let mut other = false;
     for byte in text.iter_mut() {
-        line = lock_line_after(line, *byte);
-        *byte = plain_byte(line, *byte);
+        if !other || *byte == b'\n' {
+            line = lock_line_after(line, *byte);
+            other = is_other(line);
+            *byte = plain_byte(line, *byte);
+        }
     }
 }

@@ -6,7 +6,7 @@ ghost use Rattle.flt_c.specs.Runs as runs;
 ghost use Rattle.flt_c.specs.Scan as spec;
 
 use crate::fault::{Fault, FaultKind};
-use crate::front::{Front, begins_directive, is_lenient, next_depth, next_front};
+use crate::front::{Front, begins_directive, is_code, is_lenient, next_depth, next_front};
 use crate::mode::{Mode, is_note, turn, unended};
 use crate::place::{Place, further, past};
 
@@ -58,24 +58,30 @@ fn opened_by(old: Mode, new: Mode) -> Opened
     }
 }
 
-fn opening(s: &Scanner, new: Mode) -> Place
-    ensures { result ≡ spec.opening s.now new }
+/// Notes where what is read in a mode began.
+fn note_opening(s: &mut Scanner, new: Mode)
+    ensures { s.new ≡ runs.with_opening s.old new }
 {
     match opened_by(s.mode, new) {
-        Opened::No => s.opened,
-        Opened::Here => s.at,
-        Opened::Before => s.last,
+        Opened::No => {}
+        Opened::Here => s.opened = s.at,
+        Opened::Before => s.opened = s.last,
     }
 }
 
-/// Where the directive began that may begin a skipped group.
-fn grouping(s: &Scanner, b: u8) -> Place
-    ensures { result ≡ spec.grouping s.now b }
+/// Takes a byte for the front of the line, and for the groups.
+fn note_front(s: &mut Scanner, b: u8)
+    requires { s.old.depth < 2 ^ 40 }
+    ensures value { s.new ≡ runs.with_front_of s.old b }
+    ensures deepens { s.new.depth ≤ s.old.depth + 1 }
 {
-    if begins_directive(s.front, next_front(s.mode, s.front, b)) && s.depth == 0 {
-        s.at
-    } else {
-        s.group
+    if is_code(s.mode) || b == b'\n' {
+        let front = next_front(s.mode, s.front, b);
+        if begins_directive(s.front, front) && s.depth == 0 {
+            s.group = s.at;
+        }
+        s.depth = next_depth(s.mode, s.front, s.depth, b);
+        s.front = front;
     }
 }
 
@@ -99,17 +105,14 @@ fn begins(s: &Scanner, mode: Mode) -> bool
     is_note(mode) && !is_note(s.mode)
 }
 
-/// Where the last annotation of the line began, after one more byte.
-fn noting(s: &Scanner, b: u8, mode: Mode) -> Option<Place>
-    ensures { result ≡ spec.noting s.now b mode }
+/// Notes where the last annotation of the line began, after one more byte.
+fn note_note(s: &mut Scanner, b: u8, mode: Mode)
+    ensures { s.new ≡ runs.with_note s.old b mode }
 {
     if b == b'\n' && !is_note(mode) {
-        return None;
-    }
-    if begins(s, mode) {
-        Some(s.opened)
-    } else {
-        s.noted
+        s.noted = None;
+    } else if begins(s, mode) {
+        s.noted = Some(s.opened);
     }
 }
 
@@ -126,11 +129,9 @@ fn go_on(s: &mut Scanner, b: u8, mode: Mode) -> Result<(), Fault>
     if begins(s, mode) && s.joined {
         return Err(blamed(s, FaultKind::Continued));
     }
-    s.noted = noting(s, b, mode);
-    s.group = grouping(s, b);
-    s.opened = opening(s, mode);
-    s.depth = next_depth(s.mode, s.front, s.depth, b);
-    s.front = next_front(s.mode, s.front, b);
+    note_note(s, b, mode);
+    note_opening(s, mode);
+    note_front(s, b);
     s.joined = s.joined && b != b'\n';
     s.last = s.at;
     s.at = past(s.at, b);

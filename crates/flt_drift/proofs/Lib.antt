@@ -1,2 +1,6 @@
 mod Flagged
+mod GoingOn
+mod OverRuns
+mod Raising
+mod Shorter
 mod Wrapped

@@ -1,5 +1,5 @@
 -- What marks say of the calls, statuses and operations, noted once, so that they aren't searched for each mark. This project's own rule.
-use Rattle.std.specs.Prelude.{ℕ, zero, suc, Bool, true, false, List, [], ◌∷◌, ◌++◌, if◌then◌else◌, length, nat_lt}
+use Rattle.std.specs.Prelude.{ℕ, zero, suc, Bool, true, List, [], ◌∷◌, ◌++◌, if◌then◌else◌, length, nat_lt, slice_set, Option, Some, None}
 use Rattle.std.specs.List.{list_any}
 use Rattle.flt_drift.specs.Drifts.{calls, names, answers, registers_pre, registers_post, heads_pre, heads_post}
 use Rattle.flt_drift.specs.Names.{calls as calls_named, statuses, operations}
@@ -7,6 +7,7 @@ use Rattle.flt_drift.specs.declared.flags.Question.{Question}
 use Rattle.flt_drift.specs.declared.flags.Question.TheVariants as ask
 use Rattle.flt_drift.specs.declared.mark.Mark.{Mark}
 use Rattle.flt_drift.specs.declared.mark.MarkKind.{MarkKind}
+use Rattle.flt_drift.specs.declared.mark.MarkKind.TheVariants as k
 
 -- a mark says this of a call, a status or an operation
 abbrev pub says : Question → ℕ → MarkKind → Bool
@@ -26,6 +27,22 @@ is_said question number marks = list_any (λ mark. says question number mark.kin
 abbrev pub flags_below : (ℕ → Bool) → ℕ → List Bool
 flags_below holds zero = []
 flags_below holds (suc n) = flags_below holds n ++ (holds n ∷ [])
+
+-- the number of which a mark says this
+abbrev pub subject : Question → MarkKind → Option ℕ
+subject ask.Called (k.Calls call) = Some call
+subject ask.Named (k.Names call) = Some call
+subject ask.Answered (k.Answers status) = Some status
+subject ask.PreRegistered (k.RegistersPre operation) = Some operation
+subject ask.PostRegistered (k.RegistersPost operation) = Some operation
+subject ask.PreHeaded (k.HeadsPre operation) = Some operation
+subject ask.PostHeaded (k.HeadsPost operation) = Some operation
+subject _ _ = None
+
+-- the flag of a number is raised, if it has one
+abbrev pub raised : Option ℕ → List Bool → List Bool
+raised None flags = flags
+raised (Some n) flags = if nat_lt n (length flags) then slice_set flags n true else flags
 
 -- how many numbers there are to ask of
 abbrev pub count : Question → ℕ

@@ -5,5 +5,6 @@ pub mod Marks
 pub mod Names
 pub mod Parts
 pub mod Reading
+pub mod Runs
 pub mod Tokens
 pub mod Wrappers

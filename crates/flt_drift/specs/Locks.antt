@@ -254,6 +254,28 @@ coded at p b marks s = gone_on (argument_with p b s.argument) marks (argument_wr
 abbrev pub read : ℕ → Part → ℕ → ℕ → LockState → LockState
 read at p b marks s = coded at p b marks (noted at p b s)
 
+-- ---- letters that aren't about locks
+
+abbrev pub is_no_argument : Argument → Bool
+is_no_argument argument.Nothing = true
+is_no_argument _ = false
+
+abbrev pub is_nothing : LockLine → Bool
+is_nothing l.Nothing = true
+is_nothing _ = false
+
+abbrev pub is_other : LockLine → Bool
+is_other l.Other = true
+is_other _ = false
+
+-- a line declares a lock as far as before, after one more letter of the file
+abbrev pub is_same_line : Part → ℕ → LockLine → Bool
+is_same_line p b line = if is_note p then is_other line && not (b == 10) else is_nothing line
+
+-- a letter is no part of a lock's declaration or of an argument
+abbrev pub is_still : Part → ℕ → LockState → Bool
+is_still p b s = is_no_argument s.argument && is_same_line p b s.line
+
 -- ---- locks that annotations take and release
 
 abbrev pub guard_by : Option Known → ℕ → List ℕ → ℕ → Mark

@@ -1,5 +1,5 @@
 -- What a word says: of code, or of an annotation. This project's own rule.
-use Rattle.std.specs.Prelude.{ℕ, Bool, true, false, ◌||◌, if◌then◌else◌, List, [], ◌∷◌, codes, Option, Some, None}
+use Rattle.std.specs.Prelude.{ℕ, Bool, true, false, ◌||◌, if◌then◌else◌, List, codes, Option, Some, None}
 use Rattle.std.specs.Str.{bytes_eq}
 use Rattle.flt_drift.specs.Names.{c_status_of, call_of, lock_call_of, operation_of, status_of}
 use Rattle.flt_drift.specs.Wrappers.{Wrapping, call_in}

@@ -4,7 +4,7 @@ use Rattle.std.specs.Str.{bytes_eq}
 use Rattle.flt_c.specs.declared.letter.Letter.{Letter}
 use Rattle.flt_c.specs.declared.letter.Part.{Part}
 use Rattle.flt_c.specs.declared.letter.Part.TheVariants as part
-use Rattle.flt_drift.specs.Locks.{LockState, called, guard, locks_in, no_locks, read, taken as argument_taken}
+use Rattle.flt_drift.specs.Locks.{LockState, called, guard, is_still, locks_in, no_locks, read, taken as argument_taken}
 use Rattle.flt_drift.specs.Marks.{before_of, said_by_code, said_by_note}
 use Rattle.flt_drift.specs.Names.{c_operation_of, call_of, is_major_function, lock_call_of}
 use Rattle.flt_drift.specs.Parts.{is_aside, is_blank, is_code, is_note, is_of_word, same_part}
@@ -380,6 +380,28 @@ line_on p b line = record {
   closing = line.closing || line.fresh && (is_code p && b == 125);
 }
 
+-- a remark may begin
+abbrev pub remarked : Part → ℕ → Line → Line
+remarked p b line = record {
+  remark = line.remark || is_note p && b == 35;
+  alone = line.alone;
+  noted = line.noted;
+  here = line.here;
+  fresh = line.fresh;
+  closing = line.closing;
+}
+
+-- the line begins with a letter, or goes on
+abbrev pub begun_by : Part → ℕ → Line → Line
+begun_by p b line = record {
+  remark = line.remark;
+  alone = line.alone;
+  noted = line.noted;
+  here = line.here;
+  fresh = false;
+  closing = line.closing || line.fresh && (is_code p && b == 125);
+}
+
 -- what is known of the line after a letter
 abbrev pub lined : Part → ℕ → Line → Line
 lined p b line = if b == 10 then line_ended line else line_on p b line
@@ -412,6 +434,26 @@ locked at p b s =
 
 -- ---- a file
 
+-- what else than a word ends before a letter or begins with it
+unfoldable pub turned : ℕ → Part → ℕ → State → State
+turned at p b s = locked at p b (noted at p b (cut at p b (left p s)))
+
+-- no word ends before a letter
+abbrev pub keeps_word : Part → ℕ → State → Bool
+keeps_word p b s = is_empty s.word || same_part s.spoken.part p && is_of_word p b
+
+-- no comment `@flt-call` does
+abbrev pub keeps_stage : Part → State → Bool
+keeps_stage p s = is_aside p || not (is_under_way s.stage)
+
+-- no stretch begins with it, and no annotation of the line
+abbrev pub keeps_line : Part → ℕ → Line → Bool
+keeps_line p b line = is_blank b || not (line.noted && is_code p || not line.here && is_note p)
+
+-- nothing but a word ends or begins
+abbrev pub goes_on : Part → ℕ → State → Bool
+goes_on p b s = keeps_stage p s && keeps_line p b s.line && is_still p b s.locks
+
 -- one letter more, as this part
 unfoldable pub taken_as : ℕ → Part → ℕ → State → State
 taken_as at p b s = passed p b (grown at p b (locked at p b (noted at p b (cut at p b (left p (ended p b s))))))
@@ -419,6 +461,11 @@ taken_as at p b s = passed p b (grown at p b (locked at p b (noted at p b (cut a
 -- one letter more
 abbrev pub taken : ℕ → Letter → State → State
 taken at letter s = taken_as at (seen s.line letter) letter.byte s
+
+-- some letters more, from a place on
+abbrev pub taken_all : ℕ → List Letter → State → State
+taken_all at [] s = s
+taken_all at (letter ∷ letters) s = taken_all (at + 1) letters (taken at letter s)
 
 -- nothing is read
 abbrev pub start : State

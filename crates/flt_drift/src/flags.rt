@@ -1,6 +1,6 @@
 //! Whether some marks say something of a call, a status or an operation, noted once for all of them.
 
-ghost use Rattle.std.specs.Prelude.{◌≡◌, IfOk};
+ghost use Rattle.std.specs.Prelude.{◌≡◌, IfOk, false, replicate};
 ghost use Rattle.flt_drift.specs.Drifts as said;
 ghost use Rattle.flt_drift.specs.Flags as spec;
 
@@ -134,6 +134,44 @@ fn noted(count: usize, marks: usize) -> usize
     if marks < MANY { 0 } else { count }
 }
 
+/// The number that a mark says something of.
+fn subject(question: Question, kind: MarkKind) -> Option<usize>
+    ensures { result ≡ spec.subject question kind }
+{
+    match (question, kind) {
+        (Question::Called, MarkKind::Calls(call)) => Some(call),
+        (Question::Named, MarkKind::Names(call)) => Some(call),
+        (Question::Answered, MarkKind::Answers(status)) => Some(status),
+        (Question::PreRegistered, MarkKind::RegistersPre(operation)) => Some(operation),
+        (Question::PostRegistered, MarkKind::RegistersPost(operation)) => Some(operation),
+        (Question::PreHeaded, MarkKind::HeadsPre(operation)) => Some(operation),
+        (Question::PostHeaded, MarkKind::HeadsPost(operation)) => Some(operation),
+        _ => None,
+    }
+}
+
+/// So many flags, none of which is raised.
+fn no_flags(alloc: Global, count: usize) -> Result<Vec<bool>, AllocError>
+    ensures { IfOk result (λ found. found.items ≡ replicate count false) }
+{
+    let mut found = Vec::new(alloc);
+    for _number in 0..count {
+        found.push(false)?;
+    }
+    Ok(found)
+}
+
+/// Raises the flag of a number, if it has one.
+fn raise(found: &mut Vec<bool>, number: Option<usize>)
+    ensures { found.new.items ≡ spec.raised number found.old.items }
+{
+    if let Some(number) = number {
+        if number < found.len() {
+            found[number] = true;
+        }
+    }
+}
+
 /// Whether some marks say something of each number below another one.
 fn flags_below(
     alloc: Global,
@@ -143,9 +181,9 @@ fn flags_below(
 ) -> Result<Vec<bool>, AllocError>
     ensures { IfOk result (λ found. found.items ≡ spec.flags question marks.now count) }
 {
-    let mut found = Vec::new(alloc);
-    for number in 0..count {
-        found.push(is_said(question, number, marks))?;
+    let mut found = no_flags(alloc, count)?;
+    for mark in marks {
+        raise(&mut found, subject(question, mark.kind));
     }
     Ok(found)
 }

@@ -15,6 +15,7 @@ mod mark;
 mod names;
 mod part;
 mod reader;
+mod run;
 mod stretch;
 mod tokens;
 mod word;

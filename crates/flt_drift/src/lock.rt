@@ -175,6 +175,38 @@ fn is_open(argument: Argument) -> bool
     matches!(argument, Argument::Open(_, _))
 }
 
+/// Whether no line of an annotation is read that may declare a lock.
+fn is_nothing(line: LockLine) -> bool
+    ensures { result ≡ spec.is_nothing line }
+{
+    matches!(line, LockLine::Nothing)
+}
+
+/// Whether the line of an annotation declares no lock.
+fn is_other(line: LockLine) -> bool
+    ensures { result ≡ spec.is_other line }
+{
+    matches!(line, LockLine::Other)
+}
+
+/// Whether no argument is being read, and none begins with a bracket.
+fn is_no_argument(argument: Argument) -> bool
+    ensures { result ≡ spec.is_no_argument argument }
+{
+    matches!(argument, Argument::Nothing)
+}
+
+/// Whether the line of an annotation is the same after one more letter of the file.
+fn is_same_line(part: Part, b: u8, line: LockLine) -> bool
+    ensures { result ≡ spec.is_same_line part b line }
+{
+    if is_note(part) {
+        is_other(line) && b != b'\n'
+    } else {
+        is_nothing(line)
+    }
+}
+
 impl Locks {
     pub(crate) fn new(alloc: Global) -> Locks
         ensures { spec.locks_in result ≡ spec.no_locks }
@@ -406,6 +438,34 @@ impl Locks {
     {
         self.note(at, part, b)?;
         self.code(at, part, b, marks)
+    }
+
+    /// Whether no argument is being read, and none begins with a bracket.
+    pub(crate) fn has_no_argument(&self) -> bool
+        ensures { result ≡ spec.is_no_argument (spec.locks_in self.now).argument }
+    {
+        is_no_argument(self.argument)
+    }
+
+    /// Whether no line of an annotation is read that may declare a lock.
+    pub(crate) fn has_no_line(&self) -> bool
+        ensures { result ≡ spec.is_nothing (spec.locks_in self.now).line }
+    {
+        is_nothing(self.line)
+    }
+
+    /// Whether a line of an annotation is read that declares none.
+    pub(crate) fn has_other_line(&self) -> bool
+        ensures { result ≡ spec.is_other (spec.locks_in self.now).line }
+    {
+        is_other(self.line)
+    }
+
+    /// Whether a letter is no part of a lock's declaration or of an argument, so that all stays as it is.
+    pub(crate) fn is_still(&self, part: Part, b: u8) -> bool
+        ensures { result ≡ spec.is_still part b (spec.locks_in self.now) }
+    {
+        is_no_argument(self.argument) && is_same_line(part, b, self.line)
     }
 
     /// The mark of a lock that an annotation takes or releases by a call, where its name begins at a place: that of its expression, or else

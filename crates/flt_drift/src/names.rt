@@ -70,6 +70,12 @@ const LOCK_CALLS: [&[u8]; 7] = [
     b"FltReleasePushLock",
 ];
 
+/// The number of bytes that each call has at least.
+const SHORTEST_CALL: usize = 15;
+
+/// The number of bytes that each call of a lock has at least.
+const SHORTEST_LOCK_CALL: usize = 17;
+
 /// The place of a word among others, from 0.
 fn place_among(names: &[&[u8]], word: &[u8]) -> Option<usize>
     ensures { result ≡ spec.place_among (map (λ name. name.now) names.now) word.now }
@@ -87,6 +93,9 @@ fn place_among(names: &[&[u8]], word: &[u8]) -> Option<usize>
 pub(crate) fn call_of(word: &[u8]) -> Option<usize>
     ensures { result ≡ spec.call_of word.now }
 {
+    if word.len() < SHORTEST_CALL {
+        return None;
+    }
     place_among(CALLS.as_slice(), word)
 }
 
@@ -127,6 +136,9 @@ pub(crate) fn c_operation_of(word: &[u8]) -> Option<usize>
 pub(crate) fn lock_call_of(word: &[u8]) -> Option<usize>
     ensures { result ≡ spec.lock_call_of word.now }
 {
+    if word.len() < SHORTEST_LOCK_CALL {
+        return None;
+    }
     place_among(LOCK_CALLS.as_slice(), word)
 }
 

@@ -2,11 +2,13 @@
 
 ghost use Rattle.std.specs.Prelude.{◌≡◌, ◌++◌, [], ◌∷◌, IfOk, OnOk};
 ghost use Rattle.flt_drift.specs.Reading as spec;
+ghost use Rattle.flt_drift.specs.Runs as runs;
 
 use crate::lock::Locks;
 use crate::mark::{Mark, MarkKind};
 use crate::names::{c_operation_of, call_of, is_major_function, lock_call_of};
 use crate::part::{is_aside, is_blank, is_code, is_note, is_of_word, same_part};
+use crate::run::{Run, after, before, put_bytes, run_count};
 use crate::word::{Before, Entry, before_of, said_by_code, said_by_note};
 use crate::wrapper::Wrappers;
 use flt_c::{Letter, Part};
@@ -180,41 +182,59 @@ fn entry_after(b: u8, entry: Entry) -> Entry
     }
 }
 
-/// The state of the code after a letter.
-fn coded(part: Part, b: u8, code: Code) -> Code
-    ensures { result ≡ spec.coded part b code }
+/// Takes a letter of the code.
+fn pass_code(code: &mut Code, part: Part, b: u8)
+    ensures { code.new ≡ spec.coded part b code.old }
 {
     if is_code(part) && !is_blank(b) {
-        Code {
-            brace: b == b'{',
-            entry: entry_after(b, code.entry),
-        }
-    } else {
-        code
+        code.brace = b == b'{';
+        code.entry = entry_after(b, code.entry);
     }
 }
 
-/// The state of the line after a letter.
-fn lined(part: Part, b: u8, line: Line) -> Line
-    ensures { result ≡ spec.lined part b line }
+/// Takes a letter that may begin a remark.
+fn pass_remark(line: &mut Line, part: Part, b: u8)
+    ensures { line.new ≡ spec.remarked part b line.old }
+{
+    if is_note(part) && b == b'#' {
+        line.remark = true;
+    }
+}
+
+/// Takes a letter that may be the first of its line.
+fn pass_first(line: &mut Line, part: Part, b: u8)
+    ensures { line.new ≡ spec.begun_by part b line.old }
+{
+    if line.fresh {
+        line.fresh = false;
+        line.closing = line.closing || (is_code(part) && b == b'}');
+    }
+}
+
+/// Takes a letter of the line.
+fn pass_line(line: &mut Line, part: Part, b: u8)
+    ensures { line.new ≡ spec.lined part b line.old }
 {
     if b == b'\n' {
-        Line {
+        *line = Line {
             remark: false,
             alone: false,
             noted: line.noted || line.here || line.closing,
             here: false,
             fresh: true,
             closing: false,
-        }
+        };
     } else {
-        Line {
-            remark: line.remark || (is_note(part) && b == b'#'),
-            fresh: false,
-            closing: line.closing || (line.fresh && is_code(part) && b == b'}'),
-            ..line
-        }
+        pass_remark(line, part, b);
+        pass_first(line, part, b);
     }
+}
+
+/// Whether no stretch begins at a letter, and no annotation of the line.
+fn keeps_line(part: Part, b: u8, line: Line) -> bool
+    ensures { result ≡ spec.keeps_line part b line }
+{
+    is_blank(b) || !((line.noted && is_code(part)) || (!line.here && is_note(part)))
 }
 
 /// Whether a comment `@flt-call` is being read.
@@ -421,11 +441,18 @@ impl Reader {
         Ok(())
     }
 
+    /// Whether no word ends before a letter.
+    fn keeps_word(&self, part: Part, b: u8) -> bool
+        ensures { result ≡ spec.keeps_word part b (spec.state_in self.now) }
+    {
+        self.word.is_empty() || (same_part(self.spoken.part, part) && is_of_word(part, b))
+    }
+
     /// Ends the word if a letter doesn't belong to it.
     fn ended(&mut self, part: Part, b: u8) -> Result<(), AllocError>
         ensures { OnOk result (spec.state_in self.new ≡ spec.ended part b (spec.state_in self.old)) }
     {
-        if !(self.word.is_empty() || (same_part(self.spoken.part, part) && is_of_word(part, b))) {
+        if !self.keeps_word(part, b) {
             self.end_word()?;
         }
         Ok(())
@@ -500,19 +527,46 @@ impl Reader {
         Ok(())
     }
 
+    /// Whether nothing but a word ends before a letter or begins with it.
+    fn goes_on(&self, part: Part, b: u8) -> bool
+        ensures { result ≡ spec.goes_on part b (spec.state_in self.now) }
+    {
+        (is_aside(part) || !is_under_way(self.stage))
+            && keeps_line(part, b, self.line)
+            && self.locks.is_still(part, b)
+    }
+
+    /// Ends what ends before a letter, and begins what begins with it.
+    #[tactic(auto, unfolding(crate::specs::Reading::turned))]
+    fn turn(&mut self, at: usize, part: Part, b: u8) -> Result<(), AllocError>
+        ensures { OnOk result (spec.state_in self.new ≡ spec.turned at part b (spec.state_in self.old)) }
+    {
+        self.leave(part)?;
+        self.cut(at, part, b)?;
+        self.note(at, part, b)?;
+        self.lock(at, part, b)
+    }
+
+    /// Does the same, unless there is nothing to do.
+    fn turn_unless_on(&mut self, at: usize, part: Part, b: u8) -> Result<(), AllocError>
+        ensures { OnOk result (spec.state_in self.new ≡ spec.turned at part b (spec.state_in self.old)) }
+    {
+        if self.goes_on(part, b) {
+            Ok(())
+        } else {
+            self.turn(at, part, b)
+        }
+    }
+
     /// Takes one more letter, as this part.
-    #[tactic(auto, unfolding(crate::specs::Reading::taken_as))]
     fn take_as(&mut self, at: usize, part: Part, b: u8) -> Result<(), AllocError>
         ensures { OnOk result (spec.state_in self.new ≡ spec.taken_as at part b (spec.state_in self.old)) }
     {
         self.ended(part, b)?;
-        self.leave(part)?;
-        self.cut(at, part, b)?;
-        self.note(at, part, b)?;
-        self.lock(at, part, b)?;
+        self.turn_unless_on(at, part, b)?;
         self.grow(at, part, b)?;
-        self.line = lined(part, b, self.line);
-        self.code = coded(part, b, self.code);
+        pass_line(&mut self.line, part, b);
+        pass_code(&mut self.code, part, b);
         Ok(())
     }
 
@@ -522,6 +576,65 @@ impl Reader {
     {
         let part = seen(self.line, letter);
         self.take_as(at, part, letter.byte)
+    }
+
+    /// Whether the line isn't at its first letter, and no comment `@flt-call` and no argument is being read.
+    fn is_calm(&self) -> bool
+        ensures { result ≡ runs.is_calm (spec.state_in self.now) }
+    {
+        !self.line.fresh && !is_under_way(self.stage) && self.locks.has_no_argument()
+    }
+
+    /// Whether a word of code is being read.
+    fn is_code_word(&self) -> bool
+        ensures { result ≡ runs.is_code_word (spec.state_in self.now) }
+    {
+        !self.code.brace && !self.line.noted && self.locks.has_no_line()
+    }
+
+    /// Whether a word of an annotation is being read, and none of a remark or of the declaration of a lock.
+    fn is_note_word(&self) -> bool
+        ensures { result ≡ runs.is_note_word (spec.state_in self.now) }
+    {
+        self.line.here && !self.line.remark && self.locks.has_other_line()
+    }
+
+    /// The run that goes on with the word.
+    fn word_run(&self) -> Run
+        ensures { result ≡ runs.word_run self.now.spoken.part (spec.state_in self.now) }
+    {
+        match self.spoken.part {
+            Part::Code if self.is_code_word() => Run::Word(Part::Code),
+            Part::Note if self.is_note_word() => Run::Word(Part::Note),
+            _ => Run::No,
+        }
+    }
+
+    /// The run that goes on.
+    fn run(&self) -> Run
+        ensures { result ≡ runs.run_in (spec.state_in self.now) }
+    {
+        if !self.is_calm() {
+            return Run::No;
+        }
+        if !self.word.is_empty() {
+            return self.word_run();
+        }
+        if self.locks.has_no_line() {
+            Run::Idle
+        } else {
+            Run::No
+        }
+    }
+
+    /// Takes some letters of a run.
+    fn take_run(&mut self, run: Run, letters: &[Letter]) -> Result<(), AllocError>
+        ensures { OnOk result (spec.state_in self.new ≡ runs.run_taken run letters.now (spec.state_in self.old)) }
+    {
+        match run {
+            Run::Word(_) => put_bytes(&mut self.word, letters),
+            Run::No | Run::Idle => Ok(()),
+        }
     }
 
     /// Ends the file.
@@ -540,8 +653,18 @@ pub(crate) fn marks(alloc: Global, letters: &[Letter]) -> Result<Vec<Mark>, Allo
     ensures { IfOk result (λ found. found.items ≡ spec.marks_of letters.now) }
 {
     let mut reader = Reader::new(alloc);
-    for (at, letter) in letters.iter().enumerate() {
-        reader.take(at, *letter)?;
+    let mut at: usize = 0;
+    while at < letters.len() {
+        let rest = after(letters, at);
+        let run = reader.run();
+        let n = run_count(run, rest);
+        if n == 0 {
+            reader.take(at, letters[at])?;
+            at += 1;
+        } else {
+            reader.take_run(run, before(rest, n))?;
+            at += n;
+        }
     }
     reader.end()?;
     Ok(reader.marks)
