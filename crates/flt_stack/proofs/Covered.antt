@@ -1,11 +1,11 @@
 -- Graphs and the certificates beside them, one by one.
-use Rattle.std.proofs.Common.{◌≡◌, ℕ, zero, suc, ◌+◌, ◌<◌, ◌≤◌, List, [], ◌∷◌, ◌++◌, length, get_or, take, Some, sym, subst, ap, arith}
+use Rattle.std.proofs.Common.{◌≡◌, ℕ, zero, suc, ◌+◌, ◌<◌, ◌≤◌, List, [], ◌∷◌, length, get_or, take, Some, sym, subst, ap, arith}
 use Rattle.std.proofs.lemmas.List.{take_all, take_more}
 use Rattle.std.proofs.lemmas.List.Elements.{All-cons, All-head, All-nil, All-tail}
-use Rattle.std.proofs.lemmas.Option.{get_or_from_slice_get, slice_get-get_or, slice_get_within}
+use Rattle.std.proofs.lemmas.Option.{slice_get-get_or}
 use Rattle.std.proofs.lemmas.Slice.Zip.{all_zipped_more}
 use Rattle.std.specs.List.{All, AllZip}
-use Rattle.std.specs.Prelude.{◌↔◌, IsTrue, slice_get}
+use Rattle.std.specs.Prelude.{◌↔◌, slice_get}
 use Rattle.flt_tree.specs.WellFormed.{IsWellFormed}
 use Rattle.flt_tree.specs.declared.filter.Filter.{Filter}
 use Rattle.flt_graph.specs.Lowering.{IsLowered}

@@ -1,19 +1,16 @@
 -- Files that are read one by one: one more is read, or the first that can't be, or isn't accepted, has its fault.
-use Rattle.std.proofs.Common.{◌≡◌, ℕ, zero, suc, ◌+◌, ◌<◌, ◌≤◌, List, [], ◌∷◌, ◌++◌, length, get_or, map, min, take, Some, refl, sym, ap, ◌∙◌, subst, arith}
+use Rattle.std.proofs.Common.{◌≡◌, ℕ, zero, suc, ◌+◌, ◌<◌, List, [], ◌∷◌, ◌++◌, length, get_or, map, min, take, Some, refl, ap, ◌∙◌, subst, arith}
 use Rattle.std.proofs.lemmas.List.{length-take, map_more, map_push, take-map, take-take}
 use Rattle.std.proofs.lemmas.Option.{slice_get-get_or, slice_get-map, slice_get_within}
 use Rattle.std.specs.List.{AllZip}
-use Rattle.std.specs.Prelude.{IsTrue, option_map, slice_get}
+use Rattle.std.specs.Prelude.{option_map, slice_get}
 use Rattle.flt_tree.specs.Names.{Text}
 use Rattle.flt_tree.specs.WellFormed.{IsWellFormed}
 use Rattle.flt_tree.specs.declared.filter.Filter.{Filter}
 use Rattle.flt_tree.specs.declared.tree.Tree.{Tree}
-use Rattle.flt_syntax.specs.Spelling.{Spells, SpellsAtMostOne}
-use Rattle.flt_graph.specs.Lowering.{IsLowered}
+use Rattle.flt_syntax.specs.Spelling.{Spells}
 use Rattle.flt_graph.specs.declared.graph.Graph.{Graph}
-use Rattle.flt_cert.specs.Spelling.{is_cert, spelling}
 use Rattle.flt_cert.specs.declared.cert.Cert.{Cert}
-use Rattle.flt_check.specs.Accepting.{CertCovers}
 use Rattle.flt_check.specs.declared.checker.Refusal.{Refusal}
 use Rattle.flt_frame.specs.Loading.{AreGraphsOfFilters}
 use Rattle.flt_model.specs.Program.{filters_of}
@@ -175,16 +172,19 @@ refused_first files fs gs ks n r all first =
       there = at.there;
       before = take n fs;
       accepted = all_accepted (take n files) (take n fs) (take n gs) (take n ks) (read_first n files fs gs ks all) first.before;
-      wrong = (refl, record {
-        filter = at.filter;
-        spelled = at.read.spelled;
-        graph = first.graph;
-        lowered = at.read.lowered;
-        certificate = first.certificate;
-        certified = at.read.certified;
-        written = at.read.written;
-        refused = first.refused;
-      });
+      wrong = (
+        refl,
+        record {
+          filter = at.filter;
+          spelled = at.read.spelled;
+          graph = first.graph;
+          lowered = at.read.lowered;
+          certificate = first.certificate;
+          certified = at.read.certified;
+          written = at.read.written;
+          refused = first.refused;
+        },
+      );
     }
 
 -- the fault of the first so many files is that of all
@@ -260,6 +260,12 @@ module _ {A : Type 0} (as_file : A → File) (items : List A) (i : ℕ) (d : A) 
     before = rw (take-map as_file i items) all;
     wrong = wrong;
   }
+
+  -- or memory runs out once it is
+  pub memory_stops : (fs : List Filter) (gs : List Graph) (ks : List Cert) (f : Filter) (g : Graph) (k : Cert) →
+      AreReadFiles (map as_file (take i items)) fs gs ks → IsReadFile (as_file (get_or items i d)) f g k →
+      StopsReading (map as_file items) fs gs ks fault.OutOfMemory
+  memory_stops fs gs ks f g k all one = stops_reading fs gs ks fault.OutOfMemory all tt
 
   -- where all files are accepted, this one is
   pub accepted_here : (filters : List Filter) → AreAcceptedFiles (map as_file items) filters → (f : Filter)

@@ -41,11 +41,7 @@ pub(crate) fn first_refusal(graphs: &[Graph], certificates: &[Cert]) -> Option<(
 }
 
 /// Whether each filter takes its locks in an order, by some certificate that covers.
-fn are_ordered(
-    alloc: Global,
-    graphs: &[Graph],
-    certificates: &[Cert],
-) -> Result<bool, AllocError>
+fn are_ordered(alloc: Global, graphs: &[Graph], certificates: &[Cert]) -> Result<bool, AllocError>
     requires covered { spec.AreCovered graphs.now certificates.now }
     requires certificates { spec.AreCertificates graphs.now certificates.now }
     ensures { IfOk result (λ ordered. IsTrue ordered ↔ All IsOrdered graphs.now) }
