@@ -1,5 +1,8 @@
 -- The analyser's answers, beside the filters whose points they are for.
-use Rattle.std.proofs.Common.{◌≡◌, ℕ, zero, suc, List, [], ◌∷◌, ◌++◌, Some, Result, Ok, Err, length, take, refl, sym, subst, ap}
+use Rattle.std.proofs.Common.{◌≡◌, ℕ, zero, suc, ◌<◌, List, [], ◌∷◌, Some, Result, Ok, Err, get_or, length, map, take, refl, sym, subst, ap, ◌∙◌}
+use Rattle.std.proofs.lemmas.List.{map-id}
+use Rattle.std.proofs.lemmas.Option.{slice_get_read}
+use Rattle.std.proofs.lemmas.Slice.Zip.{AllZip-long}
 use Rattle.std.specs.List.{AllZip}
 use Rattle.std.specs.Prelude.{IsTrue, slice_get}
 use Rattle.flt_analyse.specs.All.{IsAnswer}
@@ -85,6 +88,19 @@ all_lowered fine (t ∷ texts) (f ∷ filters) (g ∷ graphs) spelled lowered =
     (record { well_formed = fine t f spelled.0; lowered = lowered.0 }, all_lowered fine texts filters graphs spelled.1 lowered.1)
 
 -- ---- what is refused
+
+-- the answer behind certificates is the first refusal, where it is one
+pub first_err : (answers yielded : List (Result Certificate Refusal)) (certs : List Cert) (number : ℕ)
+    (answer : Result Certificate Refusal) (f : Refusal) → AllZip IsGiven yielded certs → number ≡ length certs →
+    map (λ a. a) yielded ≡ take (length yielded) answers →
+    (length yielded < length answers) × (answer ≡ get_or answers (length yielded) answer) → answer ≡ Err f → IsFirstErr answers number f
+first_err answers yielded certs number answer f given counted so_far turn is =
+    let place : number ≡ length yielded = counted ∙ AllZip-long IsGiven yielded certs given in
+    record {
+      certificates = certs;
+      given = rw place (subst (λ l. AllZip IsGiven l certs) (sym (map-id yielded) ∙ so_far) given);
+      there = rw place (slice_get_read answers (length answers) (length yielded) answer refl turn.0 turn.1 ∙ ap Some is);
+    }
 
 -- the first refusal of the answers is that of the filters
 refused_first : (filters : List Filter) (graphs : List Graph) (answers : List (Result Certificate Refusal)) (number : ℕ) (f : Refusal)

@@ -1,5 +1,5 @@
 -- The first of several: what holds of those before it, and where it stands.
-use Rattle.std.proofs.Common.{◌≡◌, ℕ, ◌+◌, ◌<◌, List, [], ◌∷◌, ◌++◌, Vec, Global, length, get_or, take, drop, map, sym, subst, ap, ◌∙◌, arith}
+use Rattle.std.proofs.Common.{◌≡◌, ℕ, ◌+◌, ◌<◌, List, [], ◌∷◌, ◌++◌, Vec, Global, length, get_or, take, drop, map, sym, ap, ◌∙◌, arith}
 use Rattle.std.proofs.lemmas.List.{take-append-drop, drop_more, map-append, map_more, map_push, length-take-le, length-map}
 use Rattle.std.proofs.lemmas.Slice.Zip.{all_zipped_more}
 use Rattle.std.specs.List.{AllZip}
