@@ -1,5 +1,6 @@
 -- What a worker's call did to its seat. This project's own rule.
 use Rattle.std.specs.Prelude.{◌≡◌, ◌≢◌, ◌≤◌, ◌+◌, ℕ, [], Result, Err, IfOk, OnOk}
+use Rattle.flt_core.specs.declared.names.StackName.{Ghosts}
 use Rattle.flt_run.specs.declared.fault.TurnFault.{TurnFault}
 use Rattle.flt_run.specs.declared.fault.TurnFault.TheVariants as fault
 use Rattle.flt_running.specs.Waiting.{tickets}
@@ -8,8 +9,8 @@ use Rattle.flt_workers.specs.Places.{IsWorkerOf}
 use Rattle.flt_workers.specs.declared.exchange.Exchange.{Exchange}
 
 -- a worker's call led from one seat to the other with this answer, in which `made` counts the entries
-pub record HasWorked {N A : Type 0} (exchange : Exchange) (before after : WorkerSeat N) (made : A → ℕ) (answer : Result A TurnFault)
-    : Type 0 where
+pub record HasWorked {N A : Type 0} {names : Ghosts N} (exchange : Exchange) (before after : WorkerSeat N names) (made : A → ℕ)
+    (answer : Result A TurnFault) : Type 0 where
   -- the seat is still one of the stack
   pub seat : IsWorkerOf exchange after.place
   -- if nothing was refused, no ticket waits, and the share of the entries grew by those that were made
