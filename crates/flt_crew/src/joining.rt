@@ -11,7 +11,7 @@ use crate::progress::Progress;
 use crate::stopping::Stop;
 use crate::watch::Watch;
 use crate::working::{Worked, work_in};
-use flt_core::{CallerEntries, Fulls, Locked, OtherEntries};
+use flt_core::{CallerEntries, Core, Fulls, OtherEntries};
 use flt_running::sharing::{loaded_is_shared, sent, shared};
 use flt_running::{CallerSeat, Stack, StackName, WorkerSeat};
 use flt_script::Script;
@@ -108,7 +108,7 @@ fn work_all<N: StackName + Send + Sync, R: Threads + Wait + Sync>(
 {
     loaded_is_shared();
     shared::<Exchange>();
-    shared::<Mutex<Locked<N>>>();
+    shared::<Mutex<Core<N>>>();
     sent::<Share<CallerEntries<N>>>();
     sent::<Share<OtherEntries<N>>>();
     sent::<Share<Fulls<N>>>();
@@ -204,7 +204,7 @@ pub(crate) fn follow<N: StackName + Send + Sync, R: Threads + Wait + Sync, W: Wa
 {
     loaded_is_shared();
     shared::<Exchange>();
-    shared::<Mutex<Locked<N>>>();
+    shared::<Mutex<Core<N>>>();
     sent::<Share<CallerEntries<N>>>();
     sent::<Share<OtherEntries<N>>>();
     sent::<Share<Fulls<N>>>();
