@@ -71,8 +71,8 @@ impl<N: StackName> Core<N> {
         ensures full { result ≡ Err fault.Full → length self.old.board.entries ≡ 1000000 }
         ensures refused { OnErr result (self.new.board ≡ self.old.board) }
     {
-        let teardown = is_teardown(&self.board, loaded, ticket);
-        let Some(step) = asked_by(&self.board, loaded, ticket) else {
+        let teardown = is_teardown(self.board(), loaded, ticket);
+        let Some(step) = asked_by(self.board(), loaded, ticket) else {
             return Ok(unmade(alloc, teardown));
         };
         match self.apply(alloc, loaded, mine, step) {
