@@ -1,7 +1,7 @@
 //! The work of a worker: it takes a ticket and makes its move, over and over.
 ghost use Rattle.std.specs.Prelude.{◌≡◌, ◌≢◌, ◌⊎◌, ◌+◌, ◌*◌, ◌<◌, ◌≤◌, ◌++◌, ◌∷◌, [], IfErr, IfOk, IfSome, Err, None, OnErr, OnOk};
 ghost use Rattle.flt_cancel.specs.Serials.{serials};
-ghost use Rattle.flt_core.specs.Turning.{grows};
+ghost use Rattle.flt_core.specs.Turning.{IsCounted, grows};
 ghost use Rattle.flt_running.specs.Left.{AreUnpushed, Leaves, LeavesRequest};
 ghost use Rattle.flt_running.specs.Requests.{AreCollected, AreSetAgain, AreSwept, HasSwept, IsEmpty, IsWithout};
 ghost use Rattle.flt_running.specs.Waiting as waiting;
@@ -93,8 +93,8 @@ impl<N: StackName> Stack<N> {
 
     /// How many entries the journal has beside the arrivals. An arrival moves no ticket that stays: its operation gets one of its own.
     fn moving<R: Wait>(&self, rt: &R) -> usize {
-        let locked = self.locked.lock(rt);
-        let board = locked.core.board();
+        let core = self.core.lock(rt);
+        let board = core.board();
         board.journal().len().saturating_sub(board.operations())
     }
 
@@ -143,17 +143,13 @@ impl<N: StackName> Stack<N> {
         ticket: Ticket,
     ) -> Result<Turned, TurnFault>
         requires part { (0 < mine.old.parts) × (0 < fulls.old.parts) }
-        ensures share { IfOk result (λ t. mine.new.amount ≡ mine.old.amount + grows t.made) }
-        ensures refused { OnErr result (mine.new.amount ≡ mine.old.amount) }
-        ensures parts { (mine.new.parts ≡ mine.old.parts) × (fulls.new.parts ≡ fulls.old.parts) }
-        ensures full { result ≡ Err fault.Full → fulls.new.amount ≡ fulls.old.amount + 1 }
-        ensures room { result ≢ Err fault.Full → fulls.new.amount ≡ fulls.old.amount }
+        ensures { IsCounted mine.old mine.new fulls.old fulls.new (λ t. grows t.made) result }
     {
         let machine = self.machine();
         let Ticket::Activation(activation) = ticket else {
             pace.pass(gate);
             return self
-                .locked
+                .core
                 .lock(rt)
                 .move_on(alloc, machine, mine, fulls, ticket);
         };
@@ -166,14 +162,14 @@ impl<N: StackName> Stack<N> {
         };
         let advanced = advance(machine, frame);
         pace.pass(gate);
-        self.locked
+        self.core
             .lock(rt)
             .go_on(alloc, machine, mine, fulls, &advanced)
     }
 
     /// An activation as it is on the board; none if it has ended.
     fn checkout<R: Wait>(&self, rt: &R, activation: u32) -> Option<Frame> {
-        self.locked.lock(rt).core.board().checkout(activation)
+        self.core.lock(rt).board().checkout(activation)
     }
 
     // ---- requests
@@ -393,15 +389,11 @@ impl<N: StackName> Stack<N> {
         serial: u32,
     ) -> Result<Turned, TurnFault>
         requires part { (0 < mine.old.parts) × (0 < fulls.old.parts) }
-        ensures share { IfOk result (λ t. mine.new.amount ≡ mine.old.amount + grows t.made) }
-        ensures refused { OnErr result (mine.new.amount ≡ mine.old.amount) }
-        ensures parts { (mine.new.parts ≡ mine.old.parts) × (fulls.new.parts ≡ fulls.old.parts) }
-        ensures full { result ≡ Err fault.Full → fulls.new.amount ≡ fulls.old.amount + 1 }
-        ensures room { result ≢ Err fault.Full → fulls.new.amount ≡ fulls.old.amount }
+        ensures { IsCounted mine.old mine.new fulls.old fulls.new (λ t. grows t.made) result }
     {
         let machine = self.machine();
         pace.pass(gate);
-        self.locked
+        self.core
             .lock(rt)
             .cancel(alloc, machine, mine, fulls, serial)
     }
