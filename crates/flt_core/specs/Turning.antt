@@ -1,5 +1,6 @@
 -- What a worker does in one hold of the lock. This project's own rule.
-use Rattle.std.specs.Prelude.{◌≡◌, ℕ, Bool, true, false, List, [], Some, if◌then◌else◌}
+use Rattle.std.specs.Prelude.{◌≡◌, ◌≢◌, ◌+◌, ℕ, Bool, true, false, List, [], Result, Err, Some, IfOk, OnErr, if◌then◌else◌}
+use Rattle.std.specs.declared.sync.ledger.Share.{Share}
 use Rattle.flt_frame.specs.declared.frame.Advanced.{Advanced}
 use Rattle.flt_frame.specs.declared.loaded.Loaded.{Loaded}
 use Rattle.flt_machine.specs.Calls.{Commits, IsBlocked, IsDisabled, IsFresh, instruction_for, leaves_choice_at}
@@ -9,10 +10,23 @@ use Rattle.flt_model.specs.declared.moves.Move.TheVariants.{Cancel}
 use Rattle.flt_model.specs.declared.subject.Subject.{Subject}
 use Rattle.flt_run.specs.Turns.{HasMade, counted, is_granted, named_by, named_by_step}
 use Rattle.flt_run.specs.declared.choices.Choices.{Choices}
+use Rattle.flt_run.specs.declared.fault.TurnFault.{TurnFault}
+use Rattle.flt_run.specs.declared.fault.TurnFault.TheVariants as fault
 
 -- by how many entries the journal grows, where something is made
 abbrev pub grows : Bool → ℕ
 grows made = if made then 1 else 0
+
+-- a worker's call with this answer, in which `made` counts the entries, counted them in its share of these, and a full journal in its share
+-- of refusals for lack of room; where it was refused, it made none
+pub record IsCounted {L M A : Type 0} (entries later : Share L) (fulls more : Share M) (made : A → ℕ) (answer : Result A TurnFault)
+    : Type 0 where
+  pub share : IfOk answer (λ a. later.amount ≡ entries.amount + made a)
+  pub none : OnErr answer (later.amount ≡ entries.amount)
+  pub parts : later.parts ≡ entries.parts
+  pub full : answer ≡ Err fault.Full → more.amount ≡ fulls.amount + 1
+  pub room : answer ≢ Err fault.Full → more.amount ≡ fulls.amount
+  pub fulls_parts : more.parts ≡ fulls.parts
 
 -- the step after an advance had its turn: whether it was made, whether the ticket stays, and what gets a ticket by it
 pub data HasCommitted (l : Loaded) (b later : Situation) (c d : Choices) (advanced : Advanced) : Bool → Bool → List Subject → Type 0 where

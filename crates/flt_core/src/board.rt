@@ -1,5 +1,5 @@
 //! The core of a running stack, which its lock guards.
-ghost use Rattle.std.specs.Prelude.{◌≡◌, ◌↔◌, ◌⊎◌, ◌<◌, ◌+◌, ◌++◌, ◌∷◌, [], true, false, length, is_some, ◌≢◌, Err, Some, None, IfErr, IfOk, IfSome, IsTrue, OnOk, OnErr};
+ghost use Rattle.std.specs.Prelude.{◌≡◌, ◌↔◌, ◌⊎◌, ◌<◌, ◌+◌, ◌++◌, ◌∷◌, [], true, false, length, Err, Some, None, IfErr, IfOk, IfSome, IsTrue, OnOk, OnErr};
 ghost use Rattle.flt_core.specs.Counting.{callers_in, is_callers_move, others_in};
 ghost use Rattle.flt_receipts.specs.Bounds.{IsFull};
 ghost use Rattle.flt_receipts.specs.Receipts.{receipt};
@@ -7,12 +7,10 @@ ghost use Rattle.flt_core.specs.Refusals as spec;
 ghost use Rattle.flt_core.specs.declared.fault.ArriveFault.TheVariants as arrive_fault;
 ghost use Rattle.flt_core.specs.declared.fault.DetachFault.TheVariants as detach_fault;
 ghost use Rattle.flt_frame.specs.Loading.{AreLoaded};
-ghost use Rattle.flt_machine.specs.Calls.{Commits, IsAdvanced, IsBlocked, IsDisabled, IsFresh, IsFullFor, Makes};
+ghost use Rattle.flt_machine.specs.Calls.{IsDisabled, IsFullFor, Makes};
 ghost use Rattle.flt_machine.specs.Situations as situations;
-ghost use Rattle.flt_machine.specs.Situations.{IsBoard, Now, standing_of};
+ghost use Rattle.flt_machine.specs.Situations.{IsBoard, Now};
 ghost use Rattle.flt_machine.specs.Tickets as tickets;
-ghost use Rattle.flt_machine.specs.declared.committing.Commit.TheVariants as answer;
-ghost use Rattle.flt_machine.specs.declared.events.Events.{Events};
 ghost use Rattle.flt_machine.specs.declared.fault.ApplyFault.TheVariants as apply_fault;
 ghost use Rattle.flt_model.specs.Expansion.{IsCleanRun};
 ghost use Rattle.flt_model.specs.Moves.{fits_mode, make};
@@ -24,19 +22,22 @@ use crate::fault::{ArriveFault, DetachFault};
 use crate::names::{CallerEntries, Fulls, OtherEntries, StackName};
 use crate::receipts::Receipts;
 use counted_heap::Heap;
-use flt_machine::{Advanced, ApplyFault, Board, Commit, Events, Loaded, MAX_ENTRIES, OutOfMemory};
+use flt_machine::{ApplyFault, Board, Events, Loaded, MAX_ENTRIES, OutOfMemory};
 use flt_model::{Journal, Move, Subject};
 use flt_ops::MAX_OPERATIONS;
 use flt_receipts::{Receipt, arrivals_are_operations};
 use flt_rules::{Mode, Operation};
+use flt_run::Choices;
 use std::alloc::Global;
 use std::marker::Model;
 use std::sync::ledger::{Book, Share};
 
-/// A board of the filters that N names, the books of its entries, and that of refusals for lack of room. Contracts see it as the board.
+/// What a stack's lock guards: a board of the filters that N names, the system's choices, the books of the board's entries, and that of
+/// refusals for lack of room. Contracts see the board and the choices.
 #[derive(Drop)]
 pub struct Core<N: StackName> {
     pub(crate) board: Board,
+    pub(crate) choices: Choices,
     pub(crate) callers: Book<CallerEntries<N>>,
     pub(crate) others: Book<OtherEntries<N>>,
     pub(crate) fulls: Book<Fulls<N>>,
@@ -45,12 +46,13 @@ pub struct Core<N: StackName> {
 impl<N: StackName> Model for Core<N> {
     ghost use Rattle.std.specs.Prelude.{◌≡◌, ◌<◌};
     ghost use Rattle.flt_core.specs.Counting.{callers_in, others_in};
-    ghost use Rattle.flt_machine.specs.Situations.{Situation, IsBoard};
+    ghost use Rattle.flt_core.specs.Guarded.{Guarded};
+    ghost use Rattle.flt_machine.specs.Situations.{IsBoard};
     ghost use Rattle.flt_receipts.specs.Bounds.{IsFull};
 
-    ghost Value = { Situation };
+    ghost Value = { Guarded };
 
-    ghost view = { λ c. c.board };
+    ghost view = { λ c. record { board = c.board; choices = c.choices } };
 
     ghost invariant = { λ c. IsBoard N.trees c.board
         × (c.callers.total ≡ callers_in c.board.entries) × (c.others.total ≡ others_in c.board.entries)
@@ -58,7 +60,7 @@ impl<N: StackName> Model for Core<N> {
 }
 
 impl<N: StackName> Core<N> {
-    /// The board before the first move, with books in which nothing is counted.
+    /// The board before the first move, with no choice made and none refused, and with books in which nothing is counted.
     pub fn new(
         alloc: Global,
         loaded: &Loaded,
@@ -70,11 +72,13 @@ impl<N: StackName> Core<N> {
         requires callers { callers.total ≡ 0 }
         requires others { others.total ≡ 0 }
         requires fulls { fulls.total ≡ 0 }
-        ensures opening { IfOk result (λ core. core ≡ situations.opening (length N.trees)) }
+        ensures opening { IfOk result (λ core. core.board ≡ situations.opening (length N.trees)) }
+        ensures choices { IfOk result (λ core. (core.choices.made ≡ 0) × (core.choices.refused.keys ≡ [])) }
     {
         let board = Board::new(&mut Heap::new(alloc), loaded)?;
         Ok(Core {
             board,
+            choices: Choices::new(alloc),
             callers,
             others,
             fulls,
@@ -84,8 +88,8 @@ impl<N: StackName> Core<N> {
     /// The board. Whenever the core can be looked at, its journal is a run of the machine on the filters that N names, and the board is at
     /// that run's end.
     pub fn board(&self) -> &Board
-        ensures same { result.now ≡ self.now }
-        ensures own { IsBoard N.trees self.now }
+        ensures same { result.now ≡ self.now.board }
+        ensures own { IsBoard N.trees self.now.board }
     {
         &self.board
     }
@@ -93,7 +97,7 @@ impl<N: StackName> Core<N> {
     /// The journal breaks nothing. It does nothing: its clause is the law.
     pub fn breaks_nothing(&self, loaded: &flt_stack::Loaded)
         requires loaded { loaded.now ≡ N.trees }
-        ensures { IsCleanRun N.trees self.now.entries }
+        ensures { IsCleanRun N.trees self.now.board.entries }
     {
         loaded.boards_break_nothing(&self.board)
     }
@@ -109,9 +113,9 @@ impl<N: StackName> Core<N> {
         ensures same { self.new ≡ self.old }
         ensures amounts { (callers.new.amount ≡ callers.old.amount) × (others.new.amount ≡ others.old.amount) }
         ensures parts { (callers.new.parts ≡ callers.old.parts) × (others.new.parts ≡ others.old.parts) }
-        ensures callers { callers.old.parts ≡ N.callers_parts → callers.old.amount ≡ callers_in self.old.entries }
-        ensures others { others.old.parts ≡ N.others_parts → others.old.amount ≡ others_in self.old.entries }
-        ensures full { 0 < fulls.old.amount → IsFull self.old.entries }
+        ensures callers { callers.old.parts ≡ N.callers_parts → callers.old.amount ≡ callers_in self.old.board.entries }
+        ensures others { others.old.parts ≡ N.others_parts → others.old.amount ≡ others_in self.old.board.entries }
+        ensures full { 0 < fulls.old.amount → IsFull self.old.board.entries }
     {
         self.callers.audit(callers);
         self.others.audit(others);
@@ -120,10 +124,11 @@ impl<N: StackName> Core<N> {
 
     /// Ends the core, and hands out its journal.
     pub fn into_journal(self) -> Journal
-        ensures { result ≡ self.entries }
+        ensures { result ≡ self.board.entries }
     {
         let Core {
             board,
+            choices: _,
             callers: _,
             others: _,
             fulls: _,
@@ -147,14 +152,15 @@ impl<N: StackName> Core<N> {
         requires loaded { AreLoaded N.trees loaded.now }
         requires mode { fits_mode operation mode ≡ true }
         requires file { file < 1024 }
-        ensures serial { IfOk result (λ serial. serial ≡ length self.old.store.arrivals) }
-        ensures entry { OnOk result (self.new.entries ≡ self.old.entries ++ journal_entry.Move (moves.Arrive operation mode file) ∷ []) }
+        ensures serial { IfOk result (λ serial. serial ≡ length self.old.board.store.arrivals) }
+        ensures entry { OnOk result (self.new.board.entries ≡ self.old.board.entries ++ journal_entry.Move (moves.Arrive operation mode file) ∷ []) }
         ensures receipt { IfOk result (λ serial. receipts.new.list.items ≡ receipts.old.list.items
-            ++ receipt (length self.old.entries) (moves.Arrive operation mode file) (Some serial) ∷ []) }
+            ++ receipt (length self.old.board.entries) (moves.Arrive operation mode file) (Some serial) ∷ []) }
         ensures share { OnOk result (receipts.new.share.amount ≡ receipts.old.share.amount + 1) }
         ensures parts { receipts.new.share.parts ≡ receipts.old.share.parts }
         ensures full { (result ≡ Err arrive_fault.Full)
-            ↔ ((length self.old.entries ≡ 1000000) ⊎ (length self.old.store.arrivals ≡ 65536)) }
+            ↔ ((length self.old.board.entries ≡ 1000000) ⊎ (length self.old.board.store.arrivals ≡ 65536)) }
+        ensures choices { self.new.choices ≡ self.old.choices }
         ensures refused { OnErr result ((self.new ≡ self.old) × (receipts.new.list.items ≡ receipts.old.list.items)
             × (receipts.new.share.amount ≡ receipts.old.share.amount)) }
     {
@@ -181,13 +187,14 @@ impl<N: StackName> Core<N> {
         altitude: u32,
     ) -> Result<(), DetachFault>
         requires loaded { AreLoaded N.trees loaded.now }
-        ensures entry { OnOk result (self.new.entries ≡ self.old.entries ++ journal_entry.Move (moves.Detach altitude) ∷ []) }
+        ensures entry { OnOk result (self.new.board.entries ≡ self.old.board.entries ++ journal_entry.Move (moves.Detach altitude) ∷ []) }
         ensures receipt { OnOk result (receipts.new.list.items ≡ receipts.old.list.items
-            ++ receipt (length self.old.entries) (moves.Detach altitude) None ∷ []) }
+            ++ receipt (length self.old.board.entries) (moves.Detach altitude) None ∷ []) }
         ensures share { OnOk result (receipts.new.share.amount ≡ receipts.old.share.amount + 1) }
         ensures parts { receipts.new.share.parts ≡ receipts.old.share.parts }
-        ensures fault { IfSome (spec.detach_fault N.trees self.old altitude) (λ fault. result ≡ Err fault) }
-        ensures memory { spec.detach_fault N.trees self.old altitude ≡ None → IfErr result (λ fault. fault ≡ detach_fault.OutOfMemory) }
+        ensures fault { IfSome (spec.detach_fault N.trees self.old.board altitude) (λ fault. result ≡ Err fault) }
+        ensures memory { spec.detach_fault N.trees self.old.board altitude ≡ None → IfErr result (λ fault. fault ≡ detach_fault.OutOfMemory) }
+        ensures choices { self.new.choices ≡ self.old.choices }
         ensures refused { OnErr result ((self.new ≡ self.old) × (receipts.new.list.items ≡ receipts.old.list.items)
             × (receipts.new.share.amount ≡ receipts.old.share.amount)) }
     {
@@ -205,8 +212,8 @@ impl<N: StackName> Core<N> {
     /// Why the teardown of the filter at an altitude can't begin; none if only memory can refuse it.
     pub fn detach_fault(&self, loaded: &Loaded, altitude: u32) -> Option<DetachFault>
         requires loaded { AreLoaded N.trees loaded.now }
-        ensures fault { result ≡ spec.detach_fault N.trees self.now altitude }
-        ensures enabled { result ≡ None → IsDisabled loaded.now self.now (moves.Detach altitude) → ⊥ }
+        ensures fault { result ≡ spec.detach_fault N.trees self.now.board altitude }
+        ensures enabled { result ≡ None → IsDisabled loaded.now self.now.board (moves.Detach altitude) → ⊥ }
     {
         let entries = self.board().journal().len();
         if loaded.number(altitude) >= loaded.filters() {
@@ -232,13 +239,14 @@ impl<N: StackName> Core<N> {
     ) -> Result<(), ApplyFault>
         requires loaded { AreLoaded N.trees loaded.now }
         requires callers { is_callers_move step ≡ true }
-        ensures entry { OnOk result (self.new.entries ≡ self.old.entries ++ journal_entry.Move step ∷ []) }
+        ensures entry { OnOk result (self.new.board.entries ≡ self.old.board.entries ++ journal_entry.Move step ∷ []) }
         ensures receipt { OnOk result (receipts.new.list.items ≡ receipts.old.list.items
-            ++ receipt (length self.old.entries) step answer ∷ []) }
+            ++ receipt (length self.old.board.entries) step answer ∷ []) }
         ensures share { OnOk result (receipts.new.share.amount ≡ receipts.old.share.amount + 1) }
         ensures parts { receipts.new.share.parts ≡ receipts.old.share.parts }
-        ensures disabled { (result ≡ Err apply_fault.NotEnabled) ↔ IsDisabled loaded.now self.old step }
-        ensures full { (result ≡ Err apply_fault.Full) ↔ ((IsDisabled loaded.now self.old step → ⊥) × IsFullFor self.old step) }
+        ensures disabled { (result ≡ Err apply_fault.NotEnabled) ↔ IsDisabled loaded.now self.old.board step }
+        ensures full { (result ≡ Err apply_fault.Full) ↔ ((IsDisabled loaded.now self.old.board step → ⊥) × IsFullFor self.old.board step) }
+        ensures choices { self.new.choices ≡ self.old.choices }
         ensures refused { OnErr result ((self.new ≡ self.old) × (receipts.new.list.items ≡ receipts.old.list.items)
             × (receipts.new.share.amount ≡ receipts.old.share.amount)) }
     {
@@ -271,11 +279,12 @@ impl<N: StackName> Core<N> {
         requires loaded { AreLoaded N.trees loaded.now }
         requires part { 0 < mine.old.parts }
         requires callers { is_callers_move step ≡ true }
-        ensures entry { OnOk result (self.new.entries ≡ self.old.entries ++ journal_entry.Move step ∷ []) }
+        ensures entry { OnOk result (self.new.board.entries ≡ self.old.board.entries ++ journal_entry.Move step ∷ []) }
         ensures share { OnOk result (mine.new.amount ≡ mine.old.amount + 1) }
         ensures parts { mine.new.parts ≡ mine.old.parts }
-        ensures disabled { (result ≡ Err apply_fault.NotEnabled) ↔ IsDisabled loaded.now self.old step }
-        ensures full { (result ≡ Err apply_fault.Full) ↔ ((IsDisabled loaded.now self.old step → ⊥) × IsFullFor self.old step) }
+        ensures disabled { (result ≡ Err apply_fault.NotEnabled) ↔ IsDisabled loaded.now self.old.board step }
+        ensures full { (result ≡ Err apply_fault.Full) ↔ ((IsDisabled loaded.now self.old.board step → ⊥) × IsFullFor self.old.board step) }
+        ensures choices { self.new.choices ≡ self.old.choices }
         ensures refused { OnErr result ((self.new ≡ self.old) × (mine.new.amount ≡ mine.old.amount)) }
     {
         arrivals_are_operations();
@@ -288,7 +297,7 @@ impl<N: StackName> Core<N> {
 
     /// Makes a move that no caller asks for, and counts it in a worker's share.
     #[tactic(auto, using(crate::proofs::Counted::callers_in_more, crate::proofs::Counted::others_in_more))]
-    pub fn apply(
+    pub(crate) fn apply(
         &mut self,
         alloc: Global,
         loaded: &Loaded,
@@ -298,14 +307,15 @@ impl<N: StackName> Core<N> {
         requires loaded { AreLoaded N.trees loaded.now }
         requires part { 0 < mine.old.parts }
         requires others { is_callers_move step ≡ false }
-        ensures made { IfOk result (λ events. Now loaded.now self.old (λ p m. Makes p self.new [] (Make step) events.list m)) }
-        ensures entry { OnOk result (self.new.entries ≡ self.old.entries ++ journal_entry.Move step ∷ []) }
-        ensures next { IfOk result (λ events. events.next.items ≡ tickets.after_move loaded.now.altitudes self.old.store self.new.store
-            (length self.old.standings) (length self.new.standings)) }
+        ensures made { IfOk result (λ events. Now loaded.now self.old.board (λ p m. Makes p self.new.board [] (Make step) events.list m)) }
+        ensures entry { OnOk result (self.new.board.entries ≡ self.old.board.entries ++ journal_entry.Move step ∷ []) }
+        ensures next { IfOk result (λ events. events.next.items ≡ tickets.after_move loaded.now.altitudes self.old.board.store self.new.board.store
+            (length self.old.board.standings) (length self.new.board.standings)) }
         ensures share { OnOk result (mine.new.amount ≡ mine.old.amount + 1) }
         ensures parts { mine.new.parts ≡ mine.old.parts }
-        ensures disabled { (result ≡ Err apply_fault.NotEnabled) ↔ IsDisabled loaded.now self.old step }
-        ensures full { (result ≡ Err apply_fault.Full) ↔ ((IsDisabled loaded.now self.old step → ⊥) × IsFullFor self.old step) }
+        ensures disabled { (result ≡ Err apply_fault.NotEnabled) ↔ IsDisabled loaded.now self.old.board step }
+        ensures full { (result ≡ Err apply_fault.Full) ↔ ((IsDisabled loaded.now self.old.board step → ⊥) × IsFullFor self.old.board step) }
+        ensures choices { self.new.choices ≡ self.old.choices }
         ensures refused { OnErr result ((self.new ≡ self.old) × (mine.new.amount ≡ mine.old.amount)) }
     {
         let events = self.board.apply(&mut Heap::new(alloc), loaded, step)?;
@@ -313,56 +323,12 @@ impl<N: StackName> Core<N> {
         Ok(events)
     }
 
-    /// Makes the local steps of an advance, and the step after them, and counts that in a worker's share. `grant` is the system's choice,
-    /// if that step leaves one. The activation must have been advanced on the same loaded filters.
-    pub fn commit(
-        &mut self,
-        alloc: Global,
-        loaded: &Loaded,
-        mine: &mut Share<OtherEntries<N>>,
-        advanced: &Advanced,
-        grant: bool,
-    ) -> Commit
-        requires loaded { AreLoaded N.trees loaded.now }
-        requires part { 0 < mine.old.parts }
-        requires advance { IsAdvanced loaded.now advanced.now }
-        ensures committed { (events : Events) → result ≡ answer.Committed events →
-            Now loaded.now self.old (λ p m. Commits p self.old self.new advanced.now grant events.list m) }
-        ensures next { (events : Events) → result ≡ answer.Committed events →
-            events.next.items ≡ tickets.after_go loaded.now.altitudes self.old.store self.new.store advanced.now.frame.activation
-            (is_some (standing_of self.new advanced.now.frame.activation)) }
-        ensures entries { (events : Events) → result ≡ answer.Committed events →
-            length self.new.entries ≡ length self.old.entries + 1 }
-        ensures share { (events : Events) → result ≡ answer.Committed events → mine.new.amount ≡ mine.old.amount + 1 }
-        ensures parts { mine.new.parts ≡ mine.old.parts }
-        ensures stale { (result ≡ answer.Stale) ↔ (IsFresh self.old advanced.now → ⊥) }
-        ensures blocked { (result ≡ answer.Blocked) ↔ (IsFresh self.old advanced.now × IsBlocked loaded.now self.old advanced.now grant) }
-        ensures full { (result ≡ answer.Full) ↔ (IsFresh self.old advanced.now
-            × ((IsBlocked loaded.now self.old advanced.now grant → ⊥) × (length self.old.entries ≡ 1000000))) }
-        ensures refused { ((events : Events) → result ≢ answer.Committed events) →
-            (self.new ≡ self.old) × (mine.new.amount ≡ mine.old.amount) }
-    {
-        match self
-            .board
-            .commit(&mut Heap::new(alloc), loaded, advanced, grant)
-        {
-            Commit::Committed(events) => {
-                self.others.add(mine, 1);
-                Commit::Committed(events)
-            }
-            Commit::Stale => Commit::Stale,
-            Commit::Blocked => Commit::Blocked,
-            Commit::Full => Commit::Full,
-            Commit::OutOfMemory => Commit::OutOfMemory,
-        }
-    }
-
     // ---- what is refused
 
     /// A move is refused, since there is no room for it, and this is counted. Nothing else changes.
     pub fn count_full(&mut self, fulls: &mut Share<Fulls<N>>, step: Move)
         requires part { 0 < fulls.old.parts }
-        requires full { IsFullFor self.old step }
+        requires full { IsFullFor self.old.board step }
         ensures same { self.new ≡ self.old }
         ensures amount { fulls.new.amount ≡ fulls.old.amount + 1 }
         ensures parts { fulls.new.parts ≡ fulls.old.parts }
@@ -376,7 +342,7 @@ impl<N: StackName> Core<N> {
     /// Whether a move is enabled.
     fn is_enabled(&self, loaded: &Loaded, step: Move) -> bool
         requires loaded { AreLoaded N.trees loaded.now }
-        ensures { (result ≡ false) ↔ IsDisabled loaded.now self.now step }
+        ensures { (result ≡ false) ↔ IsDisabled loaded.now self.now.board step }
     {
         self.board.enabled(loaded, step)
     }
@@ -397,7 +363,7 @@ impl<N: StackName> Core<N> {
 
     /// Whether there are as many entries as may be, or as many operations if one more arrives.
     pub fn is_full_for(&self, step: Move) -> bool
-        ensures { IsTrue result ↔ IsFullFor self.now step }
+        ensures { IsTrue result ↔ IsFullFor self.now.board step }
     {
         self.board.journal().len() == MAX_ENTRIES
             || (matches!(step, Move::Arrive { .. }) && self.board.operations() == MAX_OPERATIONS)

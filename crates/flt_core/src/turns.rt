@@ -2,7 +2,7 @@
 ghost use Rattle.std.specs.Prelude.{◌≡◌, ◌≢◌, ◌+◌, ◌<◌, [], true, false, length, Err, IfOk, OnErr, OnOk};
 ghost use Rattle.std.specs.BTreeSet.{insert_key};
 ghost use Rattle.std.specs.Ordering.{nat_cmp};
-ghost use Rattle.flt_core.specs.Turning.{HasCommitted, IsCancel, grows};
+ghost use Rattle.flt_core.specs.Turning.{HasCommitted, IsCancel, IsCounted, grows};
 ghost use Rattle.flt_frame.specs.Loading.{AreLoaded};
 ghost use Rattle.flt_machine.specs.Calls.{IsAdvanced};
 ghost use Rattle.flt_run.specs.Turns as spec;
@@ -10,19 +10,13 @@ ghost use Rattle.flt_run.specs.declared.fault.TurnFault.TheVariants as fault;
 
 use crate::board::Core;
 use crate::names::{Fulls, OtherEntries, StackName};
+use counted_heap::Heap;
 use flt_machine::{Advanced, ApplyFault, Commit, Loaded, OutOfMemory};
 use flt_model::{Move, Subject};
 use flt_run::one::{asked_by, is_teardown, stays_after};
-use flt_run::{Choices, TurnFault};
+use flt_run::TurnFault;
 use std::alloc::Global;
 use std::sync::ledger::Share;
-
-/// The state that a stack's lock guards: its core, and the system's choices.
-#[derive(Drop)]
-pub struct Locked<N: StackName> {
-    pub core: Core<N>,
-    pub choices: Choices,
-}
 
 /// The result of a ticket's turn.
 #[derive(Drop)]
@@ -48,23 +42,12 @@ fn unmade(alloc: Global, stays: bool) -> Turned
     }
 }
 
-impl<N: StackName> Locked<N> {
-    /// A core that has made no choice yet, and refuses none.
-    pub fn new(alloc: Global, core: Core<N>) -> Locked<N>
-        ensures core { result.core ≡ core }
-        ensures choices { (result.choices.made ≡ 0) × (result.choices.refused.keys ≡ []) }
-    {
-        Locked {
-            core,
-            choices: Choices::new(alloc),
-        }
-    }
-
+impl<N: StackName> Core<N> {
     /// From now on the choice of this number, counted from 0, is answered no, if it is still to come.
     pub fn refuse(&mut self, choice: u64) -> Result<(), OutOfMemory>
         ensures refused { OnOk result (self.new.choices.refused.keys ≡ insert_key nat_cmp self.old.choices.refused.keys choice) }
         ensures same { OnErr result (self.new.choices.refused.keys ≡ self.old.choices.refused.keys) }
-        ensures rest { (self.new.core ≡ self.old.core) × (self.new.choices.made ≡ self.old.choices.made) }
+        ensures rest { (self.new.board ≡ self.old.board) × (self.new.choices.made ≡ self.old.choices.made) }
     {
         self.choices.refused.insert(choice)?;
         Ok(())
@@ -81,20 +64,18 @@ impl<N: StackName> Locked<N> {
     ) -> Result<Turned, TurnFault>
         requires loaded { AreLoaded N.trees loaded.now }
         requires part { (0 < mine.old.parts) × (0 < fulls.old.parts) }
-        ensures moved { IfOk result (λ t. spec.HasMoved loaded.now self.old.core self.new.core ticket t.stays t.next.items) }
+        ensures moved { IfOk result (λ t. spec.HasMoved loaded.now self.old.board self.new.board ticket t.stays t.next.items) }
         ensures choices { self.new.choices ≡ self.old.choices }
-        ensures entries { IfOk result (λ t. length self.new.core.entries ≡ length self.old.core.entries + grows t.made) }
-        ensures share { IfOk result (λ t. mine.new.amount ≡ mine.old.amount + grows t.made) }
-        ensures parts { (mine.new.parts ≡ mine.old.parts) × (fulls.new.parts ≡ fulls.old.parts) }
-        ensures full { result ≡ Err fault.Full → (length self.old.core.entries ≡ 1000000) × (fulls.new.amount ≡ fulls.old.amount + 1) }
-        ensures room { result ≢ Err fault.Full → fulls.new.amount ≡ fulls.old.amount }
-        ensures refused { OnErr result ((self.new.core ≡ self.old.core) × (mine.new.amount ≡ mine.old.amount)) }
+        ensures entries { IfOk result (λ t. length self.new.board.entries ≡ length self.old.board.entries + grows t.made) }
+        ensures counted { IsCounted mine.old mine.new fulls.old fulls.new (λ t. grows t.made) result }
+        ensures full { result ≡ Err fault.Full → length self.old.board.entries ≡ 1000000 }
+        ensures refused { OnErr result (self.new.board ≡ self.old.board) }
     {
-        let teardown = is_teardown(self.core.board(), loaded, ticket);
-        let Some(step) = asked_by(self.core.board(), loaded, ticket) else {
+        let teardown = is_teardown(self.board(), loaded, ticket);
+        let Some(step) = asked_by(self.board(), loaded, ticket) else {
             return Ok(unmade(alloc, teardown));
         };
-        match self.core.apply(alloc, loaded, mine, step) {
+        match self.apply(alloc, loaded, mine, step) {
             Ok(events) => Ok(Turned {
                 next: events.next,
                 stays: stays_after(teardown, step),
@@ -102,7 +83,7 @@ impl<N: StackName> Locked<N> {
             }),
             Err(ApplyFault::NotEnabled) => Ok(unmade(alloc, teardown)),
             Err(ApplyFault::Full) => {
-                self.core.count_full(fulls, step);
+                self.count_full(fulls, step);
                 Err(TurnFault::Full)
             }
             Err(ApplyFault::OutOfMemory) => Err(TurnFault::OutOfMemory),
@@ -122,19 +103,20 @@ impl<N: StackName> Locked<N> {
         requires loaded { AreLoaded N.trees loaded.now }
         requires part { (0 < mine.old.parts) × (0 < fulls.old.parts) }
         requires advance { IsAdvanced loaded.now advanced.now }
-        ensures gone { IfOk result (λ t. HasCommitted loaded.now self.old.core self.new.core self.old.choices self.new.choices
+        ensures gone { IfOk result (λ t. HasCommitted loaded.now self.old.board self.new.board self.old.choices self.new.choices
             advanced.now t.made t.stays t.next.items) }
-        ensures entries { IfOk result (λ t. length self.new.core.entries ≡ length self.old.core.entries + grows t.made) }
-        ensures share { IfOk result (λ t. mine.new.amount ≡ mine.old.amount + grows t.made) }
-        ensures parts { (mine.new.parts ≡ mine.old.parts) × (fulls.new.parts ≡ fulls.old.parts) }
-        ensures full { result ≡ Err fault.Full → (length self.old.core.entries ≡ 1000000) × (fulls.new.amount ≡ fulls.old.amount + 1) }
-        ensures room { result ≢ Err fault.Full → fulls.new.amount ≡ fulls.old.amount }
-        ensures refused { OnErr result ((self.new.core ≡ self.old.core)
-            × ((self.new.choices ≡ self.old.choices) × (mine.new.amount ≡ mine.old.amount))) }
+        ensures entries { IfOk result (λ t. length self.new.board.entries ≡ length self.old.board.entries + grows t.made) }
+        ensures counted { IsCounted mine.old mine.new fulls.old fulls.new (λ t. grows t.made) result }
+        ensures full { result ≡ Err fault.Full → length self.old.board.entries ≡ 1000000 }
+        ensures refused { OnErr result ((self.new.board ≡ self.old.board) × (self.new.choices ≡ self.old.choices)) }
     {
         let grant = self.choices.next();
-        match self.core.commit(alloc, loaded, mine, advanced, grant) {
+        match self
+            .board
+            .commit(&mut Heap::new(alloc), loaded, advanced, grant)
+        {
             Commit::Committed(events) => {
+                self.others.add(mine, 1);
                 self.choices.count(loaded, advanced);
                 Ok(Turned {
                     next: events.next,
@@ -145,7 +127,7 @@ impl<N: StackName> Locked<N> {
             Commit::Stale => Ok(unmade(alloc, false)),
             Commit::Blocked => Ok(unmade(alloc, true)),
             Commit::Full => {
-                self.core.count_full(fulls, Move::Cancel { serial: 0 });
+                self.count_full(fulls, Move::Cancel { serial: 0 });
                 Err(TurnFault::Full)
             }
             Commit::OutOfMemory => Err(TurnFault::OutOfMemory),
@@ -163,17 +145,15 @@ impl<N: StackName> Locked<N> {
     ) -> Result<Turned, TurnFault>
         requires loaded { AreLoaded N.trees loaded.now }
         requires part { (0 < mine.old.parts) × (0 < fulls.old.parts) }
-        ensures cancelled { IfOk result (λ t. IsCancel loaded.now self.old.core self.new.core serial t.made t.stays t.next.items) }
+        ensures cancelled { IfOk result (λ t. IsCancel loaded.now self.old.board self.new.board serial t.made t.stays t.next.items) }
         ensures choices { self.new.choices ≡ self.old.choices }
-        ensures entries { IfOk result (λ t. length self.new.core.entries ≡ length self.old.core.entries + grows t.made) }
-        ensures share { IfOk result (λ t. mine.new.amount ≡ mine.old.amount + grows t.made) }
-        ensures parts { (mine.new.parts ≡ mine.old.parts) × (fulls.new.parts ≡ fulls.old.parts) }
-        ensures full { result ≡ Err fault.Full → (length self.old.core.entries ≡ 1000000) × (fulls.new.amount ≡ fulls.old.amount + 1) }
-        ensures room { result ≢ Err fault.Full → fulls.new.amount ≡ fulls.old.amount }
-        ensures refused { OnErr result ((self.new.core ≡ self.old.core) × (mine.new.amount ≡ mine.old.amount)) }
+        ensures entries { IfOk result (λ t. length self.new.board.entries ≡ length self.old.board.entries + grows t.made) }
+        ensures counted { IsCounted mine.old mine.new fulls.old fulls.new (λ t. grows t.made) result }
+        ensures full { result ≡ Err fault.Full → length self.old.board.entries ≡ 1000000 }
+        ensures refused { OnErr result (self.new.board ≡ self.old.board) }
     {
         let step = Move::Cancel { serial };
-        match self.core.apply(alloc, loaded, mine, step) {
+        match self.apply(alloc, loaded, mine, step) {
             Ok(events) => Ok(Turned {
                 next: events.next,
                 stays: false,
@@ -181,7 +161,7 @@ impl<N: StackName> Locked<N> {
             }),
             Err(ApplyFault::NotEnabled) => Ok(unmade(alloc, false)),
             Err(ApplyFault::Full) => {
-                self.core.count_full(fulls, step);
+                self.count_full(fulls, step);
                 Err(TurnFault::Full)
             }
             Err(ApplyFault::OutOfMemory) => Err(TurnFault::OutOfMemory),

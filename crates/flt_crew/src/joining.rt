@@ -10,10 +10,10 @@ use crate::giving::give;
 use crate::progress::Progress;
 use crate::stopping::Stop;
 use crate::watch::Watch;
-use crate::working::{Worked, work_in};
-use flt_core::{CallerEntries, Fulls, Locked, OtherEntries};
+use crate::working::{Ungated, Worked, work_in};
+use flt_core::{CallerEntries, Core, Fulls, OtherEntries};
 use flt_running::sharing::{loaded_is_shared, sent, shared};
-use flt_running::{CallerSeat, Stack, StackName, WorkerSeat};
+use flt_running::{CallerSeat, Stack, StackName, TurnFault, WorkerSeat};
 use flt_script::Script;
 use flt_workers::Exchange;
 use std::alloc::{AllocError, Global};
@@ -108,7 +108,7 @@ fn work_all<N: StackName + Send + Sync, R: Threads + Wait + Sync>(
 {
     loaded_is_shared();
     shared::<Exchange>();
-    shared::<Mutex<Locked<N>>>();
+    shared::<Mutex<Core<N>>>();
     sent::<Share<CallerEntries<N>>>();
     sent::<Share<OtherEntries<N>>>();
     sent::<Share<Fulls<N>>>();
@@ -179,7 +179,30 @@ fn seats_of<N: StackName>(
 
 // ---- both
 
-/// The caller gives the commands while the workers work. It answers both seats and the workers', and whether the journal was found full.
+/// The first of the workers works once more. `made` counts the entries that it is answered, too.
+fn work_again<N: StackName, R: Wait>(
+    rt: &R,
+    alloc: Global,
+    stack: &Stack<N>,
+    workers: &mut Vec<WorkerSeat<N>>,
+    made: &mut u64,
+) -> Result<(), TurnFault>
+    requires some { 0 < length workers.old.items }
+    requires workers { All (λ seat. IsWorkerOf stack.now.exchange seat.place × (seat.share.parts ≡ 1)) workers.old.items }
+    requires made { IsSum made.old (sum_by (λ seat. seat.share.amount) workers.old.items) }
+    ensures workers { All (λ seat. IsWorkerOf stack.now.exchange seat.place × (seat.share.parts ≡ 1)) workers.new.items }
+    ensures count { length workers.new.items ≡ length workers.old.items }
+    ensures counted { made.new ≤ sum_by (λ seat. seat.share.amount) workers.new.items }
+    ensures told { OnOk result (IsSum made.new (sum_by (λ seat. seat.share.amount) workers.new.items)) }
+    ensures full { result ≡ Err TurnFault.Full → 0 < sum_by (λ seat. seat.fulls.amount) workers.new.items }
+{
+    let more = stack.work(rt, alloc, &mut workers[0], &mut Ungated)?;
+    *made = made.saturating_add(more);
+    Ok(())
+}
+
+/// The caller gives the commands while the workers work. Then the first of these works once more, in this thread. It answers the caller's
+/// seat and the workers', and whether the journal was found full.
 pub(crate) fn follow<N: StackName + Send + Sync, R: Threads + Wait + Sync, W: Watch>(
     rt: &R,
     alloc: Global,
@@ -195,16 +218,17 @@ pub(crate) fn follow<N: StackName + Send + Sync, R: Threads + Wait + Sync, W: Wa
     requires share { caller.receipts.share.amount ≡ 0 }
     requires workers { All (λ seat. IsWorkerOf stack.now.exchange seat.place × (seat.share.parts ≡ 1) × (seat.share.amount ≡ 0))
         workers.items }
+    requires some { 0 < length workers.items }
     ensures followed { IfOk result (λ f. IsFollowed script.now f.caller.receipts.list.items (asked_by f.caller.place).asked
         f.caller.receipts.share.amount (sum_by (λ seat. seat.share.amount) f.workers.items) f.made
         (f.caller.fulls.amount + sum_by (λ seat. seat.fulls.amount) f.workers.items) f.is_full f.is_refused) }
     ensures parts { IfOk result (λ f. f.caller.receipts.share.parts ≡ caller.receipts.share.parts) }
-    ensures workers { IfOk result (λ f. All (λ seat. IsWorkerOf stack.now.exchange seat.place × (seat.share.parts ≡ 1)) f.workers.items) }
+    ensures workers { IfOk result (λ f. All (λ seat. seat.share.parts ≡ 1) f.workers.items) }
     ensures count { IfOk result (λ f. length f.workers.items ≡ length workers.items) }
 {
     loaded_is_shared();
     shared::<Exchange>();
-    shared::<Mutex<Locked<N>>>();
+    shared::<Mutex<Core<N>>>();
     sent::<Share<CallerEntries<N>>>();
     sent::<Share<OtherEntries<N>>>();
     sent::<Share<Fulls<N>>>();
@@ -239,15 +263,20 @@ pub(crate) fn follow<N: StackName + Send + Sync, R: Threads + Wait + Sync, W: Wa
         is_refused,
     } = cut_by(outcome)?;
     let Ended {
-        seats: workers,
+        seats,
         made,
         is_full,
     } = seats_of(alloc, stack, worked?)?;
-    Ok(Followed {
+    let mut followed = Followed {
         caller: seat,
-        workers,
+        workers: seats,
         made,
         is_full: is_cut || is_full,
         is_refused,
-    })
+    };
+    if !followed.is_full && !followed.is_refused {
+        let outcome = work_again(rt, alloc, stack, &mut followed.workers, &mut followed.made);
+        followed.is_full = is_full_by(outcome)?;
+    }
+    Ok(followed)
 }

@@ -1,7 +1,7 @@
 //! A script on the texts of some filters.
 
 ghost use Rattle.std.specs.Prelude.{◌≡◌, ◌≤◌, ◌<◌, ◌+◌, ◌^◌, ◌∷◌, [], All, Err, IfOk, OnOk, length, map, sum_by};
-ghost use Rattle.flt_crew.specs.Following.{IsFollowed, IsSum};
+ghost use Rattle.flt_crew.specs.Following.{IsFollowed};
 ghost use Rattle.flt_crew.specs.Giving.{IsAimed};
 ghost use Rattle.flt_crew.specs.Running as spec;
 ghost use Rattle.flt_model.specs.Expansion.{IsCleanRun};
@@ -10,13 +10,12 @@ ghost use Rattle.flt_script.specs.ScriptText.{Commands};
 ghost use Rattle.flt_workers.specs.Places.{IsCallerOf, IsWorkerOf, asked_by};
 
 use crate::ending::Ending;
-use crate::followed::{Cut, Followed, cut_by, is_full_by};
+use crate::followed::{Cut, Followed, cut_by};
 use crate::watch::Watch;
-use crate::working::Ungated;
 use crate::{alone, joining};
 use flt_driven::{Prepared, RunFault, journal_bytes, prepare};
 use flt_model::{Journal, legal_journals_are_clean_runs};
-use flt_running::{Blanks, CallerSeat, Differ, Stack, StackName, TurnFault, WorkerSeat};
+use flt_running::{Blanks, CallerSeat, Differ, Stack, StackName, WorkerSeat};
 use flt_script::Script;
 use flt_stack::Loaded;
 use std::alloc::{AllocError, Global};
@@ -98,60 +97,6 @@ fn follow_alone<N: StackName, R: Wait, W: Watch>(
     })
 }
 
-/// The first of the workers works once more. `made` counts the entries that it is answered, too.
-fn work_again<N: StackName, R: Wait>(
-    rt: &R,
-    alloc: Global,
-    stack: &Stack<N>,
-    workers: &mut Vec<WorkerSeat<N>>,
-    made: &mut u64,
-) -> Result<(), TurnFault>
-    requires some { 0 < length workers.old.items }
-    requires workers { All (λ seat. IsWorkerOf stack.now.exchange seat.place × (seat.share.parts ≡ 1)) workers.old.items }
-    requires made { IsSum made.old (sum_by (λ seat. seat.share.amount) workers.old.items) }
-    ensures workers { All (λ seat. IsWorkerOf stack.now.exchange seat.place × (seat.share.parts ≡ 1)) workers.new.items }
-    ensures count { length workers.new.items ≡ length workers.old.items }
-    ensures counted { made.new ≤ sum_by (λ seat. seat.share.amount) workers.new.items }
-    ensures told { OnOk result (IsSum made.new (sum_by (λ seat. seat.share.amount) workers.new.items)) }
-    ensures full { result ≡ Err TurnFault.Full → 0 < sum_by (λ seat. seat.fulls.amount) workers.new.items }
-{
-    let more = stack.work(rt, alloc, &mut workers[0], &mut Ungated)?;
-    *made = made.saturating_add(more);
-    Ok(())
-}
-
-/// Several workers follow the script. Then the first works once more, in this thread.
-fn follow_together<N: StackName + Send + Sync, R: Threads + Wait + Sync, W: Watch>(
-    rt: &R,
-    alloc: Global,
-    stack: &Stack<N>,
-    caller: CallerSeat<N>,
-    workers: Vec<WorkerSeat<N>>,
-    script: &Script,
-    watch: &mut W,
-) -> Result<Followed<N>, AllocError>
-    requires script { All (IsAimed N.trees) script.now }
-    requires caller { IsCallerOf stack.now.exchange caller.place }
-    requires fresh { (caller.receipts.list.items ≡ []) × ((asked_by caller.place).asked ≡ []) }
-    requires share { caller.receipts.share.amount ≡ 0 }
-    requires workers { All (λ seat. IsWorkerOf stack.now.exchange seat.place × (seat.share.parts ≡ 1) × (seat.share.amount ≡ 0))
-        workers.items }
-    requires some { 0 < length workers.items }
-    ensures followed { IfOk result (λ f. IsFollowed script.now f.caller.receipts.list.items (asked_by f.caller.place).asked
-        f.caller.receipts.share.amount (sum_by (λ seat. seat.share.amount) f.workers.items) f.made
-        (f.caller.fulls.amount + sum_by (λ seat. seat.fulls.amount) f.workers.items) f.is_full f.is_refused) }
-    ensures parts { IfOk result (λ f. f.caller.receipts.share.parts ≡ caller.receipts.share.parts) }
-    ensures workers { IfOk result (λ f. All (λ seat. seat.share.parts ≡ 1) f.workers.items) }
-    ensures count { IfOk result (λ f. length f.workers.items ≡ length workers.items) }
-{
-    let mut followed = joining::follow(rt, alloc, stack, caller, workers, script, watch)?;
-    if !followed.is_full && !followed.is_refused {
-        let outcome = work_again(rt, alloc, stack, &mut followed.workers, &mut followed.made);
-        followed.is_full = is_full_by(outcome)?;
-    }
-    Ok(followed)
-}
-
 /// This many workers follow the script, alone or together.
 fn follow<N: StackName + Send + Sync, R: Threads + Wait + Sync, W: Watch>(
     rt: &R,
@@ -179,7 +124,7 @@ fn follow<N: StackName + Send + Sync, R: Threads + Wait + Sync, W: Watch>(
     if workers.len() == 1 {
         follow_alone(rt, alloc, stack, caller, workers, script, watch)
     } else {
-        follow_together(rt, alloc, stack, caller, workers, script, watch)
+        joining::follow(rt, alloc, stack, caller, workers, script, watch)
     }
 }
 
@@ -270,31 +215,7 @@ fn finish<N: StackName>(
     })
 }
 
-/// Has so many workers follow a script on a stack, and ends it.
-fn drive_on<N: StackName + Send + Sync, R: Threads + Wait + Sync, W: Watch>(
-    rt: &R,
-    alloc: Global,
-    stack: Stack<N>,
-    caller: CallerSeat<N>,
-    workers: Vec<WorkerSeat<N>>,
-    script: &Script,
-    watch: &mut W,
-) -> Result<Driven, AllocError>
-    requires script { All (IsAimed N.trees) script.now }
-    requires caller { IsCallerOf stack.exchange caller.place }
-    requires fresh { (caller.receipts.list.items ≡ []) × ((asked_by caller.place).asked ≡ []) }
-    requires share { (caller.receipts.share.amount ≡ 0) × (caller.receipts.share.parts ≡ N.callers_parts) }
-    requires workers { All (λ seat. IsWorkerOf stack.exchange seat.place × (seat.share.parts ≡ 1) × (seat.share.amount ≡ 0)) workers.items }
-    requires some { 0 < length workers.items }
-    requires parts { length workers.items ≡ N.others_parts }
-    ensures clean { IfOk result (λ driven. IsCleanRun N.trees driven.journal) }
-    ensures ended { IfOk result (λ driven. spec.IsEnded script.now driven.journal driven.made driven.ending) }
-{
-    let followed = follow(rt, alloc, &stack, caller, workers, script, watch)?;
-    finish(alloc, stack, followed)
-}
-
-/// Drives a new stack of the loaded filters by a script, with one caller and so many workers.
+/// Has one caller and so many workers follow a script on a new stack of the loaded filters, and ends it.
 fn drive<N: StackName + Send + Sync, R: Threads + Wait + Sync, W: Watch>(
     rt: &R,
     alloc: Global,
@@ -320,28 +241,8 @@ fn drive<N: StackName + Send + Sync, R: Threads + Wait + Sync, W: Watch>(
     legal_journals_are_clean_runs();
     let (stack, mut callers, seats) = Stack::<N>::open(alloc, loaded, blanks, 1, workers)?;
     let caller = callers.pop().unwrap();
-    drive_on(rt, alloc, stack, caller, seats, script, watch)
-}
-
-/// The same under a name that nobody else has.
-fn drive_named<R: Threads + Wait + Sync, W: Watch>(
-    rt: &R,
-    alloc: Global,
-    loaded: Loaded,
-    script: &Script,
-    workers: usize,
-    watch: &mut W,
-) -> Result<Driven, AllocError>
-    requires script { All (IsAimed loaded) script.now }
-    requires workers { (1 ≤ workers) × (workers ≤ 16) }
-    ensures { IfOk result (λ driven. spec.IsDriven loaded script.now driven.journal driven.made driven.ending) }
-{
-    let blanks = Blanks {
-        callers: Blank::new(1),
-        others: Blank::new(workers as u64),
-        fulls: Blank::new(1 + workers as u64),
-    };
-    drive::<Brand, R, W>(rt, alloc, loaded, script, workers, blanks, watch)
+    let followed = follow(rt, alloc, &stack, caller, seats, script, watch)?;
+    finish(alloc, stack, followed)
 }
 
 /// The result of a driven script, with its journal as it is written.
@@ -382,7 +283,12 @@ pub fn run<R: Threads + Wait + Sync, W: Watch>(
         loaded,
         script: commands,
     } = prepare(rt, alloc, workers, script, texts)?;
-    let driven = drive_named(rt, alloc, loaded, &commands, workers, watch);
+    let blanks = Blanks {
+        callers: Blank::new(1),
+        others: Blank::new(workers as u64),
+        fulls: Blank::new(1 + workers as u64),
+    };
+    let driven = drive::<Brand, R, W>(rt, alloc, loaded, &commands, workers, blanks, watch);
     drop(commands);
     Ok(written(alloc, driven?)?)
 }

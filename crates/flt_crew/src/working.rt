@@ -1,6 +1,6 @@
 //! The work of a worker in a thread of its own.
 
-ghost use Rattle.std.specs.Prelude.{◌≡◌, ◌≤◌, ◌<◌, Err, Ok, OnOk};
+ghost use Rattle.std.specs.Prelude.{◌≡◌, ◌≤◌, ◌<◌, Err, Ok};
 ghost use Rattle.flt_crew.specs.Following.{IsSum};
 ghost use Rattle.flt_run.specs.declared.fault.TurnFault.TheVariants as turn_fault;
 ghost use Rattle.flt_workers.specs.Places.{IsWorkerOf};
@@ -31,39 +31,7 @@ pub(crate) struct Worked<N: StackName> {
     pub(crate) ghost full: { outcome ≡ Err turn_fault.Full → 0 < seat.fulls.amount },
 }
 
-/// Works until nothing is found in a call that began once all commands had been given. `made` counts the entries that it is answered.
-fn work_on<N: StackName, R: Wait>(
-    rt: &R,
-    alloc: Global,
-    stack: &Stack<N>,
-    seat: &mut WorkerSeat<N>,
-    progress: &Progress,
-    made: &mut u64,
-) -> Result<(), TurnFault>
-    requires seat { IsWorkerOf stack.now.exchange seat.old.place }
-    requires made { (made.old ≡ 0) × (seat.old.share.amount ≡ 0) }
-    ensures seat { IsWorkerOf stack.now.exchange seat.new.place }
-    ensures parts { seat.new.share.parts ≡ seat.old.share.parts }
-    ensures counted { made.new ≤ seat.new.share.amount }
-    ensures told { OnOk result (IsSum made.new seat.new.share.amount) }
-    ensures full { result ≡ Err TurnFault.Full → 0 < seat.new.fulls.amount }
-{
-    for _ in rt.forever() {
-        let is_given = progress.is_given();
-        let more = stack.work(rt, alloc, seat, &mut Ungated)?;
-        *made = made.saturating_add(more);
-        if more == 0 && is_given {
-            return Ok(());
-        }
-        progress.add(more);
-        if more == 0 {
-            thread::yield_now();
-        }
-    }
-    unreachable!()
-}
-
-/// A worker's work in a run.
+/// A worker's work in a run: it works until nothing is found in a call that began once all commands had been given.
 pub(crate) fn work_in<N: StackName, R: Wait>(
     rt: &R,
     alloc: Global,
@@ -76,11 +44,31 @@ pub(crate) fn work_in<N: StackName, R: Wait>(
     ensures seat { IsWorkerOf stack.now.exchange result.seat.place }
     ensures parts { result.seat.share.parts ≡ seat.share.parts }
 {
-    let mut made = 0;
-    let outcome = work_on(rt, alloc, stack, &mut seat, progress, &mut made);
-    Worked {
-        seat,
-        made,
-        outcome,
+    let mut made: u64 = 0;
+    for _ in rt.forever() {
+        let is_given = progress.is_given();
+        let more = match stack.work(rt, alloc, &mut seat, &mut Ungated) {
+            Ok(more) => more,
+            Err(fault) => {
+                return Worked {
+                    seat,
+                    made,
+                    outcome: Err(fault),
+                };
+            }
+        };
+        made = made.saturating_add(more);
+        if more == 0 && is_given {
+            return Worked {
+                seat,
+                made,
+                outcome: Ok(()),
+            };
+        }
+        progress.add(more);
+        if more == 0 {
+            thread::yield_now();
+        }
     }
+    unreachable!()
 }

@@ -1,12 +1,9 @@
 -- The first of several: what holds of those before it, and where it stands.
-use Rattle.std.proofs.Common.{◌≡◌, ℕ, ◌+◌, ◌<◌, List, [], ◌∷◌, ◌++◌, Vec, Global, length, get_or, take, drop, map, sym, subst, ap, ◌∙◌, arith}
+use Rattle.std.proofs.Common.{◌≡◌, ℕ, ◌+◌, ◌<◌, List, [], ◌∷◌, ◌++◌, Vec, Global, length, get_or, take, drop, map, sym, ap, ◌∙◌, arith}
 use Rattle.std.proofs.lemmas.List.{take-append-drop, drop_more, map-append, map_more, map_push, length-take-le, length-map}
 use Rattle.std.proofs.lemmas.Slice.Zip.{all_zipped_more}
 use Rattle.std.specs.List.{AllZip}
-use Rattle.flt_check.specs.declared.checker.Refusal.{Refusal}
-use Rattle.flt_driven.specs.Texts.{AreSpelled, IsSyntaxFault, HasCertificate, HaveCertificates, IsRefused, IsRefusalOf, IsFirstRefused, FiltersFail}
-use Rattle.flt_driven.specs.declared.fault.RunFault.{RunFault}
-use Rattle.flt_driven.specs.declared.fault.RunFault.TheVariants as fault
+use Rattle.flt_driven.specs.Texts.{AreSpelled, IsSyntaxFault}
 use Rattle.flt_model.specs.Program.{filters_of}
 use Rattle.flt_syntax.specs.Spelling.{Spells}
 use Rattle.flt_syntax.specs.TextFails.{Fails}
@@ -61,7 +58,7 @@ module _ (texts : List (Vec ℕ Global)) (i : ℕ) (text d : Vec ℕ Global) (h 
     fault = fault;
   }
 
--- ---- the certificates
+-- ---- the trees
 
 module _ (trees : List Tree) (i : ℕ) (tree d : Tree) (h : i < length trees) (at : tree ≡ get_or trees i d) where
   -- what holds of each tree so far and of one more
@@ -71,38 +68,3 @@ module _ (trees : List Tree) (i : ℕ) (tree d : Tree) (h : i < length trees) (a
       let read : filters_of (take (i + 1) trees) ≡ filters_of (take i trees) ++ tree.filter ∷ [] =
       one_more (λ t. t.filter) trees i tree d h at in
       rw (read, pushed) (all_zipped_more _ _ _ tree.filter y all one)
-
-  -- one more filter has the certificate that was found for it
-  pub covered_more : (certs more : List (Vec ℕ Global)) (cert : Vec ℕ Global) →
-      HaveCertificates (filters_of (take i trees)) (map (λ c. c.items) certs) → HasCertificate tree.filter cert.items →
-      more ≡ certs ++ cert ∷ [] → HaveCertificates (filters_of (take (i + 1) trees)) (map (λ c. c.items) more)
-  covered_more certs more cert covered one pushed =
-      let read : filters_of (take (i + 1) trees) ≡ filters_of (take i trees) ++ tree.filter ∷ [] =
-      one_more (λ t. t.filter) trees i tree d h at in
-      let made : map (λ (c : Vec ℕ Global). c.items) more ≡ map (λ (c : Vec ℕ Global). c.items) certs ++ cert.items ∷ [] =
-      ap (map (λ (c : Vec ℕ Global). c.items)) pushed ∙ map_push (λ c. c.items) certs cert in
-      rw (read, made) (all_zipped_more _ _ _ tree.filter cert.items covered one)
-
-  pub first_refused : (certs : List (List ℕ)) (f : Refusal) → HaveCertificates (filters_of (take i trees)) certs →
-      IsRefused tree.filter f → IsFirstRefused (filters_of trees) i f
-  first_refused certs f covered refused = record {
-    before = filters_of (take i trees);
-    filter = tree.filter;
-    after = filters_of (drop (i + 1) trees);
-    parts = parted (λ t. t.filter) trees i tree d h at;
-    certificates = certs;
-    covered = covered;
-    counted = places_before (λ t. t.filter) trees i tree d h at;
-    refused = refused;
-  }
-
-  -- the filter's refusal is the first one, where those before it have certificates
-  pub fails_at : (certs : List (List ℕ)) (e : RunFault) → HaveCertificates (filters_of (take i trees)) certs →
-      IsRefusalOf i tree.filter e → FiltersFail (filters_of trees) e
-  fails_at certs (fault.Refused number f) covered wrong =
-      subst (λ n. IsFirstRefused (filters_of trees) n f) (sym wrong.0) (first_refused certs f covered wrong.1)
-  fails_at certs fault.OutOfMemory covered wrong = tt
-  fails_at certs fault.Count covered wrong = absurd wrong
-  fails_at certs (fault.Syntax number f) covered wrong = absurd wrong
-  fails_at certs (fault.Script line) covered wrong = absurd wrong
-  fails_at certs (fault.Altitude number) covered wrong = absurd wrong

@@ -1,3 +1,3 @@
 pub mod Answered
 pub mod Firsts
-pub mod Loadable
+pub mod Preparation

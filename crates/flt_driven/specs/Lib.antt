@@ -1,2 +1,3 @@
+pub mod Certified
 pub mod Preparing
 pub mod Texts

@@ -25,17 +25,15 @@ ScriptFails filters script (Err _) = ⊥
 
 -- ---- what is loaded
 
--- texts that spell filters of different altitudes, each with a certificate that covers it, are loaded as these filters by altitude
-abbrev pub IsLoadedOf : List Text → List Text → List Filter → Type 0
-IsLoadedOf texts certificates loaded = (filters : List Filter) → AreSpelled texts filters → HaveCertificates filters certificates →
-    HasDistinctAltitudes filters → loaded ≡ by_altitude filters
+-- no two filters have one altitude, and they are loaded by it
+abbrev pub IsLoadedOf : List Filter → List Filter → Type 0
+IsLoadedOf filters loaded = HasDistinctAltitudes filters × (loaded ≡ by_altitude filters)
 
--- the texts spell filters of different altitudes, each with a certificate that covers it
-pub record AreLoadable (texts certificates : List Text) : Type 0 where
-  pub filters : List Filter
-  pub spelled : AreSpelled texts filters
-  pub covered : HaveCertificates filters certificates
-  pub distinct : HasDistinctAltitudes filters
+-- an earlier filter has the altitude of this one; memory may run out
+abbrev pub IsAltitudeFault : List Filter → RunFault → Type 0
+IsAltitudeFault filters (fault.Altitude number) = IsRepeated filters number
+IsAltitudeFault filters fault.OutOfMemory = Unit {0}
+IsAltitudeFault filters _ = ⊥
 
 -- ---- all of it
 

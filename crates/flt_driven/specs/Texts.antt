@@ -1,7 +1,6 @@
 -- Texts, the filters that they spell, and the certificates of these. This project's own program.
-use Rattle.std.specs.Prelude.{◌≡◌, ℕ, List, [], ◌∷◌, ◌++◌, length, Result, IsTrue}
+use Rattle.std.specs.Prelude.{◌≡◌, ℕ, List, ◌∷◌, ◌++◌, length, IsTrue}
 use Rattle.std.specs.List.{AllZip}
-use Rattle.flt_analyse.specs.All.{IsAnswer}
 use Rattle.flt_analyse.specs.Least.{NoneCovers, IsNamed}
 use Rattle.flt_cert.specs.Format.{Certificate, is_certificate, full_spelling}
 use Rattle.flt_check.specs.Covering.{Covers}
@@ -11,7 +10,6 @@ use Rattle.flt_driven.specs.declared.fault.RunFault.TheVariants as fault
 use Rattle.flt_graph.specs.Lowering.{IsLowered}
 use Rattle.flt_graph.specs.declared.graph.Graph.{Graph}
 use Rattle.flt_model.specs.Streams.{Text}
-use Rattle.flt_stack.specs.Loading.{File, file}
 use Rattle.flt_syntax.specs.Spelling.{Spells}
 use Rattle.flt_syntax.specs.TextFails.{Fails}
 use Rattle.flt_syntax.specs.declared.fault.SyntaxFault.{SyntaxFault}
@@ -53,24 +51,12 @@ pub record HasCertificate (filter : Filter) (bytes : Text) : Type 0 where
 abbrev pub HaveCertificates : List Filter → List Text → Type 0
 HaveCertificates = AllZip HasCertificate
 
--- the analyser's answer for the filter's points: the least certificate that covers them, or the fault that is met first
-pub record IsAnswered (filter : Filter) (answer : Result Certificate Refusal) : Type 0 where
-  pub graph : Graph
-  pub lowered : IsLowered filter graph
-  pub answered : IsAnswer graph answer
-
 -- no certificate covers the filter's points, and this is the fault that is met first
 pub record IsRefused (filter : Filter) (f : Refusal) : Type 0 where
   pub graph : Graph
   pub lowered : IsLowered filter graph
   pub none : NoneCovers graph
   pub named : IsNamed graph f
-
--- the filter of the file is refused; memory may run out
-abbrev pub IsRefusalOf : ℕ → Filter → RunFault → Type 0
-IsRefusalOf file filter (fault.Refused number f) = (number ≡ file) × IsRefused filter f
-IsRefusalOf file filter fault.OutOfMemory = Unit {0}
-IsRefusalOf file filter _ = ⊥
 
 -- the first filter that no certificate covers, by its number, and its refusal
 pub record IsFirstRefused (filters : List Filter) (number : ℕ) (f : Refusal) : Type 0 where
@@ -88,11 +74,3 @@ abbrev pub FiltersFail : List Filter → RunFault → Type 0
 FiltersFail filters fault.OutOfMemory = Unit {0}
 FiltersFail filters (fault.Refused number f) = IsFirstRefused filters number f
 FiltersFail filters _ = ⊥
-
--- ---- both
-
--- each text with its certificate
-abbrev pub files_of : List Text → List Text → List File
-files_of [] certificates = []
-files_of (text ∷ texts) [] = []
-files_of (text ∷ texts) (certificate ∷ certificates) = file text certificate ∷ files_of texts certificates

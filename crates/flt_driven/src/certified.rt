@@ -1,14 +1,16 @@
-//! The certificates of the filters.
+//! The points of the filters, and their certificates.
 
-ghost use Rattle.std.specs.Prelude.{◌≡◌, ◌≤◌, IfOk, IfErr, map};
+ghost use Rattle.std.specs.Prelude.{◌≡◌, ◌≤◌, IfOk, IfErr};
 ghost use Rattle.std.specs.List.{AllZip};
+ghost use Rattle.flt_driven.specs.Certified as certified;
+ghost use Rattle.flt_driven.specs.Texts as spec;
 ghost use Rattle.flt_graph.specs.Lowering.{IsLowered};
 ghost use Rattle.flt_model.specs.Program.{filters_of};
-ghost use Rattle.flt_driven.specs.Texts as spec;
+ghost use Rattle.flt_stack.specs.Lowered.{AreCertificates, AreCovered};
 
 use crate::fault::RunFault;
 use flt_analyse::{Start, analyse_all};
-use flt_cert::{FullCert, write_full};
+use flt_cert::{Cert, FullCert};
 use flt_check::Refusal;
 use flt_graph::{Graph, lower};
 use flt_tree::Tree;
@@ -33,61 +35,45 @@ fn lower_all(alloc: Global, trees: &[Tree]) -> Result<Vec<Graph>, AllocError>
     Ok(graphs)
 }
 
-/// The certificate of the filter of a file, as it is written, from the analyser's answer for it.
-fn written(
+/// The certificates that the analyser answered, if it refused nothing.
+fn certificates_of(
     alloc: Global,
-    file: usize,
-    tree: &Tree,
-    answer: &Result<FullCert, Refusal>,
-) -> Result<Vec<u8>, RunFault>
-    requires { spec.IsAnswered tree.now.filter answer.now }
-    ensures ok { IfOk result (λ bytes. spec.HasCertificate tree.now.filter bytes.items) }
-    ensures err { IfErr result (spec.IsRefusalOf file tree.now.filter) }
-{
-    match answer {
-        Ok(cert) => {
-            let _callbacks = cert.callbacks();
-            Ok(write_full(alloc, cert)?)
-        }
-        Err(refusal) => Err(RunFault::Refused {
-            file,
-            refusal: *refusal,
-        }),
-    }
-}
-
-/// The certificates of the filters, as they are written, from the analyser's answers.
-fn written_all(
-    alloc: Global,
-    trees: &[Tree],
-    answers: &[Result<FullCert, Refusal>],
-) -> Result<Vec<Vec<u8>>, RunFault>
-    requires { AllZip spec.IsAnswered (filters_of trees.now) answers.now }
-    ensures ok { IfOk result (λ certs. spec.HaveCertificates (filters_of trees.now) (map (λ cert. cert.items) certs.items)) }
-    ensures err { IfErr result (spec.FiltersFail (filters_of trees.now)) }
+    answers: Vec<Result<FullCert, Refusal>>,
+) -> Result<Vec<Cert>, RunFault>
+    ensures ok { IfOk result (λ certificates. AllZip certified.IsGiven answers.items certificates.items) }
+    ensures err { IfErr result (certified.StopsAt answers.items) }
 {
     let mut certificates = Vec::new(alloc);
-    for (file, tree) in trees.iter().enumerate() {
-        match written(alloc, file, tree, &answers[file]) {
-            Ok(certificate) => certificates.push(certificate)?,
-            Err(fault) => return Err(fault),
+    'answers: for answer in answers {
+        match answer {
+            Ok(certificate) => {
+                let _points = certificate.callbacks();
+                certificates.push(Cert::Full(certificate))?;
+            }
+            Err(refusal) => {
+                let file = certificates.len();
+                return Err(RunFault::Refused { file, refusal });
+            }
         }
     }
     Ok(certificates)
 }
 
-/// The least certificates of the filters, in order, as many at a time as there are workers.
+/// The points of the filters and the least certificates of these, in order, as many at a time as there are workers.
 pub(crate) fn certify_all<R: Threads + Sync>(
     rt: &R,
     alloc: Global,
     workers: usize,
     trees: &[Tree],
-) -> Result<Vec<Vec<u8>>, RunFault>
+) -> Result<(Vec<Graph>, Vec<Cert>), RunFault>
     requires { (1 ≤ workers) × (workers ≤ 16) }
-    ensures ok { IfOk result (λ certs. spec.HaveCertificates (filters_of trees.now) (map (λ cert. cert.items) certs.items)) }
+    ensures lowered { IfOk result (λ made. AllZip IsLowered (filters_of trees.now) made.0.items) }
+    ensures covered { IfOk result (λ made. AreCovered made.0.items made.1.items) }
+    ensures certificates { IfOk result (λ made. AreCertificates made.0.items made.1.items) }
     ensures err { IfErr result (spec.FiltersFail (filters_of trees.now)) }
 {
     let graphs = lower_all(alloc, trees)?;
     let answers = analyse_all(rt, alloc, graphs.as_slice(), workers, &Unnoticed)?;
-    written_all(alloc, trees, answers.as_slice())
+    let certificates = certificates_of(alloc, answers)?;
+    Ok((graphs, certificates))
 }

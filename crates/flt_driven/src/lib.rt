@@ -4,7 +4,6 @@
 
 mod certified;
 mod fault;
-mod files;
 mod preparing;
 mod texts;
 mod written;

@@ -2,17 +2,19 @@
 
 ghost use Rattle.std.specs.Prelude.{◌≡◌, map, length, ◌≤◌, IfErr, IfOk};
 ghost use Rattle.flt_driven.specs.Preparing as spec;
-ghost use Rattle.flt_driven.specs.Texts as texts_spec;
-ghost use Rattle.flt_model.specs.Program.{HasDistinctAltitudes, by_altitude, filters_of};
+ghost use Rattle.flt_frame.specs.Loading.{AreGraphsOfFilters};
+ghost use Rattle.flt_model.specs.Program.{filters_of};
 ghost use Rattle.flt_stack.specs.Loading.{IsCount};
+ghost use Rattle.flt_stack.specs.Lowered.{AreCertificates, AreCovered};
 
 use crate::certified::certify_all;
 use crate::fault::RunFault;
-use crate::files::pairs;
 use crate::texts::parse_all;
-use flt_model::first_repeated;
+use flt_cert::Cert;
+use flt_check::accepted_certificates_fill_up;
+use flt_graph::Graph;
 use flt_script::{Script, ScriptFault, read};
-use flt_stack::{LoadFault, Loaded, load};
+use flt_stack::{LoadFault, Loaded, load_lowered};
 use flt_syntax::spelled_is_well_formed;
 use flt_tree::Tree;
 use std::alloc::{AllocError, Global};
@@ -42,30 +44,25 @@ fn read_script(alloc: Global, trees: &[Tree], script: &[u8]) -> Result<Script, R
     }
 }
 
-/// The fault that memory was refused, which is all that can be wrong with accepted files.
-fn refused_memory(fault: LoadFault) -> AllocError
-    requires { fault ≡ LoadFault.OutOfMemory }
-{
-    match fault {
-        LoadFault::OutOfMemory => AllocError,
-        _ => unreachable!(),
-    }
-}
-
-/// Loads the texts with their certificates. All must be accepted, so that memory alone may be wanting.
+/// Loads filters that are covered by their certificates, so that only equal altitudes may refuse them, or memory.
 fn load_all(
     alloc: Global,
-    texts: &[Vec<u8>],
-    certificates: &[Vec<u8>],
-) -> Result<Loaded, AllocError>
-    requires count { IsCount (length texts.now) }
-    requires accepted { spec.AreLoadable (map (λ text. text.items) texts.now) (map (λ cert. cert.items) certificates.now) }
-    ensures loaded { IfOk result (spec.IsLoadedOf (map (λ text. text.items) texts.now) (map (λ cert. cert.items) certificates.now)) }
+    trees: Vec<Tree>,
+    graphs: Vec<Graph>,
+    certificates: &[Cert],
+) -> Result<Loaded, RunFault>
+    requires count { IsCount (length trees.items) }
+    requires lowered { AreGraphsOfFilters (filters_of trees.items) graphs.items }
+    requires covered { AreCovered graphs.items certificates.now }
+    requires certificates { AreCertificates graphs.items certificates.now }
+    ensures loaded { IfOk result (spec.IsLoadedOf (filters_of trees.items)) }
+    ensures fault { IfErr result (spec.IsAltitudeFault (filters_of trees.items)) }
 {
-    let files = pairs(alloc, texts, certificates)?;
-    match load(alloc, files.as_slice()) {
+    match load_lowered(alloc, trees, graphs, certificates) {
         Ok(loaded) => Ok(loaded),
-        Err(fault) => Err(refused_memory(fault)),
+        Err(LoadFault::Altitude { file }) => Err(RunFault::Altitude { file }),
+        Err(LoadFault::OutOfMemory) => Err(RunFault::OutOfMemory),
+        Err(_) => unreachable!(),
     }
 }
 
@@ -93,12 +90,10 @@ pub fn prepare<R: Threads + Sync>(
     }
     let trees = parse_all(alloc, texts)?;
     let commands = read_script(alloc, trees.as_slice(), script)?;
-    let certificates = certify_all(rt, alloc, workers, trees.as_slice())?;
-    if let Some(file) = first_repeated(trees.as_slice()) {
-        return Err(RunFault::Altitude { file });
-    }
+    let (graphs, certificates) = certify_all(rt, alloc, workers, trees.as_slice())?;
     spelled_is_well_formed();
-    let loaded = load_all(alloc, texts, certificates.as_slice())?;
+    accepted_certificates_fill_up();
+    let loaded = load_all(alloc, trees, graphs, certificates.as_slice())?;
     Ok(Prepared {
         loaded,
         script: commands,

@@ -1,3 +1,4 @@
 pub mod Left
 pub mod Requests
 pub mod Waiting
+pub mod Working

@@ -20,7 +20,7 @@ ghost use Rattle.flt_workers.specs.Places.{IsCallerOf, asked_by, put_by};
 
 use crate::OutOfMemory;
 use crate::seats::CallerSeat;
-use flt_core::{ArriveFault, DetachFault, Locked, StackName};
+use flt_core::{ArriveFault, Core, DetachFault, StackName};
 use flt_machine::Loaded;
 use flt_model::Move;
 use flt_rules::{Mode, Operation};
@@ -34,7 +34,7 @@ pub(crate) fn arrive_on<N: StackName, R: Wait>(
     alloc: Global,
     exchange: &Exchange,
     loaded: &Loaded,
-    locked: &mut Locked<N>,
+    core: &mut Core<N>,
     seat: &mut CallerSeat<N>,
     operation: Operation,
     mode: Mode,
@@ -45,39 +45,37 @@ pub(crate) fn arrive_on<N: StackName, R: Wait>(
     requires mode { fits_mode operation mode ≡ true }
     requires file { file < 1024 }
     ensures seat { IsCallerOf exchange.now seat.new.place }
-    ensures serial { IfOk result (λ serial. serial ≡ length locked.old.core.store.arrivals) }
-    ensures entry { OnOk result (locked.new.core.entries
-        ≡ locked.old.core.entries ++ journal_entry.Move (moves.Arrive operation mode file) ∷ []) }
+    ensures serial { IfOk result (λ serial. serial ≡ length core.old.board.store.arrivals) }
+    ensures entry { OnOk result (core.new.board.entries
+        ≡ core.old.board.entries ++ journal_entry.Move (moves.Arrive operation mode file) ∷ []) }
     ensures receipt { IfOk result (λ serial. seat.new.receipts.list.items ≡ seat.old.receipts.list.items
-        ++ receipt (length locked.old.core.entries) (moves.Arrive operation mode file) (Some serial) ∷ []) }
+        ++ receipt (length core.old.board.entries) (moves.Arrive operation mode file) (Some serial) ∷ []) }
     ensures share { OnOk result (seat.new.receipts.share.amount ≡ seat.old.receipts.share.amount + 1) }
     ensures parts { seat.new.receipts.share.parts ≡ seat.old.receipts.share.parts }
     ensures ticket { IfOk result (λ serial. put_by seat.new.place ≡ having_put (ticket.Operation serial) (put_by seat.old.place)) }
     ensures requests { asked_by seat.new.place ≡ asked_by seat.old.place }
     ensures full { (result ≡ Err arrive_fault.Full)
-        ↔ ((length locked.old.core.entries ≡ 1000000) ⊎ (length locked.old.core.store.arrivals ≡ 65536)) }
-    ensures refused { OnErr result ((locked.new.core ≡ locked.old.core)
+        ↔ ((length core.old.board.entries ≡ 1000000) ⊎ (length core.old.board.store.arrivals ≡ 65536)) }
+    ensures refused { OnErr result ((core.new.board ≡ core.old.board)
         × ((seat.new.receipts.list.items ≡ seat.old.receipts.list.items)
         × (seat.new.receipts.share.amount ≡ seat.old.receipts.share.amount))) }
     ensures counted { result ≡ Err arrive_fault.Full → seat.new.fulls.amount ≡ seat.old.fulls.amount + 1 }
     ensures room { result ≢ Err arrive_fault.Full → seat.new.fulls.amount ≡ seat.old.fulls.amount }
     ensures fulls_parts { seat.new.fulls.parts ≡ seat.old.fulls.parts }
-    ensures choices { locked.new.choices ≡ locked.old.choices }
+    ensures choices { core.new.choices ≡ core.old.choices }
 {
     let step = Move::Arrive {
         operation,
         mode,
         file,
     };
-    if locked.core.is_full_for(step) {
-        locked.core.count_full(&mut seat.fulls, step);
+    if core.is_full_for(step) {
+        core.count_full(&mut seat.fulls, step);
         return Err(ArriveFault::Full);
     }
-    let serial = locked.core.board().operations() as u32;
+    let serial = core.board().operations() as u32;
     put_one(rt, exchange, &mut seat.place, Ticket::Operation(serial))?;
-    locked
-        .core
-        .arrive(alloc, loaded, &mut seat.receipts, operation, mode, file)
+    core.arrive(alloc, loaded, &mut seat.receipts, operation, mode, file)
 }
 
 /// A teardown begins. Its tickets are put before it does.
@@ -86,26 +84,26 @@ pub(crate) fn detach_on<N: StackName, R: Wait>(
     alloc: Global,
     exchange: &Exchange,
     loaded: &Loaded,
-    locked: &mut Locked<N>,
+    core: &mut Core<N>,
     seat: &mut CallerSeat<N>,
     altitude: u32,
 ) -> Result<(), DetachFault>
     requires seat { IsCallerOf exchange.now seat.old.place }
     requires loaded { AreLoaded N.trees loaded.now }
     ensures seat { IsCallerOf exchange.now seat.new.place }
-    ensures entry { OnOk result (locked.new.core.entries
-        ≡ locked.old.core.entries ++ journal_entry.Move (moves.Detach altitude) ∷ []) }
+    ensures entry { OnOk result (core.new.board.entries
+        ≡ core.old.board.entries ++ journal_entry.Move (moves.Detach altitude) ∷ []) }
     ensures receipt { OnOk result (seat.new.receipts.list.items ≡ seat.old.receipts.list.items
-        ++ receipt (length locked.old.core.entries) (moves.Detach altitude) None ∷ []) }
+        ++ receipt (length core.old.board.entries) (moves.Detach altitude) None ∷ []) }
     ensures share { OnOk result (seat.new.receipts.share.amount ≡ seat.old.receipts.share.amount + 1) }
     ensures parts { seat.new.receipts.share.parts ≡ seat.old.receipts.share.parts }
-    ensures tickets { OnOk result (Now loaded.now locked.old.core (λ p m. (put_by seat.new.place).put ≡ (put_by seat.old.place).put
+    ensures tickets { OnOk result (Now loaded.now core.old.board (λ p m. (put_by seat.new.place).put ≡ (put_by seat.old.place).put
         ++ tickets.by_move loaded.now.altitudes m.world (make p m.world (moves.Detach altitude)))) }
     ensures requests { asked_by seat.new.place ≡ asked_by seat.old.place }
-    ensures fault { IfSome (refusals.detach_fault N.trees locked.old.core altitude) (λ fault. result ≡ Err fault) }
-    ensures memory { refusals.detach_fault N.trees locked.old.core altitude ≡ None
+    ensures fault { IfSome (refusals.detach_fault N.trees core.old.board altitude) (λ fault. result ≡ Err fault) }
+    ensures memory { refusals.detach_fault N.trees core.old.board altitude ≡ None
         → IfErr result (λ fault. fault ≡ detach_fault.OutOfMemory) }
-    ensures refused { OnErr result ((locked.new.core ≡ locked.old.core)
+    ensures refused { OnErr result ((core.new.board ≡ core.old.board)
         × ((seat.new.receipts.list.items ≡ seat.old.receipts.list.items)
         × (seat.new.receipts.share.amount ≡ seat.old.receipts.share.amount))) }
     ensures more { (more : List Subject) × ((put_by seat.new.place).put ≡ (put_by seat.old.place).put ++ more) }
@@ -115,35 +113,29 @@ pub(crate) fn detach_on<N: StackName, R: Wait>(
     ensures counted { result ≡ Err detach_fault.Full → seat.new.fulls.amount ≡ seat.old.fulls.amount + 1 }
     ensures room { result ≢ Err detach_fault.Full → seat.new.fulls.amount ≡ seat.old.fulls.amount }
     ensures fulls_parts { seat.new.fulls.parts ≡ seat.old.fulls.parts }
-    ensures choices { locked.new.choices ≡ locked.old.choices }
+    ensures choices { core.new.choices ≡ core.old.choices }
 {
-    if let Some(fault) = locked.core.detach_fault(loaded, altitude) {
+    if let Some(fault) = core.detach_fault(loaded, altitude) {
         if let DetachFault::Full = fault {
-            locked
-                .core
-                .count_full(&mut seat.fulls, Move::Detach { altitude });
+            core.count_full(&mut seat.fulls, Move::Detach { altitude });
         }
         return Err(fault);
     }
-    let next = locked
-        .core
-        .tickets(alloc, loaded, Move::Detach { altitude })?;
+    let next = core.tickets(alloc, loaded, Move::Detach { altitude })?;
     put_all(rt, exchange, &mut seat.place, next.as_slice())?;
-    locked
-        .core
-        .detach(alloc, loaded, &mut seat.receipts, altitude)
+    core.detach(alloc, loaded, &mut seat.receipts, altitude)
 }
 
 /// A choice is refused from now on, if it is still to come.
 pub(crate) fn refuse_on<N: StackName>(
-    locked: &mut Locked<N>,
+    core: &mut Core<N>,
     choice: u64,
 ) -> Result<(), OutOfMemory>
-    ensures listed { OnOk result (locked.new.choices.refused.keys ≡ insert_key nat_cmp locked.old.choices.refused.keys choice) }
-    ensures same { OnErr result (locked.new.choices.refused.keys ≡ locked.old.choices.refused.keys) }
-    ensures rest { (locked.new.core ≡ locked.old.core) × (locked.new.choices.made ≡ locked.old.choices.made) }
+    ensures listed { OnOk result (core.new.choices.refused.keys ≡ insert_key nat_cmp core.old.choices.refused.keys choice) }
+    ensures same { OnErr result (core.new.choices.refused.keys ≡ core.old.choices.refused.keys) }
+    ensures rest { (core.new.board ≡ core.old.board) × (core.new.choices.made ≡ core.old.choices.made) }
 {
-    locked.refuse(choice)
+    core.refuse(choice)
 }
 
 /// Puts a ticket where any worker finds it.

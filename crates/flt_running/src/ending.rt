@@ -15,7 +15,7 @@ pub struct Differ(pub Journal);
 /// Whether the receipts of a journal are those of these callers together, each once.
 pub(crate) fn agrees<N: StackName>(core: &Core<N>, callers: &[CallerSeat<N>]) -> bool
     ensures { IsTrue result
-        ↔ IsPermutation (receipts_in core.now.entries) (together (map (λ seat. seat.receipts.list.items) callers.now)) }
+        ↔ IsPermutation (receipts_in core.now.board.entries) (together (map (λ seat. seat.receipts.list.items) callers.now)) }
 {
     agree(core.board().journal(), callers)
 }

@@ -24,7 +24,7 @@ use crate::ending::{Differ, agrees, merge_callers, merge_workers};
 use crate::opening::seats;
 use crate::seats::{CallerSeat, WorkerSeat};
 use flt_core::{
-    ArriveFault, CallerEntries, Core, DetachFault, Fulls, Locked, OtherEntries, StackName,
+    ArriveFault, CallerEntries, Core, DetachFault, Fulls, OtherEntries, StackName,
 };
 use flt_model::Journal;
 use flt_rules::{Mode, Operation};
@@ -60,7 +60,7 @@ pub struct Blanks {
 pub struct Stack<N: StackName> {
     pub(crate) loaded: Loaded,
     pub(crate) exchange: Exchange,
-    pub(crate) locked: Mutex<Locked<N>>,
+    pub(crate) core: Mutex<Core<N>>,
     /// Nobody takes this lock. It exists so that threads may share the stack.
     pub(crate) spare: Mutex<Spare<N>>,
     pub(crate) ghost named: { loaded ≡ N.trees },
@@ -125,25 +125,19 @@ impl<N: StackName> Stack<N> {
             others_book,
             fulls_book,
         )?;
-        let stack = Stack::on(alloc, loaded, exchange, core, spare);
+        let stack = Stack::on(loaded, exchange, core, spare);
         Ok((stack, caller_seats, worker_seats))
     }
 
     /// A stack on the loaded filters, with this core.
-    fn on(
-        alloc: Global,
-        loaded: Loaded,
-        exchange: Exchange,
-        core: Core<N>,
-        spare: Spare<N>,
-    ) -> Stack<N>
+    fn on(loaded: Loaded, exchange: Exchange, core: Core<N>, spare: Spare<N>) -> Stack<N>
         requires filters { loaded ≡ N.trees }
         ensures exchange { result.exchange ≡ exchange }
     {
         Stack {
             loaded,
             exchange,
-            locked: Mutex::new(Locked::new(alloc, core)),
+            core: Mutex::new(core),
             spare: Mutex::new(spare),
         }
     }
@@ -189,13 +183,13 @@ impl<N: StackName> Stack<N> {
         ensures fulls_parts { seat.new.fulls.parts ≡ seat.old.fulls.parts }
     {
         let machine = self.machine();
-        let mut locked = self.locked.lock(rt);
+        let mut core = self.core.lock(rt);
         arrive_on(
             rt,
             alloc,
             &self.exchange,
             machine,
-            &mut *locked,
+            &mut *core,
             seat,
             operation,
             mode,
@@ -234,13 +228,13 @@ impl<N: StackName> Stack<N> {
         ensures fulls_parts { seat.new.fulls.parts ≡ seat.old.fulls.parts }
     {
         let machine = self.machine();
-        let mut locked = self.locked.lock(rt);
+        let mut core = self.core.lock(rt);
         detach_on(
             rt,
             alloc,
             &self.exchange,
             machine,
-            &mut *locked,
+            &mut *core,
             seat,
             altitude,
         )
@@ -265,7 +259,7 @@ impl<N: StackName> Stack<N> {
 
     /// From now on the system's choice of this number, counted from 0, is answered no, if it is still to come.
     pub fn refuse<R: Wait>(&self, rt: &R, choice: u64) -> Result<(), OutOfMemory> {
-        refuse_on(&mut self.locked.lock(rt), choice)
+        refuse_on(&mut self.core.lock(rt), choice)
     }
 
     // ---- the end
@@ -317,7 +311,7 @@ impl<N: StackName> Stack<N> {
         let Stack {
             loaded,
             exchange: _,
-            locked,
+            core,
             spare,
         } = self;
         let Spare {
@@ -325,10 +319,7 @@ impl<N: StackName> Stack<N> {
             others: mut others_share,
             fulls: mut fulls_share,
         } = spare.into_inner();
-        let Locked {
-            mut core,
-            choices: _,
-        } = locked.into_inner();
+        let mut core = core.into_inner();
         let same = agrees(&core, callers.as_slice());
         merge_callers(&mut callers_share, &mut fulls_share, callers);
         merge_workers(&mut others_share, &mut fulls_share, workers);

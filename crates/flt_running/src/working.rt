@@ -1,10 +1,11 @@
 //! The work of a worker: it takes a ticket and makes its move, over and over.
 ghost use Rattle.std.specs.Prelude.{◌≡◌, ◌≢◌, ◌⊎◌, ◌+◌, ◌*◌, ◌<◌, ◌≤◌, ◌++◌, ◌∷◌, [], IfErr, IfOk, IfSome, Err, None, OnErr, OnOk};
 ghost use Rattle.flt_cancel.specs.Serials.{serials};
-ghost use Rattle.flt_core.specs.Turning.{grows};
+ghost use Rattle.flt_core.specs.Turning.{IsCounted, grows};
 ghost use Rattle.flt_running.specs.Left.{AreUnpushed, Leaves, LeavesRequest};
 ghost use Rattle.flt_running.specs.Requests.{AreCollected, AreSetAgain, AreSwept, HasSwept, IsEmpty, IsWithout};
 ghost use Rattle.flt_running.specs.Waiting as waiting;
+ghost use Rattle.flt_running.specs.Working.{HasWorked};
 ghost use Rattle.flt_run.specs.declared.fault.TurnFault.TheVariants as fault;
 ghost use Rattle.flt_workers.specs.Places.{IsWorkerOf, collected_by, hands_by, marks_by};
 
@@ -35,15 +36,6 @@ const MAX_TICKETS: u32 = 1_000_000;
 /// more.
 const MAX_LOOKS: u32 = 2_000_001;
 
-/// The result of a look.
-#[derive(Clone, Copy)]
-struct Looked {
-    /// How many entries were made.
-    made: u64,
-    /// How many tickets were taken, one at most.
-    taken: u32,
-}
-
 /// Whether a ticket stays, and nothing was moved at its turn.
 fn is_still(outcome: &Result<Turned, TurnFault>) -> bool {
     match outcome {
@@ -69,16 +61,9 @@ impl<N: StackName> Stack<N> {
         gate: &mut G,
     ) -> Result<u64, TurnFault>
         requires { IsWorkerOf self.now.exchange seat.old.place }
-        ensures seat { IsWorkerOf self.now.exchange seat.new.place }
-        ensures share { IfOk result (λ made. seat.new.share.amount ≡ seat.old.share.amount + made) }
-        ensures done { OnOk result (waiting.tickets seat.new.waiting ≡ []) }
+        ensures worked { HasWorked self.now.exchange seat.old seat.new (λ made. made) result }
         ensures left { IfErr result (λ f. Leaves f seat.new.place seat.new.waiting seat.new.requests) }
         ensures tried { OnOk result (IsEmpty seat.old.requests.bits → IsEmpty seat.new.requests.bits) }
-        ensures grown { seat.old.share.amount ≤ seat.new.share.amount }
-        ensures parts { seat.new.share.parts ≡ seat.old.share.parts }
-        ensures full { result ≡ Err fault.Full → seat.new.fulls.amount ≡ seat.old.fulls.amount + 1 }
-        ensures room { result ≢ Err fault.Full → seat.new.fulls.amount ≡ seat.old.fulls.amount }
-        ensures fulls_parts { seat.new.fulls.parts ≡ seat.old.fulls.parts }
     {
         seat.waiting.push_all(&mut seat.place)?;
         let mut made = self.collect(rt, alloc, seat, gate)?;
@@ -91,58 +76,26 @@ impl<N: StackName> Stack<N> {
             if taken == MAX_TICKETS {
                 return Ok(made);
             }
-            let Some(looked) = self.look(rt, alloc, seat, gate)? else {
+            if let Some(ticket) = self.exchange.take(rt, &mut seat.place) {
+                seat.waiting.take();
+                made += self.serve(rt, alloc, seat, gate, ticket)? as u64;
+                taken += 1;
+                continue;
+            }
+            let more = self.collect(rt, alloc, seat, gate)?;
+            if more == 0 {
                 return Ok(made);
-            };
-            made += looked.made;
-            taken += looked.taken;
+            }
+            made += more;
         }
         Ok(made)
     }
 
     /// How many entries the journal has beside the arrivals. An arrival moves no ticket that stays: its operation gets one of its own.
     fn moving<R: Wait>(&self, rt: &R) -> usize {
-        let locked = self.locked.lock(rt);
-        let board = locked.core.board();
+        let core = self.core.lock(rt);
+        let board = core.board();
         board.journal().len().saturating_sub(board.operations())
-    }
-
-    /// Serves a ticket, or else the requests to cancel. It answers none if it finds neither.
-    fn look<R: Wait, G: Gate>(
-        &self,
-        rt: &R,
-        alloc: Global,
-        seat: &mut WorkerSeat<N>,
-        gate: &mut G,
-    ) -> Result<Option<Looked>, TurnFault>
-        requires seat { IsWorkerOf self.now.exchange seat.old.place }
-        requires waiting { waiting.tickets seat.old.waiting ≡ [] }
-        ensures seat { IsWorkerOf self.now.exchange seat.new.place }
-        ensures waiting { OnOk result (waiting.tickets seat.new.waiting ≡ []) }
-        ensures left { IfErr result (λ f. Leaves f seat.new.place seat.new.waiting seat.new.requests) }
-        ensures tried { OnOk result (IsEmpty seat.old.requests.bits → IsEmpty seat.new.requests.bits) }
-        ensures share { IfOk result (λ looked. IfSome looked (λ l. seat.new.share.amount ≡ seat.old.share.amount + l.made)) }
-        ensures idle { IfOk result (λ looked. looked ≡ None → seat.new.share.amount ≡ seat.old.share.amount) }
-        ensures few { IfOk result (λ looked. IfSome looked (λ l. (l.made ≤ 65600) × (l.taken ≤ 1))) }
-        ensures grown { seat.old.share.amount ≤ seat.new.share.amount }
-        ensures parts { seat.new.share.parts ≡ seat.old.share.parts }
-        ensures full { result ≡ Err fault.Full → seat.new.fulls.amount ≡ seat.old.fulls.amount + 1 }
-        ensures room { result ≢ Err fault.Full → seat.new.fulls.amount ≡ seat.old.fulls.amount }
-        ensures fulls_parts { seat.new.fulls.parts ≡ seat.old.fulls.parts }
-    {
-        if let Some(ticket) = self.exchange.take(rt, &mut seat.place) {
-            seat.waiting.take();
-            let made = self.serve(rt, alloc, seat, gate, ticket)?;
-            return Ok(Some(Looked {
-                made: made as u64,
-                taken: 1,
-            }));
-        }
-        let made = self.collect(rt, alloc, seat, gate)?;
-        if made == 0 {
-            return Ok(None);
-        }
-        Ok(Some(Looked { made, taken: 0 }))
     }
 
     // ---- tickets
@@ -158,18 +111,11 @@ impl<N: StackName> Stack<N> {
     ) -> Result<bool, TurnFault>
         requires seat { IsWorkerOf self.now.exchange seat.old.place }
         requires waiting { waiting.tickets seat.old.waiting ≡ [] }
-        ensures seat { IsWorkerOf self.now.exchange seat.new.place }
-        ensures waiting { OnOk result (waiting.tickets seat.new.waiting ≡ []) }
+        ensures worked { HasWorked self.now.exchange seat.old seat.new grows result }
         ensures kept { IfErr result (λ f.
             ((waiting.tickets seat.new.waiting ≡ ticket ∷ []) × (hands_by seat.new.place ≡ hands_by seat.old.place))
             ⊎ ((f ≡ fault.OutOfMemory) × AreUnpushed seat.new.place seat.new.waiting)) }
         ensures requests { seat.new.requests ≡ seat.old.requests }
-        ensures share { IfOk result (λ made. seat.new.share.amount ≡ seat.old.share.amount + grows made) }
-        ensures grown { seat.old.share.amount ≤ seat.new.share.amount }
-        ensures parts { seat.new.share.parts ≡ seat.old.share.parts }
-        ensures full { result ≡ Err fault.Full → seat.new.fulls.amount ≡ seat.old.fulls.amount + 1 }
-        ensures room { result ≢ Err fault.Full → seat.new.fulls.amount ≡ seat.old.fulls.amount }
-        ensures fulls_parts { seat.new.fulls.parts ≡ seat.old.fulls.parts }
     {
         let outcome = self.turn(
             rt,
@@ -184,7 +130,8 @@ impl<N: StackName> Stack<N> {
         seat.waiting.finish_turn(&mut seat.place, ticket, outcome)
     }
 
-    /// Makes the move that a ticket asks for, or an activation's steps.
+    /// Makes the move that a ticket asks for, which is chosen and made in one hold of the lock; or the steps of an activation. An activation
+    /// is taken from the board in one hold of the lock, and comes back in another; between them it makes its local steps.
     fn turn<R: Wait, G: Gate>(
         &self,
         rt: &R,
@@ -196,65 +143,16 @@ impl<N: StackName> Stack<N> {
         ticket: Ticket,
     ) -> Result<Turned, TurnFault>
         requires part { (0 < mine.old.parts) × (0 < fulls.old.parts) }
-        ensures share { IfOk result (λ t. mine.new.amount ≡ mine.old.amount + grows t.made) }
-        ensures refused { OnErr result (mine.new.amount ≡ mine.old.amount) }
-        ensures parts { (mine.new.parts ≡ mine.old.parts) × (fulls.new.parts ≡ fulls.old.parts) }
-        ensures full { result ≡ Err fault.Full → fulls.new.amount ≡ fulls.old.amount + 1 }
-        ensures room { result ≢ Err fault.Full → fulls.new.amount ≡ fulls.old.amount }
-    {
-        match ticket {
-            Ticket::Activation(activation) => self.go_on(
-                rt, alloc, pace, mine, fulls, gate, activation,
-            ),
-            _ => self.move_on(rt, alloc, pace, mine, fulls, gate, ticket),
-        }
-    }
-
-    /// Makes the move that a ticket asks for. It is chosen and made in one hold of the lock.
-    fn move_on<R: Wait, G: Gate>(
-        &self,
-        rt: &R,
-        alloc: Global,
-        pace: &mut Pace,
-        mine: &mut Share<OtherEntries<N>>,
-        fulls: &mut Share<Fulls<N>>,
-        gate: &mut G,
-        ticket: Ticket,
-    ) -> Result<Turned, TurnFault>
-        requires part { (0 < mine.old.parts) × (0 < fulls.old.parts) }
-        ensures share { IfOk result (λ t. mine.new.amount ≡ mine.old.amount + grows t.made) }
-        ensures refused { OnErr result (mine.new.amount ≡ mine.old.amount) }
-        ensures parts { (mine.new.parts ≡ mine.old.parts) × (fulls.new.parts ≡ fulls.old.parts) }
-        ensures full { result ≡ Err fault.Full → fulls.new.amount ≡ fulls.old.amount + 1 }
-        ensures room { result ≢ Err fault.Full → fulls.new.amount ≡ fulls.old.amount }
+        ensures { IsCounted mine.old mine.new fulls.old fulls.new (λ t. grows t.made) result }
     {
         let machine = self.machine();
-        pace.pass(gate);
-        self.locked
-            .lock(rt)
-            .move_on(alloc, machine, mine, fulls, ticket)
-    }
-
-    /// Makes an activation's steps. It is taken from the board in one hold of the lock, and comes back in another; between them it makes
-    /// its local steps.
-    fn go_on<R: Wait, G: Gate>(
-        &self,
-        rt: &R,
-        alloc: Global,
-        pace: &mut Pace,
-        mine: &mut Share<OtherEntries<N>>,
-        fulls: &mut Share<Fulls<N>>,
-        gate: &mut G,
-        activation: u32,
-    ) -> Result<Turned, TurnFault>
-        requires part { (0 < mine.old.parts) × (0 < fulls.old.parts) }
-        ensures share { IfOk result (λ t. mine.new.amount ≡ mine.old.amount + grows t.made) }
-        ensures refused { OnErr result (mine.new.amount ≡ mine.old.amount) }
-        ensures parts { (mine.new.parts ≡ mine.old.parts) × (fulls.new.parts ≡ fulls.old.parts) }
-        ensures full { result ≡ Err fault.Full → fulls.new.amount ≡ fulls.old.amount + 1 }
-        ensures room { result ≢ Err fault.Full → fulls.new.amount ≡ fulls.old.amount }
-    {
-        let machine = self.machine();
+        let Ticket::Activation(activation) = ticket else {
+            pace.pass(gate);
+            return self
+                .core
+                .lock(rt)
+                .move_on(alloc, machine, mine, fulls, ticket);
+        };
         let Some(frame) = self.checkout(rt, activation) else {
             return Ok(Turned {
                 next: Vec::new(alloc),
@@ -264,14 +162,14 @@ impl<N: StackName> Stack<N> {
         };
         let advanced = advance(machine, frame);
         pace.pass(gate);
-        self.locked
+        self.core
             .lock(rt)
             .go_on(alloc, machine, mine, fulls, &advanced)
     }
 
     /// An activation as it is on the board; none if it has ended.
     fn checkout<R: Wait>(&self, rt: &R, activation: u32) -> Option<Frame> {
-        self.locked.lock(rt).core.board().checkout(activation)
+        self.core.lock(rt).board().checkout(activation)
     }
 
     // ---- requests
@@ -287,19 +185,12 @@ impl<N: StackName> Stack<N> {
     ) -> Result<u64, TurnFault>
         requires seat { IsWorkerOf self.now.exchange seat.old.place }
         requires waiting { waiting.tickets seat.old.waiting ≡ [] }
-        ensures seat { IsWorkerOf self.now.exchange seat.new.place }
-        ensures waiting { OnOk result (waiting.tickets seat.new.waiting ≡ []) }
+        ensures worked { HasWorked self.now.exchange seat.old seat.new (λ made. made) result }
         ensures left { IfErr result (λ f. LeavesRequest f seat.new.place seat.new.waiting seat.new.requests) }
         ensures tried { OnOk result (IsEmpty seat.old.requests.bits → IsEmpty seat.new.requests.bits) }
         ensures swept { OnOk result (seat.old.pace.number ≡ 0 → HasSwept seat.old.place.requests seat.new.place.requests) }
         ensures again { OnErr result (AreSetAgain seat.old.place.requests seat.new.place.requests) }
-        ensures share { IfOk result (λ made. seat.new.share.amount ≡ seat.old.share.amount + made) }
         ensures few { IfOk result (λ made. made ≤ 65600) }
-        ensures grown { seat.old.share.amount ≤ seat.new.share.amount }
-        ensures parts { seat.new.share.parts ≡ seat.old.share.parts }
-        ensures full { result ≡ Err fault.Full → seat.new.fulls.amount ≡ seat.old.fulls.amount + 1 }
-        ensures room { result ≢ Err fault.Full → seat.new.fulls.amount ≡ seat.old.fulls.amount }
-        ensures fulls_parts { seat.new.fulls.parts ≡ seat.old.fulls.parts }
     {
         if !seat.pace.collects() {
             return Ok(0);
@@ -321,19 +212,12 @@ impl<N: StackName> Stack<N> {
         requires seat { IsWorkerOf self.now.exchange seat.old.place }
         requires waiting { waiting.tickets seat.old.waiting ≡ [] }
         requires requests { IsEmpty seat.old.requests.bits }
-        ensures seat { IsWorkerOf self.now.exchange seat.new.place }
-        ensures waiting { OnOk result (waiting.tickets seat.new.waiting ≡ []) }
+        ensures worked { HasWorked self.now.exchange seat.old seat.new (λ made. made) result }
         ensures left { IfErr result (λ f. LeavesRequest f seat.new.place seat.new.waiting seat.new.requests) }
         ensures tried { OnOk result (IsEmpty seat.new.requests.bits) }
         ensures swept { OnOk result (HasSwept seat.old.place.requests seat.new.place.requests) }
         ensures again { OnErr result (AreSetAgain seat.old.place.requests seat.new.place.requests) }
-        ensures share { IfOk result (λ made. seat.new.share.amount ≡ seat.old.share.amount + made) }
         ensures few { IfOk result (λ made. made ≤ 65536) }
-        ensures grown { seat.old.share.amount ≤ seat.new.share.amount }
-        ensures parts { seat.new.share.parts ≡ seat.old.share.parts }
-        ensures full { result ≡ Err fault.Full → seat.new.fulls.amount ≡ seat.old.fulls.amount + 1 }
-        ensures room { result ≢ Err fault.Full → seat.new.fulls.amount ≡ seat.old.fulls.amount }
-        ensures fulls_parts { seat.new.fulls.parts ≡ seat.old.fulls.parts }
     {
         let groups = self.exchange.unmark(&mut seat.place);
         match self.sweep(rt, alloc, seat, gate, groups) {
@@ -377,19 +261,12 @@ impl<N: StackName> Stack<N> {
         requires seat { IsWorkerOf self.now.exchange seat.old.place }
         requires waiting { waiting.tickets seat.old.waiting ≡ [] }
         requires requests { IsEmpty seat.old.requests.bits }
-        ensures seat { IsWorkerOf self.now.exchange seat.new.place }
-        ensures waiting { OnOk result (waiting.tickets seat.new.waiting ≡ []) }
+        ensures worked { HasWorked self.now.exchange seat.old seat.new (λ made. made) result }
         ensures left { IfErr result (λ f. LeavesRequest f seat.new.place seat.new.waiting seat.new.requests) }
         ensures tried { OnOk result (IsEmpty seat.new.requests.bits) }
         ensures swept { OnOk result (AreSwept groups 64 (collected_by seat.old.place).seen (collected_by seat.new.place).seen) }
         ensures marks { marks_by seat.new.place ≡ marks_by seat.old.place }
-        ensures share { IfOk result (λ made. seat.new.share.amount ≡ seat.old.share.amount + made) }
         ensures few { IfOk result (λ made. made ≤ 65536) }
-        ensures grown { seat.old.share.amount ≤ seat.new.share.amount }
-        ensures parts { seat.new.share.parts ≡ seat.old.share.parts }
-        ensures full { result ≡ Err fault.Full → seat.new.fulls.amount ≡ seat.old.fulls.amount + 1 }
-        ensures room { result ≢ Err fault.Full → seat.new.fulls.amount ≡ seat.old.fulls.amount }
-        ensures fulls_parts { seat.new.fulls.parts ≡ seat.old.fulls.parts }
     {
         let mut made: u64 = 0;
         for group in lowest_bit(groups)..GROUPS {
@@ -418,19 +295,12 @@ impl<N: StackName> Stack<N> {
         requires seat { IsWorkerOf self.now.exchange seat.old.place }
         requires waiting { waiting.tickets seat.old.waiting ≡ [] }
         requires requests { IsEmpty seat.old.requests.bits }
-        ensures seat { IsWorkerOf self.now.exchange seat.new.place }
-        ensures waiting { OnOk result (waiting.tickets seat.new.waiting ≡ []) }
+        ensures worked { HasWorked self.now.exchange seat.old seat.new (λ made. made) result }
         ensures left { IfErr result (λ f. LeavesRequest f seat.new.place seat.new.waiting seat.new.requests) }
         ensures tried { OnOk result (IsEmpty seat.new.requests.bits) }
         ensures swept { OnOk result (AreCollected (16 * group) 16 (collected_by seat.old.place).seen (collected_by seat.new.place).seen) }
         ensures marks { marks_by seat.new.place ≡ marks_by seat.old.place }
-        ensures share { IfOk result (λ made. seat.new.share.amount ≡ seat.old.share.amount + made) }
         ensures few { IfOk result (λ made. made ≤ 1024) }
-        ensures grown { seat.old.share.amount ≤ seat.new.share.amount }
-        ensures parts { seat.new.share.parts ≡ seat.old.share.parts }
-        ensures full { result ≡ Err fault.Full → seat.new.fulls.amount ≡ seat.old.fulls.amount + 1 }
-        ensures room { result ≢ Err fault.Full → seat.new.fulls.amount ≡ seat.old.fulls.amount }
-        ensures fulls_parts { seat.new.fulls.parts ≡ seat.old.fulls.parts }
     {
         let mut made: u64 = 0;
         let first = WORDS_OF_GROUP * group as usize;
@@ -455,18 +325,11 @@ impl<N: StackName> Stack<N> {
     ) -> Result<u64, TurnFault>
         requires seat { IsWorkerOf self.now.exchange seat.old.place }
         requires waiting { waiting.tickets seat.old.waiting ≡ [] }
-        ensures seat { IsWorkerOf self.now.exchange seat.new.place }
-        ensures waiting { OnOk result (waiting.tickets seat.new.waiting ≡ []) }
+        ensures worked { HasWorked self.now.exchange seat.old seat.new (λ made. made) result }
         ensures left { IfErr result (λ f. LeavesRequest f seat.new.place seat.new.waiting seat.new.requests) }
         ensures tried { OnOk result (IsEmpty seat.new.requests.bits) }
         ensures pads { seat.new.place.requests ≡ seat.old.place.requests }
-        ensures share { IfOk result (λ made. seat.new.share.amount ≡ seat.old.share.amount + made) }
         ensures few { IfOk result (λ made. made ≤ 64) }
-        ensures grown { seat.old.share.amount ≤ seat.new.share.amount }
-        ensures parts { seat.new.share.parts ≡ seat.old.share.parts }
-        ensures full { result ≡ Err fault.Full → seat.new.fulls.amount ≡ seat.old.fulls.amount + 1 }
-        ensures room { result ≢ Err fault.Full → seat.new.fulls.amount ≡ seat.old.fulls.amount }
-        ensures fulls_parts { seat.new.fulls.parts ≡ seat.old.fulls.parts }
     {
         let mut made: u64 = 0;
         for bit in lowest_bit(seat.requests.bits)..64 {
@@ -492,20 +355,13 @@ impl<N: StackName> Stack<N> {
         requires bit { bit < 64 }
         requires seat { IsWorkerOf self.now.exchange seat.old.place }
         requires waiting { waiting.tickets seat.old.waiting ≡ [] }
-        ensures seat { IsWorkerOf self.now.exchange seat.new.place }
-        ensures waiting { OnOk result (waiting.tickets seat.new.waiting ≡ []) }
+        ensures worked { HasWorked self.now.exchange seat.old seat.new grows result }
         ensures kept { IfErr result (λ f.
             ((seat.new.requests ≡ seat.old.requests) × (waiting.tickets seat.new.waiting ≡ []))
             ⊎ ((f ≡ fault.OutOfMemory) × (AreUnpushed seat.new.place seat.new.waiting
             × IsWithout bit seat.old.requests.bits seat.new.requests.bits))) }
         ensures tried { OnOk result (IsWithout bit seat.old.requests.bits seat.new.requests.bits) }
         ensures pads { seat.new.place.requests ≡ seat.old.place.requests }
-        ensures share { IfOk result (λ made. seat.new.share.amount ≡ seat.old.share.amount + grows made) }
-        ensures grown { seat.old.share.amount ≤ seat.new.share.amount }
-        ensures parts { seat.new.share.parts ≡ seat.old.share.parts }
-        ensures full { result ≡ Err fault.Full → seat.new.fulls.amount ≡ seat.old.fulls.amount + 1 }
-        ensures room { result ≢ Err fault.Full → seat.new.fulls.amount ≡ seat.old.fulls.amount }
-        ensures fulls_parts { seat.new.fulls.parts ≡ seat.old.fulls.parts }
     {
         let serial = seat.requests.serial(bit);
         let turned = self.try_cancel(
@@ -533,15 +389,11 @@ impl<N: StackName> Stack<N> {
         serial: u32,
     ) -> Result<Turned, TurnFault>
         requires part { (0 < mine.old.parts) × (0 < fulls.old.parts) }
-        ensures share { IfOk result (λ t. mine.new.amount ≡ mine.old.amount + grows t.made) }
-        ensures refused { OnErr result (mine.new.amount ≡ mine.old.amount) }
-        ensures parts { (mine.new.parts ≡ mine.old.parts) × (fulls.new.parts ≡ fulls.old.parts) }
-        ensures full { result ≡ Err fault.Full → fulls.new.amount ≡ fulls.old.amount + 1 }
-        ensures room { result ≢ Err fault.Full → fulls.new.amount ≡ fulls.old.amount }
+        ensures { IsCounted mine.old mine.new fulls.old fulls.new (λ t. grows t.made) result }
     {
         let machine = self.machine();
         pace.pass(gate);
-        self.locked
+        self.core
             .lock(rt)
             .cancel(alloc, machine, mine, fulls, serial)
     }

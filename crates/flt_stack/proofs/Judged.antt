@@ -1,64 +1,54 @@
 -- A file that is accepted isn't refused: its text spells one filter, which has one graph, and its bytes spell one certificate.
-use Rattle.std.proofs.Common.{◌≡◌, ℕ, ◌<◌, List, [], ◌∷◌, length, get_or, refl, sym, ap, subst, ◌∙◌, arith}
+use Rattle.std.proofs.Common.{◌≡◌, ℕ, ◌<◌, List, [], ◌∷◌, Result, Ok, Err, IfErr, inl, inr, length, get_or, refl, sym, ap, subst, ◌∙◌, arith}
 use Rattle.std.proofs.lemmas.List.{length-append, get_or_append_left, get_or_at}
-use Rattle.std.proofs.lemmas.List.Elements.{All-nil, All-cons}
-use Rattle.std.specs.List.{All}
 use Rattle.std.proofs.lemmas.Option.{get_or_from_slice_get, slice_get_within}
+use Rattle.std.specs.Prelude.{IsTrue, MatchResult}
 use Rattle.flt_tree.specs.Names.{Text}
 use Rattle.flt_syntax.specs.Spelling.{Spells, SpellsAtMostOne}
 use Rattle.flt_tree.specs.WellFormed.{IsWellFormed}
 use Rattle.flt_tree.specs.declared.filter.Filter.{Filter}
 use Rattle.flt_graph.specs.Lowering.{IsLowered}
 use Rattle.flt_graph.specs.declared.graph.Graph.{Graph}
+use Rattle.flt_cert.specs.Spelling.{is_cert, spelling}
 use Rattle.flt_cert.specs.declared.cert.Cert.{Cert}
-use Rattle.flt_check.specs.Accepting.{CertCovers, full_of}
-use Rattle.flt_check.specs.Covering.{Covers}
-use Rattle.flt_model.specs.Program.{HasDistinctAltitudes, IsRepeated}
-use Rattle.flt_sound.specs.Soundness.{IsAccepted, AreAccepted}
-use Rattle.flt_stack.specs.Loading.{File, IsAcceptedFile, AreAcceptedFiles}
+use Rattle.flt_check.specs.Accepting.{CertCovers}
+use Rattle.flt_model.specs.Program.{HasDistinctAltitudes, IsRepeated, by_altitude}
+use Rattle.flt_stack.proofs.Files.{all_accepted, as_many_read, refused_first}
+use Rattle.flt_stack.specs.Loading.{File, Answers, IsAcceptedFile, AreAcceptedFiles, AreReadFiles, IsCount, IsReadFile, max_files}
+use Rattle.flt_stack.specs.Lowered as lowered
+use Rattle.flt_stack.specs.Lowered.{AreCovered, IsAltitudeFault}
+use Rattle.flt_stack.specs.declared.fault.LoadFault.{LoadFault}
+use Rattle.flt_stack.specs.declared.fault.LoadFault.TheVariants as fault
 
--- the graph and the certificate of an accepted file are those that it was accepted with
-pub covered_again : ((f : Filter) (g h : Graph) → IsWellFormed f → IsLowered f g → IsLowered f h → g ≡ h) →
-    (file : File) (filter f : Filter) (graph : Graph) (cert : Cert) (x : IsAcceptedFile file f) →
-    filter ≡ f → cert ≡ x.certificate → IsWellFormed f → IsLowered filter graph → CertCovers graph cert
-covered_again one file filter f graph cert x same written w lowered =
-    let here : IsLowered f graph = subst (λ (y : Filter). IsLowered y graph) same lowered in
-    let graphs : x.graph ≡ graph = one f x.graph graph w x.lowered here in
-    subst (λ (c : Cert). CertCovers graph c) (sym written) (subst (λ (g : Graph). CertCovers g x.certificate) graphs x.covers)
+module _ (fine : (text : Text) (f : Filter) → Spells text f → IsWellFormed f) (spells_one : SpellsAtMostOne)
+    (one_graph : (f : Filter) (g h : Graph) → IsWellFormed f → IsLowered f g → IsLowered f h → g ≡ h)
+    (one_cert : (c d : Cert) → IsTrue (is_cert c) → IsTrue (is_cert d) → spelling c ≡ spelling d → c ≡ d) where
+  -- what a file is read to is what it was accepted with
+  covered_again : (file : File) (f e : Filter) (g : Graph) (c : Cert) → IsReadFile file f g c → IsAcceptedFile file e →
+      (f ≡ e) × CertCovers g c
+  covered_again file f e g c read x =
+      let filters : f ≡ e = spells_one file.text f e read.spelled x.spelled in
+      let here : IsLowered e g = subst (λ (y : Filter). IsLowered y g) filters read.lowered in
+      let graphs : x.graph ≡ g = one_graph e x.graph g (fine file.text e x.spelled) x.lowered here in
+      let certs : x.certificate ≡ c = one_cert x.certificate c x.certified read.certified (sym x.written ∙ read.written) in
+      (filters, subst (λ (k : Cert). CertCovers g k) certs (subst (λ (h : Graph). CertCovers h x.certificate) graphs x.covers))
 
--- files are accepted as one list of filters
-pub accepted_once : SpellsAtMostOne → (files : List File) (fs gs : List Filter) → AreAcceptedFiles files fs →
-    AreAcceptedFiles files gs → fs ≡ gs
-accepted_once one [] [] [] all also = refl
-accepted_once one [] [] (g ∷ gs) all also = absurd also
-accepted_once one [] (f ∷ fs) gs all also = absurd all
-accepted_once one (x ∷ files) [] gs all also = absurd all
-accepted_once one (x ∷ files) (f ∷ fs) [] all also = absurd also
-accepted_once one (x ∷ files) (f ∷ fs) (g ∷ gs) all also =
-    let first : f ≡ g = one x.text f g all.0.spelled also.0.spelled in
-    let others = accepted_once one files fs gs all.1 also.1 in
-    ap (λ (y : Filter). y ∷ fs) first ∙ ap (λ (l : List Filter). g ∷ l) others
-
--- filters of accepted files are accepted: by the full certificates for which those of the files stand
-pub files_accepted : ((text : Text) (f : Filter) → Spells text f → IsWellFormed f) →
-    ((g : Graph) (c : Cert) → CertCovers g c → Covers g (full_of g c)) → (files : List File) (fs : List Filter) →
-    AreAcceptedFiles files fs → AreAccepted fs
-files_accepted fine fills [] [] all = All-nil IsAccepted
-files_accepted fine fills [] (f ∷ fs) all = absurd all
-files_accepted fine fills (x ∷ files) [] all = absurd all
-files_accepted fine fills (x ∷ files) (f ∷ fs) all =
-    let k = all.0 in
-    All-cons IsAccepted f fs (record {
-      graph = k.graph;
-      cert = full_of k.graph k.certificate;
-      well_formed = fine x.text f k.spelled;
-      lowered = k.lowered;
-      covers = fills k.graph k.certificate k.covers;
-    }) (files_accepted fine fills files fs all.1)
-
--- accepted filters are well-formed
-pub accepted_well_formed : (filters : List Filter) → AreAccepted filters → All IsWellFormed filters
-accepted_well_formed filters all = λ k d less. (all k d less).well_formed
+  -- so all files that are accepted are read to filters that are covered
+  pub all_covered : (files : List File) (fs es : List Filter) (gs : List Graph) (ks : List Cert) → AreReadFiles files fs gs ks →
+      AreAcceptedFiles files es → (fs ≡ es) × AreCovered gs ks
+  all_covered [] [] [] [] [] all also = (refl, tt)
+  all_covered [] [] [] [] (l ∷ ks) all also = absurd all
+  all_covered [] [] [] (h ∷ gs) ks all also = absurd all
+  all_covered [] [] (e ∷ es) gs ks all also = absurd also
+  all_covered [] (f ∷ fs) es gs ks all also = absurd all
+  all_covered (y ∷ files) [] es gs ks all also = absurd all
+  all_covered (y ∷ files) (f ∷ fs) [] gs ks all also = absurd also
+  all_covered (y ∷ files) (f ∷ fs) (e ∷ es) [] ks all also = absurd all
+  all_covered (y ∷ files) (f ∷ fs) (e ∷ es) (h ∷ gs) [] all also = absurd all
+  all_covered (y ∷ files) (f ∷ fs) (e ∷ es) (h ∷ gs) (l ∷ ks) all also =
+      let first = covered_again y f e h l all.0 also.0 in
+      let others = all_covered files fs es gs ks all.1 also.1 in
+      (ap (λ (x : Filter). x ∷ fs) first.0 ∙ ap (λ (rest : List Filter). e ∷ rest) others.0, (first.1, others.1))
 
 -- filters whose altitudes differ have none repeated
 pub none_repeated : (filters : List Filter) (n : ℕ) → HasDistinctAltitudes filters → IsRepeated filters n → ⊥
@@ -75,3 +65,42 @@ none_repeated filters n distinct r =
     ∙ get_or_at r.before r.filter r.after r.filter (length r.before) refl in
     distinct at (length r.before) r.filter within place
     (ap (λ (f : Filter). f.altitude) one ∙ (r.earlier.3 ∙ sym (ap (λ (f : Filter). f.altitude) other)))
+
+-- ---- what is answered
+
+module _ (files : List File) (fs : List Filter) (gs : List Graph) (ks : List Cert) (read : AreReadFiles files fs gs ks) where
+  many : length fs ≡ length files
+  many = (as_many_read files fs gs ks read).filters
+
+  -- what is answered of what files were read to is what is answered of the files
+  pub read_answers : (r : Result (List Filter) LoadFault) → lowered.Answers fs gs ks r → Answers files r
+  read_answers (Ok loaded) a = record {
+    counted = subst IsCount many a.counted;
+    filters = fs;
+    accepted = all_accepted files fs gs ks read a.covered;
+    distinct = a.distinct;
+    ordered = a.ordered;
+  }
+  read_answers (Err fault.Count) (inl none) = inl (sym many ∙ none)
+  read_answers (Err fault.Count) (inr more) = inr (subst (λ n. max_files < n) many more)
+  read_answers (Err (fault.Refused n r)) a = (subst IsCount many a.0, refused_first files fs gs ks n r read a.1)
+  read_answers (Err (fault.Altitude n)) a = (
+    subst IsCount many a.0,
+    record { filters = fs; accepted = all_accepted files fs gs ks read a.1.0; repeated = a.1.1 },
+  )
+  read_answers (Err fault.OutOfMemory) a = tt
+  read_answers (Err (fault.Syntax n f)) a = absurd a
+  read_answers (Err (fault.Cert n f)) a = absurd a
+
+  -- and files that are accepted, of different altitudes, are loaded
+  pub read_loads : (filters : List Filter) (r : Result (List Filter) LoadFault) → fs ≡ filters → HasDistinctAltitudes filters →
+      lowered.Answers fs gs ks r → IfErr r (IsAltitudeFault fs) →
+      MatchResult r (λ loaded. loaded ≡ by_altitude filters) (λ e. e ≡ fault.OutOfMemory)
+  read_loads filters (Ok loaded) same distinct a accepts = a.ordered ∙ ap by_altitude same
+  read_loads filters (Err (fault.Altitude n)) same distinct a repeated =
+      absurd (none_repeated filters n distinct (subst (λ (l : List Filter). IsRepeated l n) same repeated))
+  read_loads filters (Err fault.OutOfMemory) same distinct a accepts = refl
+  read_loads filters (Err fault.Count) same distinct a accepts = absurd accepts
+  read_loads filters (Err (fault.Refused n r)) same distinct a accepts = absurd accepts
+  read_loads filters (Err (fault.Syntax n f)) same distinct a accepts = absurd accepts
+  read_loads filters (Err (fault.Cert n f)) same distinct a accepts = absurd accepts

@@ -1,9 +1,7 @@
 -- What a certificate shows of the order of locks each one below it shows; so the least one shows whether a filter takes them in an order.
 -- Here g is a graph, k and l are certificates, a an acquisition.
-use Rattle.std.proofs.Common.{◌≡◌, Bool, true, false, List, [], ◌∷◌, ◌++◌, Option, Some, None, refl, sym, subst, ◌∙◌}
-use Rattle.std.proofs.lemmas.Bool.{and_from, and_parts}
-use Rattle.std.proofs.lemmas.List.Elements.{All-cons, All-head, All-nil, All-push, All-tail}
-use Rattle.std.specs.Prelude.{◌↔◌, ◌&&◌, not, IsTrue}
+use Rattle.std.proofs.Common.{◌≡◌, Bool, true, false, Option, Some, None, refl, sym, subst, ◌∙◌}
+use Rattle.std.specs.Prelude.{◌↔◌, not, IsTrue}
 use Rattle.flt_rules.specs.Held.{holds_lock}
 use Rattle.flt_tree.specs.WellFormed.{IsWellFormed}
 use Rattle.flt_tree.specs.declared.filter.Filter.{Filter}
@@ -15,7 +13,7 @@ use Rattle.flt_cert.specs.Format.{Certificate}
 use Rattle.flt_check.specs.Covering.{Covers, IsCertificateBelow, IsPointBelow, state_at}
 use Rattle.flt_order.specs.Order.{IsAcquired, TakesInOrder}
 use Rattle.flt_order.specs.declared.order.Acquisition.{Acquisition}
-use Rattle.flt_sound.specs.Progress.{AreOrderly, IsOrderly}
+use Rattle.flt_sound.specs.Progress.{IsOrderly}
 use Rattle.flt_stack.specs.Ordering.{IsOrdered}
 
 -- states in their order hold the same locks: a law of flt_abs
@@ -78,19 +76,4 @@ orderly_by one f g fine lowered = (
   },
   λ f_is. subst IsOrdered (one f f_is.accepted.graph g fine f_is.accepted.lowered lowered)
       (record { certificate = f_is.accepted.cert; covers = f_is.accepted.covers; ordered = f_is.ordered }),
-)
-
--- where all of some filters and one more are orderly, those are, and that one is
-orderly_parts : (f : Filter) (fs : List Filter) → AreOrderly (fs ++ f ∷ []) → AreOrderly fs × IsOrderly f
-orderly_parts f [] h = (All-nil IsOrderly, All-head IsOrderly f [] h)
-orderly_parts f (g ∷ fs) h =
-    let k = orderly_parts f fs (All-tail IsOrderly g (fs ++ f ∷ []) h) in
-    (All-cons IsOrderly g fs (All-head IsOrderly g (fs ++ f ∷ []) h) k.0, k.1)
-
--- what is known of some filters, and of one more, is known of all
-pub known_more : (fs : List Filter) (f : Filter) (all one : Bool) → (IsTrue all ↔ AreOrderly fs) → (IsTrue one ↔ IsOrderly f) →
-    (IsTrue (all && one) ↔ AreOrderly (fs ++ f ∷ []))
-known_more fs f all one those this = (
-  λ both. (let parts = and_parts all one both in All-push IsOrderly fs f (those.0 parts.0) (this.0 parts.1)),
-  λ orderly. (let parts = orderly_parts f fs orderly in and_from all one (those.1 parts.0) (this.1 parts.1)),
 )

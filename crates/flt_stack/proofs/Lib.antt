@@ -1,4 +1,5 @@
 pub mod Boards
+pub mod Covered
 pub mod Files
 pub mod Judged
 pub mod Leasts

@@ -1,3 +1,4 @@
 pub mod Loaded
 pub mod Loading
+pub mod Lowered
 pub mod Ordering

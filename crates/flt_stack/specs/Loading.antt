@@ -1,5 +1,5 @@
 -- What `load` answers of texts with a certificate each. This project's own definitions.
-use Rattle.std.specs.Prelude.{◌≡◌, ◌⊎◌, ℕ, ◌≤◌, ◌<◌, List, length, take, IsTrue, Some, Result, Ok, Err, slice_get}
+use Rattle.std.specs.Prelude.{◌≡◌, ◌⊎◌, ℕ, ◌≤◌, ◌<◌, List, [], ◌∷◌, length, take, IsTrue, Some, Result, Ok, Err, slice_get}
 use Rattle.std.specs.List.{AllZip}
 use Rattle.flt_syntax.specs.Spelling.{Spells}
 use Rattle.flt_syntax.specs.TextFails as syntax
@@ -58,19 +58,46 @@ abbrev pub HasCertFault : File → CertFault → Type 0
 HasCertFault file (cert.Line line) = IsSpelled file × certificates.IsFirstFault file.certificate line
 HasCertFault file cert.OutOfMemory = ⊥
 
--- the file of a number has this fault: its text's first, or else its certificate's, or else the least refusal; memory may run out
+-- the text spells the filter, this is its graph, and the bytes spell the certificate
+pub record IsReadFile (file : File) (filter : Filter) (graph : Graph) (certificate : Cert) : Type 0 where
+  pub spelled : Spells file.text filter
+  pub lowered : IsLowered filter graph
+  pub certified : IsTrue (is_cert certificate)
+  pub written : file.certificate ≡ spelling certificate
+
+-- the file of a number can't be read: its text has this fault, or else its certificate; memory may run out
+abbrev pub CannotRead : ℕ → File → LoadFault → Type 0
+CannotRead number file (fault.Syntax n f) = (n ≡ number) × syntax.Fails file.text f
+CannotRead number file (fault.Cert n f) = (n ≡ number) × HasCertFault file f
+CannotRead number file fault.OutOfMemory = Unit {0}
+CannotRead number file _ = ⊥
+
+-- the file of a number has this fault: it can't be read, or else this is the least refusal
 abbrev pub HasFault : ℕ → File → LoadFault → Type 0
-HasFault number file (fault.Syntax n f) = (n ≡ number) × syntax.Fails file.text f
-HasFault number file (fault.Cert n f) = (n ≡ number) × HasCertFault file f
 HasFault number file (fault.Refused n r) = (n ≡ number) × IsRefusedFile file r
-HasFault number file fault.OutOfMemory = Unit {0}
-HasFault number file _ = ⊥
+HasFault number file f = CannotRead number file f
 
 -- ---- all files
 
 -- each file is accepted as its filter
 abbrev pub AreAcceptedFiles : List File → List Filter → Type 0
 AreAcceptedFiles files filters = AllZip IsAcceptedFile files filters
+
+-- these are the filters of the files, their graphs and their certificates
+abbrev pub AreReadFiles : List File → List Filter → List Graph → List Cert → Type 0
+AreReadFiles [] [] [] [] = Unit {0}
+AreReadFiles (x ∷ files) (f ∷ filters) (g ∷ graphs) (k ∷ certificates) =
+    IsReadFile x f g k × AreReadFiles files filters graphs certificates
+AreReadFiles _ _ _ _ = ⊥
+
+-- the file of a number can't be read, for this fault, and these are what the files before it were read to
+pub record StopsReading (files : List File) (filters : List Filter) (graphs : List Graph) (certificates : List Cert) (f : LoadFault)
+    : Type 0 where
+  pub number : ℕ
+  pub file : File
+  pub there : slice_get files number ≡ Some file
+  pub before : AreReadFiles (take number files) filters graphs certificates
+  pub wrong : CannotRead number file f
 
 -- there are 1 to 16 files
 abbrev pub max_files : ℕ

@@ -5,8 +5,12 @@
 mod fault;
 mod loaded;
 mod loading;
+mod lowered;
 mod ordering;
+mod placing;
+mod reading;
 
 pub use fault::LoadFault;
 pub use loaded::Loaded;
 pub use loading::load;
+pub use lowered::load_lowered;

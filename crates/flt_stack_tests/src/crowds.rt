@@ -9,7 +9,7 @@ use crate::filters::{
 };
 use crate::fixture::{Ended, finished};
 use crate::journals::{Tally, is_legal, tally_of};
-use flt_core::{CallerEntries, Fulls, Locked, OtherEntries};
+use flt_core::{CallerEntries, Core, Fulls, OtherEntries};
 use flt_rules::{Mode, Operation};
 use flt_running::sharing::{loaded_is_shared, sent, shared};
 use flt_running::{Blanks, CallerSeat, Gate, Stack, StackName, WorkerSeat};
@@ -309,7 +309,7 @@ fn call_all<N: StackName + Send + Sync, R: Threads + Wait + Sync>(
 {
     loaded_is_shared();
     shared::<Exchange>();
-    shared::<Mutex<Locked<N>>>();
+    shared::<Mutex<Core<N>>>();
     sent::<Share<CallerEntries<N>>>();
     sent::<Share<OtherEntries<N>>>();
     sent::<Share<Fulls<N>>>();
@@ -332,7 +332,7 @@ fn work_all<N: StackName + Send + Sync, R: Threads + Wait + Sync>(
 {
     loaded_is_shared();
     shared::<Exchange>();
-    shared::<Mutex<Locked<N>>>();
+    shared::<Mutex<Core<N>>>();
     sent::<Share<CallerEntries<N>>>();
     sent::<Share<OtherEntries<N>>>();
     sent::<Share<Fulls<N>>>();
@@ -368,7 +368,7 @@ fn crowd<N: StackName + Send + Sync, R: Threads + Wait + Sync>(
 {
     loaded_is_shared();
     shared::<Exchange>();
-    shared::<Mutex<Locked<N>>>();
+    shared::<Mutex<Core<N>>>();
     sent::<Share<CallerEntries<N>>>();
     sent::<Share<OtherEntries<N>>>();
     sent::<Share<Fulls<N>>>();

@@ -35,11 +35,11 @@ returns-in_err-more-clause-given g c =
 pub loop-command-preserved : goal.loop-command-preserved
 loop-command-preserved g c = record {
   caller = c.in_ok-given.ensures.seat;
-  worker = c.in_ok-more.ensures.seat;
+  worker = c.in_ok-more.ensures.worked.seat;
   given = made_more c.commands-commands.result.now c.loop-command.command-index _ _ _ _ _ c.loop-command-test.true
       c.loop-command.invariant.given c.in_ok-given.ensures.made c.in_ok-given.ensures.asked;
   callers = c.in_ok-given.ensures.counted;
-  others = sum_more _ _ _ _ _ c.loop-command.invariant.others c.saturating_add.ensures c.in_ok-more.ensures.share;
+  others = sum_more _ _ _ _ _ c.loop-command.invariant.others c.saturating_add.ensures c.in_ok-more.ensures.worked.share;
   callers_parts = c.in_ok-given.ensures.parts ∙ c.loop-command.invariant.callers_parts;
-  others_parts = c.in_ok-more.ensures.parts ∙ c.loop-command.invariant.others_parts;
+  others_parts = c.in_ok-more.ensures.worked.parts ∙ c.loop-command.invariant.others_parts;
 }

@@ -15,7 +15,7 @@ returns-then-not-is_enabled-clause-fault g c =
     let l = c.requires.loaded in
     let a = c.args.altitude in
     let has = has_one p a c.number.result c.filters.result (c.number.ensures p l) (c.filters.ensures p l) (omega arith) in
-    let same = detach_disabled p c.args.loaded.now c.args.self.now a c.number.result l c.board.ensures.own c.number.ensures in
+    let same = detach_disabled p c.args.loaded.now c.args.self.now.board a c.number.result l c.board.ensures.own c.number.ensures in
     let off : c.is_enabled.result ≡ false = search rules in
     already _ _ _ has (same.1 (c.is_enabled.ensures.0 off))
 
@@ -25,9 +25,9 @@ returns-then-entries-eq-MAX_ENTRIES-clause-fault g c =
     let l = c.requires.loaded in
     let a = c.args.altitude in
     let has = has_one p a c.number.result c.filters.result (c.number.ensures p l) (c.filters.ensures p l) (omega arith) in
-    let same = detach_disabled p c.args.loaded.now c.args.self.now a c.number.result l c.board.ensures.own c.number.ensures in
+    let same = detach_disabled p c.args.loaded.now c.args.self.now.board a c.number.result l c.board.ensures.own c.number.ensures in
     let on : c.is_enabled.result ≡ true = search rules in
-    let full : (length c.args.self.now.entries == 1000000) ≡ true = search rules in
+    let full : (length c.args.self.now.board.entries == 1000000) ≡ true = search rules in
     is_full _ _ _ has (both_pass _ _ _ c.is_enabled.ensures same on) full
 
 pub returns-clause-fault : goal.returns-clause-fault
@@ -36,7 +36,7 @@ returns-clause-fault g c =
     let l = c.requires.loaded in
     let a = c.args.altitude in
     let has = has_one p a c.number.result c.filters.result (c.number.ensures p l) (c.filters.ensures p l) (omega arith) in
-    let same = detach_disabled p c.args.loaded.now c.args.self.now a c.number.result l c.board.ensures.own c.number.ensures in
+    let same = detach_disabled p c.args.loaded.now c.args.self.now.board a c.number.result l c.board.ensures.own c.number.ensures in
     let on : c.is_enabled.result ≡ true = search rules in
-    let room : (length c.args.self.now.entries == 1000000) ≡ false = search rules in
+    let room : (length c.args.self.now.board.entries == 1000000) ≡ false = search rules in
     none_is _ _ _ has (both_pass _ _ _ c.is_enabled.ensures same on) room
