@@ -5,6 +5,7 @@ pub mod Follow
 pub mod InPlaces
 pub mod Kept
 pub mod Lettering
+pub mod OverMarker
 pub mod OverRuns
 pub mod Pieced
 pub mod Placing

@@ -40,7 +40,7 @@ next_on s = record {
   noted = s.noted;
 }
 
-not_true : (x : Bool) → not x ≡ true → x ≡ false
+pub not_true : (x : Bool) → not x ≡ true → x ≡ false
 not_true true e = elim (differ e) [ ]
 not_true false e = refl
 
@@ -98,7 +98,7 @@ and_true : (x : Bool) → (x && true) ≡ x
 and_true true = refl
 and_true false = refl
 
-none_begins : (front : Front) → begins_directive front front ≡ false
+pub none_begins : (front : Front) → begins_directive front front ≡ false
 none_begins f.Nothing = refl
 none_begins _ = refl
 
@@ -151,7 +151,7 @@ stays s b m.Character e h =
 stays s b _ e h = elim (differ h) [ ]
 
 -- no backslash begins no continuation
-no_join : (b : ℕ) (z : List ℕ) → (b == 92) ≡ false → continuation (b ∷ z) ≡ 0
+pub no_join : (b : ℕ) (z : List ℕ) → (b == 92) ≡ false → continuation (b ∷ z) ≡ 0
 no_join b [] e = refl
 no_join b (c ∷ []) e = rw e refl
 no_join b (c ∷ d ∷ z) e = rw e refl
@@ -174,7 +174,7 @@ abbrev pub skips : ℕ → Scanner → Scanner
 skips zero s = s
 skips (suc n) s = skips n (next_on s)
 
-place_is : (at to : Place) → at.line ≡ to.line → at.column ≡ to.column → at.start ≡ to.start → at ≡ to
+pub place_is : (at to : Place) → at.line ≡ to.line → at.column ≡ to.column → at.start ≡ to.start → at ≡ to
 place_is at to l c s = let e : record { line = at.line; column = at.column; start = at.start } ≡ to = rw (l, c, s) refl in e
 
 no_further : (at : Place) → at ≡ further at 0

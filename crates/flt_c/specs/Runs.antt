@@ -1,5 +1,5 @@
 -- Runs of plain bytes, after which nothing of where reading is has changed but its places. This project's own rule.
-use Rattle.std.specs.Prelude.{ℕ, ◌+◌, ◌-◌, Bool, false, not, ◌&&◌, ◌||◌, if◌then◌else◌, ◌==◌, nat_lt, List, [], ◌∷◌, ◌++◌}
+use Rattle.std.specs.Prelude.{ℕ, ◌+◌, ◌-◌, Bool, true, false, not, ◌&&◌, ◌||◌, if◌then◌else◌, ◌==◌, nat_lt, List, [], ◌∷◌, ◌++◌, Some}
 use Rattle.flt_c.specs.declared.front.Front.{Front}
 use Rattle.flt_c.specs.declared.front.Front.TheVariants as f
 use Rattle.flt_c.specs.declared.letter.Letter.{Letter}
@@ -11,7 +11,7 @@ use Rattle.flt_c.specs.declared.place.Place.{Place}
 use Rattle.flt_c.specs.declared.run.Plain.{Plain}
 use Rattle.flt_c.specs.declared.run.Plain.TheVariants as p
 use Rattle.flt_c.specs.declared.scan.Scanner.{Scanner}
-use Rattle.flt_c.specs.Fronts.{is_code, is_directive, is_space, next_depth, next_front}
+use Rattle.flt_c.specs.Fronts.{front_after_space, is_code, is_directive, is_space, next_depth, next_front}
 use Rattle.flt_c.specs.Letters.{is_marked, is_plain_comment}
 use Rattle.flt_c.specs.Modes.{is_note}
 use Rattle.flt_c.specs.Scan.{grouping, noting, opening}
@@ -124,6 +124,40 @@ run_part s aside =
     if is_note s.mode then part.Note
     else (if aside then part.Aside
     else (if is_code s.mode && not (is_directive s.front || nat_lt 0 s.depth) then part.Code else part.Other))
+
+-- ---- the marker of an annotation in a line comment
+
+-- a text begins with `//@flt`
+abbrev pub begins_marker : List ℕ → Bool
+begins_marker (a ∷ b ∷ c ∷ d ∷ e ∷ g ∷ z) = a == 47 && (b == 47 && (c == 64 && (d == 102 && (e == 108 && g == 116))))
+begins_marker _ = false
+
+-- code that a compiler reads may be read on
+abbrev pub is_ordinary_code : Mode → Bool
+is_ordinary_code m.Code = true
+is_ordinary_code _ = false
+
+-- a marker may come next: in code that a compiler reads, and in a line that goes on from no other
+abbrev pub may_take_marker : Scanner → Bool
+may_take_marker s = is_ordinary_code s.mode && (s.depth == 0 && not s.joined)
+
+-- it does
+abbrev pub takes_marker : Scanner → List ℕ → Bool
+takes_marker s z = may_take_marker s && begins_marker z
+
+-- after it
+abbrev pub marked : Scanner → Scanner
+marked s = record {
+  mode = m.LineMarked;
+  front = front_after_space s.front;
+  depth = s.depth;
+  at = further s.at 6;
+  last = further s.at 5;
+  opened = s.at;
+  group = s.group;
+  joined = s.joined;
+  noted = Some s.at;
+}
 
 -- ---- the parts of one byte more
 

@@ -35,7 +35,7 @@ pub(crate) fn is_space(b: u8) -> bool
 }
 
 /// The front after a blank, which ends a directive's name.
-fn front_after_space(front: Front) -> Front
+pub(crate) fn front_after_space(front: Front) -> Front
     ensures { result ≡ spec.front_after_space front }
 {
     match front {

@@ -10,7 +10,8 @@ use crate::front::{is_code, is_directive};
 use crate::mode::{Mode, is_note};
 use crate::run::{plain_count, plain_in};
 use crate::scan::{
-    Scanner, after, before, blamed, continuation, join, open_at_end, pass, start, step,
+    MARKER, Scanner, after, before, blamed, continuation, join, open_at_end, pass, start, step,
+    take_marker, takes_marker,
 };
 use std::alloc::{AllocError, Global};
 
@@ -133,6 +134,11 @@ fn read(alloc: Global, file: &[u8]) -> Result<Result<Vec<Letter>, Fault>, AllocE
             put_run(&mut out, run_part(&s, aside), before(rest, run))?;
             pass(&mut s, run);
             rest = after(rest, run);
+        } else if takes_marker(&s, rest) {
+            put_run(&mut out, Part::Other, before(rest, MARKER))?;
+            take_marker(&mut s);
+            aside = false;
+            rest = after(rest, MARKER);
         } else if n == 0 {
             let mode = s.mode;
             let depth = s.depth;

@@ -1,12 +1,14 @@
 //! The reading of a C file, byte by byte, and the bytes of it that are the text of its annotations.
 
-ghost use Rattle.std.specs.Prelude.{◌≡◌, ◌<◌, ◌≤◌, ◌+◌, ◌^◌, length, drop, take, MatchResult, OnOk, Ok, Err};
+ghost use Rattle.std.specs.Prelude.{◌≡◌, ◌<◌, ◌≤◌, ◌+◌, ◌^◌, length, drop, take, IsTrue, MatchResult, OnOk, Ok, Err};
 ghost use Rattle.flt_c.specs.Places as places;
 ghost use Rattle.flt_c.specs.Runs as runs;
 ghost use Rattle.flt_c.specs.Scan as spec;
 
 use crate::fault::{Fault, FaultKind};
-use crate::front::{Front, begins_directive, is_code, is_lenient, next_depth, next_front};
+use crate::front::{
+    Front, begins_directive, front_after_space, is_code, is_lenient, next_depth, next_front,
+};
 use crate::mode::{Mode, is_note, turn, unended};
 use crate::place::{Place, further, past};
 
@@ -192,6 +194,51 @@ pub(crate) fn pass(s: &mut Scanner, n: usize)
 {
     s.last = further(s.at, n - 1);
     s.at = further(s.at, n);
+}
+
+/// The number of bytes of the marker of an annotation in a line comment.
+pub(crate) const MARKER: usize = 6;
+
+/// Whether a text begins with this marker.
+fn begins_marker(z: &[u8]) -> bool
+    ensures value { result ≡ runs.begins_marker z.now }
+    ensures within { IsTrue result → 6 ≤ length z.now }
+{
+    matches!(z, [b'/', b'/', b'@', b'f', b'l', b't', ..])
+}
+
+fn is_ordinary_code(mode: Mode) -> bool
+    ensures { result ≡ runs.is_ordinary_code mode }
+{
+    matches!(mode, Mode::Code)
+}
+
+/// Whether a marker may come next: in code that a compiler reads, and in a line that continues no other.
+fn may_take_marker(s: &Scanner) -> bool
+    ensures { result ≡ runs.may_take_marker s.now }
+{
+    is_ordinary_code(s.mode) && s.depth == 0 && !s.joined
+}
+
+/// Whether this marker comes next.
+pub(crate) fn takes_marker(s: &Scanner, z: &[u8]) -> bool
+    ensures value { result ≡ runs.takes_marker s.now z.now }
+    ensures within { IsTrue result → 6 ≤ length z.now }
+{
+    may_take_marker(s) && begins_marker(z)
+}
+
+/// Takes this marker.
+pub(crate) fn take_marker(s: &mut Scanner)
+    requires { places.IsSmall s.old.at }
+    ensures { s.new ≡ runs.marked s.old }
+{
+    s.mode = Mode::LineMarked;
+    s.front = front_after_space(s.front);
+    s.opened = s.at;
+    s.noted = Some(s.at);
+    s.last = further(s.at, MARKER - 1);
+    s.at = further(s.at, MARKER);
 }
 
 /// The number of bytes of the line continuation at the start of a text, or 0.

@@ -11,7 +11,8 @@ use crate::mode::{Mode, is_blank, is_note};
 use crate::place::Place;
 use crate::run::{plain_count, plain_in};
 use crate::scan::{
-    Scanner, after, before, blamed, continuation, join, open_at_end, pass, start, step,
+    MARKER, Scanner, after, before, blamed, continuation, join, open_at_end, pass, start, step,
+    take_marker, takes_marker,
 };
 use std::alloc::{AllocError, Global};
 
@@ -156,6 +157,9 @@ impl Annotations {
                 self.add_run(number, &s, before(rest, run))?;
                 pass(&mut s, run);
                 rest = after(rest, run);
+            } else if takes_marker(&s, rest) {
+                take_marker(&mut s);
+                rest = after(rest, MARKER);
             } else if n == 0 {
                 self.add(number, &s, *b)?;
                 if let Err(fault) = step(&mut s, *b) {

@@ -1,6 +1,7 @@
 use Rattle.std.proofs.Common.{◌≡◌, sym, subst, ap, ◌∙◌, take}
 use Rattle.flt_c.specs.Runs.{add_run, plain_count, plain_in}
 use Rattle.flt_c.specs.Texts.{text_in}
+use Rattle.flt_c.proofs.OverMarker.{marker_on}
 use Rattle.flt_c.proofs.OverRuns.{run_on}
 use Rattle.flt_c.proofs.Reading.{IsRead, joined_on, stepped_on}
 use Rattle.flt_c.proofs.text.Annotations.read.Goals as goal
@@ -34,3 +35,12 @@ loop-rest-preserved c =
     (text_in c.loop-rest.self) c.loop-rest.s c.join.new.s c.loop-rest.rest.now
     c.continuation-n.result c.loop-rest.invariant c.continuation-n.ensures.value c.if-n-eq0.false c.continuation-n.ensures.within
     c.in_default-join.ensures.value c.in_default-join.ensures.moves c.in_default-join.ensures.deepens)
+
+pub loop-rest-preserved-then-takes_marker : goal.loop-rest-preserved-then-takes_marker
+loop-rest-preserved-then-takes_marker c =
+    let text = text_in c.loop-rest.self in
+    let s = c.loop-rest.s in
+    let rest = c.loop-rest.rest.now in
+    subst (IsRead c.args.number (text_in c.args.self.now) c.args.file.now text c.take_marker.new.s) (sym c.after-rest-then-takes_marker.ensures)
+    (marker_on c.args.number text (text_in c.args.self.now) c.args.file.now s c.take_marker.new.s rest c.loop-rest.invariant
+    (sym c.takes_marker.ensures.value ∙ c.if-takes_marker.true) (c.takes_marker.ensures.within c.if-takes_marker.true) c.take_marker.ensures)
