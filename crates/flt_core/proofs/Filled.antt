@@ -1,7 +1,7 @@
 -- A full journal stays full: no move is made that it has no room for.
-use Rattle.std.proofs.Common.{◌≡◌, ℕ, ◌+◌, Bool, true, false, List, [], ◌∷◌, ◌++◌, length, Ok, Err, inl, inr, refl, ap, sym, subst, ◌∙◌, arith}
+use Rattle.std.proofs.Common.{◌≡◌, ◌+◌, Bool, true, false, List, [], ◌∷◌, ◌++◌, length, Ok, Err, inl, inr, refl, ap, sym, subst, ◌∙◌, arith}
 use Rattle.std.proofs.lemmas.List.Sums.{sum_by_push}
-use Rattle.std.specs.Prelude.{◌↔◌, ◌⊎◌, Result, Some, cond, count_by}
+use Rattle.std.specs.Prelude.{◌↔◌, Result, Some, cond, count_by}
 use Rattle.flt_core.specs.Counting.{is_callers_move}
 use Rattle.flt_frame.specs.declared.frame.Advanced.{Advanced}
 use Rattle.flt_frame.specs.declared.loaded.Loaded.{Loaded}

@@ -355,7 +355,7 @@ impl<N: StackName> Core<N> {
         step: Move,
     ) -> Result<Vec<Subject>, OutOfMemory>
         requires loaded { AreLoaded N.trees loaded.now }
-        ensures { IfOk result (λ next. Now loaded.now self.now
+        ensures { IfOk result (λ next. Now loaded.now self.now.board
             (λ p m. next.items ≡ tickets.by_move loaded.now.altitudes m.world (make p m.world step))) }
     {
         self.board.tickets(&mut Heap::new(alloc), loaded, step)

@@ -13,8 +13,8 @@ use crate::names::{Fulls, OtherEntries, StackName};
 use counted_heap::Heap;
 use flt_machine::{Advanced, ApplyFault, Commit, Loaded, OutOfMemory};
 use flt_model::{Move, Subject};
-use flt_run::one::{asked_by, is_teardown, stays_after};
 use flt_run::TurnFault;
+use flt_run::one::{asked_by, is_teardown, stays_after};
 use std::alloc::Global;
 use std::sync::ledger::Share;
 

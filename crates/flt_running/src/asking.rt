@@ -127,10 +127,7 @@ pub(crate) fn detach_on<N: StackName, R: Wait>(
 }
 
 /// A choice is refused from now on, if it is still to come.
-pub(crate) fn refuse_on<N: StackName>(
-    core: &mut Core<N>,
-    choice: u64,
-) -> Result<(), OutOfMemory>
+pub(crate) fn refuse_on<N: StackName>(core: &mut Core<N>, choice: u64) -> Result<(), OutOfMemory>
     ensures listed { OnOk result (core.new.choices.refused.keys ≡ insert_key nat_cmp core.old.choices.refused.keys choice) }
     ensures same { OnErr result (core.new.choices.refused.keys ≡ core.old.choices.refused.keys) }
     ensures rest { (core.new.board ≡ core.old.board) × (core.new.choices.made ≡ core.old.choices.made) }

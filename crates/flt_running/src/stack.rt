@@ -23,9 +23,7 @@ use crate::asking::{arrive_on, detach_on, refuse_on};
 use crate::ending::{Differ, agrees, merge_callers, merge_workers};
 use crate::opening::seats;
 use crate::seats::{CallerSeat, WorkerSeat};
-use flt_core::{
-    ArriveFault, CallerEntries, Core, DetachFault, Fulls, OtherEntries, StackName,
-};
+use flt_core::{ArriveFault, CallerEntries, Core, DetachFault, Fulls, OtherEntries, StackName};
 use flt_model::Journal;
 use flt_rules::{Mode, Operation};
 use flt_stack::Loaded;

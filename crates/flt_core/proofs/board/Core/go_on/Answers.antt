@@ -4,7 +4,7 @@ use Rattle.flt_core.specs.Turning.{HasCommitted}
 use Rattle.flt_core.proofs.Counted.{counted_step}
 use Rattle.flt_core.proofs.Filled.{commit_full}
 use Rattle.flt_core.proofs.Outcomes.{stale_is, waits_is, went_is}
-use Rattle.flt_core.proofs.turns.Core.go_on.Goals as goal
+use Rattle.flt_core.proofs.board.Core.go_on.Goals as goal
 
 pub invariant_of-self : goal.invariant_of-self
 invariant_of-self g c =
