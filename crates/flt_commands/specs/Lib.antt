@@ -22,6 +22,7 @@ pub mod Format
 pub mod Html
 pub mod InTurn
 pub mod Inputs
+pub mod Joined
 pub mod Names
 pub mod Outcomes
 pub mod Remarks

@@ -53,6 +53,8 @@ fn explain_held<O: Sink, W: SearchWatch>(
     names: &[&str],
     texts: &[Vec<u8>],
     codes: &[Option<Vec<u8>>],
+    beginnings: &[usize],
+    whole: &[Vec<u8>],
     unread: &[UnreadFile],
     out: &mut O,
     watch: &mut W,
@@ -67,7 +69,7 @@ fn explain_held<O: Sink, W: SearchWatch>(
     ensures err { IfErr result (λ e. e ≡ CommandFault.OutOfMemory) }
 {
     let own = explain_read(
-        alloc, asked, within, names, texts, codes, unread, out, watch,
+        alloc, asked, within, names, texts, codes, beginnings, whole, unread, out, watch,
     )?;
     let told = told_after(first, worth, 0, own)?;
     Ok(told)
@@ -83,6 +85,8 @@ fn explain_early<O: Sink, W: SearchWatch>(
     names: &[&str],
     texts: &[Vec<u8>],
     codes: &[Option<Vec<u8>>],
+    beginnings: &[usize],
+    whole: &[Vec<u8>],
     unread: &[UnreadFile],
     out: &mut O,
     watch: &mut W,
@@ -101,7 +105,7 @@ fn explain_early<O: Sink, W: SearchWatch>(
     put_all(out, first.as_slice())?;
     let before = first.len();
     let own = explain_read(
-        alloc, asked, within, names, texts, codes, unread, out, watch,
+        alloc, asked, within, names, texts, codes, beginnings, whole, unread, out, watch,
     )?;
     let sent = before + min(own.sent, own.explained.output.len());
     let told = told_after(first, worth, sent, own)?;
@@ -120,6 +124,8 @@ pub(crate) fn explain_after<O: Sink, W: SearchWatch>(
     names: &[&str],
     texts: &[Vec<u8>],
     codes: &[Option<Vec<u8>>],
+    beginnings: &[usize],
+    whole: &[Vec<u8>],
     unread: &[UnreadFile],
     out: &mut O,
     watch: &mut W,
@@ -138,10 +144,12 @@ pub(crate) fn explain_after<O: Sink, W: SearchWatch>(
 {
     if holds_back(asked) {
         return explain_held(
-            alloc, asked, first, within, worth, names, texts, codes, unread, out, watch,
+            alloc, asked, first, within, worth, names, texts, codes, beginnings, whole, unread,
+            out, watch,
         );
     }
     explain_early(
-        alloc, asked, first, within, worth, names, texts, codes, unread, out, watch,
+        alloc, asked, first, within, worth, names, texts, codes, beginnings, whole, unread, out,
+        watch,
     )
 }

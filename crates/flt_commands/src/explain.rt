@@ -8,7 +8,7 @@ ghost use Rattle.flt_commands.specs.Remarks.{unread_in};
 ghost use Rattle.flt_forms.specs.Lines.{AreLines};
 ghost use Rattle.flt_forms.specs.Sarif.{IsSarif};
 ghost use Rattle.flt_notes.specs.Noted.{AreNotes, first_journal};
-ghost use Rattle.flt_reports.specs.FileText.{plain, texts_of};
+ghost use Rattle.flt_reports.specs.Source.{plain, texts_of};
 
 use crate::after::explain_after;
 use crate::annotated::find_each;
@@ -20,16 +20,16 @@ use crate::finding_runs::runs_of;
 use crate::html::page_on;
 use crate::in_turn::lines_in_turn;
 use crate::inputs::{Inputs, Pictures};
+use crate::joined::{beginnings, joined, parts, sources};
 use crate::remarks::unread_lines;
 use crate::report::Contents;
 use crate::unwritten::Unwritten;
 use flt_details::{Explained, Source};
 use flt_driven::journal_bytes;
-use flt_forms::{FindingRun, Style, UnreadFile, lines, sarif};
+use flt_forms::{Style, UnreadFile, lines, sarif};
 use flt_model::Sink;
 use flt_notes::{Asking, Noted, SearchWatch, Told, explain, first_journal};
 use flt_pages::page;
-use flt_reports::FileText;
 use flt_warning_details::WarningOptions;
 use flt_words::{Form, visible};
 use sqlite_items::Items;
@@ -55,80 +55,6 @@ fn told_names(alloc: Global, form: Form, names: &[&str]) -> Result<Vec<String>, 
         told.push(name)?;
     }
     Ok(told)
-}
-
-/// The file in which a text is: the C file of its number among all, if the text is the annotations of one, or the text itself.
-fn file_of<'s>(codes: &'s [Option<Vec<u8>>], number: usize, text: &'s [u8]) -> &'s [u8]
-    ensures { result.now ≡ spec.file_of (get_or (map (option_map (λ code. code.items)) codes.now) number None) text.now }
-{
-    match codes.get(number) {
-        Some(Some(code)) => code.as_slice(),
-        _ => text,
-    }
-}
-
-/// The texts, each under the name of its file, and with that file.
-fn sources<'s>(
-    alloc: Global,
-    names: &'s [String],
-    texts: &'s [Vec<u8>],
-    codes: &'s [Option<Vec<u8>>],
-) -> Result<Vec<FileText<'s>>, AllocError>
-    requires { length texts.now ≡ length names.now }
-    ensures texts { IfOk result (λ found. texts_of found.items ≡ map (λ text. text.items) texts.now) }
-    ensures names { IfOk result (λ found. spec.names_in found.items ≡ map string_bytes names.now) }
-    ensures files { IfOk result (λ found. spec.files_in found.items
-        ≡ spec.files_of (map (option_map (λ code. code.items)) codes.now) (map (λ text. text.items) texts.now)) }
-{
-    let mut found = Vec::new(alloc);
-    for (number, text) in texts.iter().enumerate() {
-        let text = text.as_slice();
-        found.push(FileText {
-            name: names[number].as_str(),
-            text,
-            file: file_of(codes, number, text),
-        })?;
-    }
-    Ok(found)
-}
-
-/// The texts by themselves.
-fn plain_of<'s>(alloc: Global, sources: &[FileText<'s>]) -> Result<Vec<Source<'s>>, AllocError>
-    ensures { IfOk result (λ found. found.items ≡ map plain sources.now) }
-{
-    let mut found = Vec::new(alloc);
-    for source in sources {
-        found.push(source.plain())?;
-    }
-    Ok(found)
-}
-
-/// The lines of some texts, with the runs of their findings if these are given.
-fn lines_of(
-    alloc: Global,
-    style: Style,
-    options: WarningOptions,
-    sources: &[FileText<'_>],
-    runs: Option<&[FindingRun]>,
-) -> Result<Explained, AllocError>
-    ensures { IfOk result (λ e. AreLines style options (map plain sources.now) runs.entry e.output.items e.status) }
-{
-    let plain = plain_of(alloc, sources)?;
-    lines(alloc, style, options, plain.as_slice(), runs)
-}
-
-/// The same as a document, with files that aren't read.
-fn sarif_of(
-    alloc: Global,
-    options: WarningOptions,
-    sources: &[FileText<'_>],
-    unread: &[UnreadFile],
-    runs: &[FindingRun],
-) -> Result<Explained, AllocError>
-    ensures { IfOk result (λ e. IsSarif options (map plain sources.now) unread.now runs.now e.output.items e.status) }
-{
-    let plain = plain_of(alloc, sources)?;
-    sarif(alloc, options, plain.as_slice(), unread, runs)
 }
 
 /// The outcome of `explain` for files.
@@ -203,7 +129,7 @@ fn told_page<O: Sink, W: SearchWatch>(
     alloc: Global,
     asked: Asked<'_>,
     drifts: &[u8],
-    sources: &[FileText<'_>],
+    sources: &[Source<'_>],
     out: &mut O,
     watch: &mut W,
 ) -> Result<Told, CommandFault>
@@ -232,7 +158,7 @@ fn told_page<O: Sink, W: SearchWatch>(
 fn lines_with_runs<O: Sink, W: SearchWatch>(
     alloc: Global,
     asked: Asked<'_>,
-    sources: &[FileText<'_>],
+    sources: &[Source<'_>],
     out: &mut O,
     watch: &mut W,
 ) -> Result<Told, CommandFault>
@@ -245,7 +171,7 @@ fn lines_with_runs<O: Sink, W: SearchWatch>(
 {
     let told = explain(alloc, asking(asked, true), sources, out, watch)?;
     let runs = runs_of(alloc, sources, told.noted.as_slice())?;
-    let explained = lines_of(
+    let explained = lines(
         alloc,
         Style::Object,
         asked.options,
@@ -260,7 +186,7 @@ fn lines_with_runs<O: Sink, W: SearchWatch>(
 fn sarif_with_runs<O: Sink, W: SearchWatch>(
     alloc: Global,
     asked: Asked<'_>,
-    sources: &[FileText<'_>],
+    sources: &[Source<'_>],
     unread: &[UnreadFile],
     out: &mut O,
     watch: &mut W,
@@ -274,7 +200,7 @@ fn sarif_with_runs<O: Sink, W: SearchWatch>(
 {
     let told = explain(alloc, asking(asked, true), sources, out, watch)?;
     let runs = runs_of(alloc, sources, told.noted.as_slice())?;
-    let explained = sarif_of(alloc, asked.options, sources, unread, runs.as_slice())?;
+    let explained = sarif(alloc, asked.options, sources, unread, runs.as_slice())?;
     let noted = told.noted;
     Ok(unsent(explained, noted))
 }
@@ -286,7 +212,7 @@ fn told_in_turn<O: Sink, W: SearchWatch>(
     alloc: Global,
     asked: Asked<'_>,
     drifts: &[u8],
-    sources: &[FileText<'_>],
+    sources: &[Source<'_>],
     unread: &[UnreadFile],
     out: &mut O,
     watch: &mut W,
@@ -317,7 +243,7 @@ fn told_in_turn<O: Sink, W: SearchWatch>(
             lines_in_turn(alloc, Style::Object, options, sources, out)?,
         )),
         Form::Sarif => Ok(unsent(
-            sarif_of(alloc, options, sources, unread, &[])?,
+            sarif(alloc, options, sources, unread, &[])?,
             Items::new(alloc),
         )),
         Form::LinesWithRuns => lines_with_runs(alloc, asked, sources, out, watch),
@@ -332,7 +258,7 @@ fn told_whole<O: Sink, W: SearchWatch>(
     alloc: Global,
     asked: Asked<'_>,
     drifts: &[u8],
-    sources: &[FileText<'_>],
+    sources: &[Source<'_>],
     unread: &[UnreadFile],
     out: &mut O,
     watch: &mut W,
@@ -348,9 +274,9 @@ fn told_whole<O: Sink, W: SearchWatch>(
     let held = asking(asked, true);
     let explained = match asked.form {
         Form::Human => return Ok(explain(alloc, held, sources, out, watch)?),
-        Form::Short => lines_of(alloc, Style::Sentence, asked.options, sources, None)?,
-        Form::Lines => lines_of(alloc, Style::Object, asked.options, sources, None)?,
-        Form::Sarif => sarif_of(alloc, asked.options, sources, unread, &[])?,
+        Form::Short => lines(alloc, Style::Sentence, asked.options, sources, None)?,
+        Form::Lines => lines(alloc, Style::Object, asked.options, sources, None)?,
+        Form::Sarif => sarif(alloc, asked.options, sources, unread, &[])?,
         Form::LinesWithRuns => return lines_with_runs(alloc, asked, sources, out, watch),
         Form::SarifWithRuns => return sarif_with_runs(alloc, asked, sources, unread, out, watch),
         Form::Html => return told_page(alloc, asked, drifts, sources, out, watch),
@@ -366,7 +292,7 @@ fn told<O: Sink, W: SearchWatch>(
     alloc: Global,
     asked: Asked<'_>,
     drifts: &[u8],
-    sources: &[FileText<'_>],
+    sources: &[Source<'_>],
     unread: &[UnreadFile],
     out: &mut O,
     watch: &mut W,
@@ -400,6 +326,8 @@ pub(crate) fn explain_read<O: Sink, W: SearchWatch>(
     names: &[&str],
     texts: &[Vec<u8>],
     codes: &[Option<Vec<u8>>],
+    beginnings: &[usize],
+    whole: &[Vec<u8>],
     unread: &[UnreadFile],
     out: &mut O,
     watch: &mut W,
@@ -420,9 +348,9 @@ pub(crate) fn explain_read<O: Sink, W: SearchWatch>(
         (O.taken out.old) (O.taken out.new)) }
 {
     let names = told_names(alloc, asked.form, names)?;
-    let sources = sources(alloc, names.as_slice(), texts, codes)?;
-    let sources = sources.as_slice();
-    told(alloc, asked, drifts, sources, unread, out, watch)
+    let parts = parts(alloc, names.as_slice(), texts, codes)?;
+    let sources = sources(alloc, whole, beginnings, parts.as_slice())?;
+    told(alloc, asked, drifts, sources.as_slice(), unread, out, watch)
 }
 
 /// Writes the journal of the first finding that has one, if there is one, into a file that is none of the inputs. Returns why that failed,
@@ -514,7 +442,9 @@ pub fn explain_files<'a, I: Inputs, P: Pictures, O: Sink, W: SearchWatch>(
     let names = found.names;
     let codes = found.codes;
     let unread = found.unread;
-    contents.texts = found.texts;
+    let texts = found.texts;
+    let beginnings = beginnings(alloc, texts.as_slice(), codes.as_slice())?;
+    contents.texts = joined(alloc, texts.as_slice(), beginnings.as_slice())?;
     *remark = unread_lines(alloc, unread.as_slice())?;
     let drifts = drifted(
         alloc,
@@ -532,8 +462,10 @@ pub fn explain_files<'a, I: Inputs, P: Pictures, O: Sink, W: SearchWatch>(
         within.as_slice(),
         worth,
         names.as_slice(),
-        contents.texts.as_slice(),
+        texts.as_slice(),
         codes.as_slice(),
+        beginnings.as_slice(),
+        contents.texts.as_slice(),
         unread.as_slice(),
         out,
         watch,

@@ -1,13 +1,13 @@
 //! The runs that break something because of findings, for the forms that have them.
 
 ghost use Rattle.std.specs.Prelude.{◌≡◌, IfOk, get_or};
-ghost use Rattle.flt_reports.specs.FileText.{texts_of};
+ghost use Rattle.flt_reports.specs.Source.{texts_of};
 ghost use Rattle.flt_commands.specs.FindingRuns as spec;
 
+use flt_details::Source;
 use flt_flows::Flow;
 use flt_forms::FindingRun;
 use flt_notes::{Noted, own_trees, schedule_of};
-use flt_reports::FileText;
 use flt_schedules::{Schedule, Scheduled};
 use flt_search::Broken;
 use flt_syntax::{ParseError, parse};
@@ -44,7 +44,7 @@ fn add_parsed(
 }
 
 /// The trees of some texts.
-fn parsed_of(alloc: Global, sources: &[FileText<'_>]) -> Result<Parsed, AllocError>
+fn parsed_of(alloc: Global, sources: &[Source<'_>]) -> Result<Parsed, AllocError>
     ensures { IfOk result (λ p. spec.AreTrees (texts_of sources.now) p.trees.items p.numbers) }
 {
     let mut parsed = Parsed {
@@ -141,7 +141,7 @@ fn add_run(
 /// The runs of the findings in some texts, by the notes on these.
 pub(crate) fn runs_of(
     alloc: Global,
-    sources: &[FileText<'_>],
+    sources: &[Source<'_>],
     noted: &[Noted],
 ) -> Result<Vec<FindingRun>, AllocError>
     ensures { IfOk result (λ runs. spec.AreRuns (texts_of sources.now) noted.now runs.items) }

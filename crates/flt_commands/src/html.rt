@@ -4,7 +4,7 @@ ghost use Rattle.std.specs.Prelude.{◌≡◌, ◌++◌, ◌∷◌, [], IfOk, Li
 ghost use Rattle.std.specs.Option.{option_copied};
 ghost use Rattle.std.specs.List.{slice_split};
 ghost use Rattle.flt_details.specs.Page.{shown as shown_as};
-ghost use Rattle.flt_reports.specs.FileText.{texts_of};
+ghost use Rattle.flt_reports.specs.Source.{texts_of};
 ghost use Rattle.flt_model.specs.Program.{filters_of};
 ghost use Rattle.flt_model.specs.declared.verdict.Verdict.TheVariants as verdicts;
 ghost use Rattle.flt_notes.specs.Noted.{schedule_of as schedule_in};
@@ -14,13 +14,12 @@ ghost use Rattle.flt_picture.specs.Titles.{title_of};
 ghost use Rattle.flt_commands.specs.Inputs.{Text};
 ghost use Rattle.flt_commands.specs.Html as spec;
 
-use flt_details::Page;
+use flt_details::{FilePart, Page, Source};
 use flt_html::{ShownText, html_page};
 use flt_model::Verdict;
 use flt_notes::Noted;
 use flt_picture::picture;
 use flt_places::lines_of;
-use flt_reports::FileText;
 use flt_schedules::{Schedule, Scheduled, only};
 use flt_search::Broken;
 use flt_syntax::{ParseError, Tree, parse};
@@ -52,23 +51,25 @@ fn shown_lines(alloc: Global, lines: &[&[u8]]) -> Result<Items<Items<u8>>, Alloc
 }
 
 /// The file in which a text is, as reports show it.
-fn shown_text(alloc: Global, source: FileText<'_>) -> Result<ShownText, AllocError>
-    ensures { IfOk result (λ text. text ≡ spec.shown_text source.entry) }
+fn shown_file(alloc: Global, file: FilePart<'_>) -> Result<ShownText, AllocError>
+    ensures { IfOk result (λ text. text ≡ spec.shown_file file.entry) }
 {
-    let lines = lines_of(alloc, source.file)?;
-    let name = shown(alloc, source.name.as_bytes())?;
+    let lines = lines_of(alloc, file.bytes)?;
+    let name = shown(alloc, file.name.as_bytes())?;
     let lines = shown_lines(alloc, lines.as_slice())?;
     Ok(ShownText { name, lines })
 }
 
 /// The files in which texts are, as reports show them.
-fn shown_texts(alloc: Global, sources: &[FileText<'_>]) -> Result<Items<ShownText>, AllocError>
+fn shown_texts(alloc: Global, sources: &[Source<'_>]) -> Result<Items<ShownText>, AllocError>
     ensures { IfOk result (λ all. all ≡ map spec.shown_text sources.now) }
 {
     let mut all = Items::new(alloc);
     for source in sources {
-        let text = shown_text(alloc, *source)?;
-        all.push(text)?;
+        for file in source.files {
+            let text = shown_file(alloc, *file)?;
+            all.push(text)?;
+        }
     }
     Ok(all)
 }
@@ -84,7 +85,7 @@ struct Parsed {
 
 impl Parsed {
     /// Those of some texts that parse.
-    fn of(alloc: Global, sources: &[FileText<'_>]) -> Result<Parsed, AllocError>
+    fn of(alloc: Global, sources: &[Source<'_>]) -> Result<Parsed, AllocError>
         ensures { IfOk result (λ parsed. AreParsed (texts_of sources.now) (filters_of parsed.trees)) }
     {
         let mut parsed = Parsed {
@@ -99,7 +100,7 @@ impl Parsed {
 
     /// Adds a text if it parses.
     #[tactic(auto, using(crate::proofs::MoreParsed::tree_parsed, crate::proofs::MoreParsed::one_failed))]
-    fn add(&mut self, alloc: Global, source: FileText<'_>) -> Result<(), AllocError>
+    fn add(&mut self, alloc: Global, source: Source<'_>) -> Result<(), AllocError>
         ensures { OnOk result ((texts : List Text) → AreParsed texts (filters_of self.old.trees) →
             AreParsed (texts ++ source.entry.text.now ∷ []) (filters_of self.new.trees)) }
     {
@@ -205,7 +206,7 @@ fn add_picture(
 /// The pictures of the runs of findings of texts, in the order of the findings.
 fn pictures_of(
     alloc: Global,
-    sources: &[FileText<'_>],
+    sources: &[Source<'_>],
     noted: &[Noted],
 ) -> Result<Items<Items<u8>>, AllocError>
     ensures { IfOk result (spec.HasPictures sources.now noted.now) }
@@ -223,7 +224,7 @@ fn pictures_of(
 /// The page on texts and on the print about them, with the pictures of the runs of their findings.
 pub(crate) fn page_on(
     alloc: Global,
-    sources: &[FileText<'_>],
+    sources: &[Source<'_>],
     printed: &[u8],
     noted: &[Noted],
 ) -> Result<Vec<u8>, AllocError>

@@ -27,6 +27,7 @@ mod host;
 mod html;
 mod in_turn;
 mod inputs;
+mod joined;
 mod kept;
 mod named;
 mod outcomes;

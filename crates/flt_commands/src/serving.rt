@@ -4,10 +4,10 @@ ghost use Rattle.std.specs.Prelude.{◌≡◌, ◌≢◌, None, IfErr, IfOk, tru
 ghost use Rattle.flt_commands.specs.Served as spec;
 ghost use Rattle.flt_notes.specs.Whole.{look_for};
 
+use flt_details::{FilePart, Source};
 use flt_frames::{Incoming, ServeFault, serve};
 use flt_model::{Sink, WriteFault};
 use flt_notes::{Asking, UnwatchedSearch, explain};
-use flt_reports::FileText;
 use flt_server::Server;
 use flt_session::Reporter;
 use flt_warning_details::WarningOptions;
@@ -53,8 +53,15 @@ fn asking() -> Asking
 fn printed(alloc: Global, name: &str, text: &[u8]) -> Result<Vec<u8>, AllocError>
     ensures { IfOk result (λ out. spec.IsExplained name.now text.now out.items) }
 {
-    let file = text;
-    let sources = [FileText { name, text, file }];
+    let files = [FilePart {
+        name,
+        first: 1,
+        bytes: text,
+    }];
+    let sources = [Source {
+        text,
+        files: &files,
+    }];
     let mut out = Nowhere { failures: 0 };
     let mut watch = UnwatchedSearch;
     match explain(alloc, asking(), &sources, &mut out, &mut watch) {

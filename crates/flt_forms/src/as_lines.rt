@@ -16,7 +16,7 @@ use crate::run_member::{TextRuns, texts_in};
 use crate::short::{put_short_fault, put_short_lines, put_short_warnings};
 use crate::warned::{status_of, warned_of};
 use crate::warning::put_warnings;
-use flt_details::{Explained, Judged, Source, details, judge};
+use flt_details::{Explained, Judged, Source, details, file_lines, judge};
 use flt_explain::Finding;
 use flt_graph::Graph;
 use flt_hints::{describe, tell};
@@ -52,7 +52,8 @@ fn unread(
     let told = tell(alloc, &trouble)?;
     let help = help_of(alloc, &told)?;
     let lines = Lines::of(alloc, source.text)?;
-    let written = put_fault_line(alloc, out, source.name, &lines, &trouble, &told, &help)?;
+    let files = file_lines(alloc, source.files)?;
+    let written = put_fault_line(alloc, out, files.as_slice(), &lines, &trouble, &told, &help)?;
     Ok(written)
 }
 
@@ -74,10 +75,11 @@ fn known(
 {
     let details = details(alloc, source.text, tree, graph, found)?;
     let lines = Lines::of(alloc, source.text)?;
+    let files = file_lines(alloc, source.files)?;
     put_lines(
         alloc,
         out,
-        source.name,
+        files.as_slice(),
         &lines,
         graph,
         runs,
@@ -125,14 +127,16 @@ fn put_warned(
     alloc: Global,
     out: Vec<u8>,
     style: Style,
-    name: &str,
+    source: Source<'_>,
     warned: &[WarningDetail],
 ) -> Result<Vec<u8>, AllocError>
     ensures { IfOk result (λ v. v.items ≡ out.items ++ spec.warning_lines style name.now warned.now) }
 {
+    let files = file_lines(alloc, source.files)?;
+    let files = files.as_slice();
     match style {
-        Style::Object => put_warnings(alloc, out, name, warned),
-        Style::Sentence => put_short_warnings(alloc, out, name, warned),
+        Style::Object => put_warnings(alloc, out, files, warned),
+        Style::Sentence => put_short_warnings(alloc, out, files, warned),
     }
 }
 
@@ -152,8 +156,8 @@ fn put_source(
     let judged = judge(alloc, source.text)?;
     let warned = warned_of(alloc, options.allowed, source, &judged)?;
     let first = put_judged(alloc, out, style, runs, number, source, &judged)?;
-    let shown = put_warned(alloc, first, style, source.name, warned.as_slice())?;
-    let output = put_clean_lines(shown, style, source.name, &judged, warned.as_slice())?;
+    let shown = put_warned(alloc, first, style, source, warned.as_slice())?;
+    let output = put_clean_lines(shown, style, source.name(), &judged, warned.as_slice())?;
     Ok(Explained {
         output,
         status: status_of(options.is_strict, &judged, warned.as_slice()),

@@ -9,7 +9,7 @@ use crate::members::{
 };
 use crate::preface::put_preface;
 use flt_columns::column_up_to;
-use flt_details::fault_name;
+use flt_details::{FileLines, fault_name, file_at, file_line, file_name};
 use flt_hints::{Choices, Expected, Told, Trouble};
 use flt_places::{Lines, lines_of};
 use flt_syntax::SyntaxFault;
@@ -70,15 +70,17 @@ fn put_end_column(
 
 fn put_place(
     writer: &mut Writer,
+    files: &[FileLines<'_>],
     lines: &Lines<'_>,
     fault: SyntaxFault,
     found: &[u8],
 ) -> Result<(), AllocError>
     ensures { Adds result writer.old writer.new (spec.place lines.now fault found.now) }
 {
-    put_number(writer, "line", fault.line)?;
+    let line = file_line(files, fault.line);
+    put_number(writer, "line", line)?;
     put_number(writer, "column", fault.column)?;
-    put_number(writer, "end_line", fault.line)?;
+    put_number(writer, "end_line", line)?;
     put_end_column(writer, lines, fault, found)?;
     put_string(writer, "rule", fault_name(fault.kind))
 }
@@ -124,7 +126,7 @@ fn put_choices(alloc: Global, writer: &mut Writer, choices: &Choices<'_>) -> Res
 fn put_fault(
     alloc: Global,
     writer: &mut Writer,
-    name: &str,
+    files: &[FileLines<'_>],
     lines: &Lines<'_>,
     trouble: &Trouble<'_>,
     told: &Told,
@@ -134,8 +136,9 @@ fn put_fault(
         (spec.fault name.now lines.now trouble.now told.now.title.items help.now.items) }
 {
     open_object(writer)?;
-    put_preface(writer, "fault", name)?;
-    put_place(writer, lines, trouble.spot.fault, trouble.spot.bytes)?;
+    let line = trouble.spot.fault.line;
+    put_preface(writer, "fault", file_name(files, file_at(files, line)))?;
+    put_place(writer, files, lines, trouble.spot.fault, trouble.spot.bytes)?;
     put_bytes(alloc, writer, "found", Some(trouble.spot.bytes))?;
     put_choices(alloc, writer, &trouble.choices)?;
     put_bytes(alloc, writer, "meant", trouble.meant)?;
@@ -148,7 +151,7 @@ fn put_fault(
 pub(crate) fn put_fault_line(
     alloc: Global,
     out: Vec<u8>,
-    name: &str,
+    files: &[FileLines<'_>],
     lines: &Lines<'_>,
     trouble: &Trouble<'_>,
     told: &Told,
@@ -158,7 +161,7 @@ pub(crate) fn put_fault_line(
         line_of (spec.fault name.now lines.now trouble.now told.now.title.items help.now.items)) }
 {
     let mut writer = Writer::new(out);
-    put_fault(alloc, &mut writer, name, lines, trouble, told, help)?;
+    put_fault(alloc, &mut writer, files, lines, trouble, told, help)?;
     let mut out = writer.into_inner();
     out.push(b'\n')?;
     Ok(out)

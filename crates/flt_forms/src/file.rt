@@ -4,16 +4,24 @@ ghost use Rattle.std.specs.Prelude.{◌≡◌, IfOk, OnOk, position};
 ghost use Rattle.flt_forms.specs.Files as spec;
 
 use crate::uri::{Reference, reference_to};
-use flt_details::Source;
+use flt_details::{FileLines, Source, file_lines};
 use flt_places::Lines;
 use std::alloc::{AllocError, Global};
+
+/// A file of a document.
+#[derive(Drop)]
+pub struct Artifact {
+    pub reference: Reference,
+    /// Its number among the files of the document, from 0.
+    pub number: usize,
+}
 
 /// A text of a document.
 #[derive(Drop)]
 pub struct File<'a> {
-    pub reference: Reference,
-    /// Its number among the files of the document, from 0.
-    pub number: usize,
+    /// Each of its files.
+    pub artifacts: Vec<Artifact>,
+    pub files: Vec<FileLines<'a>>,
     pub lines: Lines<'a>,
 }
 
@@ -56,7 +64,9 @@ pub(crate) fn names_of<'a>(
 {
     let mut names = Vec::new(alloc);
     for source in sources {
-        add_name(&mut names, source.name)?;
+        for file in source.files {
+            add_name(&mut names, file.name)?;
+        }
     }
     Ok(names)
 }
@@ -69,9 +79,16 @@ pub(crate) fn file_of<'a>(
 ) -> Result<File<'a>, AllocError>
     ensures { IfOk result (λ file. file ≡ spec.file_of names.now source.entry) }
 {
+    let mut artifacts = Vec::new(alloc);
+    for file in source.files {
+        artifacts.push(Artifact {
+            reference: reference_to(alloc, file.name)?,
+            number: number_of(names, file.name),
+        })?;
+    }
     Ok(File {
-        reference: reference_to(alloc, source.name)?,
-        number: number_of(names, source.name),
+        artifacts,
+        files: file_lines(alloc, source.files)?,
         lines: Lines::of(alloc, source.text)?,
     })
 }

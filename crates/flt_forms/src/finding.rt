@@ -16,7 +16,7 @@ use crate::points::Points;
 use crate::preface::put_preface;
 use crate::run_member::{OwnRun, TextRuns, put_run_member};
 use crate::steps::{put_kind, put_like, put_maker_member, put_steps, put_steps_member};
-use flt_details::{Detail, Route, RuleName, Words};
+use flt_details::{Detail, FileLines, Route, RuleName, Words, file_at, file_name};
 use flt_explain::Finding;
 use flt_graph::Graph;
 use flt_places::Lines;
@@ -24,12 +24,12 @@ use flt_rules::{Rule, text};
 use json::Writer;
 use std::alloc::{AllocError, Global};
 
-fn put_place(writer: &mut Writer, detail: &Detail) -> Result<(), AllocError>
+fn put_place(writer: &mut Writer, points: &Points<'_>, detail: &Detail) -> Result<(), AllocError>
     ensures { Adds result writer.old writer.new (spec.place detail.now) }
 {
     put_number(writer, "callback", detail.finding.callback)?;
     put_number(writer, "point", detail.finding.point)?;
-    put_marks(writer, detail.marks)
+    put_marks(writer, points.files, points.home, detail.marks)
 }
 
 /// Writes a rule's number.
@@ -102,7 +102,7 @@ fn put_route(
     ensures { Adds result writer.old writer.new (spec.route (regions points.now) route.now) }
 {
     put_state(writer, route.state)?;
-    put_maker_member(alloc, writer, "origin", &route.origin)?;
+    put_maker_member(alloc, writer, points, "origin", &route.origin)?;
     put_path(alloc, writer, points, route)
 }
 
@@ -110,7 +110,6 @@ fn put_route(
 fn put_finding(
     alloc: Global,
     writer: &mut Writer,
-    name: &str,
     points: &Points<'_>,
     own: OwnRun<'_, '_>,
     detail: &Detail,
@@ -118,8 +117,8 @@ fn put_finding(
     ensures { Adds result writer.old writer.new (spec.finding name.now (regions points.now) (member_of own.entry) detail.now) }
 {
     open_object(writer)?;
-    put_preface(writer, "finding", name)?;
-    put_place(writer, detail)?;
+    put_preface(writer, "finding", file_name(points.files, points.home))?;
+    put_place(writer, points, detail)?;
     put_rule(alloc, writer, &detail.finding)?;
     put_words(alloc, writer, &detail.words)?;
     put_route(alloc, writer, points, &detail.route)?;
@@ -131,7 +130,7 @@ fn put_finding(
 fn put_line(
     alloc: Global,
     out: Vec<u8>,
-    name: &str,
+    files: &[FileLines<'_>],
     lines: &Lines<'_>,
     graph: &Graph,
     own: OwnRun<'_, '_>,
@@ -141,11 +140,13 @@ fn put_line(
 {
     let points = Points {
         lines,
+        files,
+        home: file_at(files, detail.marks.statement.first.line),
         graph,
         callback: detail.finding.callback,
     };
     let mut writer = Writer::new(out);
-    put_finding(alloc, &mut writer, name, &points, own, detail)?;
+    put_finding(alloc, &mut writer, &points, own, detail)?;
     let mut out = writer.into_inner();
     out.push(b'\n')?;
     Ok(out)
@@ -155,7 +156,7 @@ fn put_line(
 pub(crate) fn put_lines(
     alloc: Global,
     out: Vec<u8>,
-    name: &str,
+    files: &[FileLines<'_>],
     lines: &Lines<'_>,
     graph: &Graph,
     runs: TextRuns<'_, '_>,
@@ -172,7 +173,7 @@ pub(crate) fn put_lines(
             source,
             finding,
         };
-        out = put_line(alloc, out, name, lines, graph, own, detail)?;
+        out = put_line(alloc, out, files, lines, graph, own, detail)?;
     }
     Ok(out)
 }

@@ -5,7 +5,7 @@ ghost use Rattle.std.specs.Str.Lossy.{utf8_lossy};
 ghost use Rattle.json.specs.Token.{begin_array, begin_object, end_array, end_object, key, string};
 ghost use Rattle.flt_forms.specs.Members as spec;
 
-use flt_details::Marks;
+use flt_details::{FileLines, Marks, file_at, file_line, file_name};
 use flt_places::Region;
 use json::Writer;
 use sqlite_items::Items;
@@ -76,40 +76,66 @@ pub(crate) fn put_null(writer: &mut Writer, name: &str) -> Result<(), AllocError
     writer.null()
 }
 
-/// Writes the place of the first byte, and that of the last.
-pub(crate) fn put_region_members(writer: &mut Writer, region: Region) -> Result<(), AllocError>
-    ensures { spec.Adds result writer.old writer.new (spec.region_members region) }
-{
-    put_number(writer, "line", region.first.line)?;
+/// Writes the name of a file, unless it is that of the whole object.
+fn put_other_file(
+    writer: &mut Writer,
+    files: &[FileLines<'_>],
+    home: usize,
+    file: usize,
+) -> Result<(), AllocError> {
+    if file == home {
+        return Ok(());
+    }
+    put_string(writer, "file", file_name(files, file))
+}
+
+/// Writes the place of the first byte, and that of the last, and before them the file's name if it isn't that of the whole object.
+pub(crate) fn put_region_members(
+    writer: &mut Writer,
+    files: &[FileLines<'_>],
+    home: usize,
+    region: Region,
+) -> Result<(), AllocError> {
+    put_other_file(writer, files, home, file_at(files, region.first.line))?;
+    put_number(writer, "line", file_line(files, region.first.line))?;
     put_number(writer, "column", region.first.column)?;
-    put_number(writer, "end_line", region.end.line)?;
+    put_number(writer, "end_line", file_line(files, region.end.line))?;
     put_number(writer, "end_column", region.end.column.saturating_sub(1))
 }
 
-fn put_operand_object(writer: &mut Writer, region: Region) -> Result<(), AllocError>
-    ensures { spec.Adds result writer.old writer.new (spec.operand_member (Some region)) }
-{
+fn put_operand_object(
+    writer: &mut Writer,
+    files: &[FileLines<'_>],
+    home: usize,
+    region: Region,
+) -> Result<(), AllocError> {
     put_key(writer, "operand")?;
     open_object(writer)?;
-    put_region_members(writer, region)?;
+    put_region_members(writer, files, home, region)?;
     close_object(writer)
 }
 
-fn put_operand(writer: &mut Writer, region: Option<Region>) -> Result<(), AllocError>
-    ensures { spec.Adds result writer.old writer.new (spec.operand_member region) }
-{
+fn put_operand(
+    writer: &mut Writer,
+    files: &[FileLines<'_>],
+    home: usize,
+    region: Option<Region>,
+) -> Result<(), AllocError> {
     match region {
         None => put_null(writer, "operand"),
-        Some(region) => put_operand_object(writer, region),
+        Some(region) => put_operand_object(writer, files, home, region),
     }
 }
 
 /// Writes the place of a statement, and in it that of the word that a finding names.
-pub(crate) fn put_marks(writer: &mut Writer, marks: Marks) -> Result<(), AllocError>
-    ensures { spec.Adds result writer.old writer.new (spec.marks_members marks) }
-{
-    put_region_members(writer, marks.statement)?;
-    put_operand(writer, marks.operand)
+pub(crate) fn put_marks(
+    writer: &mut Writer,
+    files: &[FileLines<'_>],
+    home: usize,
+    marks: Marks,
+) -> Result<(), AllocError> {
+    put_region_members(writer, files, home, marks.statement)?;
+    put_operand(writer, files, home, marks.operand)
 }
 
 /// The same, with null for an empty text.

@@ -3,6 +3,7 @@
 ghost use Rattle.std.specs.Prelude.{◌≡◌};
 ghost use Rattle.flt_forms.specs.Points as spec;
 
+use flt_details::FileLines;
 use flt_graph::Graph;
 use flt_places::{Lines, Region};
 
@@ -10,6 +11,9 @@ use flt_places::{Lines, Region};
 #[derive(Drop)]
 pub struct Points<'a> {
     pub lines: &'a Lines<'a>,
+    pub files: &'a [FileLines<'a>],
+    /// The number of the file in which the finding is.
+    pub home: usize,
     pub graph: &'a Graph,
     /// Its number, from 0.
     pub callback: usize,

@@ -19,7 +19,7 @@ use crate::rules::{Reported, put_of_rule};
 use crate::run_flow::{FileRuns, OwnFlow, put_run_flow};
 use crate::uri::Reference;
 use flt_columns::{column_behind, column_of};
-use flt_details::{Detail, Maker, Marks, Stage, WayKind};
+use flt_details::{Detail, Maker, Marks, Stage, WayKind, file_at, file_line};
 use flt_graph::Graph;
 use flt_places::{Lines, Region};
 use flt_syntax::SyntaxFault;
@@ -65,18 +65,20 @@ pub(crate) fn put_reference(
     put_base(writer, reference.is_absolute)
 }
 
-/// Writes a file, by its name and its number.
+/// Writes the file in which a line of a text is, by its name and its number.
 pub(crate) fn put_artifact(
     alloc: Global,
     writer: &mut Writer,
     file: &File<'_>,
-) -> Result<(), AllocError>
-    ensures { Adds result writer.old writer.new (spec.artifact_location file.now) }
-{
+    line: usize,
+) -> Result<(), AllocError> {
+    let Some(artifact) = file.artifacts.get(file_at(file.files.as_slice(), line)) else {
+        return Ok(());
+    };
     put_key(writer, "artifactLocation")?;
     open_object(writer)?;
-    put_reference(alloc, writer, &file.reference)?;
-    put_number(writer, "index", file.number)?;
+    put_reference(alloc, writer, &artifact.reference)?;
+    put_number(writer, "index", artifact.number)?;
     close_object(writer)
 }
 
@@ -96,17 +98,16 @@ fn put_column(
 pub(crate) fn put_whole_region(
     writer: &mut Writer,
     name: &str,
-    lines: &Lines<'_>,
+    file: &File<'_>,
     region: Region,
-) -> Result<(), AllocError>
-    ensures { Adds result writer.old writer.new (spec.whole_region name.now lines.now region) }
-{
+) -> Result<(), AllocError> {
+    let files = file.files.as_slice();
     put_key(writer, name)?;
     open_object(writer)?;
-    put_number(writer, "startLine", region.first.line)?;
-    put_column(writer, "startColumn", lines, region.first)?;
-    put_number(writer, "endLine", region.end.line)?;
-    put_column(writer, "endColumn", lines, region.end)?;
+    put_number(writer, "startLine", file_line(files, region.first.line))?;
+    put_column(writer, "startColumn", &file.lines, region.first)?;
+    put_number(writer, "endLine", file_line(files, region.end.line))?;
+    put_column(writer, "endColumn", &file.lines, region.end)?;
     close_object(writer)
 }
 
@@ -121,8 +122,8 @@ fn put_physical(
 {
     put_key(writer, "physicalLocation")?;
     open_object(writer)?;
-    put_artifact(alloc, writer, file)?;
-    put_whole_region(writer, "region", &file.lines, region)?;
+    put_artifact(alloc, writer, file, region.first.line)?;
+    put_whole_region(writer, "region", file, region)?;
     close_object(writer)
 }
 
@@ -145,17 +146,17 @@ fn put_location(
 /// Writes the region of the operand and that of the statement round it, or that of the statement alone.
 fn put_marked_regions(
     writer: &mut Writer,
-    lines: &Lines<'_>,
+    file: &File<'_>,
     statement: Region,
     operand: Option<Region>,
 ) -> Result<(), AllocError>
-    ensures { Adds result writer.old writer.new (spec.marked_regions lines.now statement operand) }
+    ensures { Adds result writer.old writer.new (spec.marked_regions file.now statement operand) }
 {
     match operand {
-        None => put_whole_region(writer, "region", lines, statement),
+        None => put_whole_region(writer, "region", file, statement),
         Some(operand) => {
-            put_whole_region(writer, "region", lines, operand)?;
-            put_whole_region(writer, "contextRegion", lines, statement)
+            put_whole_region(writer, "region", file, operand)?;
+            put_whole_region(writer, "contextRegion", file, statement)
         }
     }
 }
@@ -170,8 +171,8 @@ fn put_marked_physical(
 {
     put_key(writer, "physicalLocation")?;
     open_object(writer)?;
-    put_artifact(alloc, writer, file)?;
-    put_marked_regions(writer, &file.lines, marks.statement, marks.operand)?;
+    put_artifact(alloc, writer, file, marks.statement.first.line)?;
+    put_marked_regions(writer, file, marks.statement, marks.operand)?;
     close_object(writer)
 }
 
@@ -610,6 +611,8 @@ fn put_next_result(
     };
     let points = Points {
         lines: &file.lines,
+        files: file.files.as_slice(),
+        home: file_at(file.files.as_slice(), detail.marks.statement.first.line),
         graph,
         callback: detail.finding.callback,
     };
@@ -669,18 +672,19 @@ fn put_fault_end(
 /// Writes the region of the bytes at which a text is refused.
 fn put_fault_region(
     writer: &mut Writer,
-    lines: &Lines<'_>,
+    file: &File<'_>,
     place: Position,
     found: &[u8],
 ) -> Result<(), AllocError>
-    ensures { Adds result writer.old writer.new (spec.fault_region lines.now place found.now) }
+    ensures { Adds result writer.old writer.new (spec.fault_region file.now place found.now) }
 {
     put_key(writer, "region")?;
     open_object(writer)?;
-    put_number(writer, "startLine", place.line)?;
-    put_column(writer, "startColumn", lines, place)?;
-    put_number(writer, "endLine", place.line)?;
-    put_fault_end(writer, lines, place, found)?;
+    let line = file_line(file.files.as_slice(), place.line);
+    put_number(writer, "startLine", line)?;
+    put_column(writer, "startColumn", &file.lines, place)?;
+    put_number(writer, "endLine", line)?;
+    put_fault_end(writer, &file.lines, place, found)?;
     close_object(writer)
 }
 
@@ -704,8 +708,8 @@ fn put_fault_physical(
 {
     put_key(writer, "physicalLocation")?;
     open_object(writer)?;
-    put_artifact(alloc, writer, file)?;
-    put_fault_region(writer, &file.lines, place_of(fault), found)?;
+    put_artifact(alloc, writer, file, fault.line)?;
+    put_fault_region(writer, file, place_of(fault), found)?;
     close_object(writer)
 }
 

@@ -5,7 +5,10 @@ ghost use Rattle.flt_forms.specs.Lines.{AreShortLines};
 ghost use Rattle.flt_forms.specs.Short as spec;
 ghost use Rattle.flt_syntax.specs.TextFails.{Fails};
 
-use flt_details::{Detail, RuleName, Source, details, fault_name};
+use flt_details::{
+    Detail, FileLines, RuleName, Source, details, fault_name, file_at, file_lines, file_name,
+    file_place,
+};
 use flt_explain::Finding;
 use flt_graph::Graph;
 use flt_hints::{describe, tell};
@@ -61,17 +64,17 @@ fn tag_of(alloc: Global, level: &str, rule: &str) -> Result<String, AllocError>
 
 fn head_of(
     alloc: Global,
-    name: &str,
+    files: &[FileLines<'_>],
     place: Position,
     level: &str,
     rule: &str,
 ) -> Result<String, AllocError>
-    ensures { IfOk result (λ head. string_bytes head ≡ spec.head name.now place.line place.column level.now rule.now) }
+    ensures { IfOk result (λ head. string_bytes head ≡ spec.head files.now place level.now rule.now) }
 {
     let tag = tag_of(alloc, level, rule)?;
     let head = Head {
-        name,
-        place,
+        name: file_name(files, file_at(files, place.line)),
+        place: file_place(files, place),
         tag: tag.as_str(),
     };
     format!(in alloc; "{head}")
@@ -92,7 +95,7 @@ fn put_sentence(out: Vec<u8>, head: &str, words: &[u8]) -> Result<Vec<u8>, Alloc
 fn put_finding(
     alloc: Global,
     out: Vec<u8>,
-    name: &str,
+    files: &[FileLines<'_>],
     detail: &Detail,
 ) -> Result<Vec<u8>, AllocError>
     ensures { IfOk result (λ v. v.items ≡ out.items ++ spec.finding_line name.now detail.now) }
@@ -100,7 +103,7 @@ fn put_finding(
     let rule = RuleName(detail.finding.rule);
     let rule = format!(in alloc; "{rule}")?;
     let place = detail.marks.statement.first;
-    let head = head_of(alloc, name, place, "error", rule.as_str())?;
+    let head = head_of(alloc, files, place, "error", rule.as_str())?;
     put_sentence(out, head.as_str(), detail.words.title.as_slice())
 }
 
@@ -108,14 +111,14 @@ fn put_finding(
 fn put_findings(
     alloc: Global,
     out: Vec<u8>,
-    name: &str,
+    files: &[FileLines<'_>],
     details: &[Detail],
 ) -> Result<Vec<u8>, AllocError>
     ensures { IfOk result (λ v. v.items ≡ out.items ++ flat_map (spec.finding_line name.now) details.now) }
 {
     let mut out = out;
     for detail in details {
-        out = put_finding(alloc, out, name, detail)?;
+        out = put_finding(alloc, out, files, detail)?;
     }
     Ok(out)
 }
@@ -134,20 +137,21 @@ pub(crate) fn put_short_lines(
         (v.items ≡ out.items ++ printed)) }
 {
     let details = details(alloc, source.text, tree, graph, found)?;
-    put_findings(alloc, out, source.name, details.as_slice())
+    let files = file_lines(alloc, source.files)?;
+    put_findings(alloc, out, files.as_slice(), details.as_slice())
 }
 
 /// Adds the line of a warning that is shown to the output.
 fn put_shown(
     alloc: Global,
     out: Vec<u8>,
-    name: &str,
+    files: &[FileLines<'_>],
     detail: &WarningDetail,
 ) -> Result<Vec<u8>, AllocError>
     ensures { IfOk result (λ v. v.items ≡ out.items ++ spec.shown_line name.now detail.now) }
 {
     let place = detail.marks.statement.first;
-    let head = head_of(alloc, name, place, "warning", detail.kind.name())?;
+    let head = head_of(alloc, files, place, "warning", detail.kind.name())?;
     put_sentence(out, head.as_str(), detail.title.as_slice())
 }
 
@@ -155,13 +159,13 @@ fn put_shown(
 fn put_warning(
     alloc: Global,
     out: Vec<u8>,
-    name: &str,
+    files: &[FileLines<'_>],
     detail: &WarningDetail,
 ) -> Result<Vec<u8>, AllocError>
     ensures { IfOk result (λ v. v.items ≡ out.items ++ spec.warning_line name.now detail.now) }
 {
     match &detail.reason {
-        None => put_shown(alloc, out, name, detail),
+        None => put_shown(alloc, out, files, detail),
         Some(_) => Ok(out),
     }
 }
@@ -170,14 +174,14 @@ fn put_warning(
 pub(crate) fn put_short_warnings(
     alloc: Global,
     out: Vec<u8>,
-    name: &str,
+    files: &[FileLines<'_>],
     warned: &[WarningDetail],
 ) -> Result<Vec<u8>, AllocError>
     ensures { IfOk result (λ v. v.items ≡ out.items ++ flat_map (spec.warning_line name.now) warned.now) }
 {
     let mut out = out;
     for detail in warned {
-        out = put_warning(alloc, out, name, detail)?;
+        out = put_warning(alloc, out, files, detail)?;
     }
     Ok(out)
 }
@@ -186,7 +190,7 @@ pub(crate) fn put_short_warnings(
 fn put_fault(
     alloc: Global,
     out: Vec<u8>,
-    name: &str,
+    files: &[FileLines<'_>],
     fault: SyntaxFault,
     words: &[u8],
 ) -> Result<Vec<u8>, AllocError>
@@ -196,7 +200,7 @@ fn put_fault(
         line: fault.line,
         column: fault.column,
     };
-    let head = head_of(alloc, name, place, "error", fault_name(fault.kind))?;
+    let head = head_of(alloc, files, place, "error", fault_name(fault.kind))?;
     put_sentence(out, head.as_str(), words)
 }
 
@@ -216,10 +220,11 @@ pub(crate) fn put_short_fault(
         return Ok(out);
     };
     let told = tell(alloc, &trouble)?;
+    let files = file_lines(alloc, source.files)?;
     let written = put_fault(
         alloc,
         out,
-        source.name,
+        files.as_slice(),
         trouble.spot.fault,
         told.title.as_slice(),
     )?;

@@ -10,7 +10,7 @@ use crate::members::{
     put_number, put_region_members, put_string,
 };
 use crate::points::Points;
-use flt_details::{Maker, Stage, WayKind};
+use flt_details::{FileLines, Maker, Stage, WayKind};
 use json::Writer;
 use sqlite_items::Items;
 use std::alloc::{AllocError, Global};
@@ -54,7 +54,7 @@ pub(crate) fn put_like(writer: &mut Writer, like: Option<usize>) -> Result<(), A
 fn put_place(writer: &mut Writer, points: &Points<'_>, point: usize) -> Result<(), AllocError>
     ensures { Adds result writer.old writer.new (region_members (regions points.now point)) }
 {
-    put_region_members(writer, points.region(point))
+    put_region_members(writer, points.files, points.home, points.region(point))
 }
 
 fn put_step(
@@ -89,12 +89,18 @@ pub(crate) fn put_steps(
 }
 
 /// Writes the step that caused a finding, with its place.
-fn put_maker(alloc: Global, writer: &mut Writer, maker: &Maker) -> Result<(), AllocError>
+fn put_maker(
+    alloc: Global,
+    writer: &mut Writer,
+    files: &[FileLines<'_>],
+    home: usize,
+    maker: &Maker,
+) -> Result<(), AllocError>
     ensures { Adds result writer.old writer.new (spec.maker maker.now) }
 {
     open_object(writer)?;
     put_number(writer, "point", maker.stage.point)?;
-    put_marks(writer, maker.marks)?;
+    put_marks(writer, files, home, maker.marks)?;
     put_side(writer, maker.stage.granted)?;
     put_filled(alloc, writer, "words", &maker.stage.words)?;
     close_object(writer)
@@ -103,6 +109,7 @@ fn put_maker(alloc: Global, writer: &mut Writer, maker: &Maker) -> Result<(), Al
 pub(crate) fn put_maker_member(
     alloc: Global,
     writer: &mut Writer,
+    points: &Points<'_>,
     name: &str,
     maker: &Option<Maker>,
 ) -> Result<(), AllocError>
@@ -112,7 +119,7 @@ pub(crate) fn put_maker_member(
         None => put_null(writer, name),
         Some(maker) => {
             put_key(writer, name)?;
-            put_maker(alloc, writer, maker)
+            put_maker(alloc, writer, points.files, points.home, maker)
         }
     }
 }

@@ -10,7 +10,7 @@ use Rattle.flt_reasons.specs.Notice as notices
 use Rattle.flt_reasons.specs.declared.notice.Kind.{Kind}
 use Rattle.flt_reasons.specs.declared.notice.Notice.{Notice}
 use Rattle.flt_details.specs.Closing.{findings_closing, syntax_line}
-use Rattle.flt_reports.specs.declared.file_text.FileText.{FileText}
+use Rattle.flt_details.specs.declared.sources.Source.{Source}
 use Rattle.flt_details.specs.declared.judged.Judged.TheVariants.{Unread, Known as Found}
 use Rattle.flt_reports.specs.Covering.{AreFirsts}
 use Rattle.flt_warning_details.specs.Options.{warned_status}
@@ -62,7 +62,7 @@ report_notice options filters text kind n p other is closes = record {
   });
 }
 
-pub notice_part : (look : Look) (trees : List Tree) (s : FileText) (kind : Kind) (n : Notice) (p : Part) → IsOther s.text.now kind →
+pub notice_part : (look : Look) (trees : List Tree) (s : Source) (kind : Kind) (n : Notice) (p : Part) → IsOther s.text.now kind →
     notices.IsNotice (stack_of (filters_of trees)) kind s.text.now n → ClosesNotice n p → PrintsNotice look trees s n p →
     IsNoticePart look trees s p
 notice_part look trees s kind n p other is closes prints = record {
@@ -78,7 +78,7 @@ notice_part look trees s kind n p other is closes prints = record {
 }
 
 -- a notice of a text that is no filter is printed as the part of this text
-pub notice_parts : (look : Look) (trees : List Tree) (s : FileText) (kind : Kind) (n : Notice) (result : Result Part AllocError) →
+pub notice_parts : (look : Look) (trees : List Tree) (s : Source) (kind : Kind) (n : Notice) (result : Result Part AllocError) →
     IsOther s.text.now kind → notices.IsNotice (stack_of (filters_of trees)) kind s.text.now n → IfOk result (ClosesNotice n) →
     IfOk result (PrintsNotice look trees s n) → IfOk result (IsNoticePart look trees s)
 notice_parts look trees s kind n (Ok p) other is closes prints = notice_part look trees s kind n p other is closes prints

@@ -4,7 +4,7 @@ use Rattle.std.specs.Io.KnownBytes.{Appends}
 use Rattle.std.proofs.lemmas.List.{append-nil, take-append-drop, take_all}
 use Rattle.flt_tree.specs.Names.{Text}
 use Rattle.flt_tree.specs.declared.tree.Tree.{Tree}
-use Rattle.flt_reports.specs.declared.file_text.FileText.{FileText}
+use Rattle.flt_details.specs.declared.sources.Source.{Source}
 use Rattle.flt_model.specs.Program.{filters_of}
 use Rattle.flt_warning_details.specs.declared.options.WarningOptions.{WarningOptions}
 use Rattle.flt_notes.specs.Noted.{AreNotesIn, AreNotesOf, no_text as notes_none, fails as notes_fails, parses as notes_parses}
@@ -369,7 +369,7 @@ cut_here look trees each n i p held old new parsed are none some =
 -- ---- all of it
 
 -- of the only text
-print_of_only : (look : Look) (trees : List Tree) (s : FileText) (r : Reading) (p : Printed) → IsPlaced 0 r →
+print_of_only : (look : Look) (trees : List Tree) (s : Source) (r : Reading) (p : Printed) → IsPlaced 0 r →
     (known r ≡ 0 → p.output.noted ≡ []) → IsPrintOf look trees s r (part_of p) →
     IsOnePrinted look trees s p.output.noted p.output.bytes.items p.total.status
 print_of_only look trees s (Unread f) p placed none is = record { count = p.total.findings; is = inr (none refl, inl is) }

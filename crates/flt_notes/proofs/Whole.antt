@@ -11,7 +11,7 @@ use Rattle.flt_explain.specs.declared.finding.Finding.{Finding}
 use Rattle.flt_reasons.specs.Notice as notices
 use Rattle.flt_reasons.specs.declared.notice.Notice.{Notice}
 use Rattle.flt_details.specs.Closing.{findings_closing, syntax_line}
-use Rattle.flt_reports.specs.declared.file_text.FileText.{FileText}
+use Rattle.flt_details.specs.declared.sources.Source.{Source}
 use Rattle.flt_reports.specs.Fault.{IsFaultReport}
 use Rattle.flt_reports.specs.declared.reports.Report.{Report}
 use Rattle.flt_warning_details.specs.Options.{warned_status}
@@ -102,7 +102,7 @@ blocks_more trees states text reports i r first old new h is all one =
       noted = one.noted ∙ ap (λ z. z ++ one.note ∷ []) all.noted ∙ append_assoc first.noted all.notes (one.note ∷ []);
     })
 
-some_body : (look : Look) (trees : List Tree) (place : ℕ) (s : FileText) (tree : Tree) (graph : Graph) (found : List Finding)
+some_body : (look : Look) (trees : List Tree) (place : ℕ) (s : Source) (tree : Tree) (graph : Graph) (found : List Finding)
     (details : List WarningDetail) (notes : List Noted) (printed : List ℕ) → found ≢ [] →
     AreReportsWithNotes look trees s tree graph found notes printed → IsBody look trees place s tree graph found details notes printed
 some_body look trees place s tree graph [] details notes printed some are = absurd (some refl)
@@ -171,7 +171,7 @@ known_print law look trees k first before p known none unnoted body notes added 
     }
 
 -- what was printed of a text that doesn't parse, with the line that ends it, is its part
-pub unread_print : (look : Look) (s : FileText) (f : SyntaxFault) (lines before : List ℕ) (p : Part) → IsUnread s.text.now f →
+pub unread_print : (look : Look) (s : Source) (f : SyntaxFault) (lines before : List ℕ) (p : Part) → IsUnread s.text.now f →
     IsFaultReport look.coloured s.name.now s.file.now s.text.now lines → before ≡ quieted lines →
     p.output.bytes.items ≡ before ++ quieted (syntax_line f ++ 10 ∷ []) → p.tally.status ≡ 2 →
     p.tally.findings ≡ 1 → IsUnreadPart look s p
@@ -188,7 +188,7 @@ unread_print look s f lines before p unread are first added status count =
     }
 
 -- what was printed of a notice, with the line that ends it, is the notice's print
-pub prints_notice : (look : Look) (trees : List Tree) (s : FileText) (alone : Bool) (n : Notice) (lines before : List ℕ) (p : Part) →
+pub prints_notice : (look : Look) (trees : List Tree) (s : Source) (alone : Bool) (n : Notice) (lines before : List ℕ) (p : Part) →
     alone ≡ is_alone trees s.text.now → AreNoticeLines look.coloured alone s.name.now n lines → before ≡ quieted lines →
     p.output.bytes.items ≡ before ++ quieted (notices.closing n) → PrintsNotice look trees s n p
 prints_notice look trees s alone n lines before p same are first added = record {
@@ -200,8 +200,8 @@ prints_notice look trees s alone n lines before p same are first added = record 
 -- ---- several texts
 
 -- one more
-pub prints_more : (look : Look) (trees : List Tree) (place : ℕ) (sources : List FileText) (notes : List Noted) (printed : List ℕ)
-    (greatest findings files : ℕ) (s : FileText) (r : Reading) (p : Part) →
+pub prints_more : (look : Look) (trees : List Tree) (place : ℕ) (sources : List Source) (notes : List Noted) (printed : List ℕ)
+    (greatest findings files : ℕ) (s : Source) (r : Reading) (p : Part) →
     ArePrints look trees place sources notes printed greatest findings files →
     IsPlaced place r → (known r ≡ 0 → p.output.noted ≡ []) → IsPrintOf look trees s r p →
     ArePrints look trees (place + known r) (sources ++ s ∷ []) (notes ++ p.output.noted) (printed ++ p.output.bytes.items ++ 10 ∷ [])

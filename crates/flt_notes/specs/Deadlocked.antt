@@ -5,6 +5,8 @@ use Rattle.std.specs.List.{concat}
 use Rattle.flt_tree.specs.Declarations.{lock_name}
 use Rattle.flt_tree.specs.declared.filter.Filter.{Filter}
 use Rattle.flt_details.specs.Page.{quoted}
+use Rattle.flt_details.specs.declared.sources.FilePart.{FilePart}
+use Rattle.flt_reports.specs.Excerpts.{line_told}
 use Rattle.flt_deadlocks.specs.Deadlocks.{IsAnswer}
 use Rattle.flt_deadlocks.specs.declared.judging.Deadlock.{Deadlock}
 use Rattle.flt_deadlocks.specs.declared.searching.Answer.{Answer}
@@ -21,10 +23,10 @@ use Rattle.flt_notes.specs.Warned.{Warned}
 -- ---- who waits
 
 -- for which lock an activation of a filter waits, and where
-unfoldable pub wait_words : Filter → Blocked → List ℕ
-wait_words f b =
+unfoldable pub wait_words : List FilePart → ℕ → Filter → Blocked → List ℕ
+wait_words files home f b =
     concat (codes "    activation " ∷ decimal b.activation ∷ codes " waits for " ∷ quoted (lock_name f.locks b.lock) ∷ codes " on line "
-    ∷ decimal b.span.line ∷ [])
+    ∷ line_told files home b.span.line ∷ [])
 
 -- that an activation holds that lock
 unfoldable pub held_by : ℕ → List ℕ
@@ -36,12 +38,12 @@ holder_words (Some number) = held_by number
 holder_words None = []
 
 -- the line of an activation that waits
-abbrev pub wait_line : Filter → Blocked → List ℕ
-wait_line f b = wait_words f b ++ holder_words b.holder ++ 10 ∷ []
+abbrev pub wait_line : List FilePart → ℕ → Filter → Blocked → List ℕ
+wait_line files home f b = wait_words files home f b ++ holder_words b.holder ++ 10 ∷ []
 
 -- the lines of some
-abbrev pub wait_lines : Filter → List Blocked → List ℕ
-wait_lines f bs = flat_map (wait_line f) bs
+abbrev pub wait_lines : List FilePart → ℕ → Filter → List Blocked → List ℕ
+wait_lines files home f bs = flat_map (wait_line files home f) bs
 
 -- ---- a run
 
@@ -50,10 +52,10 @@ abbrev pub deadlock_line : Entries → List ℕ
 deadlock_line es = codes "   = deadlock: a run leads to one" ++ lengths es ++ 10 ∷ []
 
 -- a run to a deadlock: how long it is; the rows of its own journal, of which `replay` says that it is legal; and who waits at its end
-pub record AreDeadlockLines (x : Warned) (d : Deadlock) (lines : List ℕ) : Type 0 where
+pub record AreDeadlockLines (x : Warned) (home : ℕ) (d : Deadlock) (lines : List ℕ) : Type 0 where
   pub rows : List ℕ
   pub are : AreJournalRows x.own d.journal Legal rows
-  pub whole : lines ≡ deadlock_line d.journal ++ rows ++ wait_lines x.filter d.waits.items
+  pub whole : lines ≡ deadlock_line d.journal ++ rows ++ wait_lines x.files home x.filter d.waits.items
 
 -- ---- none
 
@@ -70,18 +72,18 @@ cut_line states =
 -- ---- all
 
 -- what a search for a deadlock came to
-abbrev pub AreAnswerLines : Warned → Answer → List ℕ → Type 0
-AreAnswerLines x (Found d) lines = AreDeadlockLines x d lines
-AreAnswerLines x NotWithin lines = lines ≡ not_within_line
-AreAnswerLines x Cut lines = lines ≡ cut_line x.states
+abbrev pub AreAnswerLines : Warned → ℕ → Answer → List ℕ → Type 0
+AreAnswerLines x home (Found d) lines = AreDeadlockLines x home d lines
+AreAnswerLines x home NotWithin lines = lines ≡ not_within_line
+AreAnswerLines x home Cut lines = lines ≡ cut_line x.states
 
 -- what a search for the deadlock of a circle came to, in runs of the text's filter alone: only a run to a deadlock is said to be one
-pub record AreSearchLines (x : Warned) (circle : List Acquisition) (lines : List ℕ) : Type 0 where
+pub record AreSearchLines (x : Warned) (home : ℕ) (circle : List Acquisition) (lines : List ℕ) : Type 0 where
   pub answer : Answer
   pub is : IsAnswer (filters_of x.own) 0 circle answer
-  pub are : AreAnswerLines x answer lines
+  pub are : AreAnswerLines x home answer lines
 
 -- the same below the report of a warning that is about a circle of locks; nothing, where it is about none
-abbrev pub AreRunLines : Warned → List Acquisition → List ℕ → Type 0
-AreRunLines x [] lines = lines ≡ []
-AreRunLines x (a ∷ rest) lines = AreSearchLines x (a ∷ rest) lines
+abbrev pub AreRunLines : Warned → ℕ → List Acquisition → List ℕ → Type 0
+AreRunLines x home [] lines = lines ≡ []
+AreRunLines x home (a ∷ rest) lines = AreSearchLines x home (a ∷ rest) lines

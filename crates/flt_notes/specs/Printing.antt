@@ -7,7 +7,8 @@ use Rattle.flt_tree.specs.declared.tree.Tree.{Tree}
 use Rattle.flt_explain.specs.declared.finding.Finding.{Finding}
 use Rattle.flt_model.specs.Program.{filters_of}
 use Rattle.flt_details.specs.Reports.{EndsWith, IsKnown}
-use Rattle.flt_reports.specs.declared.file_text.FileText.{FileText}
+use Rattle.flt_details.specs.Sources.{name_of}
+use Rattle.flt_details.specs.declared.sources.Source.{Source}
 use Rattle.flt_reasons.specs.Notice as notices
 use Rattle.flt_reasons.specs.declared.notice.Notice.{Notice}
 use Rattle.flt_reports.specs.declared.reports.Report.{Report}
@@ -93,9 +94,9 @@ abbrev pub HasReport : WarningOptions → List Filter → Text → Part → Type
 HasReport options filters text p = IsReport options filters text p.output.bytes.items p.tally.status p.tally.findings
 
 -- what is said of a certificate, a journal or a script, where these are the trees of the texts that parse
-pub record PrintsNotice (look : Look) (trees : List Tree) (s : FileText) (n : Notice) (p : Part) : Type 0 where
+pub record PrintsNotice (look : Look) (trees : List Tree) (s : Source) (n : Notice) (p : Part) : Type 0 where
   pub lines : List ℕ
-  pub are : AreNoticeLines look.coloured (is_alone trees s.text.now) s.name.now n lines
+  pub are : AreNoticeLines look.coloured (is_alone trees s.text.now) (name_of s) n lines
   pub whole : p.output.bytes.items ≡ quieted lines ++ notices.closing n
 
 -- ---- reports with their notes
@@ -142,7 +143,7 @@ pub record ClosesNotice (n : Notice) (p : Part) : Type 0 where
   pub ends : EndsWith p.output.bytes.items (notices.closing n)
 
 -- the report of a text that parses, with its notes
-pub record IsParsedPart (look : Look) (trees : List Tree) (s : FileText) (place : ℕ) (p : Part) : Type 0 where
+pub record IsParsedPart (look : Look) (trees : List Tree) (s : Source) (place : ℕ) (p : Part) : Type 0 where
   pub report : HasReport look.options (filters_of trees) s.text.now p
   pub notes : AreNotesOf trees s.text.now place p.output.noted
   pub said : IsSaid trees look.states p.output
@@ -157,14 +158,14 @@ AreNotesFor trees text (reading.Known place) notes = AreNotesOf trees text place
 AreNotesFor trees text _ notes = notes ≡ []
 
 -- what is printed of a text that doesn't parse, taken for something else or not
-abbrev pub IsUnreadPart : Look → FileText → Part → Type 0
+abbrev pub IsUnreadPart : Look → Source → Part → Type 0
 IsUnreadPart look s p = IsUnreadPrint look s p.output.bytes.items p.tally.status p.tally.findings
 
-abbrev pub IsNoticePart : Look → List Tree → FileText → Part → Type 0
+abbrev pub IsNoticePart : Look → List Tree → Source → Part → Type 0
 IsNoticePart look trees s p = IsNoticePrint look trees s p.output.bytes.items p.tally.status p.tally.findings
 
 -- what is printed of a text, by what it is found to be
-abbrev pub IsPrintOf : Look → List Tree → FileText → Reading → Part → Type 0
+abbrev pub IsPrintOf : Look → List Tree → Source → Reading → Part → Type 0
 IsPrintOf look trees s (reading.Unread f) p = IsUnreadPart look s p
 IsPrintOf look trees s (reading.Other kind) p = IsNoticePart look trees s p
 IsPrintOf look trees s (reading.Known place) p =

@@ -8,10 +8,11 @@ ghost use Rattle.flt_notes.specs.Warned.{warned_of};
 use crate::lines::{journal_rows, lengths_of, plural};
 use crate::warned::WarnedText;
 use flt_deadlocks::{Answer, Deadlock, Watched, find_deadlock};
-use flt_details::{Page, Part, word_of};
+use flt_details::{FileLines, Page, Part, word_of};
 use flt_explain::Subject;
 use flt_model::{Journal, Verdict};
 use flt_order::Acquisition;
+use flt_reports::tell_line;
 use flt_search::{Bounds, SearchWatch};
 use flt_tree::Tree;
 use flt_waits::Blocked;
@@ -22,8 +23,14 @@ use std::fmt;
 
 /// Writes the lock for which an activation waits, and the line.
 #[tactic(auto, unfolding(crate::specs::Deadlocked::wait_words))]
-fn tell_wait(page: &mut Page, tree: &Tree, wait: &Blocked) -> Result<(), AllocError>
-    ensures { Writes result page.old page.new (spec.wait_words tree.now.filter wait.now) }
+fn tell_wait(
+    page: &mut Page,
+    files: &[FileLines<'_>],
+    home: usize,
+    tree: &Tree,
+    wait: &Blocked,
+) -> Result<(), AllocError>
+    ensures { Writes result page.old page.new (spec.wait_words files.now home tree.now.filter wait.now) }
 {
     page.say(&[
         Part::Text("    activation "),
@@ -31,8 +38,8 @@ fn tell_wait(page: &mut Page, tree: &Tree, wait: &Blocked) -> Result<(), AllocEr
         Part::Text(" waits for "),
         Part::Quoted(word_of(tree, Subject::Lock(wait.lock))),
         Part::Text(" on line "),
-        Part::Number(wait.span.line),
-    ])
+    ])?;
+    tell_line(page, files, home, wait.span.line)
 }
 
 /// Writes that an activation holds that lock.
@@ -54,22 +61,34 @@ fn tell_holder(page: &mut Page, holder: Option<usize>) -> Result<(), AllocError>
 }
 
 /// Writes the line of an activation that waits.
-fn tell_wait_line(page: &mut Page, tree: &Tree, wait: &Blocked) -> Result<(), AllocError>
-    ensures { Writes result page.old page.new (spec.wait_line tree.now.filter wait.now) }
+fn tell_wait_line(
+    page: &mut Page,
+    files: &[FileLines<'_>],
+    home: usize,
+    tree: &Tree,
+    wait: &Blocked,
+) -> Result<(), AllocError>
+    ensures { Writes result page.old page.new (spec.wait_line files.now home tree.now.filter wait.now) }
 {
-    tell_wait(page, tree, wait)?;
+    tell_wait(page, files, home, tree, wait)?;
     tell_holder(page, wait.holder)?;
     page.bytes(b"\n")?;
     Ok(())
 }
 
 /// The lines of the activations that wait.
-fn wait_lines(alloc: Global, tree: &Tree, waits: &[Blocked]) -> Result<Vec<u8>, AllocError>
-    ensures { IfOk result (λ lines. lines.items ≡ spec.wait_lines tree.now.filter waits.now) }
+fn wait_lines(
+    alloc: Global,
+    files: &[FileLines<'_>],
+    home: usize,
+    tree: &Tree,
+    waits: &[Blocked],
+) -> Result<Vec<u8>, AllocError>
+    ensures { IfOk result (λ lines. lines.items ≡ spec.wait_lines files.now home tree.now.filter waits.now) }
 {
     let mut page = Page::new(alloc);
     for wait in waits {
-        tell_wait_line(&mut page, tree, wait)?;
+        tell_wait_line(&mut page, files, home, tree, wait)?;
     }
     Ok(page.out)
 }
@@ -86,12 +105,18 @@ fn deadlock_line(alloc: Global, journal: &Journal) -> Result<String, AllocError>
 }
 
 /// The lines on a run to a deadlock: how long it is, its rows, and who waits at its end.
-fn deadlock_lines(text: &WarnedText<'_>, deadlock: &Deadlock) -> Result<Vec<u8>, AllocError>
-    ensures { IfOk result (λ lines. spec.AreDeadlockLines (warned_of text.now) deadlock.now lines.items) }
+fn deadlock_lines(text: &WarnedText<'_>, home: usize, deadlock: &Deadlock) -> Result<Vec<u8>, AllocError>
+    ensures { IfOk result (λ lines. spec.AreDeadlockLines (warned_of text.now) home deadlock.now lines.items) }
 {
     let line = deadlock_line(text.alloc, &deadlock.journal)?;
     let rows = journal_rows(text.alloc, text.own, &deadlock.journal, Verdict::Legal)?;
-    let waits = wait_lines(text.alloc, text.tree, deadlock.waits.as_slice())?;
+    let waits = wait_lines(
+        text.alloc,
+        text.files,
+        home,
+        text.tree,
+        deadlock.waits.as_slice(),
+    )?;
     let mut lines = line.into_bytes();
     lines.extend_from_slice(rows.as_bytes())?;
     lines.extend_from_slice(waits.as_slice())?;
@@ -133,11 +158,11 @@ fn cut_line(alloc: Global, states: u32) -> Result<Vec<u8>, AllocError>
 // ---- all
 
 /// The lines on the answer of a search for a deadlock.
-fn answer_lines(text: &WarnedText<'_>, answer: &Answer) -> Result<Vec<u8>, AllocError>
-    ensures { IfOk result (λ lines. spec.AreAnswerLines (warned_of text.now) answer.now lines.items) }
+fn answer_lines(text: &WarnedText<'_>, home: usize, answer: &Answer) -> Result<Vec<u8>, AllocError>
+    ensures { IfOk result (λ lines. spec.AreAnswerLines (warned_of text.now) home answer.now lines.items) }
 {
     match answer {
-        Answer::Found(deadlock) => deadlock_lines(text, deadlock),
+        Answer::Found(deadlock) => deadlock_lines(text, home, deadlock),
         Answer::NotWithin => Vec::from_slice(text.alloc, NOT_WITHIN),
         Answer::Cut => cut_line(text.alloc, text.states),
     }
@@ -146,30 +171,32 @@ fn answer_lines(text: &WarnedText<'_>, answer: &Answer) -> Result<Vec<u8>, Alloc
 /// The lines on the answer of a search for the deadlock of a circle.
 fn search_lines<W: SearchWatch>(
     text: &WarnedText<'_>,
+    home: usize,
     circle: &[Acquisition],
     watch: &mut W,
 ) -> Result<Vec<u8>, AllocError>
-    ensures { IfOk result (λ lines. spec.AreSearchLines (warned_of text.now) circle.now lines.items) }
+    ensures { IfOk result (λ lines. spec.AreSearchLines (warned_of text.now) home circle.now lines.items) }
 {
     let bounds = Bounds {
         states: text.states,
     };
     let mut watched = Watched::new(watch);
     let answer = find_deadlock(text.alloc, text.own, 0, circle, bounds, &mut watched)?;
-    let lines = answer_lines(text, &answer)?;
+    let lines = answer_lines(text, home, &answer)?;
     Ok(lines)
 }
 
 /// The lines below the report of a warning about a circle of locks; empty if it is about none.
 pub(crate) fn run_lines<W: SearchWatch>(
     text: &WarnedText<'_>,
+    home: usize,
     circle: &[Acquisition],
     watch: &mut W,
 ) -> Result<Vec<u8>, AllocError>
-    ensures { IfOk result (λ lines. spec.AreRunLines (warned_of text.now) circle.now lines.items) }
+    ensures { IfOk result (λ lines. spec.AreRunLines (warned_of text.now) home circle.now lines.items) }
 {
     match circle {
         [] => Ok(Vec::new(text.alloc)),
-        [_, ..] => search_lines(text, circle, watch),
+        [_, ..] => search_lines(text, home, circle, watch),
     }
 }

@@ -2,7 +2,7 @@
 
 ghost use Rattle.std.specs.Prelude.{◌≡◌, ◌≢◌, ◌≤◌, true, false, IfOk, IfErr, OnOk, length, take};
 ghost use Rattle.std.specs.Io.KnownBytes.{Appends};
-ghost use Rattle.flt_reports.specs.FileText.{texts_of};
+ghost use Rattle.flt_details.specs.Reports.{texts_of};
 ghost use Rattle.flt_notes.specs.Noted.{AreNotes};
 ghost use Rattle.flt_notes.specs.Reported as spec;
 ghost use Rattle.flt_notes.specs.Told.{Tells};
@@ -14,9 +14,8 @@ use crate::output::Output;
 use crate::printing::Stage;
 use crate::readings::read_all;
 use crate::together::Printed;
-use flt_details::Explained;
+use flt_details::{Explained, Source};
 use flt_model::Sink;
-use flt_reports::FileText;
 use flt_search::SearchWatch;
 use flt_warning_details::WarningOptions;
 use sqlite_items::Items;
@@ -80,7 +79,7 @@ fn finished(printed: Printed) -> Told
 pub fn explain<O: Sink, W: SearchWatch>(
     alloc: Global,
     asking: Asking,
-    sources: &[FileText<'_>],
+    sources: &[Source<'_>],
     out: &mut O,
     watch: &mut W,
 ) -> Result<Told, ExplainFault>

@@ -26,13 +26,13 @@ use crate::setters::Setter;
 use crate::totals::Tally;
 use crate::warned::WarnedText;
 use crate::warnings::promise_and_warnings;
-use flt_details::{fault_line, findings_line};
+use flt_details::{Source, fault_line, file_line, file_lines, findings_line};
 use flt_explain::{Finding, findings};
 use flt_graph::{Graph, lower};
 use flt_model::Violation;
 use flt_places::Lines;
 use flt_reasons::{Kind, Notice, describe};
-use flt_reports::{FileText, Report, ShownFile, report_findings, report_unread};
+use flt_reports::{Report, report_findings, report_unread};
 use flt_schedules::{
     Outcome, Outlook, Schedule, Scheduled, Suspect, Suspects, only, outcomes_among,
 };
@@ -69,7 +69,7 @@ pub(crate) struct Stage<'a> {
 /// A text that parses: the number of its tree, its tree, its points, its findings and its warnings.
 #[derive(Clone, Copy)]
 pub(crate) struct Known<'a> {
-    pub(crate) source: FileText<'a>,
+    pub(crate) source: Source<'a>,
     pub(crate) place: usize,
     pub(crate) tree: &'a Tree,
     pub(crate) graph: &'a Graph,
@@ -110,6 +110,35 @@ fn tree_at<'a>(trees: &'a [Tree], _text: &[u8], place: usize) -> &'a Tree
     ensures spelled { Spells _text.now result.now.filter }
 {
     &trees[place]
+}
+
+/// The last line of the report of a text that parses, with the line of the first finding in its file.
+fn last_line(alloc: Global, source: Source<'_>, found: &[Finding]) -> Result<String, AllocError>
+    ensures { IfOk result (λ line. string_bytes line ≡ spec.closing_in source.entry.files.now found.now) }
+{
+    let files = file_lines(alloc, source.files)?;
+    match found {
+        [] => findings_line(alloc, found),
+        [first, ..] => {
+            let mut first = *first;
+            first.line = file_line(files.as_slice(), first.line);
+            findings_line(alloc, &[first])
+        }
+    }
+}
+
+/// The last line of the report of a text that doesn't parse, with the line of its fault in its file.
+fn unread_line(
+    alloc: Global,
+    source: Source<'_>,
+    fault: SyntaxFault,
+) -> Result<String, AllocError>
+    ensures { IfOk result (λ line. string_bytes line ≡ syntax_line (spec.fault_in source.entry.files.now fault) ++ 10 ∷ []) }
+{
+    let files = file_lines(alloc, source.files)?;
+    let mut fault = fault;
+    fault.line = file_line(files.as_slice(), fault.line);
+    fault_line(alloc, fault)
 }
 
 /// The last of the outcomes of findings, which is taken away.
@@ -392,18 +421,15 @@ impl Stage<'_> {
             known.entry.details.now said.items) }
     {
         let lines = Lines::of(self.alloc, known.source.text)?;
-        let file_lines = Lines::of(self.alloc, known.source.file)?;
-        let file = ShownFile {
-            name: known.source.name,
-            lines: &file_lines,
-        };
+        let files = file_lines(self.alloc, known.source.files)?;
         let text = WarnedText {
             alloc: self.alloc,
             coloured: self.coloured,
             states: self.states,
             own: only(self.trees, known.place),
             tree: known.tree,
-            file,
+            name: known.source.name(),
+            files: files.as_slice(),
             lines: &lines,
         };
         promise_and_warnings(&text, known.details, watch)
@@ -459,7 +485,8 @@ impl Stage<'_> {
         texts_without_circles_are_orderly();
         let mut output = Output::new(self.alloc);
         self.put_findings(&mut output, known, watch)?;
-        output.lines(findings_line(self.alloc, known.found)?.as_bytes())?;
+        let line = last_line(self.alloc, known.source, known.found)?;
+        output.lines(line.as_bytes())?;
         let tally = Tally {
             status: warned_status(self.options.is_strict, known.found, known.details),
             findings: known.found.len(),
@@ -470,7 +497,7 @@ impl Stage<'_> {
     /// The report of a text that parses. Its points, its findings and its warnings are computed here.
     fn parsed_part<W: SearchWatch>(
         &self,
-        source: FileText<'_>,
+        source: Source<'_>,
         place: usize,
         watch: &mut W,
     ) -> Result<Part, AllocError>
@@ -495,7 +522,7 @@ impl Stage<'_> {
     }
 
     /// The report of a text that doesn't parse.
-    fn unread_part(&self, source: FileText<'_>, fault: SyntaxFault) -> Result<Part, AllocError>
+    fn unread_part(&self, source: Source<'_>, fault: SyntaxFault) -> Result<Part, AllocError>
         requires unread { IsUnread source.text.now fault }
         ensures report { IfOk result (spec.HasReport self.now.options (filters_of self.now.trees.now) source.entry.text.now) }
         ensures print { IfOk result (spec.IsUnreadPart (spec.look_of self.now) source.entry) }
@@ -503,7 +530,8 @@ impl Stage<'_> {
     {
         let mut output = Output::new(self.alloc);
         output.lines(report_unread(self.alloc, self.coloured, source)?.as_slice())?;
-        output.lines(fault_line(self.alloc, fault)?.as_bytes())?;
+        let line = unread_line(self.alloc, source, fault)?;
+        output.lines(line.as_bytes())?;
         let tally = Tally {
             status: 2,
             findings: 1,
@@ -532,13 +560,13 @@ impl Stage<'_> {
     }
 
     /// The report of a certificate, a journal or a script.
-    fn notice_part(&self, source: FileText<'_>, notice: &Notice<'_>) -> Result<Part, AllocError>
+    fn notice_part(&self, source: Source<'_>, notice: &Notice<'_>) -> Result<Part, AllocError>
         ensures report { IfOk result (spec.ClosesNotice notice.now) }
         ensures print { IfOk result (spec.PrintsNotice (spec.look_of self.now) self.now.trees.now source.entry notice.now) }
         ensures silent { IfOk result (λ p. spec.IsSilent self.now.trees.now self.now.states p.output) }
     {
         let is_alone = self.is_alone(source.text);
-        let said = notice_lines(self.alloc, self.coloured, is_alone, source.name, notice)?;
+        let said = notice_lines(self.alloc, self.coloured, is_alone, source.name(), notice)?;
         let mut output = Output::new(self.alloc);
         output.lines(said.as_slice())?;
         output.lines(notice.closing(self.alloc)?.as_bytes())?;
@@ -550,7 +578,7 @@ impl Stage<'_> {
     }
 
     /// The report of a text that is taken for a certificate, a journal or a script.
-    fn other_part(&self, source: FileText<'_>, kind: Kind) -> Result<Part, AllocError>
+    fn other_part(&self, source: Source<'_>, kind: Kind) -> Result<Part, AllocError>
         requires other { IsOther source.text.now kind }
         ensures report { IfOk result (spec.HasReport self.now.options (filters_of self.now.trees.now) source.entry.text.now) }
         ensures print { IfOk result (spec.IsNoticePart (spec.look_of self.now) self.now.trees.now source.entry) }

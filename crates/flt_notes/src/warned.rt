@@ -1,7 +1,7 @@
 //! A text with warnings.
 
+use flt_details::FileLines;
 use flt_places::Lines;
-use flt_reports::ShownFile;
 use flt_tree::Tree;
 use std::alloc::Global;
 
@@ -15,7 +15,8 @@ pub(crate) struct WarnedText<'a> {
     /// The tree of the text, alone.
     pub(crate) own: &'a [Tree],
     pub(crate) tree: &'a Tree,
-    /// The file in which the text is.
-    pub(crate) file: ShownFile<'a>,
+    /// The name of the text's first file.
+    pub(crate) name: &'a str,
+    pub(crate) files: &'a [FileLines<'a>],
     pub(crate) lines: &'a Lines<'a>,
 }

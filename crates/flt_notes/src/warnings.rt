@@ -7,6 +7,7 @@ ghost use Rattle.flt_notes.specs.Warnings as spec;
 use crate::deadlocks::run_lines;
 use crate::lines::plural;
 use crate::warned::WarnedText;
+use flt_details::file_at;
 use flt_reports::{report_nothing, report_warning};
 use flt_search::SearchWatch;
 use flt_warning_details::{WarningDetail, shown_count};
@@ -21,8 +22,9 @@ fn report_with_run<W: SearchWatch>(
 ) -> Result<Vec<u8>, AllocError>
     ensures { IfOk result (λ printed. spec.IsReportWithRun (warned_of text.now) detail.now printed.items) }
 {
-    let mut printed = report_warning(text.alloc, text.coloured, text.file, text.lines, detail)?;
-    let below = run_lines(text, detail.circle.as_slice(), watch)?;
+    let mut printed = report_warning(text.alloc, text.coloured, text.files, text.lines, detail)?;
+    let home = file_at(text.files, detail.marks.statement.first.line);
+    let below = run_lines(text, home, detail.circle.as_slice(), watch)?;
     printed.extend_from_slice(below.as_slice())?;
     Ok(printed)
 }
@@ -95,7 +97,7 @@ pub(crate) fn promise_and_warnings<W: SearchWatch>(
 ) -> Result<Vec<u8>, AllocError>
     ensures { IfOk result (λ out. spec.ArePromised (warned_of text.now) details.now out.items) }
 {
-    let mut out = report_nothing(text.alloc, text.file.name)?;
+    let mut out = report_nothing(text.alloc, text.name)?;
     let reports = shown_reports(text, details, watch)?;
     let count = warnings_line(text.alloc, shown_count(details))?;
     out.extend_from_slice(reports.as_slice())?;

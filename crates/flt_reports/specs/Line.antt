@@ -25,7 +25,7 @@ site_of m = record { place = place_of m; length = m.marked }
 unfoldable pub picture : Bool → MarkedLine → Text
 picture coloured m =
     if length m.shown.now == 0 then []
-    else drawn coloured (width m.line) 0 m.shown.now m.shown.now (site_of m) strokes.Error ++ meant m.meant.now ++ 10 ∷ []
+    else drawn coloured (width m.line) [] 0 0 m.shown.now m.shown.now (site_of m) strokes.Error ++ meant m.meant.now ++ 10 ∷ []
 
 -- a line of help; nothing where there is none
 unfoldable pub help_line : Text → Text

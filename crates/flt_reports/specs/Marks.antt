@@ -1,8 +1,10 @@
 -- Lines of a text with marks under them. This project's own program.
-use Rattle.std.specs.Prelude.{ℕ, ◌==◌, ◌||◌, ◌-◌, Bool, false, if◌then◌else◌, [], ◌∷◌, ◌++◌, Option, Some, None, codes, length, max, min, replicate, slice_get, take}
+use Rattle.std.specs.Prelude.{ℕ, ◌==◌, ◌||◌, ◌-◌, Bool, false, if◌then◌else◌, List, [], ◌∷◌, ◌++◌, Option, Some, None, codes, length, max, min, replicate, slice_get, take}
 use Rattle.std.specs.Fmt.{decimal}
 use Rattle.flt_tree.specs.Names.{Text}
 use Rattle.flt_details.specs.Page.{shown}
+use Rattle.flt_details.specs.Sources.{file_at, file_line, file_name}
+use Rattle.flt_details.specs.declared.sources.FilePart.{FilePart}
 use Rattle.flt_places.specs.declared.places.Site.{Site}
 use Rattle.flt_reports.specs.Colours.{blue, plain, red, yellow}
 use Rattle.flt_reports.specs.declared.marks.Stroke.{Stroke}
@@ -28,8 +30,14 @@ abbrev pub bar : Bool → Text
 bar coloured = blue coloured ++ codes " | " ++ plain coloured
 
 -- dots between lines that aren't neighbours in the text; 0 for the line before where there is none
-unfoldable pub gap : ℕ → ℕ → Text
-gap before number = if before == 0 || number - 1 == before then [] else codes "..." ++ 10 ∷ []
+unfoldable pub dots : ℕ → ℕ → Text
+dots before number = if before == 0 || number - 1 == before then [] else codes "..." ++ 10 ∷ []
+
+-- between a line and the one before it: the name of its file, where this one isn't the file that is named, else dots
+unfoldable pub gap : List FilePart → ℕ → ℕ → ℕ → Text
+gap files file before number =
+    if file_at files number == file then dots before number
+    else codes "  ::: " ++ (shown (file_name files (file_at files number)) ++ 10 ∷ [])
 
 -- a line of the text, with its number as far right as the margin is wide
 unfoldable pub numbered_line : Bool → ℕ → ℕ → Text → Text
@@ -61,11 +69,13 @@ marked coloured margin line site stroke =
     ++ colour_of coloured stroke ++ replicate (signs line site) (sign_of stroke) ++ plain coloured
 
 -- the line of a site; nothing where it is the one that was drawn before
-unfoldable pub line_once : Bool → ℕ → ℕ → Text → ℕ → Text
-line_once coloured margin before line number =
-    if number == before then [] else gap before number ++ numbered_line coloured margin number line
+unfoldable pub line_once : Bool → ℕ → List FilePart → ℕ → ℕ → Text → ℕ → Text
+line_once coloured margin files file before line number =
+    if number == before then []
+    else gap files file before number ++ numbered_line coloured margin (file_line files number) line
 
 -- a site with signs under it, below what is shown for its line
-unfoldable pub drawn : Bool → ℕ → ℕ → Text → Text → Site → Stroke → Text
-drawn coloured margin before excerpt line site stroke =
-    line_once coloured margin before (without_return excerpt) site.place.line ++ marked coloured margin (without_return line) site stroke
+unfoldable pub drawn : Bool → ℕ → List FilePart → ℕ → ℕ → Text → Text → Site → Stroke → Text
+drawn coloured margin files file before excerpt line site stroke =
+    line_once coloured margin files file before (without_return excerpt) site.place.line
+    ++ marked coloured margin (without_return line) site stroke

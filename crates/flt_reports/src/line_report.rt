@@ -64,8 +64,9 @@ fn draw(page: &mut Page, coloured: bool, marked: &MarkedLine<'_>) -> Result<(), 
         place: place_of(marked),
         length: marked.marked,
     };
-    Drawing::new(coloured, marked.line).draw(
+    Drawing::new(coloured, marked.line, 0).draw(
         page,
+        &[],
         marked.shown,
         marked.shown,
         &site,

@@ -2,18 +2,21 @@
 
 ghost use Rattle.std.specs.Prelude.{◌≡◌, ◌+◌, ◌≤◌, option_copied, OnOk};
 ghost use Rattle.flt_details.specs.Page.{Writes};
+ghost use Rattle.flt_details.specs.Sources.{file_at};
 ghost use Rattle.flt_reports.specs.Marks as spec;
 
 use crate::colours::{blue, plain, red, yellow};
-use flt_details::Page;
+use flt_details::{FileLines, Page, file_at, file_line, file_name};
 use flt_places::Site;
 use std::alloc::AllocError;
 
-/// The lines that are drawn: whether in colours, the width of their numbers, and the number of the last one, 0 if there is none.
+/// The lines that are drawn: whether in colours, the width of their numbers, the file that is named last, and the number in the text of the
+/// last one, 0 if there is none.
 #[derive(Clone, Copy)]
 pub(crate) struct Drawing {
     coloured: bool,
     margin: usize,
+    file: usize,
     last: usize,
 }
 
@@ -95,29 +98,48 @@ fn colour_of(coloured: bool, stroke: Stroke) -> &'static str
 }
 
 impl Drawing {
-    /// A drawing for lines up to this number.
-    pub(crate) fn new(coloured: bool, greatest: usize) -> Drawing
+    /// A drawing for lines up to this number, below the name of a file.
+    pub(crate) fn new(coloured: bool, greatest: usize, file: usize) -> Drawing
         ensures coloured { result.coloured ≡ coloured }
         ensures margin { result.margin ≡ spec.width greatest }
+        ensures file { result.file ≡ file }
         ensures last { result.last ≡ 0 }
     {
         Drawing {
             coloured,
             margin: width(greatest),
+            file,
             last: 0,
         }
     }
 
-    /// The text between the last line and another one.
-    #[tactic(auto, unfolding(crate::specs::Marks::gap))]
-    fn gap(self, number: usize) -> &'static str
-        ensures { result.now ≡ spec.gap self.last number }
+    /// The dots between the last line and another one, if they aren't neighbours.
+    #[tactic(auto, unfolding(crate::specs::Marks::dots))]
+    fn dots(self, number: usize) -> &'static str
+        ensures { result.now ≡ spec.dots self.last number }
     {
         if self.last == 0 || number.saturating_sub(1) == self.last {
             ""
         } else {
             "...\n"
         }
+    }
+
+    /// Writes the text between the last line and another one: the name of its file, if that isn't named yet.
+    #[tactic(auto, unfolding(crate::specs::Marks::gap))]
+    fn tell_gap(
+        self,
+        page: &mut Page,
+        files: &[FileLines<'_>],
+        number: usize,
+    ) -> Result<(), AllocError>
+        ensures { Writes result page.old page.new (spec.gap files.now self.file self.last number) }
+    {
+        let file = file_at(files, number);
+        if file == self.file {
+            return page.texts(&[self.dots(number)]);
+        }
+        page.line(&[b"  ::: ", file_name(files, file).as_bytes()])
     }
 
     /// Draws a line of the text.
@@ -134,14 +156,21 @@ impl Drawing {
 
     /// Draws the line of a site, if it isn't the last one drawn.
     #[tactic(auto, unfolding(crate::specs::Marks::line_once))]
-    fn draw_once(self, page: &mut Page, line: &[u8], number: usize) -> Result<(), AllocError>
-        ensures { Writes result page.old page.new (spec.line_once self.coloured self.margin self.last line.now number) }
+    fn draw_once(
+        self,
+        page: &mut Page,
+        files: &[FileLines<'_>],
+        line: &[u8],
+        number: usize,
+    ) -> Result<(), AllocError>
+        ensures { Writes result page.old page.new
+            (spec.line_once self.coloured self.margin files.now self.file self.last line.now number) }
     {
         if number == self.last {
             return Ok(());
         }
-        page.texts(&[self.gap(number)])?;
-        self.draw_line(page, line, number)
+        self.tell_gap(page, files, number)?;
+        self.draw_line(page, line, file_line(files, number))
     }
 
     /// Draws signs under a site.
@@ -168,18 +197,21 @@ impl Drawing {
     pub(crate) fn draw(
         &mut self,
         page: &mut Page,
+        files: &[FileLines<'_>],
         excerpt: &[u8],
         line: &[u8],
         site: &Site,
         stroke: Stroke,
     ) -> Result<(), AllocError>
         ensures drawn { Writes result page.old page.new
-            (spec.drawn self.old.coloured self.old.margin self.old.last excerpt.now line.now site.now stroke) }
+            (spec.drawn self.old.coloured self.old.margin files.now self.old.file self.old.last excerpt.now line.now site.now stroke) }
         ensures coloured { OnOk result (self.new.coloured ≡ self.old.coloured) }
         ensures margin { OnOk result (self.new.margin ≡ self.old.margin) }
+        ensures file { OnOk result (self.new.file ≡ file_at files.now site.now.place.line) }
         ensures last { OnOk result (self.new.last ≡ site.now.place.line) }
     {
-        self.draw_once(page, without_return(excerpt), site.place.line)?;
+        self.draw_once(page, files, without_return(excerpt), site.place.line)?;
+        self.file = file_at(files, site.place.line);
         self.last = site.place.line;
         self.draw_marks(page, without_return(line), site, stroke)
     }

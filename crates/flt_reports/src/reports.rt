@@ -9,9 +9,8 @@ ghost use Rattle.flt_reports.specs.Finding.{finding_report};
 ghost use Rattle.flt_reports.specs.Reports as spec;
 
 use crate::fault_report::report_fault;
-use crate::file_text::{FileText, ShownFile};
 use crate::finding_report::report_finding;
-use flt_details::{Page, Scene, Traces, Words, words_of};
+use flt_details::{FileLines, Page, Scene, Source, Traces, Words, file_lines, words_of};
 use flt_explain::Finding;
 use flt_graph::Graph;
 use flt_origins::Group;
@@ -35,13 +34,13 @@ pub struct Report {
 fn lines_in(
     alloc: Global,
     coloured: bool,
-    file: ShownFile<'_>,
+    files: &[FileLines<'_>],
     scene: &Scene<'_>,
     traces: &Traces,
     group: &Group,
     words: &Words,
 ) -> Result<Vec<u8>, AllocError>
-    ensures { IfOk result (λ lines. lines.items ≡ finding_report coloured file.entry.name.now file.entry.lines.now scene.now.lines.now
+    ensures { IfOk result (λ lines. lines.items ≡ finding_report coloured files.now scene.now.lines.now
         scene.now.graph.now group.now.first.finding words.now (slice_get traces.now.shown group.now.first.number) group.now.others) }
 {
     let mut page = Page::new(alloc);
@@ -49,7 +48,7 @@ fn lines_in(
     let shown = traces.shown(&group.first);
     let others = group.others.as_slice();
     report_finding(
-        alloc, &mut page, coloured, file, scene, &finding, words, shown, others,
+        alloc, &mut page, coloured, files, scene, &finding, words, shown, others,
     )?;
     Ok(page.out)
 }
@@ -58,17 +57,17 @@ fn lines_in(
 fn group_lines(
     alloc: Global,
     coloured: bool,
-    file: ShownFile<'_>,
+    files: &[FileLines<'_>],
     scene: &Scene<'_>,
     traces: &Traces,
     group: &Group,
 ) -> Result<Vec<u8>, AllocError>
-    ensures { IfOk result (λ lines. spec.AreLines coloured file.entry.name.now file.entry.lines.now scene.now.lines.now
+    ensures { IfOk result (λ lines. spec.AreLines coloured files.now scene.now.lines.now
         scene.now.tree.now.filter scene.now.graph.now traces.now group.now lines.items) }
 {
     let finding = group.first.finding;
     let words = words_of(alloc, scene, &finding, traces.shown(&group.first))?;
-    let lines = lines_in(alloc, coloured, file, scene, traces, group, &words)?;
+    let lines = lines_in(alloc, coloured, files, scene, traces, group, &words)?;
     Ok(lines)
 }
 
@@ -76,16 +75,16 @@ fn group_lines(
 fn report_of(
     alloc: Global,
     coloured: bool,
-    file: ShownFile<'_>,
+    files: &[FileLines<'_>],
     scene: &Scene<'_>,
     traces: &Traces,
     group: &Group,
 ) -> Result<Report, AllocError>
     ensures { IfOk result
-        (spec.IsReport coloured file.entry.name.now file.entry.lines.now scene.now.lines.now scene.now.tree.now.filter scene.now.graph.now
+        (spec.IsReport coloured files.now scene.now.lines.now scene.now.tree.now.filter scene.now.graph.now
         traces.now group.now) }
 {
-    let lines = group_lines(alloc, coloured, file, scene, traces, group)?;
+    let lines = group_lines(alloc, coloured, files, scene, traces, group)?;
     Ok(Report {
         finding: group.first.number,
         is_behind: traces.is_behind(&group.first),
@@ -97,17 +96,17 @@ fn report_of(
 fn report_groups(
     alloc: Global,
     coloured: bool,
-    file: ShownFile<'_>,
+    files: &[FileLines<'_>],
     scene: &Scene<'_>,
     traces: &Traces,
 ) -> Result<Items<Report>, AllocError>
     ensures { IfOk result
-        (AllZip (spec.IsReport coloured file.entry.name.now file.entry.lines.now scene.now.lines.now scene.now.tree.now.filter
+        (AllZip (spec.IsReport coloured files.now scene.now.lines.now scene.now.tree.now.filter
         scene.now.graph.now traces.now) traces.now.groups) }
 {
     let mut all = Items::new(alloc);
     for group in traces.groups.as_slice() {
-        all.push(report_of(alloc, coloured, file, scene, traces, group)?)?;
+        all.push(report_of(alloc, coloured, files, scene, traces, group)?)?;
     }
     Ok(all)
 }
@@ -122,28 +121,24 @@ fn report_groups(
 pub fn report_findings(
     alloc: Global,
     coloured: bool,
-    source: FileText<'_>,
+    source: Source<'_>,
     tree: &Tree,
     graph: &Graph,
     found: &[Finding],
 ) -> Result<Items<Report>, AllocError>
     ensures reports { IfOk result
-        (spec.AreReports coloured source.entry.name.now source.entry.file.now source.entry.text.now tree.now.filter graph.now found.now) }
+        (spec.AreReports coloured source.entry.files.now source.entry.text.now tree.now.filter graph.now found.now) }
     ensures firsts { IfOk result (λ all. AreFirsts found.now (spec.numbers_of all)) }
 {
     let lines = Lines::of(alloc, source.text)?;
-    let file_lines = Lines::of(alloc, source.file)?;
-    let file = ShownFile {
-        name: source.name,
-        lines: &file_lines,
-    };
+    let files = file_lines(alloc, source.files)?;
     let scene = Scene {
         lines: &lines,
         tree,
         graph,
     };
     let traces = Traces::of(alloc, graph, found)?;
-    let reports = report_groups(alloc, coloured, file, &scene, &traces)?;
+    let reports = report_groups(alloc, coloured, files.as_slice(), &scene, &traces)?;
     Ok(reports)
 }
 
@@ -180,9 +175,9 @@ pub fn report_nothing(alloc: Global, name: &str) -> Result<Vec<u8>, AllocError>
 pub fn report_unread(
     alloc: Global,
     coloured: bool,
-    source: FileText<'_>,
+    source: Source<'_>,
 ) -> Result<Vec<u8>, AllocError>
-    ensures { IfOk result (λ lines. IsFaultReport coloured source.entry.name.now source.entry.file.now source.entry.text.now lines.items) }
+    ensures { IfOk result (λ lines. IsFaultReport coloured source.entry.files.now source.entry.text.now lines.items) }
 {
     report_fault(alloc, coloured, source)
 }

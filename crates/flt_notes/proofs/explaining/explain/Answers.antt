@@ -1,5 +1,5 @@
 use Rattle.std.proofs.Common.{◌≡◌, ap}
-use Rattle.flt_reports.specs.FileText.{texts_of}
+use Rattle.flt_details.specs.Reports.{texts_of}
 use Rattle.flt_model.specs.Program.{filters_of}
 use Rattle.flt_notes.specs.Readings.{known_in, texts_read}
 use Rattle.flt_notes.proofs.explaining.explain.Goals as goal

@@ -1,6 +1,6 @@
 use Rattle.std.proofs.Common.{Err, rules, ◌≡◌, ◌∙◌, length, sym}
 use Rattle.std.proofs.lemmas.List.{length-map}
-use Rattle.flt_reports.specs.declared.file_text.FileText.{FileText}
+use Rattle.flt_details.specs.declared.sources.Source.{Source}
 use Rattle.flt_notes.specs.Printing.{look_of}
 use Rattle.flt_notes.specs.Readings.{sources_read, texts_read}
 use Rattle.flt_notes.specs.declared.readings.Studied.{Studied}
@@ -17,7 +17,7 @@ returns-clause-reports g c = record {
   are = c.in_ok-printed.ensures.printed.parts;
   whole = summed c.in_ok-printed.printed.output.bytes.items c.as_bytes.result.now c.lines.new.self.bytes.items _ _ _ _
       c.in_ok-lines.ensures.bytes (c.as_bytes.ensures.value ∙ c.in_ok-line.ensures.ok)
-      (sym (length-map (sources_read c.args.each.now) (λ (s : FileText). s.text.now) ∙
+      (sym (length-map (sources_read c.args.each.now) (λ (s : Source). s.text.now) ∙
       length-map c.args.each.now (λ (s : Studied). s.source)));
 }
 
