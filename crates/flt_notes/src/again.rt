@@ -12,6 +12,7 @@ use crate::setters::{Setter, is_same};
 use flt_explain::Finding;
 use flt_schedules::{Outcome, Outlook, Schedule, Suspect, Suspects, outcomes_among};
 use flt_search::{Broken, SearchWatch};
+use flt_timeline::FileStart;
 use std::alloc::{AllocError, Global};
 
 /// A text that sets what another doesn't, and the outcomes in it of the other's findings that need this.
@@ -47,12 +48,32 @@ fn numbered(alloc: Global, first: usize, lines: &[u8]) -> Result<Vec<u8>, AllocE
     Ok(out)
 }
 
+/// The number, in the last file of the first filter, of a line after all lines of its text.
+fn last_line(files: &[&[FileStart<'_>]], line: usize) -> usize {
+    let Some(files) = files.get(0) else {
+        return line;
+    };
+    match files.last() {
+        Some(last) => line.saturating_sub(last.first.saturating_sub(1)),
+        None => line,
+    }
+}
+
 /// The lines of the added callback, by their numbers, and a run of the text with it as rows.
-fn setter_rows(alloc: Global, setter: &Setter, broken: &Broken) -> Result<Vec<u8>, AllocError>
+fn setter_rows(
+    alloc: Global,
+    files: &[&[FileStart<'_>]],
+    setter: &Setter,
+    broken: &Broken,
+) -> Result<Vec<u8>, AllocError>
     ensures { IfOk result (λ out. rows.AreSetterRows setter.now broken.now out.items) }
 {
-    let mut out = numbered(alloc, setter.line, setter.added.as_bytes())?;
-    let broken_rows = run_rows(alloc, setter.trees.as_slice(), broken)?;
+    let mut out = numbered(
+        alloc,
+        last_line(files, setter.line),
+        setter.added.as_bytes(),
+    )?;
+    let broken_rows = run_rows(alloc, setter.trees.as_slice(), files, broken)?;
     out.extend_from_slice(broken_rows.as_bytes())?;
     Ok(out)
 }
@@ -186,11 +207,16 @@ impl Setting {
     /// # Errors
     ///
     /// If memory is refused.
-    pub(crate) fn rows(&self, alloc: Global, again: &Again) -> Result<Vec<u8>, AllocError>
+    pub(crate) fn rows(
+        &self,
+        alloc: Global,
+        files: &[&[FileStart<'_>]],
+        again: &Again,
+    ) -> Result<Vec<u8>, AllocError>
         ensures { IfOk result (λ out. rows.AreRowsBy self.now.setter again.now out.items) }
     {
         match again {
-            Again::Runs(broken) => setter_rows(alloc, &self.setter, broken),
+            Again::Runs(broken) => setter_rows(alloc, files, &self.setter, broken),
             Again::RunsNowhere => Ok(Vec::new(alloc)),
         }
     }

@@ -105,11 +105,22 @@ fn deadlock_line(alloc: Global, journal: &Journal) -> Result<String, AllocError>
 }
 
 /// The lines on a run to a deadlock: how long it is, its rows, and who waits at its end.
-fn deadlock_lines(text: &WarnedText<'_>, home: usize, deadlock: &Deadlock) -> Result<Vec<u8>, AllocError>
+fn deadlock_lines(
+    text: &WarnedText<'_>,
+    home: usize,
+    deadlock: &Deadlock,
+) -> Result<Vec<u8>, AllocError>
     ensures { IfOk result (λ lines. spec.AreDeadlockLines (warned_of text.now) home deadlock.now lines.items) }
 {
     let line = deadlock_line(text.alloc, &deadlock.journal)?;
-    let rows = journal_rows(text.alloc, text.own, &deadlock.journal, Verdict::Legal)?;
+    let files = [text.starts];
+    let rows = journal_rows(
+        text.alloc,
+        text.own,
+        &files,
+        &deadlock.journal,
+        Verdict::Legal,
+    )?;
     let waits = wait_lines(
         text.alloc,
         text.files,

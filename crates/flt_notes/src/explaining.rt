@@ -11,15 +11,16 @@ ghost use Rattle.flt_notes.specs.Whole.{IsPrint, look_for};
 use crate::fault::ExplainFault;
 use crate::noted::Noted;
 use crate::output::Output;
-use crate::printing::Stage;
-use crate::readings::read_all;
+use crate::printing::{Stage, starts_of};
+use crate::readings::{Reading, Studied, read_all};
 use crate::together::Printed;
 use flt_details::{Explained, Source};
 use flt_model::Sink;
 use flt_search::SearchWatch;
+use flt_timeline::FileStart;
 use flt_warning_details::WarningOptions;
 use sqlite_items::Items;
-use std::alloc::Global;
+use std::alloc::{AllocError, Global};
 
 /// The settings of reports on texts.
 #[derive(Clone, Copy)]
@@ -41,6 +42,33 @@ pub struct Told {
     pub noted: Items<Noted>,
     /// How many bytes of the output are put out already.
     pub sent: usize,
+}
+
+/// The lines with which the files of each text that parses begin.
+fn starts_in<'a>(
+    alloc: Global,
+    each: &[Studied<'a>],
+) -> Result<Vec<Vec<FileStart<'a>>>, AllocError> {
+    let mut all = Vec::new(alloc);
+    for studied in each {
+        if let Reading::Known(_) = studied.reading {
+            let starts = starts_of(alloc, studied.source.files)?;
+            all.push(starts)?;
+        }
+    }
+    Ok(all)
+}
+
+/// The same, lent.
+fn slices_of<'s>(
+    alloc: Global,
+    starts: &'s [Vec<FileStart<'s>>],
+) -> Result<Vec<&'s [FileStart<'s>]>, AllocError> {
+    let mut all = Vec::new(alloc);
+    for one in starts {
+        all.push(one.as_slice())?;
+    }
+    Ok(all)
 }
 
 /// The output for texts, with its status.
@@ -99,10 +127,13 @@ pub fn explain<O: Sink, W: SearchWatch>(
         spec.IsCut asking.options (texts_of sources.now) asking.states (O.taken out.old) (O.taken out.new)) }
 {
     let readings = read_all(alloc, sources)?;
+    let starts = starts_in(alloc, readings.each.as_slice())?;
+    let files = slices_of(alloc, starts.as_slice())?;
     let stage = Stage {
         alloc,
         coloured: asking.coloured,
         trees: readings.trees.as_slice(),
+        files: files.as_slice(),
         states: asking.states,
         options: asking.options,
     };

@@ -10,7 +10,7 @@ use flt_graph::Place;
 use flt_model::{Journal, JournalEntry, Move, Verdict, Violation};
 use flt_schedules::{Schedule, Scheduled, Unset, only};
 use flt_search::Broken;
-use flt_timeline::Timeline;
+use flt_timeline::{FileStart, Timeline};
 use flt_tree::Tree;
 use std::alloc::{AllocError, Global};
 use std::fmt;
@@ -404,16 +404,33 @@ pub(crate) fn again_line(alloc: Global, again: &Option<Again>) -> Result<String,
 
 // ---- rows
 
-/// The legend and the rows of a journal on these filters.
+/// The files of the filters in whose runs a finding has its outcome: of all filters, or of that of a number alone.
+fn own_files<'f>(
+    files: &'f [&'f [FileStart<'f>]],
+    filter: usize,
+    scheduled: &Scheduled,
+) -> &'f [&'f [FileStart<'f>]] {
+    match scheduled {
+        Scheduled::Together(_) => files,
+        Scheduled::Alone(_) => match files.get(filter) {
+            Some(_) => &files[filter..filter + 1],
+            None => &[],
+        },
+    }
+}
+
+/// The legend and the rows of a journal on these filters, whose texts are in these files.
 pub(crate) fn journal_rows(
     alloc: Global,
     own: &[Tree],
+    files: &[&[FileStart<'_>]],
     journal: &Journal,
     verdict: Verdict,
 ) -> Result<String, AllocError>
     ensures { IfOk result (λ rows. AreJournalRows own.now journal.now verdict (string_bytes rows)) }
 {
     let timeline = Timeline::of(alloc, own, journal, verdict)?;
+    let timeline = timeline.in_files(alloc, own, files)?;
     let rows = timeline.text(alloc, INDENT)?;
     let mut out = String::from_str(alloc, LEGEND)?;
     out.push_str(rows.as_str())?;
@@ -421,21 +438,32 @@ pub(crate) fn journal_rows(
 }
 
 /// The legend and the rows of a run of these filters.
-pub(crate) fn run_rows(alloc: Global, own: &[Tree], broken: &Broken) -> Result<String, AllocError>
+pub(crate) fn run_rows(
+    alloc: Global,
+    own: &[Tree],
+    files: &[&[FileStart<'_>]],
+    broken: &Broken,
+) -> Result<String, AllocError>
     ensures { IfOk result (λ rows. AreRunRows own.now broken.now (string_bytes rows)) }
 {
     let verdict = Verdict::Breaks(broken.violation, broken.entry);
-    journal_rows(alloc, own, &broken.journal, verdict)
+    journal_rows(alloc, own, files, &broken.journal, verdict)
 }
 
 /// The lines after that of a note.
-pub(crate) fn note_rows(alloc: Global, trees: &[Tree], noted: &Noted) -> Result<String, AllocError>
+pub(crate) fn note_rows(
+    alloc: Global,
+    trees: &[Tree],
+    files: &[&[FileStart<'_>]],
+    noted: &Noted,
+) -> Result<String, AllocError>
     ensures { IfOk result (λ rows. AreNoteRows trees.now noted.now (string_bytes rows)) }
 {
     match schedule_of(&noted.scheduled) {
         Schedule::Breaks(broken) => {
             let own = own_trees(trees, noted.filter, &noted.scheduled);
-            run_rows(alloc, own, broken)
+            let files = own_files(files, noted.filter, &noted.scheduled);
+            run_rows(alloc, own, files, broken)
         }
         Schedule::NeverHanded => String::from_str(alloc, IS_STRICTER),
         Schedule::NotWithin | Schedule::Cut | Schedule::NeverStarted | Schedule::NeverGot(_) => Ok(

@@ -26,7 +26,7 @@ use crate::setters::Setter;
 use crate::totals::Tally;
 use crate::warned::WarnedText;
 use crate::warnings::promise_and_warnings;
-use flt_details::{Source, fault_line, file_line, file_lines, findings_line};
+use flt_details::{FilePart, Source, fault_line, file_line, file_lines, findings_line};
 use flt_explain::{Finding, findings};
 use flt_graph::{Graph, lower};
 use flt_model::Violation;
@@ -38,6 +38,7 @@ use flt_schedules::{
 };
 use flt_search::SearchWatch;
 use flt_syntax::SyntaxFault;
+use flt_timeline::FileStart;
 use flt_tree::Tree;
 use flt_warning_details::{
     WarningDetail, WarningOptions, texts_without_circles_are_orderly, warned_status,
@@ -60,6 +61,8 @@ pub(crate) struct Stage<'a> {
     pub(crate) coloured: bool,
     /// The trees of the texts that parse.
     pub(crate) trees: &'a [Tree],
+    /// The files of each of these texts.
+    pub(crate) files: &'a [&'a [FileStart<'a>]],
     /// The greatest number of states from which the search for runs of a text continues.
     pub(crate) states: u32,
     /// Which warnings are left out, and whether they count.
@@ -112,6 +115,21 @@ fn tree_at<'a>(trees: &'a [Tree], _text: &[u8], place: usize) -> &'a Tree
     &trees[place]
 }
 
+/// The lines of a text with which its files begin.
+pub(crate) fn starts_of<'a>(
+    alloc: Global,
+    files: &[FilePart<'a>],
+) -> Result<Vec<FileStart<'a>>, AllocError> {
+    let mut starts = Vec::new(alloc);
+    for file in files {
+        starts.push(FileStart {
+            name: file.name,
+            first: file.first,
+        })?;
+    }
+    Ok(starts)
+}
+
 /// The last line of the report of a text that parses, with the line of the first finding in its file.
 fn last_line(alloc: Global, source: Source<'_>, found: &[Finding]) -> Result<String, AllocError>
     ensures { IfOk result (λ line. string_bytes line ≡ spec.closing_in source.entry.files.now found.now) }
@@ -128,11 +146,7 @@ fn last_line(alloc: Global, source: Source<'_>, found: &[Finding]) -> Result<Str
 }
 
 /// The last line of the report of a text that doesn't parse, with the line of its fault in its file.
-fn unread_line(
-    alloc: Global,
-    source: Source<'_>,
-    fault: SyntaxFault,
-) -> Result<String, AllocError>
+fn unread_line(alloc: Global, source: Source<'_>, fault: SyntaxFault) -> Result<String, AllocError>
     ensures { IfOk result (λ line. string_bytes line ≡ syntax_line (spec.fault_in source.entry.files.now fault) ++ 10 ∷ []) }
 {
     let files = file_lines(alloc, source.files)?;
@@ -301,12 +315,20 @@ impl Stage<'_> {
     }
 
     /// The lines after that of a note on one more callback.
-    fn again_rows(&self, setting: &Option<Setting>, noted: &Noted) -> Result<Vec<u8>, AllocError>
+    fn again_rows(
+        &self,
+        source: Source<'_>,
+        setting: &Option<Setting>,
+        noted: &Noted,
+    ) -> Result<Vec<u8>, AllocError>
         ensures { IfOk result (λ rows. AreSettingRows setting.now noted.now.again rows.items) }
     {
         match setting {
             Some(setting) => match &noted.again {
-                Some(again) => setting.rows(self.alloc, again),
+                Some(again) => {
+                    let starts = starts_of(self.alloc, source.files)?;
+                    setting.rows(self.alloc, &[starts.as_slice()], again)
+                }
                 None => Ok(Vec::new(self.alloc)),
             },
             None => Ok(Vec::new(self.alloc)),
@@ -317,6 +339,7 @@ impl Stage<'_> {
     fn put_note(
         &self,
         output: &mut Output,
+        source: Source<'_>,
         setting: &Option<Setting>,
         noted: Noted,
     ) -> Result<(), AllocError>
@@ -324,8 +347,8 @@ impl Stage<'_> {
         ensures said { OnOk result (spec.IsSaid self.now.trees.now self.now.states output.new) }
         ensures note { OnOk result (spec.AddsNote self.now.trees.now self.now.states setting.now noted output.old output.new) }
     {
-        let rows = note_rows(self.alloc, self.trees, &noted)?;
-        let again = self.again_rows(setting, &noted)?;
+        let rows = note_rows(self.alloc, self.trees, self.files, &noted)?;
+        let again = self.again_rows(source, setting, &noted)?;
         output.note(
             self.alloc,
             self.trees,
@@ -358,7 +381,7 @@ impl Stage<'_> {
     {
         output.lines(report.lines.as_slice())?;
         let noted = self.noted(output.noted.as_slice(), known, setting, report, outcome)?;
-        self.put_note(output, setting, noted)?;
+        self.put_note(output, known.source, setting, noted)?;
         Ok(())
     }
 
@@ -422,6 +445,7 @@ impl Stage<'_> {
     {
         let lines = Lines::of(self.alloc, known.source.text)?;
         let files = file_lines(self.alloc, known.source.files)?;
+        let starts = starts_of(self.alloc, known.source.files)?;
         let text = WarnedText {
             alloc: self.alloc,
             coloured: self.coloured,
@@ -430,6 +454,7 @@ impl Stage<'_> {
             tree: known.tree,
             name: known.source.name(),
             files: files.as_slice(),
+            starts: starts.as_slice(),
             lines: &lines,
         };
         promise_and_warnings(&text, known.details, watch)

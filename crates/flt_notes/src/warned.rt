@@ -2,6 +2,7 @@
 
 use flt_details::FileLines;
 use flt_places::Lines;
+use flt_timeline::FileStart;
 use flt_tree::Tree;
 use std::alloc::Global;
 
@@ -18,5 +19,7 @@ pub(crate) struct WarnedText<'a> {
     /// The name of the text's first file.
     pub(crate) name: &'a str,
     pub(crate) files: &'a [FileLines<'a>],
+    /// The lines with which they begin.
+    pub(crate) starts: &'a [FileStart<'a>],
     pub(crate) lines: &'a Lines<'a>,
 }

@@ -28,6 +28,6 @@ pub use callbacks::{callbacks_at, start_of};
 pub use filters::filters_of;
 pub use folds::Fold;
 pub use rows::Row;
-pub use telling::Started;
+pub use telling::{FileStart, Started};
 pub use timeline::Timeline;
 pub use words::put_callback;

@@ -35,8 +35,9 @@ pub(crate) enum Happening {
     Unlinks(u32, Key),
     IsDetached(u32),
     Starts(Started),
-    /// A line, from 1, whose statement others see; and if it is a call or a test, whether it succeeds or holds.
-    Runs(usize, Option<bool>),
+    /// The number of a filter, from the highest altitude, and a line of its text, from 1, whose statement others see; and if it is a call or a
+    /// test, whether it succeeds or holds.
+    Runs(usize, usize, Option<bool>),
     /// It isn't enabled.
     IsRefused(JournalEntry),
     /// It comes after the entry that ends the run.
@@ -61,4 +62,12 @@ pub(crate) struct Who {
     pub(crate) activation: Option<usize>,
     /// Whether the activation, or the run, ends with it.
     pub(crate) ends: bool,
+}
+
+/// A file in which lines of a filter's text are, from one line on.
+#[derive(Clone, Copy)]
+pub struct FileStart<'a> {
+    pub name: &'a str,
+    /// The line of the text that is line 1 of the file.
+    pub first: usize,
 }

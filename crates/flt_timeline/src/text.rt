@@ -377,7 +377,8 @@ impl<'a> Timeline<'a> {
         ensures { Puts result (string_bytes out.old) (string_bytes out.new) (spec.telling_words self.now operation number) }
     {
         let happening = happening_in(self.telling_by(number));
-        put_happening(out, self.filters.as_slice(), operation, happening)
+        let files = self.files.as_slice();
+        put_happening(out, self.filters.as_slice(), files, operation, happening)
     }
 
     /// The words of the descriptions of some numbers.

@@ -12,7 +12,7 @@ use crate::going::Stage;
 use crate::refusal::Refusal;
 use crate::rows::{Row, rows_of};
 use crate::running::Scene;
-use crate::telling::Who;
+use crate::telling::{FileStart, Who};
 use crate::tellings::Tellings;
 use flt_model::{Journal, Verdict};
 use flt_tree::{Filter, Tree};
@@ -25,6 +25,8 @@ use std::alloc::{AllocError, Global};
 pub struct Timeline<'a> {
     /// From the highest altitude to the lowest.
     pub(crate) filters: Vec<&'a Filter>,
+    /// Of each filter the files in which its text is; none if they aren't known.
+    pub(crate) files: Vec<&'a [FileStart<'a>]>,
     pub(crate) verdict: Verdict,
     /// Why the entry that ends the run isn't enabled, if it isn't.
     pub(crate) refusal: Option<Refusal>,
@@ -78,6 +80,41 @@ fn course_by<'a>(
     course_on(&stage, journal, verdict)
 }
 
+/// The number of the tree of a filter, by its altitude; the number of trees if there is none.
+fn tree_of(trees: &[Tree], filter: &Filter) -> usize {
+    for number in 0..trees.len() {
+        if trees[number].filter.altitude == filter.altitude {
+            return number;
+        }
+    }
+    trees.len()
+}
+
+impl<'a> Timeline<'a> {
+    /// The same with the files in which the texts of these filters are, so that lines are named by them.
+    ///
+    /// # Errors
+    ///
+    /// If memory is refused.
+    pub fn in_files(
+        self,
+        alloc: Global,
+        trees: &[Tree],
+        files: &[&'a [FileStart<'a>]],
+    ) -> Result<Timeline<'a>, AllocError> {
+        let mut timeline = self;
+        let mut all = Vec::new(alloc);
+        for filter in timeline.filters.as_slice() {
+            match files.get(tree_of(trees, *filter)) {
+                Some(files) => all.push(*files)?,
+                None => all.push(&[])?,
+            }
+        }
+        timeline.files = all;
+        Ok(timeline)
+    }
+}
+
 impl<'a> Timeline<'a> {
     ghost use Rattle.flt_model.specs.Program.{filters_of};
     ghost use Rattle.flt_timeline.specs.Timelines as spec;
@@ -103,6 +140,7 @@ impl<'a> Timeline<'a> {
         let folds = folds_of(alloc, course.told.as_slice(), rows.as_slice())?;
         Ok(Timeline {
             filters,
+            files: Vec::new(alloc),
             verdict,
             refusal: course.progress.refusal,
             tellings: course.tellings,

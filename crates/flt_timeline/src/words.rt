@@ -4,7 +4,7 @@ ghost use Rattle.std.specs.Prelude.{◌≡◌, ◌++◌, ◌<◌, ◌≤◌, cod
 ghost use Rattle.std.specs.Fmt.{decimal};
 ghost use Rattle.flt_timeline.specs.Words as spec;
 
-use crate::telling::{Happening, Started};
+use crate::telling::{FileStart, Happening, Started};
 use flt_model::{JournalEntry, Key, Move, Violation};
 use flt_rules::{Mode, Operation};
 use flt_tree::{Filter, Head};
@@ -226,14 +226,59 @@ fn put_start(out: &mut String, filters: &[&Filter], started: Started) -> Result<
     })
 }
 
-fn put_run(out: &mut String, line: usize, outcome: Option<bool>) -> Result<(), AllocError>
-    ensures { spec.Puts result (string_bytes out.old) (string_bytes out.new) (decimal line ++ spec.outcome_word outcome) }
+/// The number of the last of some files that begins at a line or before it; 0 if none does.
+fn file_at(files: &[FileStart<'_>], line: usize) -> usize
+    ensures { result ≡ spec.file_at files.now line }
 {
-    let came_out = match outcome {
+    let mut at = 0;
+    for number in 0..files.len() {
+        if files[number].first <= line {
+            at = number;
+        }
+    }
+    at
+}
+
+/// Writes a line of a text that is in these files: its number in its file, after the file's name if it isn't the first one.
+fn put_line(out: &mut String, files: &[FileStart<'_>], line: usize) -> Result<(), AllocError>
+    ensures { spec.Puts result (string_bytes out.old) (string_bytes out.new) (spec.line_words files.now line) }
+{
+    let at = file_at(files, line);
+    let Some(file) = files.get(at) else {
+        return write!(out, "{line}");
+    };
+    if at != 0 {
+        put_name(out, file.name.as_bytes())?;
+        out.push_str(":")?;
+    }
+    let line = line.saturating_sub(file.first.saturating_sub(1));
+    write!(out, "{line}")
+}
+
+fn put_run(
+    out: &mut String,
+    files: &[FileStart<'_>],
+    line: usize,
+    outcome: Option<bool>,
+) -> Result<(), AllocError>
+    ensures { spec.Puts result (string_bytes out.old) (string_bytes out.new)
+        (spec.line_words files.now line ++ spec.outcome_word outcome) }
+{
+    put_line(out, files, line)?;
+    out.push_str(match outcome {
         Some(outcome) => choice_word(outcome),
         None => "",
-    };
-    write!(out, "{line}{came_out}")
+    })
+}
+
+/// The files of the filter of a number; none if they aren't known.
+fn files_of<'f>(files: &[&'f [FileStart<'f>]], filter: usize) -> &'f [FileStart<'f>]
+    ensures { result.now ≡ spec.files_of files.now filter }
+{
+    match files.get(filter) {
+        Some(files) => *files,
+        None => &[],
+    }
 }
 
 /// A word, which ends with a blank, and the number of an operation, if there is one.
@@ -254,10 +299,11 @@ pub(crate) fn put_operation(
 pub(crate) fn put_happening(
     out: &mut String,
     filters: &[&Filter],
+    files: &[&[FileStart<'_>]],
     operation: Option<usize>,
     happening: Happening,
 ) -> Result<(), AllocError>
-    ensures { spec.Puts result (string_bytes out.old) (string_bytes out.new) (spec.happening_words filters.now operation happening) }
+    ensures { spec.Puts result (string_bytes out.old) (string_bytes out.new) (spec.happening_words filters.now files.now operation happening) }
 {
     match happening {
         Happening::Arrives(kind, mode, file) => put_arrival(out, kind, mode, file),
@@ -268,7 +314,9 @@ pub(crate) fn put_happening(
         Happening::Unlinks(altitude, key) => put_unlink(out, altitude, key),
         Happening::IsDetached(altitude) => put_one(out, "detached ", altitude),
         Happening::Starts(started) => put_start(out, filters, started),
-        Happening::Runs(line, outcome) => put_run(out, line, outcome),
+        Happening::Runs(filter, line, outcome) => {
+            put_run(out, files_of(files, filter), line, outcome)
+        }
         Happening::IsRefused(entry) => put_entry(out, entry),
         Happening::IsLeftOut => out.push_str("not judged"),
     }
