@@ -1,5 +1,5 @@
 -- What stands below the report of a circle of locks: a run to a deadlock, if one is found. This project's own program.
-use Rattle.std.specs.Prelude.{◌≡◌, ℕ, List, [], ◌∷◌, ◌++◌, Option, Some, None, codes, flat_map}
+use Rattle.std.specs.Prelude.{◌≡◌, ℕ, List, [], ◌∷◌, ◌++◌, Option, Some, None, codes, flat_map, if◌then◌else◌, length, nat_lt}
 use Rattle.std.specs.Fmt.{decimal}
 use Rattle.std.specs.List.{concat}
 use Rattle.flt_tree.specs.Declarations.{lock_name}
@@ -45,6 +45,10 @@ wait_line files home f b = wait_words files home f b ++ holder_words b.holder ++
 abbrev pub wait_lines : List FilePart → ℕ → Filter → List Blocked → List ℕ
 wait_lines files home f bs = flat_map (wait_line files home f) bs
 
+-- the file whose lines need no name before them: the only one; none of several
+abbrev pub named : List FilePart → ℕ
+named files = if nat_lt 1 (length files) then length files else 0
+
 -- ---- a run
 
 -- the line that says that a run leads to a deadlock
@@ -52,10 +56,10 @@ abbrev pub deadlock_line : Entries → List ℕ
 deadlock_line es = codes "   = deadlock: a run leads to one" ++ lengths es ++ 10 ∷ []
 
 -- a run to a deadlock: how long it is; the rows of its own journal, of which `replay` says that it is legal; and who waits at its end
-pub record AreDeadlockLines (x : Warned) (home : ℕ) (d : Deadlock) (lines : List ℕ) : Type 0 where
+pub record AreDeadlockLines (x : Warned) (d : Deadlock) (lines : List ℕ) : Type 0 where
   pub rows : List ℕ
   pub are : AreJournalRows x.own d.journal Legal rows
-  pub whole : lines ≡ deadlock_line d.journal ++ rows ++ wait_lines x.files home x.filter d.waits.items
+  pub whole : lines ≡ deadlock_line d.journal ++ rows ++ wait_lines x.files (named x.files) x.filter d.waits.items
 
 -- ---- none
 
@@ -72,18 +76,18 @@ cut_line states =
 -- ---- all
 
 -- what a search for a deadlock came to
-abbrev pub AreAnswerLines : Warned → ℕ → Answer → List ℕ → Type 0
-AreAnswerLines x home (Found d) lines = AreDeadlockLines x home d lines
-AreAnswerLines x home NotWithin lines = lines ≡ not_within_line
-AreAnswerLines x home Cut lines = lines ≡ cut_line x.states
+abbrev pub AreAnswerLines : Warned → Answer → List ℕ → Type 0
+AreAnswerLines x (Found d) lines = AreDeadlockLines x d lines
+AreAnswerLines x NotWithin lines = lines ≡ not_within_line
+AreAnswerLines x Cut lines = lines ≡ cut_line x.states
 
 -- what a search for the deadlock of a circle came to, in runs of the text's filter alone: only a run to a deadlock is said to be one
-pub record AreSearchLines (x : Warned) (home : ℕ) (circle : List Acquisition) (lines : List ℕ) : Type 0 where
+pub record AreSearchLines (x : Warned) (circle : List Acquisition) (lines : List ℕ) : Type 0 where
   pub answer : Answer
   pub is : IsAnswer (filters_of x.own) 0 circle answer
-  pub are : AreAnswerLines x home answer lines
+  pub are : AreAnswerLines x answer lines
 
 -- the same below the report of a warning that is about a circle of locks; nothing, where it is about none
-abbrev pub AreRunLines : Warned → ℕ → List Acquisition → List ℕ → Type 0
-AreRunLines x home [] lines = lines ≡ []
-AreRunLines x home (a ∷ rest) lines = AreSearchLines x home (a ∷ rest) lines
+abbrev pub AreRunLines : Warned → List Acquisition → List ℕ → Type 0
+AreRunLines x [] lines = lines ≡ []
+AreRunLines x (a ∷ rest) lines = AreSearchLines x (a ∷ rest) lines

@@ -1,7 +1,6 @@
 -- What is printed of a text in which nothing is found: what that promises, and its warnings. This project's own program.
 use Rattle.std.specs.Prelude.{◌≡◌, ℕ, ◌==◌, Bool, true, false, if◌then◌else◌, List, [], ◌∷◌, ◌++◌, codes}
 use Rattle.std.specs.Fmt.{decimal}
-use Rattle.flt_details.specs.Sources.{file_at}
 use Rattle.flt_reports.specs.Reports.{nothing_report}
 use Rattle.flt_reports.specs.WarningReport.{warning_report}
 use Rattle.flt_warning_details.specs.Options.{is_shown, shown_count}
@@ -13,7 +12,7 @@ use Rattle.flt_notes.specs.Warned.{Warned}
 -- the report of a warning, and below it the run to the deadlock that it is about
 pub record IsReportWithRun (x : Warned) (d : WarningDetail) (printed : List ℕ) : Type 0 where
   pub run : List ℕ
-  pub are : AreRunLines x (file_at x.files d.marks.statement.first.line) d.circle run
+  pub are : AreRunLines x d.circle run
   pub whole : printed ≡ warning_report x.coloured x.files x.text d ++ run
 
 -- the same, if it is shown

@@ -93,6 +93,13 @@ fn wait_lines(
     Ok(page.out)
 }
 
+/// The file whose lines need no name before them: the only one; none of several.
+fn named(files: &[FileLines<'_>]) -> usize
+    ensures { result ≡ spec.named files.now }
+{
+    if files.len() > 1 { files.len() } else { 0 }
+}
+
 // ---- a run
 
 /// The line that says that a run leads to a deadlock.
@@ -105,12 +112,8 @@ fn deadlock_line(alloc: Global, journal: &Journal) -> Result<String, AllocError>
 }
 
 /// The lines on a run to a deadlock: how long it is, its rows, and who waits at its end.
-fn deadlock_lines(
-    text: &WarnedText<'_>,
-    home: usize,
-    deadlock: &Deadlock,
-) -> Result<Vec<u8>, AllocError>
-    ensures { IfOk result (λ lines. spec.AreDeadlockLines (warned_of text.now) home deadlock.now lines.items) }
+fn deadlock_lines(text: &WarnedText<'_>, deadlock: &Deadlock) -> Result<Vec<u8>, AllocError>
+    ensures { IfOk result (λ lines. spec.AreDeadlockLines (warned_of text.now) deadlock.now lines.items) }
 {
     let line = deadlock_line(text.alloc, &deadlock.journal)?;
     let files = [text.starts];
@@ -124,7 +127,7 @@ fn deadlock_lines(
     let waits = wait_lines(
         text.alloc,
         text.files,
-        home,
+        named(text.files),
         text.tree,
         deadlock.waits.as_slice(),
     )?;
@@ -169,11 +172,11 @@ fn cut_line(alloc: Global, states: u32) -> Result<Vec<u8>, AllocError>
 // ---- all
 
 /// The lines on the answer of a search for a deadlock.
-fn answer_lines(text: &WarnedText<'_>, home: usize, answer: &Answer) -> Result<Vec<u8>, AllocError>
-    ensures { IfOk result (λ lines. spec.AreAnswerLines (warned_of text.now) home answer.now lines.items) }
+fn answer_lines(text: &WarnedText<'_>, answer: &Answer) -> Result<Vec<u8>, AllocError>
+    ensures { IfOk result (λ lines. spec.AreAnswerLines (warned_of text.now) answer.now lines.items) }
 {
     match answer {
-        Answer::Found(deadlock) => deadlock_lines(text, home, deadlock),
+        Answer::Found(deadlock) => deadlock_lines(text, deadlock),
         Answer::NotWithin => Vec::from_slice(text.alloc, NOT_WITHIN),
         Answer::Cut => cut_line(text.alloc, text.states),
     }
@@ -182,32 +185,30 @@ fn answer_lines(text: &WarnedText<'_>, home: usize, answer: &Answer) -> Result<V
 /// The lines on the answer of a search for the deadlock of a circle.
 fn search_lines<W: SearchWatch>(
     text: &WarnedText<'_>,
-    home: usize,
     circle: &[Acquisition],
     watch: &mut W,
 ) -> Result<Vec<u8>, AllocError>
-    ensures { IfOk result (λ lines. spec.AreSearchLines (warned_of text.now) home circle.now lines.items) }
+    ensures { IfOk result (λ lines. spec.AreSearchLines (warned_of text.now) circle.now lines.items) }
 {
     let bounds = Bounds {
         states: text.states,
     };
     let mut watched = Watched::new(watch);
     let answer = find_deadlock(text.alloc, text.own, 0, circle, bounds, &mut watched)?;
-    let lines = answer_lines(text, home, &answer)?;
+    let lines = answer_lines(text, &answer)?;
     Ok(lines)
 }
 
 /// The lines below the report of a warning about a circle of locks; empty if it is about none.
 pub(crate) fn run_lines<W: SearchWatch>(
     text: &WarnedText<'_>,
-    home: usize,
     circle: &[Acquisition],
     watch: &mut W,
 ) -> Result<Vec<u8>, AllocError>
-    ensures { IfOk result (λ lines. spec.AreRunLines (warned_of text.now) home circle.now lines.items) }
+    ensures { IfOk result (λ lines. spec.AreRunLines (warned_of text.now) circle.now lines.items) }
 {
     match circle {
         [] => Ok(Vec::new(text.alloc)),
-        [_, ..] => search_lines(text, home, circle, watch),
+        [_, ..] => search_lines(text, circle, watch),
     }
 }

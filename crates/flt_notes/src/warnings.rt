@@ -7,7 +7,6 @@ ghost use Rattle.flt_notes.specs.Warnings as spec;
 use crate::deadlocks::run_lines;
 use crate::lines::plural;
 use crate::warned::WarnedText;
-use flt_details::file_at;
 use flt_reports::{report_nothing, report_warning};
 use flt_search::SearchWatch;
 use flt_warning_details::{WarningDetail, shown_count};
@@ -23,8 +22,7 @@ fn report_with_run<W: SearchWatch>(
     ensures { IfOk result (λ printed. spec.IsReportWithRun (warned_of text.now) detail.now printed.items) }
 {
     let mut printed = report_warning(text.alloc, text.coloured, text.files, text.lines, detail)?;
-    let home = file_at(text.files, detail.marks.statement.first.line);
-    let below = run_lines(text, home, detail.circle.as_slice(), watch)?;
+    let below = run_lines(text, detail.circle.as_slice(), watch)?;
     printed.extend_from_slice(below.as_slice())?;
     Ok(printed)
 }

@@ -106,7 +106,15 @@ fn report_spot(
     tell_heading(page, coloured, code, told.title.as_slice(), name)?;
     tell_file_place(page, files, place_of(spot))?;
     page.bytes(b"\n")?;
-    draw(alloc, page, coloured, source, spot, told.meant.as_slice())?;
+    draw(
+        alloc,
+        page,
+        coloured,
+        files,
+        source.text,
+        spot,
+        told.meant.as_slice(),
+    )?;
     page.bytes(told.notes.as_slice())
 }
 

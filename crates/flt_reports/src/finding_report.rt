@@ -147,7 +147,9 @@ fn tell_shown(
     let Some(shown) = shown else {
         return Ok(());
     };
-    draw_shown(alloc, page, coloured, file, scene, finding, subject, shown)?;
+    draw_shown(
+        alloc, page, coloured, files, scene, finding, subject, shown,
+    )?;
     tell_ways(page, files, home, scene, finding.callback, shown)
 }
 

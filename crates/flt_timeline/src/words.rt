@@ -239,7 +239,7 @@ fn file_at(files: &[FileStart<'_>], line: usize) -> usize
     at
 }
 
-/// Writes a line of a text that is in these files: its number in its file, after the file's name if it isn't the first one.
+/// Writes a line of a text that is in these files: its number in its file, after the file's name if there are several.
 fn put_line(out: &mut String, files: &[FileStart<'_>], line: usize) -> Result<(), AllocError>
     ensures { spec.Puts result (string_bytes out.old) (string_bytes out.new) (spec.line_words files.now line) }
 {
@@ -247,7 +247,7 @@ fn put_line(out: &mut String, files: &[FileStart<'_>], line: usize) -> Result<()
     let Some(file) = files.get(at) else {
         return write!(out, "{line}");
     };
-    if at != 0 {
+    if files.len() > 1 {
         put_name(out, file.name.as_bytes())?;
         out.push_str(":")?;
     }
