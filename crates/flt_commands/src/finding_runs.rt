@@ -7,33 +7,38 @@ ghost use Rattle.flt_commands.specs.FindingRuns as spec;
 use flt_details::Source;
 use flt_flows::Flow;
 use flt_forms::FindingRun;
-use flt_notes::{Noted, own_trees, schedule_of};
+use flt_notes::{Noted, own_files, own_trees, schedule_of, slices_of, starts_of};
 use flt_schedules::{Schedule, Scheduled};
 use flt_search::Broken;
 use flt_syntax::{ParseError, parse};
+use flt_timeline::FileStart;
 use flt_tree::Tree;
 use sqlite_items::Items;
 use std::alloc::{AllocError, Global};
 
 /// The trees of texts that parse, and the numbers of these texts among all, from 0.
 #[derive(Drop)]
-struct Parsed {
+struct Parsed<'a> {
     trees: Vec<Tree>,
+    /// The files of each.
+    starts: Vec<Vec<FileStart<'a>>>,
     numbers: Items<usize>,
 }
 
 /// Adds the tree of a text, if it parses, with the text's number.
-fn add_parsed(
+fn add_parsed<'a>(
     alloc: Global,
-    parsed: &mut Parsed,
+    parsed: &mut Parsed<'a>,
     number: usize,
-    text: &[u8],
+    source: Source<'a>,
 ) -> Result<(), AllocError>
     ensures { IfOk result (λ _. spec.IsOneMore number text.now parsed.old.trees.items parsed.old.numbers parsed.new.trees.items
         parsed.new.numbers) }
 {
-    match parse(alloc, text) {
+    match parse(alloc, source.text) {
         Ok(tree) => {
+            let starts = starts_of(alloc, source.files)?;
+            parsed.starts.push(starts)?;
             parsed.numbers.push(number)?;
             parsed.trees.push(tree)?;
             Ok(())
@@ -44,15 +49,16 @@ fn add_parsed(
 }
 
 /// The trees of some texts.
-fn parsed_of(alloc: Global, sources: &[Source<'_>]) -> Result<Parsed, AllocError>
+fn parsed_of<'a>(alloc: Global, sources: &[Source<'a>]) -> Result<Parsed<'a>, AllocError>
     ensures { IfOk result (λ p. spec.AreTrees (texts_of sources.now) p.trees.items p.numbers) }
 {
     let mut parsed = Parsed {
         trees: Vec::new(alloc),
+        starts: Vec::new(alloc),
         numbers: Items::new(alloc),
     };
     for (number, source) in sources.iter().enumerate() {
-        add_parsed(alloc, &mut parsed, number, source.text)?;
+        add_parsed(alloc, &mut parsed, number, *source)?;
     }
     Ok(parsed)
 }
@@ -80,7 +86,7 @@ fn own_numbers(alloc: Global, numbers: &[usize], noted: &Noted) -> Result<Items<
 /// The run of a finding that has this outcome.
 fn run_by(
     alloc: Global,
-    parsed: &Parsed,
+    parsed: &Parsed<'_>,
     noted: &Noted,
     broken: &Broken,
     flow: Flow,
@@ -101,14 +107,16 @@ fn run_by(
 fn add_broken(
     alloc: Global,
     runs: &mut Vec<FindingRun>,
-    parsed: &Parsed,
+    parsed: &Parsed<'_>,
     noted: &Noted,
     broken: &Broken,
 ) -> Result<(), AllocError>
     ensures { IfOk result (λ _. spec.IsAdded parsed.now.trees.items parsed.now.numbers noted.now broken.now runs.old.items runs.new.items) }
 {
     let own = own_trees(parsed.trees.as_slice(), noted.filter, &noted.scheduled);
-    let found = Flow::of(alloc, own, &broken.journal)?;
+    let files = slices_of(alloc, parsed.starts.as_slice())?;
+    let files = own_files(files.as_slice(), noted.filter, &noted.scheduled);
+    let found = Flow::of(alloc, own, files, &broken.journal)?;
     match found {
         Some(flow) => {
             let run = run_by(alloc, parsed, noted, broken, flow)?;
@@ -123,7 +131,7 @@ fn add_broken(
 fn add_run(
     alloc: Global,
     runs: &mut Vec<FindingRun>,
-    parsed: &Parsed,
+    parsed: &Parsed<'_>,
     noted: &Noted,
 ) -> Result<(), AllocError>
     ensures { IfOk result (λ _. spec.IsNext parsed.now.trees.items parsed.now.numbers noted.now runs.old.items runs.new.items) }

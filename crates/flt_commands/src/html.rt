@@ -17,13 +17,13 @@ ghost use Rattle.flt_commands.specs.Html as spec;
 use flt_details::{FilePart, Page, Source};
 use flt_html::{ShownText, html_page};
 use flt_model::Verdict;
-use flt_notes::Noted;
+use flt_notes::{Noted, own_files, slices_of, starts_of};
 use flt_picture::picture;
 use flt_places::lines_of;
 use flt_schedules::{Schedule, Scheduled, only};
 use flt_search::Broken;
 use flt_syntax::{ParseError, Tree, parse};
-use flt_timeline::Timeline;
+use flt_timeline::{FileStart, Timeline};
 use sqlite_items::Items;
 use std::alloc::{AllocError, Global};
 
@@ -78,18 +78,21 @@ fn shown_texts(alloc: Global, sources: &[Source<'_>]) -> Result<Items<ShownText>
 
 /// The texts that parse, and their trees.
 #[derive(Drop)]
-struct Parsed {
+struct Parsed<'a> {
     texts: Vec<Vec<u8>>,
+    /// The files of each.
+    starts: Vec<Vec<FileStart<'a>>>,
     trees: Items<Tree>,
 }
 
-impl Parsed {
+impl<'a> Parsed<'a> {
     /// Those of some texts that parse.
-    fn of(alloc: Global, sources: &[Source<'_>]) -> Result<Parsed, AllocError>
+    fn of(alloc: Global, sources: &[Source<'a>]) -> Result<Parsed<'a>, AllocError>
         ensures { IfOk result (λ parsed. AreParsed (texts_of sources.now) (filters_of parsed.trees)) }
     {
         let mut parsed = Parsed {
             texts: Vec::new(alloc),
+            starts: Vec::new(alloc),
             trees: Items::new(alloc),
         };
         for source in sources {
@@ -100,7 +103,7 @@ impl Parsed {
 
     /// Adds a text if it parses.
     #[tactic(auto, using(crate::proofs::MoreParsed::tree_parsed, crate::proofs::MoreParsed::one_failed))]
-    fn add(&mut self, alloc: Global, source: Source<'_>) -> Result<(), AllocError>
+    fn add(&mut self, alloc: Global, source: Source<'a>) -> Result<(), AllocError>
         ensures { OnOk result ((texts : List Text) → AreParsed texts (filters_of self.old.trees) →
             AreParsed (texts ++ source.entry.text.now ∷ []) (filters_of self.new.trees)) }
     {
@@ -109,6 +112,8 @@ impl Parsed {
                 let mut text = Vec::new(alloc);
                 text.extend_from_slice(source.text)?;
                 self.texts.push(text)?;
+                let starts = starts_of(alloc, source.files)?;
+                self.starts.push(starts)?;
                 self.trees.push(tree)
             }
             Err(ParseError::Syntax(_)) => Ok(()),
@@ -154,12 +159,14 @@ fn drawn(
     alloc: Global,
     trees: &[Tree],
     texts: &[Vec<u8>],
+    files: &[&[FileStart<'_>]],
     run: &Broken,
 ) -> Result<Items<u8>, AllocError>
     ensures { IfOk result (IsPicture (title_of (filters_of trees.now) (verdicts.Breaks run.now.violation run.now.entry))) }
 {
     let verdict = Verdict::Breaks(run.violation, run.entry);
     let timeline = Timeline::of(alloc, trees, &run.journal, verdict)?;
+    let timeline = timeline.in_files(alloc, trees, files)?;
     let drawn = picture(alloc, trees, texts, &run.journal, verdict, &timeline)?;
     Ok(Items::from_vec(drawn.into_bytes()))
 }
@@ -167,7 +174,7 @@ fn drawn(
 /// The picture of the run of a finding.
 fn picture_of(
     alloc: Global,
-    parsed: &Parsed,
+    parsed: &Parsed<'_>,
     noted: &Noted,
     run: &Broken,
 ) -> Result<Items<u8>, AllocError>
@@ -175,11 +182,13 @@ fn picture_of(
 {
     let trees = parsed.trees.as_slice();
     let texts = parsed.texts.as_slice();
+    let files = slices_of(alloc, parsed.starts.as_slice())?;
+    let files = own_files(files.as_slice(), noted.filter, &noted.scheduled);
     match noted.scheduled {
-        Scheduled::Together(_) => drawn(alloc, trees, texts, run),
+        Scheduled::Together(_) => drawn(alloc, trees, texts, files, run),
         Scheduled::Alone(_) => {
             let own = only(trees, noted.filter);
-            drawn(alloc, own, only_text(texts, noted.filter), run)
+            drawn(alloc, own, only_text(texts, noted.filter), files, run)
         }
     }
 }
@@ -187,7 +196,7 @@ fn picture_of(
 /// Adds the picture of the run of a finding, if it has one.
 fn add_picture(
     alloc: Global,
-    parsed: &Parsed,
+    parsed: &Parsed<'_>,
     noted: &Noted,
     pictures: &mut Items<Items<u8>>,
 ) -> Result<(), AllocError>

@@ -9,7 +9,7 @@ ghost use Rattle.flt_flows.specs.Running as running;
 use crate::naming::name_of;
 use crate::running::{Active, Run, Stage, Taken, run_of};
 use flt_model::{Journal, Verdict};
-use flt_timeline::{Row, Timeline, filters_of};
+use flt_timeline::{FileStart, Row, Timeline, filters_of};
 use flt_tree::{Filter, Span, Tree};
 use flt_world::Stack;
 use sqlite_items::Items;
@@ -157,12 +157,14 @@ impl Flow {
     fn by(
         stage: &Stage<'_, '_>,
         trees: &[Tree],
+        files: &[&[FileStart<'_>]],
         journal: &Journal,
         run: &Run,
     ) -> Result<Flow, AllocError>
         ensures { IfOk result (spec.IsFlowBy trees.now journal.now stage.now.filters.now run.now) }
     {
         let timeline = Timeline::of(stage.alloc, trees, journal, Verdict::Legal)?;
+        let timeline = timeline.in_files(stage.alloc, trees, files)?;
         let steps = steps_of(stage.alloc, &timeline, run.taken.as_slice())?;
         let activations = activations_of(
             stage.alloc,
@@ -173,12 +175,17 @@ impl Flow {
         Ok(Flow { steps, activations })
     }
 
-    /// The run of a journal on some filters, in any order, whatever it breaks; none if the journal isn't a run on them.
+    /// The run of a journal on some filters, in any order, whose texts are in these files, whatever it breaks; none if the journal isn't a run on them.
     ///
     /// # Errors
     ///
     /// If memory is refused, or a number or a count would reach 2^32.
-    pub fn of(alloc: Global, trees: &[Tree], journal: &Journal) -> Result<Option<Flow>, AllocError>
+    pub fn of(
+        alloc: Global,
+        trees: &[Tree],
+        files: &[&[FileStart<'_>]],
+        journal: &Journal,
+    ) -> Result<Option<Flow>, AllocError>
         ensures { IfOk result (λ found. MatchOption found
             (running.run_of (program.by_altitude (program.filters_of trees.now)) journal.now ≡ None)
             (spec.IsFlow trees.now journal.now)) }
@@ -191,7 +198,7 @@ impl Flow {
             filters: filters.as_slice(),
         };
         match run_of(&stage, journal)? {
-            Some(run) => Ok(Some(Flow::by(&stage, trees, journal, &run)?)),
+            Some(run) => Ok(Some(Flow::by(&stage, trees, files, journal, &run)?)),
             None => Ok(None),
         }
     }

@@ -60,7 +60,7 @@ fn starts_in<'a>(
 }
 
 /// The same, lent.
-fn slices_of<'s>(
+pub fn slices_of<'s>(
     alloc: Global,
     starts: &'s [Vec<FileStart<'s>>],
 ) -> Result<Vec<&'s [FileStart<'s>]>, AllocError> {

@@ -28,8 +28,9 @@ mod totals;
 mod warned;
 mod warnings;
 
-pub use explaining::{Asking, Told, explain};
+pub use explaining::{Asking, Told, explain, slices_of};
 pub use fault::ExplainFault;
 pub use flt_search::{SearchWatch, UnwatchedSearch};
-pub use lines::own_trees;
+pub use lines::{own_files, own_trees};
 pub use noted::{Again, Noted, first_journal, schedule_of};
+pub use printing::starts_of;

@@ -405,7 +405,7 @@ pub(crate) fn again_line(alloc: Global, again: &Option<Again>) -> Result<String,
 // ---- rows
 
 /// The files of the filters in whose runs a finding has its outcome: of all filters, or of that of a number alone.
-fn own_files<'f>(
+pub fn own_files<'f>(
     files: &'f [&'f [FileStart<'f>]],
     filter: usize,
     scheduled: &Scheduled,

@@ -116,7 +116,7 @@ fn tree_at<'a>(trees: &'a [Tree], _text: &[u8], place: usize) -> &'a Tree
 }
 
 /// The lines of a text with which its files begin.
-pub(crate) fn starts_of<'a>(
+pub fn starts_of<'a>(
     alloc: Global,
     files: &[FilePart<'a>],
 ) -> Result<Vec<FileStart<'a>>, AllocError> {

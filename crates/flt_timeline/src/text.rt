@@ -14,7 +14,9 @@ use crate::refusal::Refusal;
 use crate::rows::Row;
 use crate::telling::{Column, Happening, Started, Telling, Who};
 use crate::timeline::Timeline;
-use crate::words::{put_callback, put_happening, put_one, put_operation, violation_word};
+use crate::words::{
+    files_of, put_callback, put_happening, put_line, put_one, put_operation, violation_word,
+};
 use flt_model::{Verdict, Violation};
 use flt_tree::Filter;
 use sqlite_items::Items;
@@ -604,6 +606,15 @@ impl<'a> Timeline<'a> {
         let mut out = String::new(alloc);
         self.put_words(alloc, &mut out, row)?;
         Ok(out)
+    }
+
+    /// Writes the number of a line of the text of a filter in its file, after the file's name if there are several.
+    ///
+    /// # Errors
+    ///
+    /// If memory is refused.
+    pub fn put_line(&self, out: &mut String, filter: usize, line: usize) -> Result<(), AllocError> {
+        put_line(out, files_of(self.files.as_slice(), filter), line)
     }
 
     /// The column of a row, from 0; none for one in the margin. Beyond all columns it is their number.

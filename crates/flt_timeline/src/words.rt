@@ -240,7 +240,11 @@ fn file_at(files: &[FileStart<'_>], line: usize) -> usize
 }
 
 /// Writes a line of a text that is in these files: its number in its file, after the file's name if there are several.
-fn put_line(out: &mut String, files: &[FileStart<'_>], line: usize) -> Result<(), AllocError>
+pub(crate) fn put_line(
+    out: &mut String,
+    files: &[FileStart<'_>],
+    line: usize,
+) -> Result<(), AllocError>
     ensures { spec.Puts result (string_bytes out.old) (string_bytes out.new) (spec.line_words files.now line) }
 {
     let at = file_at(files, line);
@@ -272,7 +276,7 @@ fn put_run(
 }
 
 /// The files of the filter of a number; none if they aren't known.
-fn files_of<'f>(files: &[&'f [FileStart<'f>]], filter: usize) -> &'f [FileStart<'f>]
+pub(crate) fn files_of<'f>(files: &[&'f [FileStart<'f>]], filter: usize) -> &'f [FileStart<'f>]
     ensures { result.now ≡ spec.files_of files.now filter }
 {
     match files.get(filter) {
