@@ -124,7 +124,7 @@ _fltstack() {
         'explain --form') _fltstack_words html human lines sarif short ;;
         'explain --color') _fltstack_words auto always never ;;
         'explain --journal') _fltstack_files .journal ;;
-        'explain --allow') _fltstack_words W00 W01 W02 W03 W04 W05 W06 W07 C00 C01 C02 C03 C04 ;;
+        'explain --allow') _fltstack_words W00 W01 W02 W03 W04 W05 W06 W07 C00 C01 C02 C03 C04 C05 ;;
         'run --workers') _fltstack_words 1 2 3 4 5 6 7 8 9 10 11 12 13 14 15 16 ;;
         'replay --svg') _fltstack_files .svg ;;
         'emit --part') _fltstack_words source user inf ;;

@@ -184,7 +184,7 @@ complete -c fltstack -n '__fltstack_after explain --journal' -l journal -x -a '(
 complete -c fltstack -n '__fltstack_after explain --runs' -l runs \
     -d 'Add to the forms `lines` and `sarif` a run that breaks something because of each finding, where one is found'
 complete -c fltstack -n '__fltstack_after explain --strict' -l strict -d 'Exit with 1 where warnings are shown, as where something is found'
-complete -c fltstack -n '__fltstack_after explain' -l allow -x -a 'W00 W01 W02 W03 W04 W05 W06 W07 C00 C01 C02 C03 C04' \
+complete -c fltstack -n '__fltstack_after explain' -l allow -x -a 'W00 W01 W02 W03 W04 W05 W06 W07 C00 C01 C02 C03 C04 C05' \
     -d 'Leave a kind of warning out, as `W03` or `C02`'
 complete -c fltstack -n '__fltstack_after explain --c' -l c -d 'Take each FILE for C, whatever its name ends with'
 complete -c fltstack -n '__fltstack_after explain --help' -s h -l help -d 'Print help'

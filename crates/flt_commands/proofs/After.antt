@@ -50,7 +50,8 @@ all_lines style options sources t old new told early sent =
     }
 
 pub cut_told : {O : Type 0} (taken : O → Option Text) (old new : O) (form : Form) (options : WarningOptions) (states : ℕ) (drifts : Text)
-    (sources : List FileText) (unread : List UnreadFile) (t : Told) → IsTold form options drifts sources unread t → GoesOutEarly form options (texts_of sources) states t →
+    (sources : List FileText) (unread : List UnreadFile) (t : Told) → IsTold form options drifts sources unread t →
+    GoesOutEarly form options (texts_of sources) states t →
     Appends (taken old) (taken new) (take t.sent t.explained.output.items) → (HoldsBack form None → new ≡ old) →
     IsCutIn form options states sources (taken old) (taken new)
 cut_told taken old new Human options states drifts sources unread t told early sent held = record {

@@ -304,28 +304,28 @@ module _ (law : Law) (runs : LawOfRuns) (nowhere : SpelledFailsNowhere) where
   own_zero status [] good = good
   own_zero status (file ∷ files) good = absurd (omega (arith, good))
 
-  explained : (gives : Giving) (is_c : Bool) (form : Form) (colour : Colour) (states : ℕ) (look : Look) (journal : Option Text) (warnings : Choice)
-      (files texts : List Text) (answer : Answer) →
-      IsExplained gives is_c form look warnings.allowed journal files texts (Ok answer) → status_of answer ≡ 0 →
+  explained : (gives : Giving) (is_c : Bool) (form : Form) (colour : Colour) (states : ℕ) (look : Look) (journal : Option Text)
+      (warnings : Choice) (files : List Text) (codes : List (Option Text)) (texts : List Text) (answer : Answer) →
+      IsExplained gives is_c form look warnings.allowed journal files codes texts (Ok answer) → status_of answer ≡ 0 →
       IsClean (Explain form colour states journal warnings is_c files) texts
-  explained gives is_c form colour states look journal warnings files texts (Explained e missed) said good =
+  explained gives is_c form colour states look journal warnings files codes texts (Explained e missed) said good =
       let zeros = both_zero said.told.own.explained.status _ (sym said.told.after.status ∙ own_zero e.explained.status missed.items good) in
       subst EachBreaksNothing said.told.told.given
       (told_well form look.options _ said.told.told.sources missed.items said.told.own said.told.told.told zeros.0)
-  explained gives is_c form colour states look journal warnings files texts (Shown rows v) said good = absurd said
-  explained gives is_c form colour states look journal warnings files texts (has_text b) said good = absurd said
-  explained gives is_c form colour states look journal warnings files texts (has_layouts mode outcomes) said good = absurd said
-  explained gives is_c form colour states look journal warnings files texts (has_pages t) said good = absurd said
-  explained gives is_c form colour states look journal warnings files texts (Emitted b) said good = absurd said
-  explained gives is_c form colour states look journal warnings files texts (NotEmitted w) said good = absurd said
-  explained gives is_c form colour states look journal warnings files texts (EmittedInto d) said good = absurd said
-  explained gives is_c form colour states look journal warnings files texts (Compared w) said good = absurd said
-  explained gives is_c form colour states look journal warnings files texts (has_run ran) said good = absurd said
-  explained gives is_c form colour states look journal warnings files texts (FileRefused n f) said good = absurd said
-  explained gives is_c form colour states look journal warnings files texts Accepted said good = absurd said
-  explained gives is_c form colour states look journal warnings files texts (Refused f) said good = absurd said
-  explained gives is_c form colour states look journal warnings files texts (Written c) said good = absurd said
-  explained gives is_c form colour states look journal warnings files texts (Judged v) said good = absurd said
+  explained gives is_c form colour states look journal warnings files codes texts (Shown rows v) said good = absurd said
+  explained gives is_c form colour states look journal warnings files codes texts (has_text b) said good = absurd said
+  explained gives is_c form colour states look journal warnings files codes texts (has_layouts mode outcomes) said good = absurd said
+  explained gives is_c form colour states look journal warnings files codes texts (has_pages t) said good = absurd said
+  explained gives is_c form colour states look journal warnings files codes texts (Emitted b) said good = absurd said
+  explained gives is_c form colour states look journal warnings files codes texts (NotEmitted w) said good = absurd said
+  explained gives is_c form colour states look journal warnings files codes texts (EmittedInto d) said good = absurd said
+  explained gives is_c form colour states look journal warnings files codes texts (Compared w) said good = absurd said
+  explained gives is_c form colour states look journal warnings files codes texts (has_run ran) said good = absurd said
+  explained gives is_c form colour states look journal warnings files codes texts (FileRefused n f) said good = absurd said
+  explained gives is_c form colour states look journal warnings files codes texts Accepted said good = absurd said
+  explained gives is_c form colour states look journal warnings files codes texts (Refused f) said good = absurd said
+  explained gives is_c form colour states look journal warnings files codes texts (Written c) said good = absurd said
+  explained gives is_c form colour states look journal warnings files codes texts (Judged v) said good = absurd said
 
   -- what is emitted is covered
   covered : (emitting : Emitting) (has : Cert → Type 0) (refuses : Answer → Type 0) (text : Text) (answer : Answer) →
@@ -358,39 +358,41 @@ module _ (law : Law) (runs : LawOfRuns) (nowhere : SpelledFailsNowhere) where
   says_clean gives names texts IsSaidOf P (Ok answer) bytes status holds (given result there said) reported good =
       holds answer said (sym reported.1 ∙ good)
 
-  explains_clean : (gives : Giving) (is_c : Bool) (form : Form) (colour : Colour) (states : ℕ) (look : Look) (journal : Option Text) (warnings : Choice)
-      (files texts : List Text) (said : Result Answer Failure) (bytes : List ℕ) (status : ℕ) →
-      IsExplained gives is_c form look warnings.allowed journal files texts said → IsReported said bytes status → status ≡ 0 → IsClean (Explain form colour states journal warnings is_c files) texts
-  explains_clean gives is_c form colour states look journal warnings files texts (Ok answer) bytes status said reported good =
-      explained gives is_c form colour states look journal warnings files texts answer said (sym reported.1 ∙ good)
-  explains_clean gives is_c form colour states look journal warnings files texts (Err f) bytes status said reported good =
+  explains_clean : (gives : Giving) (is_c : Bool) (form : Form) (colour : Colour) (states : ℕ) (look : Look) (journal : Option Text)
+      (warnings : Choice) (files : List Text) (codes : List (Option Text)) (texts : List Text) (said : Result Answer Failure)
+      (bytes : List ℕ) (status : ℕ) → IsExplained gives is_c form look warnings.allowed journal files codes texts said → IsReported said bytes status →
+      status ≡ 0 → IsClean (Explain form colour states journal warnings is_c files) texts
+  explains_clean gives is_c form colour states look journal warnings files codes texts (Ok answer) bytes status said reported good =
+      explained gives is_c form colour states look journal warnings files codes texts answer said (sym reported.1 ∙ good)
+  explains_clean gives is_c form colour states look journal warnings files codes texts (Err f) bytes status said reported good =
       absurd (omega (arith, reported.1.1, good))
 
   -- where this is said of what is asked for, and reported with the status 0, the text breaks nothing
-  pub clean_of : (shown : Bool) (gives : Giving) (request : Asked) (texts : List Text) (said : Result Answer Failure)
-      (bytes : List ℕ) (status : ℕ) →
-      IsSaid shown gives request texts said → IsReported said bytes status → status ≡ 0 → IsClean request texts
-  clean_of shown gives (Check file cert) texts said bytes status is reported good =
+  pub clean_of : (shown : Bool) (gives : Giving) (request : Asked) (codes : List (Option Text)) (texts : List Text)
+      (said : Result Answer Failure) (bytes : List ℕ) (status : ℕ) →
+      IsSaid shown gives request codes texts said → IsReported said bytes status → status ≡ 0 → IsClean request texts
+  clean_of shown gives (Check file cert) codes texts said bytes status is reported good =
       says_clean gives _ texts IsChecked _ said bytes status (λ answer is well. checked texts answer file cert is well) is reported good
-  clean_of shown gives (Analyse file) texts said bytes status is reported good =
+  clean_of shown gives (Analyse file) codes texts said bytes status is reported good =
       says_clean gives _ texts IsAnalysed _ said bytes status (λ answer is well. analysed texts answer file is well) is reported good
-  clean_of shown gives (Thin file cert) texts said bytes status is reported good =
+  clean_of shown gives (Thin file cert) codes texts said bytes status is reported good =
       says_clean gives _ texts IsThinned _ said bytes status (λ answer is well. thinned texts answer file cert is well) is reported good
-  clean_of shown gives (Run workers quiet script files) texts said bytes status is reported good =
+  clean_of shown gives (Run workers quiet script files) codes texts said bytes status is reported good =
       says_clean gives _ texts IsRan _ said bytes status
       (λ answer is well. driven texts answer workers quiet script files is well) is reported good
-  clean_of shown gives (Replay journal files) texts said bytes status is reported good = tt
-  clean_of shown gives (Show timeline picture journal files) texts said bytes status is reported good = tt
-  clean_of shown gives (Explain form colour states journal warnings is_c files) texts said bytes status is reported good =
-      explains_clean gives is_c form colour states (look_in colour shown states warnings) journal warnings files texts said bytes status is reported good
-  clean_of shown gives (Extract of_map files) texts said bytes status is reported good = tt
-  clean_of shown gives (Format mode files) texts said bytes status is reported good = tt
-  clean_of shown gives (Pages names) texts said bytes status is reported good = tt
-  clean_of shown gives (Compare files) texts said bytes status is reported good = tt
-  clean_of shown gives (Emit part file cert) texts said bytes status is reported good =
+  clean_of shown gives (Replay journal files) codes texts said bytes status is reported good = tt
+  clean_of shown gives (Show timeline picture journal files) codes texts said bytes status is reported good = tt
+  clean_of shown gives (Explain form colour states journal warnings is_c files) codes texts said bytes status is reported good =
+      explains_clean gives is_c form colour states (look_in colour shown states warnings) journal warnings files codes texts said bytes
+      status is reported good
+  clean_of shown gives (Extract of_map files) codes texts said bytes status is reported good = tt
+  clean_of shown gives (Format mode files) codes texts said bytes status is reported good = tt
+  clean_of shown gives (Pages names) codes texts said bytes status is reported good = tt
+  clean_of shown gives (Compare files) codes texts said bytes status is reported good = tt
+  clean_of shown gives (Emit part file cert) codes texts said bytes status is reported good =
       says_clean gives _ texts (IsEmitted part) _ said bytes status
       (λ answer is well. emitted texts answer part file cert is well) is reported good
-  clean_of shown gives (EmitInto folder file cert) texts said bytes status is reported good =
+  clean_of shown gives (EmitInto folder file cert) codes texts said bytes status is reported good =
       says_clean gives _ texts (IsEmittedInto folder) _ said bytes status
       (λ answer is well. emitted_into texts answer folder file cert is well) is reported good
-  clean_of shown gives Serve texts said bytes status is reported good = tt
+  clean_of shown gives Serve codes texts said bytes status is reported good = tt

@@ -94,42 +94,48 @@ worth_of look allowed f = drifts_status look.options.is_strict allowed (codes_in
 module _ (gives : Giving) (is_c : Bool) (form : Form) (options : WarningOptions) (states : ℕ) (allowed files : List Text) where
   -- what is told of those that are read is cut short
   pub cut_read : (f : FoundFiles) (old new : Option Text) → AreFoundIn is_c gives files f →
-      IsCutAfter (first_in form (drifts_of form allowed f)) form options states (map (λ name. name.now) f.names.items) (map (λ text. text.items) f.texts.items)
-      old new → IsCutShort gives is_c form options states allowed files old new
+      IsCutAfter (first_in form (drifts_of form allowed f)) form options states (map (λ name. name.now) f.names.items)
+      (map (λ text. text.items) f.texts.items) old new → IsCutShort gives is_c form options states allowed files old new
   cut_read f old new are cut = explain.some_read _ _ _ _ are.read are.found cut
 
   -- nothing went out where a file is named for a journal
   pub cut_named : {O : Type 0} (taken : O → Option Text) (old new : O) (journal : Option (Bor Text)) → journal ≢ None →
-      (HoldsBack form (option_map (λ name. name.now) journal) → new ≡ old) → IsCutShort gives is_c form options states allowed files (taken old) (taken new)
+      (HoldsBack form (option_map (λ name. name.now) journal) → new ≡ old) →
+      IsCutShort gives is_c form options states allowed files (taken old) (taken new)
   cut_named taken old new journal named held =
       rw (held (holds_named form journal named)) (cut_short gives is_c form options states allowed files (taken old))
 
   -- nor where its journal isn't written
-  pub cut_unwritten : {O : Type 0} (taken : O → Option Text) (old new : O) (look : Look) (journal : Option Text) (texts : List Text)
-      (said : Explanation) → IsErr (said_of said) → IsExplained gives is_c form look allowed journal files texts (said_of said) →
-      (HoldsBack form journal → new ≡ old) → IsCutShort gives is_c form options states allowed files (taken old) (taken new)
-  cut_unwritten taken old new look journal texts (Said t unread) err is held =
+  pub cut_unwritten : {O : Type 0} (taken : O → Option Text) (old new : O) (look : Look) (journal : Option Text)
+      (codes : List (Option Text))
+      (texts : List Text) (said : Explanation) → IsErr (said_of said) →
+      IsExplained gives is_c form look allowed journal files codes texts (said_of said) → (HoldsBack form journal → new ≡ old) →
+      IsCutShort gives is_c form options states allowed files (taken old) (taken new)
+  cut_unwritten taken old new look journal codes texts (Said t unread) err is held =
       let e : false ≡ true = err in let no : ⊥ = cc in absurd no
-  cut_unwritten taken old new look journal texts (Unwritten name why) err is held =
+  cut_unwritten taken old new look journal codes texts (Unwritten name why) err is held =
       rw (held (holds_some form journal name.now is.0)) (cut_short gives is_c form options states allowed files (taken old))
 
   -- the same of a report
-  pub cut_reported : {O : Type 0} (taken : O → Option Text) (old new : O) (look : Look) (journal : Option Text) (texts : List Text)
-      (said : Explanation) (result : Result Report CommandFault) → IfErr result (λ e. (e ≡ OutOfMemory) × IsErr (said_of said)) →
-      IsExplained gives is_c form look allowed journal files texts (said_of said) → (HoldsBack form journal → new ≡ old) →
+  pub cut_reported : {O : Type 0} (taken : O → Option Text) (old new : O) (look : Look) (journal : Option Text) (codes : List (Option Text))
+      (texts : List Text) (said : Explanation) (result : Result Report CommandFault) →
+      IfErr result (λ e. (e ≡ OutOfMemory) × IsErr (said_of said)) →
+      IsExplained gives is_c form look allowed journal files codes texts (said_of said) → (HoldsBack form journal → new ≡ old) →
       IfErr result (λ e. e ≡ OutOfMemory → IsCutShort gives is_c form options states allowed files (taken old) (taken new))
-  cut_reported taken old new look journal texts said (Ok report) err is held = tt
-  cut_reported taken old new look journal texts said (Err e) err is held =
-      λ short. cut_unwritten taken old new look journal texts said err.1 is held
+  cut_reported taken old new look journal codes texts said (Ok report) err is held = tt
+  cut_reported taken old new look journal codes texts said (Err e) err is held =
+      λ short. cut_unwritten taken old new look journal codes texts said err.1 is held
 
   -- what is said of them
-  pub explained_of : (look : Look) (journal : Option Text) (f : FoundFiles) (told : Told) (said : Explanation) → AreFoundIn is_c gives files f →
+  pub explained_of : (look : Look) (journal : Option Text) (f : FoundFiles) (told : Told) (said : Explanation) →
+      AreFoundIn is_c gives files f →
       IsToldWith (drifts_of form allowed f) (worth_of look allowed f) form look journal (map (λ name. name.now) f.names.items)
       (map (λ text. text.items) f.texts.items) (codes_in f) f.unread.items told → IsToldOrUnwritten told f.unread.items journal said →
-      IsExplained gives is_c form look allowed journal files (map (λ text. text.items) f.texts.items) (said_of said)
+      IsExplained gives is_c form look allowed journal files (codes_in f) (map (λ text. text.items) f.texts.items) (said_of said)
   explained_of look journal f told (Said t unread) are is (same, all) =
-      rw (same, all) (record { names = _; codes = _; read = are.read; found = are.found; told = is })
-  explained_of look journal f told (Unwritten name why) are is same = (same, record { names = _; unread = _; read = are.read })
+      rw (same, all) (record { names = _; read = are.read; found = are.found; told = is })
+  explained_of look journal f told (Unwritten name why) are is same =
+      (same, record { names = _; unread = _; read = are.read; found = are.found })
 
 -- what went out of it
 pub sent_of_said : {O : Type 0} (taken : O → Option Text) (old new : O) (form : Form) (journal : Option Text) (told : Told)

@@ -54,15 +54,19 @@ module _ (all : Bool) (gives : Giving) (name file : Text) (is : is_taken_for_c a
 
 -- ---- of several names
 
-module _ (all : Bool) (gives : Giving) (before : List Text) (name : Bor Text) (old new : FoundFiles) (are : AreFoundIn all gives before old) where
+module _ (all : Bool) (gives : Giving) (before : List Text) (name : Bor Text) (old new : FoundFiles)
+    (are : AreFoundIn all gives before old) where
   -- a name more that gives a text
-  pub found_more : (f : Found) → GivesFound all gives name.now f.text.items (code_of f) → is_standard name.now && list_any is_standard before ≡ false →
+  pub found_more : (f : Found) → GivesFound all gives name.now f.text.items (code_of f) →
+      is_standard name.now && list_any is_standard before ≡ false →
       new.names.items ≡ old.names.items ++ name ∷ [] → new.texts.items ≡ old.texts.items ++ f.text ∷ [] →
-      new.codes.items ≡ old.codes.items ++ f.code ∷ [] → new.unread.items ≡ old.unread.items → AreFoundIn all gives (before ++ name.now ∷ []) new
+      new.codes.items ≡ old.codes.items ++ f.code ∷ [] → new.unread.items ≡ old.unread.items →
+      AreFoundIn all gives (before ++ name.now ∷ []) new
   found_more f one other named put coded same =
       let names : map (λ (n : Bor Text). n.now) new.names.items ≡ map (λ (n : Bor Text). n.now) old.names.items ++ name.now ∷ [] =
       ap (map (λ (n : Bor Text). n.now)) named ∙ map_push (λ n. n.now) old.names.items name in
-      let texts : map (λ (t : Vec ℕ Global). t.items) new.texts.items ≡ map (λ (t : Vec ℕ Global). t.items) old.texts.items ++ f.text.items ∷ [] =
+      let texts : map (λ (t : Vec ℕ Global). t.items) new.texts.items ≡
+      map (λ (t : Vec ℕ Global). t.items) old.texts.items ++ f.text.items ∷ [] =
       ap (map (λ (t : Vec ℕ Global). t.items)) put ∙ map_push (λ t. t.items) old.texts.items f.text in
       let codes : codes_in new ≡ codes_in old ++ code_of f ∷ [] =
       ap (map (option_map (λ (t : Vec ℕ Global). t.items))) coded ∙ map_push (option_map (λ t. t.items)) old.codes.items f.code in
@@ -77,13 +81,14 @@ module _ (all : Bool) (gives : Giving) (before : List Text) (name : Bor Text) (o
       new.names.items ≡ old.names.items → new.texts.items ≡ old.texts.items → new.codes.items ≡ old.codes.items →
       new.unread.items ≡ old.unread.items ++ file ∷ [] → AreFoundIn all gives (before ++ name.now ∷ []) new
   unfound_more file same lost names texts codes put = record {
-    read = rw (names, texts) (missing_more (gives_annotations all gives) before name old.names.items old.texts.items old.unread.items are.read file
-        new.unread.items same lost put);
+    read = rw (names, texts) (missing_more (gives_annotations all gives) before name old.names.items old.texts.items old.unread.items
+        are.read file new.unread.items same lost put);
     found = rw (names, texts, codes) are.found;
   }
 
 -- as many texts as names are found
-pub found_many : (all : Bool) (gives : Giving) (names : List Text) (f : FoundFiles) → AreFoundIn all gives names f → length f.texts.items ≡ length f.names.items
+pub found_many : (all : Bool) (gives : Giving) (names : List Text) (f : FoundFiles) → AreFoundIn all gives names f →
+    length f.texts.items ≡ length f.names.items
 found_many all gives names f are =
     sym (length-map f.texts.items (λ t. t.items)) ∙ read_lengths (gives_annotations all gives) names _ _ _ are.read
     ∙ length-map f.names.items (λ n. n.now)

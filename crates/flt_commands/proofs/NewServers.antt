@@ -1,7 +1,7 @@
 -- What a server's run on a new server comes to, the report on a document, and who asks for a server.
 use Rattle.std.proofs.Common.{◌≡◌, ◌≢◌, ◌↔◌, ℕ, Option, Some, None, Result, Ok, Err, IfErr, IfOk, IfSome, IsTrue, refl, true}
 use Rattle.flt_commands.specs.Inputs.{Text}
-use Rattle.flt_commands.specs.Served.{IsExplained, IsNew, IsReport, MayAnswer, Serves, ServesSoFar, as_string}
+use Rattle.flt_commands.specs.Served.{IsNew, IsReport, IsSaid, MayAnswer, Serves, ServesSoFar, as_string}
 use Rattle.flt_frames.specs.Handling.{IsServed, IsServedSoFar}
 use Rattle.flt_frames.specs.declared.fault.ServeFault.{ServeFault}
 use Rattle.flt_frames.specs.declared.fault.ServeFault.TheVariants.{Write}
@@ -21,8 +21,8 @@ module _ (first : Server Explaining) (is : IsNew first) where
   serves_so_far had old new (Ok status) served = served
   serves_so_far had old new (Err fault) served = λ other. (first, is, served other)
 
--- what `explain` prints, written as a string, is the report on a document
-pub reported : {V : Type 0} {E : Type 0} (items : V → Text) (name text printed : Text) (r : Result V E) → IsExplained name text printed →
+-- what `explain` says, written as a string, is the report on a document
+pub reported : {V : Type 0} {E : Type 0} (items : V → Text) (name text printed : Text) (r : Result V E) → IsSaid name text printed →
     IfOk r (λ v. items v ≡ as_string printed) → IfOk r (λ v. IsReport name text (items v))
 reported items name text printed (Ok v) is written = (printed, is, written)
 reported items name text printed (Err e) is written = written

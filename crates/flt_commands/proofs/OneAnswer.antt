@@ -9,7 +9,7 @@ use Rattle.flt_commands.specs.Analyse.{IsAnalysed}
 use Rattle.flt_commands.specs.Answer.{output, status_of}
 use Rattle.flt_commands.specs.Attempts.{Attempt}
 use Rattle.flt_commands.specs.Check.{IsChecked}
-use Rattle.flt_commands.specs.Commands.{AnswersFor, IsReported, IsSaid, IsUnserved, giving_for}
+use Rattle.flt_commands.specs.Commands.{AnswersFor, IsReported, IsSaid, IsUnserved, codes_of, giving_for}
 use Rattle.flt_commands.specs.Compare.{IsCompared}
 use Rattle.flt_commands.specs.Extract.{IsExtracted}
 use Rattle.flt_commands.specs.Inputs.{Giving, Text, gives_but, gives_if, gives_text, kept}
@@ -103,33 +103,34 @@ unserved_once (Err f) (Err g) first second = λ _ _. ap Err (told_unread (codes 
 module _ (checked : SaysOne IsChecked) (analysed : SaysOne IsAnalysed) (thinned : SaysOne IsThinned) (replayed : SaysOne IsReplayed)
     (nowhere : SpelledFailsNowhere) where
   -- of what is asked for one thing is said at most
-  pub said_once : (gives : Giving) (shown showing : Bool) (request : Asked) (texts more : List Text) (a b : Result Answer Failure) →
-      HasOneAnswer request →
-      GivesOne gives → IsSaid shown gives request texts a → IsSaid showing gives request more b → AreSame a b
-  said_once gives shown showing (Check file cert) texts more a b has one x y =
+  pub said_once : (gives : Giving) (shown showing : Bool) (request : Asked) (codes others : List (Option Text)) (texts more : List Text)
+      (a b : Result Answer Failure) → HasOneAnswer request → GivesOne gives → IsSaid shown gives request codes texts a →
+      IsSaid showing gives request others more b → AreSame a b
+  said_once gives shown showing (Check file cert) codes others texts more a b has one x y =
       says_once gives one (names_of (Check file cert)) IsChecked checked texts more a b x y
-  said_once gives shown showing (Analyse file) texts more a b has one x y =
+  said_once gives shown showing (Analyse file) codes others texts more a b has one x y =
       says_once gives one (names_of (Analyse file)) IsAnalysed analysed texts more a b x y
-  said_once gives shown showing (Thin file cert) texts more a b has one x y =
+  said_once gives shown showing (Thin file cert) codes others texts more a b has one x y =
       says_once gives one (names_of (Thin file cert)) IsThinned thinned texts more a b x y
-  said_once gives shown showing (Run workers quiet script files) texts more a b has one x y = absurd has
-  said_once gives shown showing (Replay journal files) texts more a b has one x y =
+  said_once gives shown showing (Run workers quiet script files) codes others texts more a b has one x y = absurd has
+  said_once gives shown showing (Replay journal files) codes others texts more a b has one x y =
       says_once gives one (names_of (Replay journal files)) IsReplayed replayed texts more a b x y
-  said_once gives shown showing (Show timeline picture journal files) texts more a b has one x y = absurd has
-  said_once gives shown showing (Explain form colour states journal warnings is_c files) texts more a b has one x y = absurd has
-  said_once gives shown showing (Extract of_map files) texts more a b has one x y =
+  said_once gives shown showing (Show timeline picture journal files) codes others texts more a b has one x y = absurd has
+  said_once gives shown showing (Explain form colour states journal warnings is_c files) codes others texts more a b has one x y =
+      absurd has
+  said_once gives shown showing (Extract of_map files) codes others texts more a b has one x y =
       says_once gives one (names_of (Extract of_map files)) (IsExtracted of_map files) (extracts_once of_map files) texts more a b x y
-  said_once gives shown showing (Format modes.Print files) texts more a b has one x y =
+  said_once gives shown showing (Format modes.Print files) codes others texts more a b has one x y =
       layouts_said_once nowhere gives one modes.Print (λ e. cc) files texts more a b x y
-  said_once gives shown showing (Format modes.Check files) texts more a b has one x y =
+  said_once gives shown showing (Format modes.Check files) codes others texts more a b has one x y =
       layouts_said_once nowhere gives one modes.Check (λ e. cc) files texts more a b x y
-  said_once gives shown showing (Format modes.Write files) texts more a b has one x y = absurd has
-  said_once gives shown showing (Pages names) texts more a b has one x y = absurd has
-  said_once gives shown showing (Emit part file cert) texts more a b has one x y = absurd has
-  said_once gives shown showing (EmitInto folder file cert) texts more a b has one x y = absurd has
-  said_once gives shown showing (Compare files) texts more a b has one x y =
+  said_once gives shown showing (Format modes.Write files) codes others texts more a b has one x y = absurd has
+  said_once gives shown showing (Pages names) codes others texts more a b has one x y = absurd has
+  said_once gives shown showing (Emit part file cert) codes others texts more a b has one x y = absurd has
+  said_once gives shown showing (EmitInto folder file cert) codes others texts more a b has one x y = absurd has
+  said_once gives shown showing (Compare files) codes others texts more a b has one x y =
       says_once gives one (names_of (Compare files)) (IsCompared files) (compares_once files) texts more a b x y
-  said_once gives shown showing Serve texts more a b has one x y = unserved_once a b x y
+  said_once gives shown showing Serve codes others texts more a b has one x y = unserved_once a b x y
 
   -- one thing is printed at most, with one exit status
   pub printed_once : (gives : Giving) (written others : Text → Text → Type 0) (does did : List Attempt → Type 0) (shown showing : Bool)
@@ -139,5 +140,6 @@ module _ (checked : SaysOne IsChecked) (analysed : SaysOne IsAnalysed) (thinned 
   printed_once gives written others does did shown showing None r s has one x y = (x.0.0 ∙ sym y.0.0, x.0.1 ∙ sym y.0.1)
   printed_once gives written others does did shown showing (Some request) r s has one x y =
       reported_once r.output.items s.output.items r.status s.status x.said y.said
-      (said_once (giving_for request gives) shown showing request x.texts y.texts x.said y.said has (gives_one gives one request) x.is y.is)
+      (said_once (giving_for request gives) shown showing request (codes_of r) (codes_of s) x.texts y.texts x.said y.said has
+      (gives_one gives one request) x.is y.is)
       x.reported y.reported

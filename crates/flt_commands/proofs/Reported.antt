@@ -3,7 +3,7 @@ use Rattle.std.proofs.Common.{◌≡◌, ◌≢◌, ◌∙◌, ℕ, List, [], �
 use Rattle.std.proofs.Math.Path.{subst}
 use Rattle.flt_syntax.specs.TextFails.{SpelledFailsNowhere}
 use Rattle.flt_commands.proofs.Covered.{Law, LawOfRuns, clean_of}
-use Rattle.flt_commands.specs.Commands.{Answers, AnswersFor, AnswersSomehow, AreThose, HoldsBack, IsAnswered, IsBefore, IsCutShort, IsKept, IsKeptAs, IsRemarked, NamesNoJournal, IsRemarkedAfter, IsReported, IsSaid, giving_for, texts_in}
+use Rattle.flt_commands.specs.Commands.{Answers, AnswersFor, AnswersSomehow, AreThose, HasCodes, HoldsBack, IsAnswered, IsBefore, IsCutShort, IsKept, IsKeptAs, IsRemarked, NamesNoJournal, IsRemarkedAfter, IsReported, IsSaid, codes_of, giving_for, texts_in}
 use Rattle.flt_commands.specs.Attempts.{Attempt}
 use Rattle.flt_commands.specs.Drawn.{IsDrawnFor}
 use Rattle.flt_commands.specs.EmitInto.{ArePut}
@@ -49,6 +49,24 @@ those_after bytes texts journal said (Ok report) same kept is = (
   subst (λ (entries : Option Entries). IsKeptAs entries bytes said) (sym kept) is,
 )
 those_after bytes texts journal said (Err f) same kept is = tt
+
+-- the C files that a report is given are those that it has
+pub codes_given : (codes : Vec (Option (Vec ℕ Global)) Global) (result : Result Report CommandFault) →
+    IfOk result (λ report. report.codes ≡ codes) →
+    IfOk result (λ report. map (option_map (λ code. code.items)) codes.items ≡ codes_of report)
+codes_given codes (Ok report) same =
+    ap (λ (cs : Vec (Option (Vec ℕ Global)) Global). map (option_map (λ (code : Vec ℕ Global). code.items)) cs.items) (sym same)
+codes_given codes (Err f) same = tt
+
+-- a report of `explain` on files may have any
+pub may_have : (result : Result Report CommandFault) → IfOk result (λ report. Unit {0})
+may_have (Ok report) = tt
+may_have (Err f) = tt
+
+-- where it has none, it has those that another request has
+none_are_had : (request : Asked) (report : Report) → report.codes.items ≡ [] → HasCodes request report
+none_are_had (Explain form colour states journal warnings is_c files) report none = tt
+none_are_had _ report none = none
 
 -- ---- pages, and what stands before a line
 
@@ -106,15 +124,17 @@ unread_none (EmittedInto driver) good = refl
 unread_none (Compared why) good = refl
 
 -- of what `explain` says, where no file is named for a journal
-pub quiet_for : (form : Form) (colour : Colour) (states : ℕ) (journal : Option Text) (warnings : Choice) (is_c : Bool) (files : List Text) (before : List ℕ)
-    (said : Result Answer Failure) (result : Result Report CommandFault) → IsFound journal said before →
+pub quiet_for : (form : Form) (colour : Colour) (states : ℕ) (journal : Option Text) (warnings : Choice) (is_c : Bool) (files : List Text)
+    (before : List ℕ) (said : Result Answer Failure) (result : Result Report CommandFault) → IsFound journal said before →
     IfOk result (λ report. IsReported said report.output.items report.status) →
     IfOk result (λ report. report.status ≢ 2 → report.remark.items ≡ before) →
-    IfOk result (λ report. report.status ≢ 2 → NamesNoJournal (Some (Explain form colour states journal warnings is_c files)) → report.remark.items ≡ [])
+    IfOk result (λ report. report.status ≢ 2 → NamesNoJournal (Some (Explain form colour states journal warnings is_c files)) →
+    report.remark.items ≡ [])
 quiet_for form colour states (Some name) warnings is_c files before said (Ok report) found reported same = λ good names. absurd names
 quiet_for form colour states None warnings is_c files before (Ok answer) (Ok report) found reported same =
     λ good names. same good ∙ found ∙ ap (λ lines. lines ++ []) (unread_none answer (λ two. good (reported.1 ∙ two)))
-quiet_for form colour states None warnings is_c files before (Err f) (Ok report) found reported same = λ good names. absurd (good reported.1.1)
+quiet_for form colour states None warnings is_c files before (Err f) (Ok report) found reported same =
+    λ good names. absurd (good reported.1.1)
 quiet_for form colour states journal warnings is_c files before said (Err e) found reported same = tt
 
 -- ---- of a request, and of the words that ask for it
@@ -202,6 +222,7 @@ answered_anyway shown gives written does (Some request) report is = record {
   said = is.said;
   texts = is.texts;
   those = is.those;
+  coded = is.coded;
   is = is.is;
   reported = is.reported;
   remarked = is.remarked;
@@ -222,31 +243,45 @@ answers_anyway shown gives written does words (Err e) is = tt
 module _ (law : Law) (runs : LawOfRuns) (nowhere : SpelledFailsNowhere) (shown : Bool) (gives : Giving)
     (written : Text → Text → Type 0) (does : List Attempt → Type 0) where
   -- what is said of what is asked for, and reported, answers it
-  pub answered_of : (request : Asked) (texts : List Text) (said : Result Answer Failure) (result : Result Report CommandFault) →
-      IsSaid shown (giving_for request gives) request texts said → IsKept written does request texts said →
-      IfOk result (λ report. AreThose request report texts said) →
+  pub answered_of : (request : Asked) (codes : List (Option Text)) (texts : List Text) (said : Result Answer Failure)
+      (result : Result Report CommandFault) → IsSaid shown (giving_for request gives) request codes texts said →
+      IsKept written does request texts said → IfOk result (λ report. AreThose request report texts said) →
+      IfOk result (λ report. HasCodes request report) → IfOk result (λ report. codes ≡ codes_of report) →
       IfOk result (λ report. IsReported said report.output.items report.status) →
       IfOk result (λ report. IsRemarked request said report.remark.items) → IfOk result (IsAnswered shown gives written does request)
-  answered_of request texts said (Ok report) is kept those reported remarked = record {
+  answered_of request codes texts said (Ok report) is kept those coded same reported remarked = record {
     said = said;
     texts = texts;
     those = those;
-    is = is;
+    coded = coded;
+    is = subst (λ cs. IsSaid shown (giving_for request gives) request cs texts said) same is;
     reported = reported;
     remarked = remarked;
-    clean = λ good. clean_of law runs nowhere shown (giving_for request gives) request texts said report.output.items
+    clean = λ good. clean_of law runs nowhere shown (giving_for request gives) request codes texts said report.output.items
         report.status is reported good;
     kept = kept;
   }
-  answered_of request texts said (Err f) is kept those reported remarked = tt
+  answered_of request codes texts said (Err f) is kept those coded same reported remarked = tt
+
+  -- the same where the report has no C files
+  pub answered_without : (request : Asked) (texts : List Text) (said : Result Answer Failure) (result : Result Report CommandFault) →
+      IsSaid shown (giving_for request gives) request [] texts said → IsKept written does request texts said →
+      IfOk result (λ report. AreThose request report texts said) → IfOk result (λ report. report.codes.items ≡ []) →
+      IfOk result (λ report. IsReported said report.output.items report.status) →
+      IfOk result (λ report. IsRemarked request said report.remark.items) → IfOk result (IsAnswered shown gives written does request)
+  answered_without request texts said (Ok report) is kept those none reported remarked =
+      answered_of request [] texts said (Ok report) is kept those (none_are_had request report none)
+      (ap (map (option_map (λ (code : Vec ℕ Global). code.items))) (sym none)) reported remarked
+  answered_without request texts said (Err f) is kept those none reported remarked = tt
 
   -- the same of what the words ask for
   pub answers_of : (words : List (List ℕ)) (request : Asked) (texts : List Text) (said : Result Answer Failure)
-      (result : Result Report CommandFault) → Some request ≡ asked words → IsSaid shown (giving_for request gives) request texts said →
+      (result : Result Report CommandFault) → Some request ≡ asked words → IsSaid shown (giving_for request gives) request [] texts said →
       IsKept written does request texts said → IfOk result (λ report. AreThose request report texts said) →
+      IfOk result (λ report. report.codes.items ≡ []) →
       IfOk result (λ report. IsReported said report.output.items report.status) →
       IfOk result (λ report. IsRemarked request said report.remark.items) →
       IfOk result (λ report. Answers shown gives written does words report)
-  answers_of words request texts said (Ok report) asks is kept those reported remarked =
-      rw (← asks) (answered_of request texts said (Ok report) is kept those reported remarked)
-  answers_of words request texts said (Err f) asks is kept those reported remarked = tt
+  answers_of words request texts said (Ok report) asks is kept those none reported remarked =
+      rw (← asks) (answered_without request texts said (Ok report) is kept those none reported remarked)
+  answers_of words request texts said (Err f) asks is kept those none reported remarked = tt

@@ -44,7 +44,8 @@ pub cut_under : (form : Form) (options : WarningOptions) (states : ℕ) (names t
     IsCutUnder form options states names texts old old
 cut_under form options states names texts old = explain.none_out (Appends-nil old)
 
-pub cut_short : (gives : Giving) (is_c : Bool) (form : Form) (options : WarningOptions) (states : ℕ) (allowed files : List Text) (old : Option Text) →
+pub cut_short : (gives : Giving) (is_c : Bool) (form : Form) (options : WarningOptions) (states : ℕ) (allowed files : List Text)
+    (old : Option Text) →
     IsCutShort gives is_c form options states allowed files old old
 cut_short gives is_c form options states allowed files old = explain.none_read (Appends-nil old)
 

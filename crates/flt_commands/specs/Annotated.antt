@@ -1,22 +1,10 @@
 -- What C files give. This project's own program.
-use Rattle.std.specs.Prelude.{◌≡◌, ◌⊎◌, List, [], ◌∷◌, ◌++◌, Bool, true, false, ◌||◌, Option, Some, None, Ok, Err, codes, eqb, map, option_map}
-use Rattle.std.specs.List.{ends_with}
+use Rattle.std.specs.Prelude.{◌≡◌, ◌⊎◌, List, [], ◌∷◌, ◌++◌, Bool, true, false, ◌||◌, Option, Some, None, Ok, Err, map, option_map}
 use Rattle.flt_c.specs.InPlace.{in_place}
 use Rattle.flt_c.specs.declared.laying.PlaceFlaw.{PlaceFlaw}
+use Rattle.flt_c_files.specs.Names.{is_c_file}
 use Rattle.flt_commands.specs.Inputs.{AreRead, Giving, Text, unread_names}
 use Rattle.flt_commands.specs.declared.annotated.FoundFiles.{FoundFiles}
-
--- a file is one of C alone, or a header, by the ending of its name
-abbrev pub is_plain_c_file : Text → Bool
-is_plain_c_file name = ends_with eqb name (codes ".c") || ends_with eqb name (codes ".h")
-
--- it is C++
-abbrev pub is_cpp_file : Text → Bool
-is_cpp_file name = ends_with eqb name (codes ".cc") || ends_with eqb name (codes ".cpp")
-
--- it is C or C++
-abbrev pub is_c_file : Text → Bool
-is_c_file name = is_plain_c_file name || is_cpp_file name
 
 -- the annotations of a file where they stand in it, or none where they make no text
 abbrev pub AreLaid : Text → Option Text → Type 0
@@ -57,7 +45,8 @@ GivesFound all gives name text (Some code) = (is_taken_for_c all name ≡ true) 
 -- so does each of these names, in order
 pub data AreFound (all : Bool) (gives : Giving) : List Text → List Text → List (Option Text) → Type 0 where
   no_file : AreFound all gives [] [] []
-  found : {names texts : List Text} {codes : List (Option Text)} (name text : Text) (code : Option Text) → AreFound all gives names texts codes →
+  found : {names texts : List Text} {codes : List (Option Text)} (name text : Text) (code : Option Text) →
+      AreFound all gives names texts codes →
       GivesFound all gives name text code → AreFound all gives (names ++ name ∷ []) (texts ++ text ∷ []) (codes ++ code ∷ [])
 
 -- the C files among some files, or none

@@ -1,7 +1,7 @@
 -- What a command line comes to: what is read, what is said of it, how that is printed,
 -- what it is worth and what is kept. This project's own program.
 use Rattle.std.specs.Io.KnownBytes.{Appends}
-use Rattle.std.specs.Prelude.{◌≡◌, ◌≢◌, ℕ, Bool, List, [], ◌∷◌, ◌++◌, Option, Some, None, Result, Ok, Err, IfOk, OnOk, codes, drop, map, unwrap_or, ⊤}
+use Rattle.std.specs.Prelude.{◌≡◌, ◌≢◌, ℕ, Bool, List, [], ◌∷◌, ◌++◌, Option, Some, None, Result, Ok, Err, IfOk, OnOk, codes, drop, map, option_map, unwrap_or, ⊤}
 use Rattle.flt_commands.specs.Allowed.{options_of}
 use Rattle.flt_commands.specs.Analyse.{IsAnalysed}
 use Rattle.flt_commands.specs.Answer.{ending_of, output, remark, status_of}
@@ -52,25 +52,26 @@ abbrev pub IsUnserved : Result Answer Failure → Type 0
 IsUnserved (Ok answer) = ⊥
 IsUnserved (Err f) = IsUnread (codes "-") f
 
--- what is said of what is asked for, an answer or why there is none, where the names give these texts; `explain` alone says something of
--- some of them where others can't be read, with colours where the words ask for them or a terminal shows them
-abbrev pub IsSaid : Bool → Giving → Asked → List Text → Result Answer Failure → Type 0
-IsSaid shown gives (Check file cert) = Says gives (names_of (Check file cert)) IsChecked
-IsSaid shown gives (Analyse file) = Says gives (names_of (Analyse file)) IsAnalysed
-IsSaid shown gives (Thin file cert) = Says gives (names_of (Thin file cert)) IsThinned
-IsSaid shown gives (Run workers quiet script files) = Says gives (names_of (Run workers quiet script files)) IsRan
-IsSaid shown gives (Replay journal files) = Says gives (names_of (Replay journal files)) IsReplayed
-IsSaid shown gives (Show timeline picture journal files) =
+-- what is said of what is asked for, an answer or why there is none, where the names give these texts, of which these C files have the
+-- annotations; `explain` alone says something of some of them where others can't be read, with colours where the words ask for them or a
+-- terminal shows them
+abbrev pub IsSaid : Bool → Giving → Asked → List (Option Text) → List Text → Result Answer Failure → Type 0
+IsSaid shown gives (Check file cert) codes = Says gives (names_of (Check file cert)) IsChecked
+IsSaid shown gives (Analyse file) codes = Says gives (names_of (Analyse file)) IsAnalysed
+IsSaid shown gives (Thin file cert) codes = Says gives (names_of (Thin file cert)) IsThinned
+IsSaid shown gives (Run workers quiet script files) codes = Says gives (names_of (Run workers quiet script files)) IsRan
+IsSaid shown gives (Replay journal files) codes = Says gives (names_of (Replay journal files)) IsReplayed
+IsSaid shown gives (Show timeline picture journal files) codes =
     Says gives (names_of (Show timeline picture journal files)) (IsShown timeline picture)
-IsSaid shown gives (Explain form colour states journal warnings is_c files) =
-    IsExplained gives is_c form (look_in colour shown states warnings) warnings.allowed journal files
-IsSaid shown gives (Extract of_map files) = Says gives (names_of (Extract of_map files)) (IsExtracted of_map files)
-IsSaid shown gives (Format mode files) = IsFormatSaid gives mode files
-IsSaid shown gives (Pages names) = Says gives (names_of (Pages names)) (λ texts. ArePaged names)
-IsSaid shown gives (Emit part file cert) = Says gives (names_of (Emit part file cert)) (IsEmitted part)
-IsSaid shown gives (EmitInto folder file cert) = Says gives (names_of (EmitInto folder file cert)) (IsEmittedInto folder)
-IsSaid shown gives (Compare files) = Says gives (names_of (Compare files)) (IsCompared files)
-IsSaid shown gives Serve = λ texts. IsUnserved
+IsSaid shown gives (Explain form colour states journal warnings is_c files) codes =
+    IsExplained gives is_c form (look_in colour shown states warnings) warnings.allowed journal files codes
+IsSaid shown gives (Extract of_map files) codes = Says gives (names_of (Extract of_map files)) (IsExtracted of_map files)
+IsSaid shown gives (Format mode files) codes = IsFormatSaid gives mode files
+IsSaid shown gives (Pages names) codes = Says gives (names_of (Pages names)) (λ texts. ArePaged names)
+IsSaid shown gives (Emit part file cert) codes = Says gives (names_of (Emit part file cert)) (IsEmitted part)
+IsSaid shown gives (EmitInto folder file cert) codes = Says gives (names_of (EmitInto folder file cert)) (IsEmittedInto folder)
+IsSaid shown gives (Compare files) codes = Says gives (names_of (Compare files)) (IsCompared files)
+IsSaid shown gives Serve codes = λ texts. IsUnserved
 
 -- ---- how that is printed
 
@@ -128,6 +129,15 @@ NamesNoJournal request = Unit {0}
 abbrev pub texts_in : Report → List Text
 texts_in report = map (λ text. text.items) report.texts.items
 
+-- the C files that it has: for each text the one whose annotations it is, or none
+abbrev pub codes_of : Report → List (Option Text)
+codes_of report = map (option_map (λ code. code.items)) report.codes.items
+
+-- only a report of `explain` on files has any
+abbrev pub HasCodes : Asked → Report → Type 0
+HasCodes (Explain form colour states journal warnings is_c files) report = Unit {0}
+HasCodes request report = report.codes.items ≡ []
+
 -- where there is an answer about a journal, its entries are kept, whose spelling its bytes are
 abbrev pub IsKeptAs : Option Entries → Text → Result Answer Failure → Type 0
 IsKeptAs (Some entries) bytes (Ok answer) = bytes ≡ spelling entries
@@ -152,7 +162,7 @@ IsKept written does (Format Write files) texts said = IfOk said (AreChanged writ
 IsKept written does (EmitInto folder file cert) texts said = ArePut written does folder texts said
 IsKept written does request texts said = does []
 
--- the report on what is asked for. All of it speaks of the same texts, which are the report's:
+-- the report on what is asked for. All of it speaks of the same texts, which are the report's, and of its C files:
 -- they are what the names give; this is said of them; that is what the report has for the standard output,
 -- for the exit status and for the standard error; with the status 0 the filters
 -- that they spell break nothing; and what is written for it into a file, or that all that is written stays as it was
@@ -161,7 +171,8 @@ pub record IsAnswered (shown : Bool) (gives : Giving) (written : Text → Text �
   pub said : Result Answer Failure
   pub texts : List Text
   pub those : AreThose request report texts said
-  pub is : IsSaid shown (giving_for request gives) request texts said
+  pub coded : HasCodes request report
+  pub is : IsSaid shown (giving_for request gives) request (codes_of report) texts said
   pub reported : IsReported said report.output.items report.status
   pub remarked : IsRemarked request said report.remark.items
   pub clean : report.status ≡ 0 → IsClean request texts

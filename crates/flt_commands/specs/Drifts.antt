@@ -7,7 +7,7 @@ use Rattle.flt_drift.specs.Drifts.{drifts}
 use Rattle.flt_drift.specs.declared.drift.Drift.{Drift}
 use Rattle.flt_drift.specs.declared.drift.DriftKind.{DriftKind}
 use Rattle.flt_drift_reports.specs.Line.{drift_lines}
-use Rattle.flt_drift_reports.specs.Report.{drift_reports}
+use Rattle.flt_drift_reports.specs.Report.{drift_reports, has_difference}
 use Rattle.flt_drift_reports.specs.Words.{code}
 use Rattle.flt_words.specs.Shown.{visible}
 use Rattle.flt_words.specs.declared.request.Form.{Form}
@@ -50,14 +50,9 @@ abbrev pub part_of : Form → List Text → Text → Option Text → Text
 part_of form allowed name (Some file) = part form name file (shown_drifts allowed file)
 part_of form allowed name None = []
 
--- there are some
-abbrev pub are_some : List Drift → Bool
-are_some [] = false
-are_some (d ∷ found) = true
-
--- a file has a drift that is shown
+-- a file has a drift that is shown and isn't a note
 abbrev pub is_drifted : List Text → Option Text → Bool
-is_drifted allowed (Some file) = are_some (shown_drifts allowed file)
+is_drifted allowed (Some file) = has_difference (shown_drifts allowed file)
 is_drifted allowed None = false
 
 -- ---- the drifts of all files
@@ -85,6 +80,6 @@ drifts_told form allowed names files = with_gap form (parts_from form allowed na
 abbrev pub worth : Bool → Bool → ℕ
 worth strict is_some = if strict && is_some then 1 else 0
 
--- what drifts are worth, in whatever form: where warnings count, 1 if a file has one that is shown
+-- what drifts are worth, in whatever form: where warnings count, 1 if a file has one that is shown and isn't a note
 abbrev pub drifts_status : Bool → List Text → List (Option Text) → ℕ
 drifts_status strict allowed files = worth strict (list_any (is_drifted allowed) files)

@@ -115,8 +115,8 @@ pub record HasReport (look : Look) (sources : List FileText) (notes : List Noted
   pub status : ℕ
   pub print : IsPrint look sources notes printed status
 
--- for people all of what is printed is the reports with the notes, to the letter; a page has these without colours, after these drifts, with
--- pictures. The runs in other forms are those that a report has
+-- for people all of what is printed is the reports with the notes, to the letter; a page has these without colours, after these drifts,
+-- with pictures. The runs in other forms are those that a report has
 abbrev pub IsPrintTold : Form → Look → Text → List FileText → Told → Type 0
 IsPrintTold Human look drifts sources e = IsPrint look sources e.noted e.explained.output.items e.explained.status
 IsPrintTold Html look drifts sources e = IsPaged look drifts sources e.noted e.explained.output.items e.explained.status
@@ -124,8 +124,8 @@ IsPrintTold LinesWithRuns look drifts sources e = HasReport look sources e.noted
 IsPrintTold SarifWithRuns look drifts sources e = HasReport look sources e.noted
 IsPrintTold _ look drifts sources e = Unit {0}
 
--- the same of names and what they give, where these are the C files among the files, beside those that aren't read, with what came of the
--- findings of these texts
+-- the same of names and what they give, where these C files have the annotations of some of the texts, beside the files that aren't read,
+-- with what came of the findings of these texts
 pub record IsToldUnder (form : Form) (look : Look) (journal : Option Text) (drifts : Text) (names texts : List Text)
     (codes : List (Option Text)) (unread : List UnreadFile) (e : Told) : Type 0 where
   pub sources : List FileText
@@ -160,36 +160,38 @@ within_in Html drifts = drifts
 within_in form drifts = []
 
 -- the same, where these are all drifts
-abbrev pub IsToldWith : Text → ℕ → Form → Look → Option Text → List Text → List Text → List (Option Text) → List UnreadFile → Told → Type 0
+abbrev pub IsToldWith : Text → ℕ → Form → Look → Option Text → List Text → List Text → List (Option Text) → List UnreadFile → Told →
+    Type 0
 IsToldWith drifts worth form look journal names texts codes unread e =
     IsToldAfter (first_in form drifts) (within_in form drifts) worth form look journal names texts codes unread e
 
--- the same of those of these files that are read: they give these texts, those that are C have these drifts but for kinds of these names,
--- and these others aren't read
-pub record IsToldOf (gives : Giving) (is_c : Bool) (form : Form) (look : Look) (allowed : List Text) (journal : Option Text) (files texts : List Text)
-    (unread : List UnreadFile) (e : Told) : Type 0 where
+-- the same of those of these files that are read: they give these texts, of which these C files have the annotations, with the drifts of
+-- these but for kinds of these names, and these others aren't read
+pub record IsToldOf (gives : Giving) (is_c : Bool) (form : Form) (look : Look) (allowed : List Text) (journal : Option Text)
+    (files : List Text) (codes : List (Option Text)) (texts : List Text) (unread : List UnreadFile) (e : Told) : Type 0 where
   pub names : List Text
-  pub codes : List (Option Text)
   pub read : AreRead (gives_annotations is_c gives) files names texts (unread_names unread)
   pub found : AreFound is_c gives names texts codes
-  pub told : IsToldWith (drifts_told form allowed names codes) (drifts_status look.options.is_strict allowed codes) form look journal names texts
-      codes unread e
+  pub told : IsToldWith (drifts_told form allowed names codes) (drifts_status look.options.is_strict allowed codes) form look journal
+      names texts codes unread e
 
--- those of these files that are read give these texts
-pub record GiveTexts (gives : Giving) (files texts : List Text) : Type 0 where
+-- those of these files that are read give these texts, of which these C files have the annotations
+pub record GiveTexts (gives : Giving) (is_c : Bool) (files : List Text) (codes : List (Option Text)) (texts : List Text) : Type 0 where
   pub names : List Text
   pub unread : List Text
-  pub read : AreRead gives files names texts unread
+  pub read : AreRead (gives_annotations is_c gives) files names texts unread
+  pub found : AreFound is_c gives names texts codes
 
--- what is said of the bytes of each FILE that is read, of a C file by its annotations, after the drifts of all C files but for kinds of these
--- names; a journal may not be written
-abbrev pub IsExplained : Giving → Bool → Form → Look → List Text → Option Text → List Text → List Text → Result Answer Failure → Type 0
-IsExplained gives is_c form look allowed journal files texts (Ok (Explained e unread)) =
-    IsToldOf gives is_c form look allowed journal files texts unread.items e
-IsExplained gives is_c form look allowed journal files texts (Ok _) = ⊥
-IsExplained gives is_c form look allowed journal files texts (Err (CannotWrite name why)) =
-    (journal ≡ Some name.now) × GiveTexts (gives_annotations is_c gives) files texts
-IsExplained gives is_c form look allowed journal files texts (Err _) = ⊥
+-- what is said of the bytes of each FILE that is read, of a C file by its annotations, after the drifts of all C files but for kinds of
+-- these names; a journal may not be written
+abbrev pub IsExplained : Giving → Bool → Form → Look → List Text → Option Text → List Text → List (Option Text) → List Text →
+    Result Answer Failure → Type 0
+IsExplained gives is_c form look allowed journal files codes texts (Ok (Explained e unread)) =
+    IsToldOf gives is_c form look allowed journal files codes texts unread.items e
+IsExplained gives is_c form look allowed journal files codes texts (Ok _) = ⊥
+IsExplained gives is_c form look allowed journal files codes texts (Err (CannotWrite name why)) =
+    (journal ≡ Some name.now) × GiveTexts gives is_c files codes texts
+IsExplained gives is_c form look allowed journal files codes texts (Err _) = ⊥
 
 -- whether there are colours: as the words say, or where these leave it to the terminal, whether it shows them
 abbrev pub is_coloured : Colour → Bool → Bool
@@ -267,18 +269,22 @@ pub data IsCutUnder (form : Form) (options : WarningOptions) (states : ℕ) (nam
       IsCutIn form options states sources old new → IsCutUnder form options states names texts old new
 
 -- the same after these drifts; or nothing went out
-pub data IsCutAfter (drifts : Text) (form : Form) (options : WarningOptions) (states : ℕ) (names texts : List Text) (old new : Option Text) :
+pub data IsCutAfter (drifts : Text) (form : Form) (options : WarningOptions) (states : ℕ) (names texts : List Text)
+    (old new : Option Text) :
     Type 0 where
   nothing_out : Appends old new [] → IsCutAfter drifts form options states names texts old new
   drifts_out : (between : Option Text) → Appends old between drifts → IsCutUnder form options states names texts between new →
       IsCutAfter drifts form options states names texts old new
 
 -- the same of those of these files that are read
-pub data IsCutShort (gives : Giving) (is_c : Bool) (form : Form) (options : WarningOptions) (states : ℕ) (allowed files : List Text) (old new : Option Text) :
+pub data IsCutShort (gives : Giving) (is_c : Bool) (form : Form) (options : WarningOptions) (states : ℕ) (allowed files : List Text)
+    (old new : Option Text) :
     Type 0 where
   none_read : Appends old new [] → IsCutShort gives is_c form options states allowed files old new
-  some_read : (names texts missing : List Text) (codes : List (Option Text)) → AreRead (gives_annotations is_c gives) files names texts missing →
-      AreFound is_c gives names texts codes → IsCutAfter (first_in form (drifts_told form allowed names codes)) form options states names texts old new →
+  some_read : (names texts missing : List Text) (codes : List (Option Text)) →
+      AreRead (gives_annotations is_c gives) files names texts missing →
+      AreFound is_c gives names texts codes →
+      IsCutAfter (first_in form (drifts_told form allowed names codes)) form options states names texts old new →
       IsCutShort gives is_c form options states allowed files old new
 
 -- ---- pages

@@ -2,21 +2,10 @@
 use Rattle.std.specs.Fmt.{decimal}
 use Rattle.std.specs.Prelude.{ℕ, List, ◌++◌, codes}
 use Rattle.flt_c.specs.declared.fault.Fault.{Fault}
-use Rattle.flt_c.specs.declared.fault.FaultKind.{FaultKind}
-use Rattle.flt_c.specs.declared.fault.FaultKind.TheVariants as k
 use Rattle.flt_c.specs.declared.files.Flaw.{Flaw}
 use Rattle.flt_c.specs.declared.files.Flaw.TheVariants.{Faulty, Large, Bare, Long}
 use Rattle.flt_c.specs.declared.place.Place.{Place}
-
--- a fault in words
-abbrev pub reason : FaultKind → List ℕ
-reason k.Comment = codes "comment without end"
-reason k.String = codes "string without end"
-reason k.Character = codes "character constant without end"
-reason k.RawString = codes "raw string"
-reason k.Marker = codes "no blank after @flt"
-reason k.Continued = codes "annotation in a continued line"
-reason k.Group = codes "#if 0 without #endif"
+use Rattle.flt_c_files.specs.Flaws.{fault_words}
 
 -- a place of a file, as compilers write it behind its name
 abbrev pub spot : Place → List ℕ
@@ -24,7 +13,7 @@ spot at = decimal at.line ++ codes ":" ++ decimal at.column
 
 -- a fault of the file of a name
 abbrev pub fault_line : List ℕ → Fault → List ℕ
-fault_line name f = name ++ (codes ":" ++ (spot f.place ++ (codes ": " ++ reason f.kind)))
+fault_line name f = name ++ (codes ":" ++ (spot f.place ++ (codes ": " ++ fault_words f.kind)))
 
 -- what is wrong with the file of a name
 abbrev pub flaw_line : List ℕ → Flaw → List ℕ

@@ -8,30 +8,9 @@ ghost use Rattle.flt_commands.specs.Inputs.{is_standard as is_standard_name};
 use crate::inputs::{Inputs, is_standard};
 use crate::unread::Unread;
 use flt_c::in_place;
+use flt_c_files::is_c_file;
 use flt_forms::UnreadFile;
 use std::alloc::{AllocError, Global};
-
-/// Whether a file is one of C alone, or a header, by the ending of its name.
-fn is_plain_c_file(name: &[u8]) -> bool
-    ensures { result ≡ spec.is_plain_c_file name.now }
-{
-    name.ends_with(b".c") || name.ends_with(b".h")
-}
-
-/// Whether a file is C++.
-fn is_cpp_file(name: &[u8]) -> bool
-    ensures { result ≡ spec.is_cpp_file name.now }
-{
-    name.ends_with(b".cc") || name.ends_with(b".cpp")
-}
-
-/// Whether a file is C or C++.
-fn is_c_file(name: &str) -> bool
-    ensures { result ≡ spec.is_c_file name.now }
-{
-    let name = name.as_bytes();
-    is_plain_c_file(name) || is_cpp_file(name)
-}
 
 /// Whether a file is taken for C: by the ending of its name, or since all are.
 fn is_taken_for_c(all: bool, name: &str) -> bool
@@ -85,8 +64,8 @@ fn found_in<I: Inputs>(
     Ok(Ok(Found { text: file, code }))
 }
 
-/// The text that one name gives after others, or why it gives none. The standard input gives its bytes once, and `is_used` says whether it is
-/// among the others.
+/// The text that one name gives after others, or why it gives none. The standard input gives its bytes once, and `is_used` says whether it
+/// is among the others.
 fn find_one<I: Inputs>(
     alloc: Global,
     inputs: &I,

@@ -6,7 +6,7 @@ ghost use Rattle.flt_commands.specs.Drifts as spec;
 
 use crate::extract::name_of;
 use flt_drift::{Drift, DriftKind, drifts};
-use flt_drift_reports::{code, drift_lines, report_drifts};
+use flt_drift_reports::{code, drift_lines, has_difference, report_drifts};
 use flt_words::{Form, visible};
 use std::alloc::{AllocError, Global};
 
@@ -76,18 +76,9 @@ fn part(
     }
 }
 
-fn are_some(found: &[Drift]) -> bool
-    ensures { result ≡ spec.are_some found.now }
-{
-    match found {
-        [] => false,
-        [_, ..] => true,
-    }
-}
-
 // ---- the drifts of all files
 
-/// The drifts of files as they are printed, and whether there is one.
+/// The drifts of files as they are printed, and whether there is one that isn't a note.
 #[derive(Drop)]
 pub(crate) struct Drifted {
     pub(crate) printed: Vec<u8>,
@@ -111,7 +102,7 @@ fn add_code(
     let found = shown_drifts(alloc, allowed, file)?;
     let more = part(alloc, form, name, file, found.as_slice())?;
     drifted.printed.extend_from_slice(more.as_slice())?;
-    drifted.is_some = drifted.is_some || are_some(found.as_slice());
+    drifted.is_some = drifted.is_some || has_difference(found.as_slice());
     Ok(())
 }
 
@@ -181,7 +172,7 @@ pub(crate) fn drifted(
 }
 
 impl Drifted {
-    /// The exit status: 1 if warnings count and there is a drift.
+    /// The exit status: 1 if warnings count and there is a drift that isn't a note.
     pub(crate) fn worth(&self, is_strict: bool) -> u8
         ensures { result ≡ spec.worth is_strict self.now.is_some }
     {

@@ -134,7 +134,8 @@ fn told_page<O: Sink, W: SearchWatch>(
     watch: &mut W,
 ) -> Result<Told, CommandFault>
     ensures page { IfOk result (λ t. IsPageOn asked.entry.options drifts.now sources.now t.explained.output.items t.explained.status) }
-    ensures paged { IfOk result (λ t. IsPaged (spec.look_of asked.entry) drifts.now sources.now t.noted t.explained.output.items t.explained.status) }
+    ensures paged { IfOk result (λ t.
+        IsPaged (spec.look_of asked.entry) drifts.now sources.now t.noted t.explained.output.items t.explained.status) }
     ensures noted { IfOk result (λ t. AreNotes (texts_of sources.now) t.noted) }
     ensures sent { IfOk result (λ t. t.sent ≡ 0) }
     ensures held { out.new ≡ out.old }
@@ -205,8 +206,8 @@ fn sarif_with_runs<O: Sink, W: SearchWatch>(
     Ok(unsent(explained, noted))
 }
 
-/// The output for some texts, in a form, with files that aren't read; a page has these drifts before all else. Each text's part is written as soon as it is made, unless the form is
-/// one document.
+/// The output for some texts, in a form, with files that aren't read; a page has these drifts before all else. Each text's part is written
+/// as soon as it is made, unless the form is one document.
 #[tactic(auto, using(crate::proofs::Sent::none_sent, crate::proofs::Faults::write_of, crate::proofs::Faults::memory_of))]
 fn told_in_turn<O: Sink, W: SearchWatch>(
     alloc: Global,
@@ -285,8 +286,8 @@ fn told_whole<O: Sink, W: SearchWatch>(
     Ok(unsent(explained, told.noted))
 }
 
-/// The output for some texts, in a form, with files that aren't read; a page has these drifts before all else. If a file is named for a journal, nothing is written before all is
-/// known.
+/// The output for some texts, in a form, with files that aren't read; a page has these drifts before all else. If a file is named for a
+/// journal, nothing is written before all is known.
 #[tactic(auto, using(crate::proofs::Sent::cut_nowhere))]
 fn told<O: Sink, W: SearchWatch>(
     alloc: Global,
@@ -333,12 +334,12 @@ pub(crate) fn explain_read<O: Sink, W: SearchWatch>(
     watch: &mut W,
 ) -> Result<Told, CommandFault>
     requires { length texts.now ≡ length names.now }
-    ensures told { IfOk result (spec.IsToldUnder asked.entry.form (spec.look_of asked.entry) (option_map (λ name. name.now) asked.entry.journal)
-        drifts.now (map (λ name. name.now) names.now) (map (λ text. text.items) texts.now)
-        (map (option_map (λ code. code.items)) codes.now) unread.now) }
+    ensures told { IfOk result (spec.IsToldUnder asked.entry.form (spec.look_of asked.entry)
+        (option_map (λ name. name.now) asked.entry.journal) drifts.now (map (λ name. name.now) names.now)
+        (map (λ text. text.items) texts.now) (map (option_map (λ code. code.items)) codes.now) unread.now) }
     ensures sent { IfOk result (λ t. Appends (O.taken out.old) (O.taken out.new) (take t.sent t.explained.output.items)) }
-    ensures cut { IfOk result (λ t. spec.IsCutUnder asked.entry.form asked.entry.options asked.entry.states (map (λ name. name.now) names.now)
-        (map (λ text. text.items) texts.now) (O.taken out.old) (O.taken out.new)) }
+    ensures cut { IfOk result (λ t. spec.IsCutUnder asked.entry.form asked.entry.options asked.entry.states
+        (map (λ name. name.now) names.now) (map (λ text. text.items) texts.now) (O.taken out.old) (O.taken out.new)) }
     ensures held { spec.HoldsBack asked.entry.form (option_map (λ name. name.now) asked.entry.journal) → out.new ≡ out.old }
     ensures fine { OnOk result (O.failures out.new ≡ O.failures out.old) }
     ensures write { IfErr result (λ e. e ≡ CommandFault.Write → O.failures out.new ≢ O.failures out.old) }
@@ -408,10 +409,10 @@ fn placed(alloc: Global, form: Form, drifts: Vec<u8>) -> (Vec<u8>, Vec<u8>)
     }
 }
 
-/// The outcome of `explain`, in a form, for those of its names that can be read, of C files for their annotations, after the drifts of these;
-/// `contents` becomes the texts that the names give, and `remark` whole lines on the others. The journal of the first finding that has one is
-/// written into a file, if one is named; else the drifts are written first and the output for each text as soon as it is made, unless the
-/// form is one document.
+/// The outcome of `explain`, in a form, for those of its names that can be read, of C files for their annotations, after the drifts of
+/// these; `contents` becomes the texts that the names give, `codes` the C files of which texts are the annotations, and `remark` whole
+/// lines on the names that give none. The journal of the first finding that has one is written into a file, if one is named; else the
+/// drifts are written first and the output for each text as soon as it is made, unless the form is one document.
 #[tactic(auto, using(crate::proofs::Sent::cut_short))]
 pub fn explain_files<'a, I: Inputs, P: Pictures, O: Sink, W: SearchWatch>(
     alloc: Global,
@@ -422,10 +423,12 @@ pub fn explain_files<'a, I: Inputs, P: Pictures, O: Sink, W: SearchWatch>(
     out: &mut O,
     watch: &mut W,
     contents: &mut Contents,
+    codes: &mut Vec<Option<Vec<u8>>>,
     remark: &mut Vec<u8>,
 ) -> Result<Explanation<'a>, CommandFault>
     ensures said { IfOk result (λ said. spec.IsExplained (I.gives inputs.now) asked.entry.is_c asked.entry.form (spec.look_of asked.entry)
-        (map (λ name. name.now) asked.entry.allowed.now) (option_map (λ name. name.now) asked.entry.journal) (map (λ name. name.now) files.now)
+        (map (λ name. name.now) asked.entry.allowed.now) (option_map (λ name. name.now) asked.entry.journal)
+        (map (λ name. name.now) files.now) (map (option_map (λ code. code.items)) codes.new.items)
         (map (λ text. text.items) contents.new.texts.items) (spec.said_of said)) }
     ensures unread { IfOk result (λ said. IfOk (spec.said_of said) (λ answer. remark.new.items ≡ unread_in answer)) }
     ensures written { IfOk result (λ said. IfOk (spec.said_of said) (spec.IsWritten (P.written pictures.new) (pictures.new ≡ pictures.old)
@@ -440,9 +443,9 @@ pub fn explain_files<'a, I: Inputs, P: Pictures, O: Sink, W: SearchWatch>(
 {
     let found = find_each(alloc, inputs, asked.is_c, files)?;
     let names = found.names;
-    let codes = found.codes;
     let unread = found.unread;
     let texts = found.texts;
+    *codes = found.codes;
     let beginnings = beginnings(alloc, texts.as_slice(), codes.as_slice())?;
     contents.texts = joined(alloc, texts.as_slice(), beginnings.as_slice())?;
     *remark = unread_lines(alloc, unread.as_slice())?;

@@ -38,8 +38,8 @@ pub(crate) fn report_on_files<'a, I: Inputs, P: Pictures, O: Sink, W: SearchWatc
         (Explain asked.entry.form colour asked.entry.states (option_map (λ name. name.now) asked.entry.journal) warnings
         asked.entry.is_c (map (λ name. name.now) files.now))) }
     ensures quiet { (colour : Colour) → (warnings : Choice) → IfOk result (λ report. report.status ≢ 2 →
-        NamesNoJournal (Some (Explain asked.entry.form colour asked.entry.states (option_map (λ name. name.now) asked.entry.journal) warnings
-        asked.entry.is_c (map (λ name. name.now) files.now))) → report.remark.items ≡ []) }
+        NamesNoJournal (Some (Explain asked.entry.form colour asked.entry.states (option_map (λ name. name.now) asked.entry.journal)
+        warnings asked.entry.is_c (map (λ name. name.now) files.now))) → report.remark.items ≡ []) }
     ensures sent { IfOk result (λ report. Appends (O.taken out.old) (O.taken out.new) (take report.sent report.output.items)) }
     ensures held { spec.HoldsBack asked.entry.form (option_map (λ name. name.now) asked.entry.journal) → out.new ≡ out.old }
     ensures fine { OnOk result (O.failures out.new ≡ O.failures out.old) }
@@ -52,6 +52,7 @@ pub(crate) fn report_on_files<'a, I: Inputs, P: Pictures, O: Sink, W: SearchWatc
     driven_texts_break_nothing();
     fails_exactly_where_nothing_is_spelled();
     let mut contents = Contents::new(alloc);
+    let mut codes = Vec::new(alloc);
     let mut remark = Vec::new(alloc);
     let said = explain_files(
         alloc,
@@ -62,8 +63,9 @@ pub(crate) fn report_on_files<'a, I: Inputs, P: Pictures, O: Sink, W: SearchWatc
         out,
         watch,
         &mut contents,
+        &mut codes,
         &mut remark,
     )?;
     let before = explain_remark(alloc, remark, asked.journal, &said)?;
-    report_on_explanation(alloc, before, said, contents)
+    report_on_explanation(alloc, before, said, contents, codes)
 }

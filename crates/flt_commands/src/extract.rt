@@ -14,27 +14,13 @@ use crate::answer::Answer;
 use crate::failure::Failure;
 use crate::inputs::{Inputs, read_all};
 use crate::report::Contents;
-use flt_c::{Annotations, Fault, FaultKind, FileFlaw, Flaw, Line, Place, PlaceFlaw, extract};
+use flt_c::{Annotations, Fault, FileFlaw, Flaw, Line, Place, PlaceFlaw, extract};
+use flt_c_files::{fault_words, flaw_place, flaw_words};
 use flt_words::visible;
 use std::alloc::{AllocError, Global};
 use std::fmt;
 
 // ---- what is wrong with a file
-
-/// The fault, in words.
-fn reason(kind: FaultKind) -> &'static str
-    ensures { result.now ≡ flaws.reason kind }
-{
-    match kind {
-        FaultKind::Comment => "comment without end",
-        FaultKind::String => "string without end",
-        FaultKind::Character => "character constant without end",
-        FaultKind::RawString => "raw string",
-        FaultKind::Marker => "no blank after @flt",
-        FaultKind::Continued => "annotation in a continued line",
-        FaultKind::Group => "#if 0 without #endif",
-    }
-}
 
 /// A place of a file, as compilers write it after its name.
 #[derive(Drop)]
@@ -55,7 +41,7 @@ fn fault_line(alloc: Global, name: &str, fault: Fault) -> Result<String, AllocEr
     ensures { IfOk result (λ line. string_bytes line ≡ flaws.fault_line name.now fault) }
 {
     let spot = Spot(fault.place);
-    let why = reason(fault.kind);
+    let why = fault_words(fault.kind);
     format!(in alloc; "{name}:{spot}: {why}")
 }
 
@@ -72,31 +58,15 @@ pub(crate) fn flaw_line(alloc: Global, name: &str, flaw: Flaw) -> Result<String,
     }
 }
 
-/// The fault of a file that is named elsewhere, in words.
-fn fault_words(alloc: Global, fault: Fault) -> Result<String, AllocError> {
-    let spot = Spot(fault.place);
-    let why = reason(fault.kind);
-    format!(in alloc; "{why} at {spot}")
-}
-
-/// The flaw of a file that is named elsewhere, in words.
-fn flaw_words(alloc: Global, flaw: Flaw) -> Result<String, AllocError> {
-    match flaw {
-        Flaw::Faulty(fault) => fault_words(alloc, fault),
-        Flaw::Large => String::from_str(alloc, "a C file has at most 16,777,216 bytes"),
-        Flaw::Bare => String::from_str(alloc, "it has no annotation"),
-        Flaw::Long => String::from_str(alloc, "its annotations have more than 65,536 bytes"),
-    }
-}
-
-/// Why the annotations of a file that is named elsewhere can't be laid at their places, in words.
+/// Why the annotations of a file that is named elsewhere can't be laid at their places, in words, with the place.
 pub(crate) fn place_flaw_words(alloc: Global, flaw: PlaceFlaw) -> Result<String, AllocError> {
-    match flaw {
-        PlaceFlaw::Flawed(flaw) => flaw_words(alloc, flaw),
-        PlaceFlaw::Crowded(place) => {
+    let why = flaw_words(flaw);
+    match flaw_place(flaw) {
+        Some(place) => {
             let spot = Spot(place);
-            format!(in alloc; "a second annotation in one line at {spot}")
+            format!(in alloc; "{why} at {spot}")
         }
+        None => String::from_str(alloc, why),
     }
 }
 

@@ -51,7 +51,7 @@ fn lines_on<'a>(
 }
 
 /// Whole lines that say that a file isn't read.
-fn lines_on_file(alloc: Global, file: &UnreadFile) -> Result<String, AllocError>
+pub(crate) fn lines_on_file(alloc: Global, file: &UnreadFile) -> Result<String, AllocError>
     ensures { IfOk result (λ lines. string_bytes lines ≡ spec.unread_lines file.now) }
 {
     let name = visible(alloc, file.name.as_str())?;

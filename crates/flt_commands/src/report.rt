@@ -19,9 +19,11 @@ use std::alloc::{AllocError, Global};
 /// The report on a command: the inputs that were read for it, and the bytes for each output.
 #[derive(Drop)]
 pub struct Report {
-    /// The bytes of the names among the words, in their order; none for a file of `explain` that isn't read, and for a journal see
-    /// `journal`.
+    /// The bytes of the names among the words, in their order, for a C file of `explain` its annotations at their places; none for a file
+    /// of `explain` that isn't read, and for a journal see `journal`.
     pub texts: Vec<Vec<u8>>,
+    /// For each text of `explain` the C file whose annotations it is, if it is a C file's. There are none for other commands.
+    pub codes: Vec<Option<Vec<u8>>>,
     /// The entries of the journal that was read. Its bytes, which spell them, are freed while it is read.
     pub journal: Option<Journal>,
     /// The bytes for the standard output.
@@ -37,8 +39,9 @@ pub struct Report {
 
 impl Report {
     /// The report on the contents of some names.
-    fn on(contents: Contents, output: Vec<u8>, remark: Vec<u8>, status: u8) -> Report
+    fn on(alloc: Global, contents: Contents, output: Vec<u8>, remark: Vec<u8>, status: u8) -> Report
         ensures texts { result.texts ≡ contents.texts }
+        ensures codes { result.codes.items ≡ [] }
         ensures journal { result.journal ≡ contents.journal }
         ensures output { result.output ≡ output }
         ensures sent { result.sent ≡ 0 }
@@ -47,6 +50,7 @@ impl Report {
     {
         Report {
             texts: contents.texts,
+            codes: Vec::new(alloc),
             journal: contents.journal,
             output,
             sent: 0,
@@ -55,9 +59,17 @@ impl Report {
         }
     }
 
-    /// The report on reports of texts, with these files that aren't read.
-    fn on_reports(contents: Contents, told: Told, unread: &[UnreadFile], remark: Vec<u8>) -> Report
+    /// The report on reports of texts, of which these C files have annotations, with these files that aren't read.
+    fn on_reports(
+        alloc: Global,
+        contents: Contents,
+        codes: Vec<Option<Vec<u8>>>,
+        told: Told,
+        unread: &[UnreadFile],
+        remark: Vec<u8>,
+    ) -> Report
         ensures texts { result.texts ≡ contents.texts }
+        ensures codes { result.codes ≡ codes }
         ensures journal { result.journal ≡ contents.journal }
         ensures output { result.output ≡ told.explained.output }
         ensures sent { result.sent ≡ told.sent }
@@ -65,10 +77,10 @@ impl Report {
         ensures status { result.status ≡ told_status told.explained.status unread.now }
     {
         let status = told_status(told.explained.status, unread);
-        Report {
-            sent: told.sent,
-            ..Report::on(contents, told.explained.output, remark, status)
-        }
+        let mut report = Report::on(alloc, contents, told.explained.output, remark, status);
+        report.codes = codes;
+        report.sent = told.sent;
+        report
     }
 
     /// The report on words that ask for a text about their use.
@@ -79,6 +91,7 @@ impl Report {
     {
         Report {
             texts: Vec::new(alloc),
+            codes: Vec::new(alloc),
             journal: None,
             output: Vec::new(alloc),
             sent: 0,
@@ -142,6 +155,7 @@ fn report_on_answer(
     contents: Contents,
 ) -> Result<Report, CommandFault>
     ensures texts { IfOk result (λ report. report.texts ≡ contents.texts) }
+    ensures codes { IfOk result (λ report. report.codes.items ≡ []) }
     ensures journal { IfOk result (λ report. report.journal ≡ contents.journal) }
     ensures output { IfOk result (λ report. report.output.items ≡ output answer) }
     ensures sent { IfOk result (λ report. report.sent ≡ 0) }
@@ -155,7 +169,7 @@ fn report_on_answer(
     let ending = remark_on(alloc, answer.ending())?;
     remark.extend_from_slice(ending.as_slice())?;
     let output = answer.output(alloc)?;
-    Ok(Report::on(contents, output, remark, status))
+    Ok(Report::on(alloc, contents, output, remark, status))
 }
 
 /// The report on why there is no answer, in a line after some others.
@@ -166,6 +180,7 @@ fn report_on_failure(
     contents: Contents,
 ) -> Result<Report, CommandFault>
     ensures texts { IfOk result (λ report. report.texts ≡ contents.texts) }
+    ensures codes { IfOk result (λ report. report.codes.items ≡ []) }
     ensures journal { IfOk result (λ report. report.journal ≡ contents.journal) }
     ensures output { IfOk result (λ report. report.output.items ≡ []) }
     ensures sent { IfOk result (λ report. report.sent ≡ 0) }
@@ -177,7 +192,7 @@ fn report_on_failure(
     let mut remark = before;
     remark.extend_from_slice(line.as_bytes())?;
     remark.push(b'\n')?;
-    Ok(Report::on(contents, Vec::new(alloc), remark, 2))
+    Ok(Report::on(alloc, contents, Vec::new(alloc), remark, 2))
 }
 
 /// The report on an answer or a failure, with these lines on the standard error before those of the answer, or before the line that says
@@ -189,6 +204,7 @@ pub(crate) fn report_on(
     contents: Contents,
 ) -> Result<Report, CommandFault>
     ensures texts { IfOk result (λ report. report.texts ≡ contents.texts) }
+    ensures codes { IfOk result (λ report. report.codes.items ≡ []) }
     ensures journal { IfOk result (λ report. report.journal ≡ contents.journal) }
     ensures reported { IfOk result (λ report. spec.IsReported said.entry report.output.items report.status) }
     ensures remarked { IfOk result (λ report. spec.IsRemarkedAfter before.items said.entry report.remark.items) }
@@ -203,14 +219,16 @@ pub(crate) fn report_on(
     }
 }
 
-/// The same on the outcome of `explain` for files.
+/// The same on the outcome of `explain` for files, of which these C files have annotations.
 pub(crate) fn report_on_explanation(
     alloc: Global,
     before: Vec<u8>,
     said: Explanation<'_>,
     contents: Contents,
+    codes: Vec<Option<Vec<u8>>>,
 ) -> Result<Report, CommandFault>
     ensures texts { IfOk result (λ report. report.texts ≡ contents.texts) }
+    ensures codes { IfOk result (λ report. report.codes ≡ codes) }
     ensures reported { IfOk result (λ report. spec.IsReported (said_of said.entry) report.output.items report.status) }
     ensures sent { IfOk result (λ report. report.sent ≡ sent_in (said_of said.entry)) }
     ensures remarked { IfOk result (λ report. spec.IsRemarkedAfter before.items (said_of said.entry) report.remark.items) }
@@ -218,16 +236,23 @@ pub(crate) fn report_on_explanation(
     ensures err { IfErr result (λ e. (e ≡ CommandFault.OutOfMemory) × IsErr (said_of said.entry)) }
 {
     match said {
-        Explanation::Told(told, unread) => {
-            Ok(Report::on_reports(contents, told, unread.as_slice(), before))
-        }
+        Explanation::Told(told, unread) => Ok(Report::on_reports(
+            alloc,
+            contents,
+            codes,
+            told,
+            unread.as_slice(),
+            before,
+        )),
         Explanation::Unwritten(name, why) => {
-            report_on(
+            let mut report = report_on(
                 alloc,
                 before,
                 Err(Failure::CannotWrite(name, why)),
                 contents,
-            )
+            )?;
+            report.codes = codes;
+            Ok(report)
         }
     }
 }

@@ -1,9 +1,15 @@
 //! The server of an editor, over a stream of any kind that is read and one that is written.
 
 ghost use Rattle.std.specs.Prelude.{◌≡◌, ◌≢◌, None, IfErr, IfOk, true};
+ghost use Rattle.flt_c.specs.InPlace.{in_place as laid_in};
 ghost use Rattle.flt_commands.specs.Served as spec;
 ghost use Rattle.flt_notes.specs.Whole.{look_for};
 
+use crate::drifts::drifted;
+use crate::remarks::lines_on_file;
+use crate::unread::Unread;
+use flt_c::{PlaceFlaw, in_place};
+use flt_c_files::is_c_file;
 use flt_details::{FilePart, Source};
 use flt_frames::{Incoming, ServeFault, serve};
 use flt_model::{Sink, WriteFault};
@@ -12,7 +18,7 @@ use flt_server::Server;
 use flt_session::Reporter;
 use flt_warning_details::WarningOptions;
 use flt_warnings::AllowedKinds;
-use flt_words::DEFAULT_STATES;
+use flt_words::{DEFAULT_STATES, Form};
 use json::{Value, to_vec};
 use std::alloc::{AllocError, Global};
 
@@ -49,14 +55,14 @@ fn asking() -> Asking
     }
 }
 
-/// The output of `explain` for a text under a name.
-fn printed(alloc: Global, name: &str, text: &[u8]) -> Result<Vec<u8>, AllocError>
-    ensures { IfOk result (λ out. spec.IsExplained name.now text.now out.items) }
+/// The output of `explain` for a text in a file of a name, whose lines it shows.
+fn printed(alloc: Global, name: &str, file: &[u8], text: &[u8]) -> Result<Vec<u8>, AllocError>
+    ensures { IfOk result (λ out. spec.IsExplained name.now file.now text.now out.items) }
 {
     let files = [FilePart {
         name,
         first: 1,
-        bytes: text,
+        bytes: file,
     }];
     let sources = [Source {
         text,
@@ -70,6 +76,54 @@ fn printed(alloc: Global, name: &str, text: &[u8]) -> Result<Vec<u8>, AllocError
     }
 }
 
+/// The output of `explain` for the annotations of a C file under a name, after the drifts of the file.
+fn printed_after(
+    alloc: Global,
+    name: &str,
+    file: &[u8],
+    annotations: &[u8],
+) -> Result<Vec<u8>, AllocError>
+    ensures { IfOk result (λ out. spec.IsExplainedInC name.now file.now annotations.now out.items) }
+{
+    let files = [Some(Vec::from_slice(alloc, file)?)];
+    let drifts = drifted(alloc, Form::Human, &[], &[name], &files)?;
+    let own = printed(alloc, name, file, annotations)?;
+    let mut out = drifts.printed;
+    out.extend_from_slice(own.as_slice())?;
+    Ok(out)
+}
+
+/// The lines of `explain` on a C file that isn't read.
+fn printed_of_unread(alloc: Global, name: &str, flaw: PlaceFlaw) -> Result<Vec<u8>, AllocError>
+    ensures { IfOk result (λ out. spec.IsUnread name.now out.items) }
+{
+    let file = Unread::Flawed(flaw).file(alloc, name)?;
+    let lines = lines_on_file(alloc, &file)?;
+    Ok(lines.into_bytes())
+}
+
+/// The output of `explain` for a C file under a name.
+fn printed_in_c(alloc: Global, name: &str, file: &[u8]) -> Result<Vec<u8>, AllocError>
+    ensures { IfOk result (λ out. spec.IsSaidOfLaid name.now file.now (laid_in file.now) out.items) }
+{
+    let own = Vec::from_slice(alloc, file)?;
+    match in_place(alloc, own)? {
+        Ok(annotations) => printed_after(alloc, name, file, annotations.as_slice()),
+        Err(flaw) => printed_of_unread(alloc, name, flaw),
+    }
+}
+
+/// The output of `explain` for a file under a name, which says whether it is C.
+fn printed_for(alloc: Global, name: &str, file: &[u8]) -> Result<Vec<u8>, AllocError>
+    ensures { IfOk result (λ out. spec.IsSaid name.now file.now out.items) }
+{
+    if is_c_file(name) {
+        printed_in_c(alloc, name, file)
+    } else {
+        printed(alloc, name, file, file)
+    }
+}
+
 /// Bytes as a JSON string; bytes that aren't UTF-8 become U+FFFD.
 fn as_string(alloc: Global, bytes: &[u8]) -> Result<Vec<u8>, AllocError>
     ensures { IfOk result (λ out. out.items ≡ spec.as_string bytes.now) }
@@ -79,7 +133,7 @@ fn as_string(alloc: Global, bytes: &[u8]) -> Result<Vec<u8>, AllocError>
     to_vec(alloc, &value)
 }
 
-/// Reports on a text as `explain` does, with runs.
+/// Reports on a text as `explain` does, with runs, and on a C file by its annotations.
 #[derive(Clone, Copy)]
 pub struct Explaining;
 
@@ -87,7 +141,7 @@ impl Reporter for Explaining {
     ghost reports = { spec.IsReport };
 
     fn report(&self, alloc: Global, uri: &str, text: &[u8]) -> Result<Vec<u8>, AllocError> {
-        let printed = printed(alloc, uri, text)?;
+        let printed = printed_for(alloc, uri, text)?;
         as_string(alloc, printed.as_slice())
     }
 }

@@ -1,6 +1,6 @@
 //! The law that a command line has at most one answer.
 
-ghost use Rattle.std.specs.Prelude.{◌≡◌, ℕ, Bool, List, Result};
+ghost use Rattle.std.specs.Prelude.{◌≡◌, ℕ, Bool, List, Option, Result};
 ghost use Rattle.flt_commands.specs.Analyse.{IsAnalysed};
 ghost use Rattle.flt_commands.specs.Attempts.{Does};
 ghost use Rattle.flt_commands.specs.Check.{HasPoints, IsChecked};
@@ -87,10 +87,9 @@ pub fn one_answer_at_most<I: Inputs, P: Pictures>()
         (Does (pictures ≡ before) (P.tried before) (P.tried pictures)) words a →
         Answers showing (I.gives inputs) (P.written others)
         (Does (others ≡ past) (P.tried past) (P.tried others)) words b → (a.output.items ≡ b.output.items) × (a.status ≡ b.status) }
-    ensures said { (inputs : I) (shown showing : Bool) (request : Asked) (texts others : List Text) (a b : Result Answer Failure) →
-        spec.HasOneAnswer request →
-        spec.GivesOne (I.gives inputs) → IsSaid shown (I.gives inputs) request texts a → IsSaid showing (I.gives inputs) request others b →
-        spec.AreSame a b }
+    ensures said { (inputs : I) (shown showing : Bool) (request : Asked) (codes others : List (Option Text)) (texts more : List Text)
+        (a b : Result Answer Failure) → spec.HasOneAnswer request → spec.GivesOne (I.gives inputs) →
+        IsSaid shown (I.gives inputs) request codes texts a → IsSaid showing (I.gives inputs) request others more b → spec.AreSame a b }
 {
     one_check_at_most();
     one_analysis_at_most();

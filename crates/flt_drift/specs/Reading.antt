@@ -164,7 +164,8 @@ guarded_by (Some call) s = with_one (guard s.locks call s.word s.spoken.begin) s
 -- a word of an annotation is the name of a lock after a call, unless it is a call itself; in one of the text alone it says nothing
 abbrev pub guarded : State → State
 guarded s =
-    if is_note s.spoken.part && not (s.line.alone || is_some (call_of s.word)) then guarded_by (lock_call_before (before_word s.spoken)) s else s
+    if is_note s.spoken.part && not (s.line.alone || is_some (call_of s.word)) then guarded_by (lock_call_before (before_word s.spoken)) s
+    else s
 
 -- the word ends
 abbrev pub forget : State → State

@@ -29,8 +29,8 @@ pub enum DriftKind {
     /// A note, and no difference: a table registers callbacks of other major functions, which no text has. The place is that of the first
     /// one's name.
     OtherOperation,
-    /// C05: code takes or releases a lock, and the annotations about it name only locks of other expressions. The place is that of the call's
-    /// first argument, the other place that of the first of these expressions, in the lock's declaration.
+    /// C05: code takes or releases a lock, and the annotations about it name only locks of other expressions. The place is that of the
+    /// call's first argument, the other place that of the first of these expressions, in the lock's declaration.
     OtherLock,
     /// A comment `@flt-call` is malformed: it ends too early, or its second word is no call. The place is that of `-call` or of this word.
     Malformed,

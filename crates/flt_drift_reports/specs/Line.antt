@@ -1,10 +1,10 @@
 -- Drifts as lines of one sentence each, as compilers say them. This project's own program.
-use Rattle.std.specs.Prelude.{List, ◌++◌, codes, decimal, flat_map}
+use Rattle.std.specs.Prelude.{List, [], ◌++◌, codes, decimal, flat_map, if◌then◌else◌}
 use Rattle.flt_drift.specs.declared.drift.Drift.{Drift}
 use Rattle.flt_places.specs.Places.{place_in}
 use Rattle.flt_tree.specs.Names.{Text}
 use Rattle.flt_tree.specs.declared.filter.Position.{Position}
-use Rattle.flt_drift_reports.specs.Report.{message}
+use Rattle.flt_drift_reports.specs.Report.{has_difference, message}
 
 -- the line of a drift at a place of the file of a name
 unfoldable pub line_at : Text → Text → Position → Drift → Text
@@ -16,5 +16,9 @@ abbrev pub drift_line : Text → Text → Drift → Text
 drift_line name file d = line_at name file (place_in file d.start) d
 
 -- the lines of drifts, one below the other
+abbrev pub lines_of : Text → Text → List Drift → Text
+lines_of name file drifts = flat_map (drift_line name file) drifts
+
+-- the same; notes alone have none
 abbrev pub drift_lines : Text → Text → List Drift → Text
-drift_lines name file drifts = flat_map (drift_line name file) drifts
+drift_lines name file drifts = if has_difference drifts then lines_of name file drifts else []

@@ -34,10 +34,13 @@ abbrev pub beside : Text → DriftKind → Option Span → Text
 beside file kind None = []
 beside file kind (Some other) = joint kind ++ shown (word_at file other.start other.length)
 
+-- what it is, in one sentence
+unfoldable pub sentence : Text → Drift → Text
+sentence file d = opening d.kind ++ (shown (word_at file d.start d.length) ++ (beside file d.kind d.other ++ codes "`"))
+
 -- what is wrong
 unfoldable pub message : Text → Drift → Text
-message file d = heading d.kind ++ (code d.kind ++ (codes "]: " ++ (opening d.kind ++ (shown (word_at file d.start d.length)
-    ++ (beside file d.kind d.other ++ codes "`\n")))))
+message file d = heading d.kind ++ (code d.kind ++ (codes "]: " ++ (sentence file d ++ codes "\n")))
 
 -- where it is
 unfoldable pub place_line : Text → Position → Text

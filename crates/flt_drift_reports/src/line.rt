@@ -3,7 +3,7 @@
 ghost use Rattle.std.specs.Prelude.{◌≡◌, ◌++◌, IfOk, OnOk, decimal, drop};
 ghost use Rattle.flt_drift_reports.specs.Line as spec;
 
-use crate::report::{digits, put, put_message};
+use crate::report::{digits, has_difference, put, put_message};
 use flt_drift::Drift;
 use flt_places::Lines;
 use flt_tree::Position;
@@ -32,7 +32,21 @@ fn put_line(
     put_message(out, file, drift)
 }
 
+/// The lines of drifts, one below the other.
+fn lines_of(alloc: Global, name: &str, file: &[u8], drifts: &[Drift]) -> Result<Vec<u8>, AllocError>
+    ensures { IfOk result (λ lines. lines.items ≡ spec.lines_of name.now file.now drifts.now) }
+{
+    let places = Lines::of(alloc, file)?;
+    let mut out = Vec::new(alloc);
+    for drift in drifts {
+        let place = places.place(drift.start);
+        put_line(alloc, &mut out, name, file, place, *drift)?;
+    }
+    Ok(out)
+}
+
 /// The drifts of the C file of a name, a line each: the name as it is, the place, the code and the message. The name has no line feed.
+/// Notes alone have no line.
 ///
 /// # Errors
 ///
@@ -45,11 +59,9 @@ pub fn drift_lines(
 ) -> Result<Vec<u8>, AllocError>
     ensures { IfOk result (λ lines. lines.items ≡ spec.drift_lines name.now file.now drifts.now) }
 {
-    let places = Lines::of(alloc, file)?;
-    let mut out = Vec::new(alloc);
-    for drift in drifts {
-        let place = places.place(drift.start);
-        put_line(alloc, &mut out, name, file, place, *drift)?;
+    if has_difference(drifts) {
+        lines_of(alloc, name, file, drifts)
+    } else {
+        Ok(Vec::new(alloc))
     }
-    Ok(out)
 }

@@ -120,6 +120,17 @@ fn put_beside(
     Ok(())
 }
 
+/// Adds a drift in one sentence, without an end of its line.
+#[tactic(auto, unfolding(crate::specs::Report::sentence))]
+fn put_sentence(out: &mut Vec<u8>, file: &[u8], drift: Drift) -> Result<(), AllocError>
+    ensures { OnOk result (out.new.items ≡ out.old.items ++ spec.sentence file.now drift) }
+{
+    put(out, opening(drift.kind))?;
+    put_shown(out, word_at(file, drift.start, drift.length))?;
+    put_beside(out, file, drift.kind, drift.other)?;
+    put(out, b"`")
+}
+
 /// Adds the line with the code and the message of a drift.
 #[tactic(auto, unfolding(crate::specs::Report::message))]
 pub(crate) fn put_message(out: &mut Vec<u8>, file: &[u8], drift: Drift) -> Result<(), AllocError>
@@ -128,10 +139,8 @@ pub(crate) fn put_message(out: &mut Vec<u8>, file: &[u8], drift: Drift) -> Resul
     put(out, heading(drift.kind))?;
     put(out, code(drift.kind).as_bytes())?;
     put(out, b"]: ")?;
-    put(out, opening(drift.kind))?;
-    put_shown(out, word_at(file, drift.start, drift.length))?;
-    put_beside(out, file, drift.kind, drift.other)?;
-    put(out, b"`\n")
+    put_sentence(out, file, drift)?;
+    put(out, b"\n")
 }
 
 /// Adds the line that names the place of a drift.
@@ -257,10 +266,24 @@ fn put_report(
 }
 
 /// Whether code and annotations differ in one of some drifts, which may be notes.
-fn has_difference(drifts: &[Drift]) -> bool
+pub fn has_difference(drifts: &[Drift]) -> bool
     ensures { result ≡ spec.has_difference drifts.now }
 {
     drifts.iter().any(|drift| is_difference(drift.kind))
+}
+
+/// The drift of a C file in one sentence, with the words of C and of the annotation, without an end of its line. Bytes that a terminal
+/// would obey are shown as blanks.
+///
+/// # Errors
+///
+/// `AllocError` if a growth is refused.
+pub fn drift_sentence(alloc: Global, file: &[u8], drift: Drift) -> Result<Vec<u8>, AllocError>
+    ensures { IfOk result (λ sentence. sentence.items ≡ spec.sentence file.now drift) }
+{
+    let mut out = Vec::new(alloc);
+    put_sentence(&mut out, file, drift)?;
+    Ok(out)
 }
 
 /// The reports of drifts, one below the other.

@@ -21,7 +21,7 @@ pub fn code(kind: DriftKind) -> &'static str
 }
 
 /// Whether code and annotations differ. If not, it is a note.
-pub(crate) fn is_difference(kind: DriftKind) -> bool
+pub fn is_difference(kind: DriftKind) -> bool
     ensures { result ≡ spec.is_difference kind }
 {
     !matches!(kind, DriftKind::OtherOperation)
@@ -67,7 +67,7 @@ pub(crate) fn joint(kind: DriftKind) -> &'static [u8]
 }
 
 /// The help: how both are made to agree.
-pub(crate) fn help(kind: DriftKind) -> &'static str
+pub fn help(kind: DriftKind) -> &'static str
     ensures { result.now ≡ spec.help kind }
 {
     match kind {

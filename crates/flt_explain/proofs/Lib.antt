@@ -2,8 +2,10 @@ pub mod Digits
 pub mod FilledSets
 pub mod FirstFindings
 pub mod Firsts
+pub mod Gathering
 pub mod Looks
 pub mod MendedSets
 pub mod Reading
 pub mod SetDigits
 pub mod Steps
+pub mod Telling

@@ -1,4 +1,5 @@
 pub mod About
+pub mod ByPoint
 pub mod Faults
 pub mod Findings
 pub mod Locks

@@ -4,6 +4,7 @@
 
 mod about;
 mod at_point;
+mod by_point;
 mod finding;
 mod locks;
 mod mending;

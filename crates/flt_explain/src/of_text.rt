@@ -101,7 +101,7 @@ fn with_first(
 }
 
 /// The findings of the walks of all callbacks from one on, in order.
-#[tactic(auto, using(crate::proofs::Looks::one_walk, crate::proofs::Looks::no_more_walks))]
+#[tactic(auto, using(crate::proofs::Looks::one_walk, crate::proofs::Looks::no_more_walks, crate::proofs::Telling::walked_before))]
 fn walk_from(alloc: Global, graph: &Graph, first: usize) -> Result<Items<Finding>, AllocError>
     ensures { IfOk result (λ fs. fs ≡ walked_from graph.now first (length graph.now.callbacks - first) []) }
 {

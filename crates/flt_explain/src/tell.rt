@@ -32,18 +32,21 @@ impl Spot {
         }
     }
 
-    /// Reports the faults at the point, as far as they aren't reported yet.
+    /// Reports the faults at the point, as far as they aren't reported yet. The findings there are these.
     pub(crate) fn tell_faults(
         self,
+        here: &mut Items<Finding>,
         findings: &mut Items<Finding>,
         sight: &Sight,
         faults: &[Fault],
     ) -> Result<(), AllocError>
-        ensures { OnOk result (findings.new ≡ walk_spec.faults_told self sight.now faults.now findings.old) }
+        requires { here.old ≡ spec.at_point self.callback self.point findings.old }
+        ensures told { OnOk result (findings.new ≡ walk_spec.faults_told self sight.now faults.now findings.old) }
+        ensures here { OnOk result (here.new ≡ spec.at_point self.callback self.point findings.new) }
     {
         for fault in faults {
             if sight.tells(fault.subject) {
-                tell(findings, self.finding(fault.rule, fault.subject))?;
+                tell(here, findings, self.finding(fault.rule, fault.subject))?;
             }
         }
         Ok(())
@@ -53,26 +56,36 @@ impl Spot {
     #[tactic(auto, unfolding(crate::specs::Walk::locks_told))]
     pub(crate) fn tell_locks(
         self,
+        here: &mut Items<Finding>,
         findings: &mut Items<Finding>,
         differ: &Locks,
     ) -> Result<(), AllocError>
-        ensures { OnOk result (findings.new ≡ walk_spec.locks_told self differ.now findings.old) }
+        requires { here.old ≡ spec.at_point self.callback self.point findings.old }
+        ensures told { OnOk result (findings.new ≡ walk_spec.locks_told self differ.now findings.old) }
+        ensures here { OnOk result (here.new ≡ spec.at_point self.callback self.point findings.new) }
     {
-        self.tell_each(findings, differ, &LOCKS)
+        self.tell_each(here, findings, differ, &LOCKS)
     }
 
     /// The same for some locks.
     fn tell_each(
         self,
+        here: &mut Items<Finding>,
         findings: &mut Items<Finding>,
         differ: &Locks,
         locks: &[LockNumber],
     ) -> Result<(), AllocError>
-        ensures { OnOk result (findings.new ≡ walk_spec.locks_told_of self differ.now locks.now findings.old) }
+        requires { here.old ≡ spec.at_point self.callback self.point findings.old }
+        ensures told { OnOk result (findings.new ≡ walk_spec.locks_told_of self differ.now locks.now findings.old) }
+        ensures here { OnOk result (here.new ≡ spec.at_point self.callback self.point findings.new) }
     {
         for lock in locks {
             if differ.contains(*lock) {
-                tell(findings, self.finding(Rule::R12, Subject::Lock(*lock)))?;
+                tell(
+                    here,
+                    findings,
+                    self.finding(Rule::R12, Subject::Lock(*lock)),
+                )?;
             }
         }
         Ok(())
@@ -86,11 +99,19 @@ fn is_told(findings: &[Finding], finding: &Finding) -> bool
     findings.iter().any(|f| f.is_same(finding))
 }
 
-/// Adds a finding, unless it is there.
-fn tell(findings: &mut Items<Finding>, finding: Finding) -> Result<(), AllocError>
-    ensures { OnOk result (findings.new ≡ spec.told findings.old finding) }
+/// Adds a finding, unless it is there. Those at its point are also in a list of their own, which is short.
+#[tactic(auto, using(crate::proofs::Telling::told_at_point, crate::proofs::Telling::one_more))]
+fn tell(
+    here: &mut Items<Finding>,
+    findings: &mut Items<Finding>,
+    finding: Finding,
+) -> Result<(), AllocError>
+    requires { here.old ≡ spec.at_point finding.callback finding.point findings.old }
+    ensures told { OnOk result (findings.new ≡ spec.told findings.old finding) }
+    ensures here { OnOk result (here.new ≡ spec.at_point finding.callback finding.point findings.new) }
 {
-    if !is_told(findings.as_slice(), &finding) {
+    if !is_told(here.as_slice(), &finding) {
+        here.push(finding)?;
         findings.push(finding)?;
     }
     Ok(())

@@ -1,11 +1,14 @@
 //! The walk over the points of one callback, past the faults there.
 
-ghost use Rattle.std.specs.Prelude.{◌≡◌, OnOk, IfOk, is_some};
+ghost use Rattle.std.specs.Prelude.{◌≡◌, ◌<◌, length, OnOk, IfOk, IfSome, is_some};
 ghost use Rattle.std.specs.Option.{option_copied};
 ghost use Rattle.flt_analyse.specs.Pending.{least};
+ghost use Rattle.flt_explain.specs.ByPoint.{AreBefore, AreByPoint};
+ghost use Rattle.flt_explain.specs.Told.{at_point};
 ghost use Rattle.flt_explain.specs.Walk as spec;
 
 use crate::at_point::faults;
+use crate::by_point::ByPoint;
 use crate::finding::{Fault, Finding};
 use crate::locks::Locks;
 use crate::sight::{Sight, Way, Ways};
@@ -28,7 +31,8 @@ struct Walk {
 /// The least flag that is set, from 0.
 #[tactic(auto, using(crate::proofs::Looks::first_at, crate::proofs::Looks::not_at))]
 fn first(flags: &[bool]) -> Option<usize>
-    ensures { result ≡ least flags.now }
+    ensures value { result ≡ least flags.now }
+    ensures within { IfSome result (λ point. point < length flags.now) }
 {
     for place in 0..flags.len() {
         if flags[place] {
@@ -84,6 +88,7 @@ impl Walk {
     /// Takes the least point that is pending.
     fn take(&mut self) -> Option<usize>
         ensures point { result ≡ spec.first_pending self.old }
+        ensures within { IfSome result (λ point. point < length self.old.pending) }
         ensures rest { self.new ≡ spec.taken_if self.old result }
     {
         let point = first(self.pending.as_slice())?;
@@ -138,61 +143,75 @@ impl Walk {
         differ
     }
 
-    /// Follows both paths from a point.
+    /// Follows both paths from a point. The findings there are these.
     #[tactic(auto, unfolding(crate::specs::Walk::led))]
     fn follow(
         &mut self,
         spot: Spot,
         ways: Ways,
+        here: &mut Items<Finding>,
         findings: &mut Items<Finding>,
     ) -> Result<(), AllocError>
-        ensures { OnOk result (spec.progress self.new findings.new ≡ spec.led spot ways (spec.progress self.old findings.old)) }
+        requires { here.old ≡ at_point spot.callback spot.point findings.old }
+        ensures led { OnOk result (spec.progress self.new findings.new ≡ spec.led spot ways (spec.progress self.old findings.old)) }
+        ensures here { OnOk result (here.new ≡ at_point spot.callback spot.point findings.new) }
     {
         let first = self.reach(ways.first);
-        spot.tell_locks(findings, &first)?;
+        spot.tell_locks(here, findings, &first)?;
         let second = self.reach(ways.second);
-        spot.tell_locks(findings, &second)?;
+        spot.tell_locks(here, findings, &second)?;
         Ok(())
     }
 
-    /// Looks at a point that was taken: reports its faults, and continues as if it had none.
+    /// Looks at a point that was taken: reports its faults, and continues as if it had none. The findings there are these.
     #[tactic(auto, using(crate::proofs::Looks::looked_by), unfolding(crate::specs::Walk::looked))]
     fn look(
         &mut self,
         alloc: Global,
         graph: &Graph,
         spot: Spot,
+        here: &mut Items<Finding>,
         findings: &mut Items<Finding>,
     ) -> Result<(), AllocError>
-        ensures { OnOk result (spec.progress self.new findings.new ≡ spec.looked graph.now spot (spec.progress self.old findings.old)) }
+        requires { here.old ≡ at_point spot.callback spot.point findings.old }
+        ensures looked { OnOk result (spec.progress self.new findings.new ≡ spec.looked graph.now spot (spec.progress self.old findings.old)) }
+        ensures here { OnOk result (here.new ≡ at_point spot.callback spot.point findings.new) }
     {
         let Some(sight) = self.known(spot.point) else {
             return Ok(());
         };
         let faults = wrong(alloc, graph, spot, &sight.state)?;
-        spot.tell_faults(findings, sight, faults.as_slice())?;
+        spot.tell_faults(here, findings, sight, faults.as_slice())?;
         let ways = sight.past(graph, spot.callback, spot.point, faults.as_slice());
-        self.follow(spot, ways, findings)?;
+        self.follow(spot, ways, here, findings)?;
         Ok(())
     }
 
-    /// Looks at the least pending point, and returns whether there was one.
+    /// Looks at the least pending point, and returns whether there was one. The findings of the callback are these, by their points.
     #[tactic(auto, unfolding(crate::specs::Walk::step))]
     fn step(
         &mut self,
         alloc: Global,
         graph: &Graph,
         callback: usize,
+        by_point: &mut ByPoint,
         findings: &mut Items<Finding>,
     ) -> Result<bool, AllocError>
+        requires wide { length by_point.old.lists ≡ length self.old.pending }
+        requires by_point { AreByPoint callback by_point.old.lists findings.old }
         ensures pending { IfOk result (λ pending. pending ≡ is_some (spec.first_pending self.old)) }
         ensures walk { OnOk result (self.new ≡ (spec.step graph.now callback (spec.progress self.old findings.old)).walk) }
         ensures found { OnOk result (findings.new ≡ (spec.step graph.now callback (spec.progress self.old findings.old)).found) }
+        ensures wide { OnOk result (length by_point.new.lists ≡ length self.new.pending) }
+        ensures by_point { OnOk result (AreByPoint callback by_point.new.lists findings.new) }
     {
         let Some(point) = self.take() else {
             return Ok(false);
         };
-        self.look(alloc, graph, spot(graph, callback, point), findings)?;
+        let mut here = by_point.copied(alloc, point)?;
+        let spot = spot(graph, callback, point);
+        self.look(alloc, graph, spot, &mut here, findings)?;
+        by_point.replace(point, here);
         Ok(true)
     }
 }
@@ -217,7 +236,7 @@ fn spot(graph: &Graph, callback: usize, point: usize) -> Spot
     }
 }
 
-/// Reports all faults in a callback.
+/// Reports all faults in a callback. The findings so far are in callbacks before it.
 #[tactic(auto, using(crate::proofs::Looks::one_look, crate::proofs::Looks::no_look, crate::proofs::Looks::no_more), unfolding(crate::specs::Walk::walked))]
 pub(crate) fn walk_callback(
     alloc: Global,
@@ -225,11 +244,13 @@ pub(crate) fn walk_callback(
     callback: usize,
     findings: &mut Items<Finding>,
 ) -> Result<(), AllocError>
+    requires { AreBefore callback findings.old }
     ensures { OnOk result (findings.new ≡ spec.walked graph.now callback findings.old) }
 {
     let mut walk = Walk::open(alloc, graph, callback)?;
+    let mut by_point = ByPoint::none(alloc, graph.points(callback))?;
     for _look in 0..graph.points(callback).saturating_mul(LOOKS) {
-        let is_pending = walk.step(alloc, graph, callback, findings)?;
+        let is_pending = walk.step(alloc, graph, callback, &mut by_point, findings)?;
         if !is_pending {
             return Ok(());
         }

@@ -1,6 +1,6 @@
-//! Quick fixes of a fault or a finding: an editor may write the word that is probably meant, or release a context or a lock that is held at the end
-//! of a path.
-//! An edit for a finding is offered only if its callback has fewer findings after it. No other callback's depend on it.
+//! Quick fixes of a fault or a finding: an editor may write the word that is probably meant, or release a context or a lock that is held at
+//! the end of a path. An edit for a finding is offered only if its callback has fewer findings after it. No other callback's depend on it.
+//! In a C file only words are written: a call that an annotation lacks its code lacks, too.
 
 use crate::edits::{Edit, findings_in, is_better, put_action};
 use crate::faults::is_too_long;
@@ -384,6 +384,7 @@ fn put_judged(
 ) -> Result<(), AllocError> {
     match judged {
         Judged::Unread(fault) => put_for_fault(alloc, writer, document, *fault, part),
+        Judged::Known(_, _, _) if document.c_file.is_some() => Ok(()),
         Judged::Known(tree, graph, found) => {
             put_for_findings(alloc, writer, document, tree, graph, found.as_slice(), part)
         }

@@ -1,10 +1,15 @@
 //! The diagnostics of a document.
 
-use crate::faults::{is_too_long, put_unanalysed, put_unread};
+use crate::annotated::{annotated, has_marker, is_too_long_in_c};
+use crate::drifts::put_drifts;
+use crate::faults::{is_too_long, put_unanalysed, put_unread, put_unread_in_c};
 use crate::findings::put_findings;
-use crate::places::Document;
+use crate::flaws::put_flaw;
+use crate::places::{Document, document_in_c, document_of};
 use crate::warned::put_warnings;
+use flt_c::{Flaw, PlaceFlaw};
 use flt_details::{Judged, judge};
+use flt_session::OpenText;
 use json::Writer;
 use std::alloc::{AllocError, Global};
 
@@ -37,6 +42,45 @@ pub(crate) fn diagnostics(alloc: Global, document: &Document<'_>) -> Result<Vec<
     let mut writer = Writer::new(Vec::new(alloc));
     writer.begin_array()?;
     put_all(alloc, &mut writer, document)?;
+    writer.end_array()?;
+    Ok(writer.into_inner())
+}
+
+/// The diagnostics of a C file whose annotations are read: its drifts, and those of its text.
+fn put_annotated(
+    alloc: Global,
+    writer: &mut Writer,
+    document: &Document<'_>,
+) -> Result<(), AllocError> {
+    if let Some(c_file) = &document.c_file {
+        put_drifts(alloc, writer, document, c_file)?;
+    }
+    put_all(alloc, writer, document)
+}
+
+/// The diagnostics of a C file that has the marker of an annotation; none if it has no annotation all the same.
+fn put_marked(alloc: Global, writer: &mut Writer, open: OpenText<'_>) -> Result<(), AllocError> {
+    let whole = document_of(alloc, open)?;
+    if is_too_long_in_c(open.text) {
+        return put_unread_in_c(writer, &whole);
+    }
+    match annotated(alloc, open.text)? {
+        Ok(annotated) => {
+            let document = document_in_c(alloc, open, &annotated)?;
+            put_annotated(alloc, writer, &document)
+        }
+        Err(PlaceFlaw::Flawed(Flaw::Bare)) => Ok(()),
+        Err(flaw) => put_flaw(writer, &whole, flaw),
+    }
+}
+
+/// The diagnostics of a C file, as a JSON array.
+pub(crate) fn diagnostics_in_c(alloc: Global, open: OpenText<'_>) -> Result<Vec<u8>, AllocError> {
+    let mut writer = Writer::new(Vec::new(alloc));
+    writer.begin_array()?;
+    if has_marker(open.text) {
+        put_marked(alloc, &mut writer, open)?;
+    }
     writer.end_array()?;
     Ok(writer.into_inner())
 }

@@ -86,6 +86,16 @@ pub(crate) fn put_unread(
     }
 }
 
+/// Why a text isn't read that is too long: of a C file each annotation is in its line and at its column.
+fn length_words(document: &Document<'_>) -> &'static str {
+    match &document.c_file {
+        Some(_) => {
+            "annotations have at most 65,536 bytes, with the blanks and lines before them: these aren't analysed"
+        }
+        None => "a text has at most 65,536 bytes: this one isn't analysed",
+    }
+}
+
 /// The diagnostic of a text that is too long to be read, at its first byte.
 pub(crate) fn put_unanalysed(
     writer: &mut Writer,
@@ -94,12 +104,30 @@ pub(crate) fn put_unanalysed(
     writer.begin_object()?;
     document.put_part(writer, "range", Part { start: 0, end: 0 })?;
     put_kind(writer, 1, "E06")?;
-    put_string(
-        writer,
-        "message",
-        "a text has at most 65,536 bytes: this one isn't analysed",
-    )?;
+    put_string(writer, "message", length_words(document))?;
     writer.end_object()
+}
+
+/// The diagnostic that says that something isn't looked at while a text is edited, at the first byte.
+fn put_spared(writer: &mut Writer, document: &Document<'_>, words: &str) -> Result<(), AllocError> {
+    writer.begin_object()?;
+    document.put_part(writer, "range", Part { start: 0, end: 0 })?;
+    put_number(writer, "severity", 3)?;
+    put_string(writer, "source", "fltstack")?;
+    put_string(writer, "message", words)?;
+    writer.end_object()
+}
+
+/// The diagnostic that says that a C file is too long to be read while it is edited.
+pub(crate) fn put_unread_in_c(
+    writer: &mut Writer,
+    document: &Document<'_>,
+) -> Result<(), AllocError> {
+    put_spared(
+        writer,
+        document,
+        "the file has more than 262,144 bytes, too many to be read while it is edited: `fltstack explain` reads it",
+    )
 }
 
 /// The diagnostic that says how many others aren't sent, at the place of the first of them.
@@ -121,21 +149,16 @@ pub(crate) fn put_rest(
     writer.end_object()
 }
 
-/// The diagnostic that says that warnings aren't searched for, at the first byte.
+/// The diagnostic that says that warnings aren't searched for.
 pub(crate) fn put_unsearched(
     writer: &mut Writer,
     document: &Document<'_>,
 ) -> Result<(), AllocError> {
-    writer.begin_object()?;
-    document.put_part(writer, "range", Part { start: 0, end: 0 })?;
-    put_number(writer, "severity", 3)?;
-    put_string(writer, "source", "fltstack")?;
-    put_string(
+    put_spared(
         writer,
-        "message",
+        document,
         "the text uses values of contexts too often to be searched for warnings while it is edited: `fltstack explain` has them",
-    )?;
-    writer.end_object()
+    )
 }
 
 /// Whether a text has more bytes than are read.

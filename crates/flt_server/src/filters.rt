@@ -1,33 +1,45 @@
 //! The language of filters, as a session asks about it.
 
 use crate::actions::actions;
+use crate::annotated::annotated_in;
 use crate::completion::completion;
-use crate::diagnostics::diagnostics;
+use crate::diagnostics::{diagnostics, diagnostics_in_c};
 use crate::folds::folds;
 use crate::hover::hover;
-use crate::places::{Document, document_of};
+use crate::members::{nothing, null};
+use crate::places::{Document, document_in_c, document_of};
 use crate::symbols::symbols;
 use crate::uses::{definition, references};
-use flt_outline::Part;
-use flt_session::{Language, OpenText, Question, Spot};
+use flt_c_files::is_c_file;
+use flt_session::{Language, OpenText, Question};
 use std::alloc::{AllocError, Global};
 
 /// The language of filters.
 #[derive(Clone, Copy)]
 pub(crate) struct Filters;
 
-/// The quick fixes of a part of a document.
-fn actions_between(
+/// The result of a question about a place where no text is.
+fn result_nowhere(alloc: Global, question: Question) -> Result<Vec<u8>, AllocError> {
+    match question {
+        Question::Hover(_) | Question::Definition(_) | Question::References(_, _) => null(alloc),
+        _ => nothing(alloc),
+    }
+}
+
+/// The result of a question about the byte of its place.
+fn result_at(
     alloc: Global,
     document: &Document<'_>,
-    start: Spot,
-    end: Spot,
+    question: Question,
+    byte: usize,
 ) -> Result<Vec<u8>, AllocError> {
-    let part = Part {
-        start: document.byte_of(start),
-        end: document.byte_of(end),
-    };
-    actions(alloc, document, part)
+    match question {
+        Question::Hover(_) => hover(alloc, document, byte),
+        Question::Completion(_) => completion(alloc, document, byte),
+        Question::Definition(_) => definition(alloc, document, byte),
+        Question::References(_, declared) => references(alloc, document, byte, declared),
+        _ => nothing(alloc),
+    }
 }
 
 fn result_of(
@@ -36,20 +48,39 @@ fn result_of(
     question: Question,
 ) -> Result<Vec<u8>, AllocError> {
     match question {
-        Question::Hover(spot) => hover(alloc, document, document.byte_of(spot)),
-        Question::Completion(spot) => completion(alloc, document, document.byte_of(spot)),
-        Question::Definition(spot) => definition(alloc, document, document.byte_of(spot)),
-        Question::References(spot, declared) => {
-            references(alloc, document, document.byte_of(spot), declared)
-        }
         Question::Symbols => symbols(alloc, document),
         Question::Folds => folds(alloc, document),
-        Question::Actions(start, end) => actions_between(alloc, document, start, end),
+        Question::Actions(start, end) => {
+            actions(alloc, document, document.part_between(start, end))
+        }
+        Question::Hover(spot)
+        | Question::Completion(spot)
+        | Question::Definition(spot)
+        | Question::References(spot, _) => match document.byte_at(spot) {
+            Some(byte) => result_at(alloc, document, question, byte),
+            None => result_nowhere(alloc, question),
+        },
     }
+}
+
+/// The result of a question about a C file.
+fn result_in_c(
+    alloc: Global,
+    open: OpenText<'_>,
+    question: Question,
+) -> Result<Vec<u8>, AllocError> {
+    let Some(annotated) = annotated_in(alloc, open.text)? else {
+        return result_nowhere(alloc, question);
+    };
+    let document = document_in_c(alloc, open, &annotated)?;
+    result_of(alloc, &document, question)
 }
 
 impl Language for Filters {
     fn diagnostics(&self, alloc: Global, open: OpenText<'_>) -> Result<Vec<u8>, AllocError> {
+        if is_c_file(open.uri) {
+            return diagnostics_in_c(alloc, open);
+        }
         let document = document_of(alloc, open)?;
         diagnostics(alloc, &document)
     }
@@ -60,6 +91,9 @@ impl Language for Filters {
         open: OpenText<'_>,
         question: Question,
     ) -> Result<Vec<u8>, AllocError> {
+        if is_c_file(open.uri) {
+            return result_in_c(alloc, open, question);
+        }
         let document = document_of(alloc, open)?;
         result_of(alloc, &document, question)
     }

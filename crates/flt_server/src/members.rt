@@ -30,6 +30,11 @@ pub(crate) fn null(alloc: Global) -> Result<Vec<u8>, AllocError> {
     Vec::from_slice(alloc, b"null")
 }
 
+/// The text of a list that has nothing.
+pub(crate) fn nothing(alloc: Global) -> Result<Vec<u8>, AllocError> {
+    Vec::from_slice(alloc, b"[]")
+}
+
 /// Adds words, on a line of their own, after the others.
 pub(crate) fn add_line(out: &mut Vec<u8>, words: &[u8]) -> Result<(), AllocError> {
     if words.is_empty() {

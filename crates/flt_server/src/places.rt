@@ -1,5 +1,6 @@
 //! Documents, and places in them as members of JSON objects.
 
+use crate::annotated::{Annotated, CFile};
 use flt_outline::{Part, byte_of, spot_of};
 use flt_places::{Lines, Region};
 use flt_session::{Encoding, OpenText, Spot};
@@ -11,8 +12,12 @@ use std::alloc::{AllocError, Global};
 #[derive(Drop)]
 pub(crate) struct Document<'a> {
     pub(crate) uri: &'a str,
+    /// The text that is read: of a C file its annotations, each in its line and at its column.
     pub(crate) text: &'a [u8],
+    /// The lines of this text.
     pub(crate) lines: Lines<'a>,
+    /// The C file in which the text is, if it is one.
+    pub(crate) c_file: Option<CFile<'a>>,
     pub(crate) encoding: Encoding,
 }
 
@@ -26,6 +31,25 @@ pub(crate) fn document_of<'a>(
         uri: open.uri,
         text: open.text,
         lines,
+        c_file: None,
+        encoding: open.encoding,
+    })
+}
+
+/// A C file that is open, with these annotations.
+pub(crate) fn document_in_c<'a>(
+    alloc: Global,
+    open: OpenText<'a>,
+    annotated: &'a Annotated,
+) -> Result<Document<'a>, AllocError> {
+    let text = annotated.text.as_slice();
+    let lines = Lines::of(alloc, text)?;
+    let c_file = CFile::of(alloc, open.text, annotated)?;
+    Ok(Document {
+        uri: open.uri,
+        text,
+        lines,
+        c_file: Some(c_file),
         encoding: open.encoding,
     })
 }
@@ -48,13 +72,82 @@ fn put_spot(writer: &mut Writer, spot: Spot) -> Result<(), AllocError> {
 }
 
 impl Document<'_> {
-    /// The byte of a place, from 0.
-    pub(crate) fn byte_of(&self, spot: Spot) -> usize {
-        byte_of(self.text, self.encoding, spot)
+    /// The byte of the text at a place of the C file, from 0: the end of its line if the place is after that.
+    fn byte_in(&self, place: Position) -> usize {
+        let spot = Spot {
+            line: place.line.saturating_sub(1),
+            character: place.column.saturating_sub(1),
+        };
+        byte_of(self.text, Encoding::Utf8, spot)
+    }
+
+    /// Whether the line of a byte ends before a place of the C file.
+    fn ends_before(&self, byte: usize, place: Position) -> bool {
+        let end = self.lines.place(byte);
+        end.line != place.line || end.column < place.column
+    }
+
+    /// The byte of a place of the client, from 0; none if the place is in C code, or in the expression of a lock.
+    fn byte_annotated(&self, c_file: &CFile<'_>, spot: Spot) -> Option<usize> {
+        let at = c_file.byte_of(self.encoding, spot);
+        let place = c_file.lines.place(at);
+        let byte = self.byte_in(place);
+        let is_text = c_file.has_begun(place) && !self.ends_before(byte, place);
+        if is_text && !c_file.is_taken_off(at, self.text, byte) {
+            Some(byte)
+        } else {
+            None
+        }
+    }
+
+    /// The byte of a place, from 0; none if nothing is read there.
+    pub(crate) fn byte_at(&self, spot: Spot) -> Option<usize> {
+        match &self.c_file {
+            Some(c_file) => self.byte_annotated(c_file, spot),
+            None => Some(byte_of(self.text, self.encoding, spot)),
+        }
+    }
+
+    /// The first byte that isn't before a place, from 0.
+    fn byte_from(&self, spot: Spot) -> usize {
+        let Some(c_file) = &self.c_file else {
+            return byte_of(self.text, self.encoding, spot);
+        };
+        let place = c_file.place_of(self.encoding, spot);
+        let byte = self.byte_in(place);
+        if self.ends_before(byte, place) {
+            byte.saturating_add(1)
+        } else {
+            byte
+        }
+    }
+
+    /// The byte of a place, from 0: the end of its line if the place is after that.
+    fn byte_up_to(&self, spot: Spot) -> usize {
+        match &self.c_file {
+            Some(c_file) => self.byte_in(c_file.place_of(self.encoding, spot)),
+            None => byte_of(self.text, self.encoding, spot),
+        }
+    }
+
+    /// The part of the text from one place up to another.
+    pub(crate) fn part_between(&self, start: Spot, end: Spot) -> Part {
+        Part {
+            start: self.byte_from(start),
+            end: self.byte_up_to(end),
+        }
+    }
+
+    /// The lines as the client has them, which count for columns.
+    fn shown_lines(&self) -> &Lines<'_> {
+        match &self.c_file {
+            Some(c_file) => &c_file.lines,
+            None => &self.lines,
+        }
     }
 
     fn put_place(&self, writer: &mut Writer, place: Position) -> Result<(), AllocError> {
-        put_spot(writer, spot_of(&self.lines, self.encoding, place))
+        put_spot(writer, spot_of(self.shown_lines(), self.encoding, place))
     }
 
     fn put_range(&self, writer: &mut Writer, region: Region) -> Result<(), AllocError> {

@@ -115,7 +115,7 @@ is_kind name =
     bytes_eq name (codes "W00") || (bytes_eq name (codes "W01") || (bytes_eq name (codes "W02") || (bytes_eq name (codes "W03")
     || (bytes_eq name (codes "W04") || (bytes_eq name (codes "W05") || (bytes_eq name (codes "W06") || (bytes_eq name (codes "W07")
     || (bytes_eq name (codes "C00") || (bytes_eq name (codes "C01") || (bytes_eq name (codes "C02") || (bytes_eq name (codes "C03")
-    || bytes_eq name (codes "C04"))))))))))))
+    || (bytes_eq name (codes "C04") || bytes_eq name (codes "C05")))))))))))))
 
 -- some names of kinds; none at all where one isn't the name of a kind
 abbrev pub kinds_in : List Text → Option (List Text)

@@ -35,7 +35,7 @@ pub enum Colour {
 pub struct WarningChoice<'a> {
     /// Whether a warning that is shown counts as a finding does for the exit status.
     pub is_strict: bool,
-    /// The kinds that are left out, by name: each is one of `W00` to `W07`, or of `C00` to `C04`.
+    /// The kinds that are left out, by name: each is one of `W00` to `W07`, or of `C00` to `C05`.
     pub allowed: Vec<&'a str>,
 }
 

@@ -35,7 +35,7 @@ const NO_COLOUR: &str =
 
 /// The error if no kind of warning has the given name.
 const NO_KIND: &str =
-    "error: `--allow` takes `W00` to `W07`, and `C00` to `C04`\n\nUsage: fltstack explain [--form <FORM>] [--color <WHEN>] [--states <N>] [--journal <JOURNAL>] [--runs] [--strict] [--allow <KIND>]... [--c] <FILE>...\n\nFor more information, try '--help'.\n";
+    "error: `--allow` takes `W00` to `W07`, and `C00` to `C05`\n\nUsage: fltstack explain [--form <FORM>] [--color <WHEN>] [--states <N>] [--journal <JOURNAL>] [--runs] [--strict] [--allow <KIND>]... [--c] <FILE>...\n\nFor more information, try '--help'.\n";
 
 /// The error if a journal would be written to the standard input.
 const NO_JOURNAL: &str =
@@ -248,6 +248,7 @@ fn is_kind(name: &str) -> bool
             | "C02"
             | "C03"
             | "C04"
+            | "C05"
     )
 }
 

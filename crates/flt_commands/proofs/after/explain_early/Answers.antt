@@ -1,7 +1,4 @@
-use Rattle.std.proofs.Common.{◌≡◌, ◌∙◌, Err, rules, sym}
 use Rattle.flt_commands.proofs.After.{early_sent}
-use Rattle.flt_commands.specs.Explain as explain
-use Rattle.flt_commands.specs.declared.fault.CommandFault.TheVariants.{OutOfMemory}
 use Rattle.flt_commands.proofs.after.explain_early.Goals as goal
 
 pub returns-clause-told : goal.returns-clause-told
@@ -13,6 +10,6 @@ returns-clause-told g c = record {
 
 pub returns-clause-sent : goal.returns-clause-sent
 returns-clause-sent g c =
-    early_sent _ _ _ c.args.drifts.items c.in_ok-own.own c.in_ok-told.told (rw c.as_slice.ensures.value at c.put_all.ensures.ok)
+    early_sent _ _ _ c.args.first.items c.in_ok-own.own c.in_ok-told.told (rw c.as_slice.ensures.value at c.put_all.ensures.ok)
     c.in_ok-own.ensures.sent c.in_ok-told.ensures.after.output
     (rw (c.len.ensures, c.len-2.ensures, c.min.ensures) at c.in_ok-told.ensures.sent)

@@ -13,7 +13,7 @@ returns-in-Check-clause-answers g c =
     answers_of c.covered_texts_break_nothing.ensures c.driven_texts_break_nothing.ensures
     c.fails_exactly_where_nothing_is_spelled.ensures.nowhere _ _ _ does _ request _ _ _
     (rw c.in-Check.is at c.in_ok-text.ensures) (rw c.last_of.ensures at c.check_files-said.ensures) refl
-    (those_of _ _ c.report_on.ensures.texts)
+    (those_of _ _ c.report_on.ensures.texts) c.report_on.ensures.codes
     c.report_on.ensures.reported (remarked_after request _ _ _ c.new.ensures.items c.report_on.ensures.remarked)
 
 pub returns-in-Analyse-clause-answers : goal.returns-in-Analyse-clause-answers
@@ -24,7 +24,8 @@ returns-in-Analyse-clause-answers g c =
     (g.P.Pictures.tried c.args.pictures.now) in
     answers_of c.covered_texts_break_nothing.ensures c.driven_texts_break_nothing.ensures
     c.fails_exactly_where_nothing_is_spelled.ensures.nowhere _ _ _ does _ request _ _ _
-    (rw c.in-Analyse.is at c.in_ok-text.ensures) c.analyse_file-said.ensures refl (those_of _ _ c.report_on-in-Analyse.ensures.texts)
+    (rw c.in-Analyse.is at c.in_ok-text.ensures) c.analyse_file-said.ensures refl
+    (those_of _ _ c.report_on-in-Analyse.ensures.texts) c.report_on-in-Analyse.ensures.codes
     c.report_on-in-Analyse.ensures.reported
     (remarked_after request _ _ _ c.new-in-Analyse.ensures.items c.report_on-in-Analyse.ensures.remarked)
 
@@ -37,7 +38,7 @@ returns-in-Thin-clause-answers g c =
     answers_of c.covered_texts_break_nothing.ensures c.driven_texts_break_nothing.ensures
     c.fails_exactly_where_nothing_is_spelled.ensures.nowhere _ _ _ does _ request _ _ _
     (rw c.in-Thin.is at c.in_ok-text.ensures) (rw c.last_of-in-Thin.ensures at c.thin_files-said.ensures) refl
-    (those_of _ _ c.report_on-in-Thin.ensures.texts)
+    (those_of _ _ c.report_on-in-Thin.ensures.texts) c.report_on-in-Thin.ensures.codes
     c.report_on-in-Thin.ensures.reported (remarked_after request _ _ _ c.new-in-Thin.ensures.items c.report_on-in-Thin.ensures.remarked)
 
 pub returns-in-Run-default-true-default-default-clause-answers : goal.returns-in-Run-default-true-default-default-clause-answers
@@ -52,6 +53,7 @@ returns-in-Run-default-true-default-default-clause-answers g c =
     _ (rw c.in-Run-default-true-default-default.is at c.in_ok-text.ensures)
     (rw c.as_slice-files.ensures.value at c.run_files-said.ensures) refl
     (those_of _ _ c.report_on-in-Run-default-true-default-default.ensures.texts)
+    c.report_on-in-Run-default-true-default-default.ensures.codes
     c.report_on-in-Run-default-true-default-default.ensures.reported (remarked_after request _ _ _
     c.new-in-Run-default-true-default-default.ensures.items c.report_on-in-Run-default-true-default-default.ensures.remarked)
 
@@ -64,7 +66,7 @@ returns-in_ok-tell_deadlock-in-Run-clause-answers g c =
     answers_of c.covered_texts_break_nothing.ensures c.driven_texts_break_nothing.ensures
     c.fails_exactly_where_nothing_is_spelled.ensures.nowhere _ _ _ does _ request _ _
     _ (rw c.in-Run.is at c.in_ok-text.ensures) (rw c.as_slice.ensures.value at c.run_files-said-in-Run.ensures) refl
-    (those_of _ _ c.report_on-in-Run.ensures.texts) c.report_on-in-Run.ensures.reported
+    (those_of _ _ c.report_on-in-Run.ensures.texts) c.report_on-in-Run.ensures.codes c.report_on-in-Run.ensures.reported
     (remarked_after request _ _ _ c.new-in-Run.ensures.items c.report_on-in-Run.ensures.remarked)
 
 pub returns-in-Replay-clause-answers : goal.returns-in-Replay-clause-answers
@@ -78,7 +80,7 @@ returns-in-Replay-clause-answers g c =
     c.fails_exactly_where_nothing_is_spelled.ensures.nowhere _ _ _ does _ request _ _
     _ (rw c.in-Replay.is at c.in_ok-text.ensures) said.1 refl
     (those_after _ _ _ _ _ c.report_on-in-Replay.ensures.texts c.report_on-in-Replay.ensures.journal said.2)
-    c.report_on-in-Replay.ensures.reported
+    c.report_on-in-Replay.ensures.codes c.report_on-in-Replay.ensures.reported
     (remarked_after request _ _ _ c.new-in-Replay.ensures.items c.report_on-in-Replay.ensures.remarked)
 
 pub returns-in_ok-before-in-Show-clause-answers : goal.returns-in_ok-before-in-Show-clause-answers
@@ -96,7 +98,8 @@ returns-in_ok-before-in-Show-clause-answers g c =
     (map (λ name. name.now) c.in-Show.files.items) _ _ c.show_files-said.result c.show_files-said.ensures.drawn
     c.show_files-said.ensures.untouched)
     (those_after _ _ _ _ _ c.report_on-in-Show.ensures.texts c.report_on-in-Show.ensures.journal said.2)
-    c.report_on-in-Show.ensures.reported (remarked_after request _ _ _ c.in_ok-before-in-Show.ensures c.report_on-in-Show.ensures.remarked)
+    c.report_on-in-Show.ensures.codes c.report_on-in-Show.ensures.reported
+    (remarked_after request _ _ _ c.in_ok-before-in-Show.ensures c.report_on-in-Show.ensures.remarked)
 
 pub returns-in-Extract-clause-answers : goal.returns-in-Extract-clause-answers
 returns-in-Extract-clause-answers g c =
@@ -107,7 +110,7 @@ returns-in-Extract-clause-answers g c =
     answers_of c.covered_texts_break_nothing.ensures c.driven_texts_break_nothing.ensures
     c.fails_exactly_where_nothing_is_spelled.ensures.nowhere _ _ _ does _ request _ _ _
     (rw c.in-Extract.is at c.in_ok-text.ensures) (rw c.as_slice-in-Extract.ensures.value at c.extract_files-said.ensures) refl
-    (those_of _ _ c.report_on-in-Extract.ensures.texts) c.report_on-in-Extract.ensures.reported
+    (those_of _ _ c.report_on-in-Extract.ensures.texts) c.report_on-in-Extract.ensures.codes c.report_on-in-Extract.ensures.reported
     (remarked_after request _ _ _ c.new-in-Extract.ensures.items c.report_on-in-Extract.ensures.remarked)
 
 pub returns-in-Pages-clause-answers : goal.returns-in-Pages-clause-answers
@@ -121,7 +124,7 @@ returns-in-Pages-clause-answers g c =
     (rw c.in-Pages.is at c.in_ok-text.ensures)
     (says_of_pages _ _ _ _ (ap (map (λ t. t.items)) c.new-contents.ensures.texts)
     (rw c.as_slice-in-Pages.ensures.value at c.pages_of-said.ensures)) refl
-    (those_of _ _ c.report_on-in-Pages.ensures.texts) c.report_on-in-Pages.ensures.reported
+    (those_of _ _ c.report_on-in-Pages.ensures.texts) c.report_on-in-Pages.ensures.codes c.report_on-in-Pages.ensures.reported
     (remarked_after request _ _ _ c.new-in-Pages.ensures.items c.report_on-in-Pages.ensures.remarked)
 
 pub returns-in-Emit-clause-answers : goal.returns-in-Emit-clause-answers
@@ -133,6 +136,7 @@ returns-in-Emit-clause-answers g c =
     answers_of c.covered_texts_break_nothing.ensures c.driven_texts_break_nothing.ensures
     c.fails_exactly_where_nothing_is_spelled.ensures.nowhere _ _ _ does _ request _ _ _
     (rw c.in-Emit.is at c.in_ok-text.ensures) c.emit_files-said.ensures refl (those_of _ _ c.report_on-in-Emit.ensures.texts)
+    c.report_on-in-Emit.ensures.codes
     c.report_on-in-Emit.ensures.reported (remarked_after request _ _ _ c.new-in-Emit.ensures.items c.report_on-in-Emit.ensures.remarked)
 
 pub returns-in_ok-before-in-EmitInto-clause-answers : goal.returns-in_ok-before-in-EmitInto-clause-answers
@@ -144,7 +148,7 @@ returns-in_ok-before-in-EmitInto-clause-answers g c =
     answers_of c.covered_texts_break_nothing.ensures c.driven_texts_break_nothing.ensures
     c.fails_exactly_where_nothing_is_spelled.ensures.nowhere _ _ _ does _ request _ _ _
     (rw c.in-EmitInto.is at c.in_ok-text.ensures) c.emit_files_into-said.ensures.said c.emit_files_into-said.ensures.put
-    (those_of _ _ c.report_on-in-EmitInto.ensures.texts) c.report_on-in-EmitInto.ensures.reported
+    (those_of _ _ c.report_on-in-EmitInto.ensures.texts) c.report_on-in-EmitInto.ensures.codes c.report_on-in-EmitInto.ensures.reported
     (remarked_after request _ _ _ c.in_ok-before-in-EmitInto.ensures c.report_on-in-EmitInto.ensures.remarked)
 
 pub returns-in_ok-before-in-EmitInto-clause-quiet : goal.returns-in_ok-before-in-EmitInto-clause-quiet
@@ -159,7 +163,7 @@ returns-in-Serve-clause-answers g c =
     answers_of c.covered_texts_break_nothing.ensures c.driven_texts_break_nothing.ensures
     c.fails_exactly_where_nothing_is_spelled.ensures.nowhere _ _ _ does _ Serve _ c.unserved.result _
     (rw c.in-Serve.is at c.in_ok-text.ensures) c.unserved.ensures refl
-    (those_of _ _ c.report_on-in-Serve.ensures.texts) c.report_on-in-Serve.ensures.reported
+    (those_of _ _ c.report_on-in-Serve.ensures.texts) c.report_on-in-Serve.ensures.codes c.report_on-in-Serve.ensures.reported
     (remarked_after Serve _ _ _ c.new-in-Serve.ensures.items c.report_on-in-Serve.ensures.remarked)
 
 pub returns-in-Explain-clause-answers : goal.returns-in-Explain-clause-answers
@@ -198,5 +202,5 @@ returns-in-Compare-clause-answers g c =
     answers_of c.covered_texts_break_nothing.ensures c.driven_texts_break_nothing.ensures
     c.fails_exactly_where_nothing_is_spelled.ensures.nowhere _ _ _ does _ request _ _ _
     (rw c.in-Compare.is at c.in_ok-text.ensures) (rw c.as_slice-in-Compare.ensures.value at c.compare_files-said.ensures) refl
-    (those_of _ _ c.report_on-in-Compare.ensures.texts) c.report_on-in-Compare.ensures.reported
+    (those_of _ _ c.report_on-in-Compare.ensures.texts) c.report_on-in-Compare.ensures.codes c.report_on-in-Compare.ensures.reported
     (remarked_after request _ _ _ c.new-in-Compare.ensures.items c.report_on-in-Compare.ensures.remarked)

@@ -7,7 +7,8 @@ abbrev pub invariant-loop-number : goal.invariant-loop-number
 invariant-loop-number l =
     (l.drifted.printed.items ++ parts_from l.form (map (λ name. name.now) l.allowed) (map (λ name. name.now) l.names) l.number
     (map (option_map (λ code. code.items)) (drop l.number l.files))
-    ≡ parts_from l.form (map (λ name. name.now) l.allowed) (map (λ name. name.now) l.names) 0 (map (option_map (λ code. code.items)) l.files))
+    ≡ parts_from l.form (map (λ name. name.now) l.allowed) (map (λ name. name.now) l.names) 0
+    (map (option_map (λ code. code.items)) l.files))
     × ((l.drifted.is_some
     || list_any (is_drifted (map (λ name. name.now) l.allowed)) (map (option_map (λ code. code.items)) (drop l.number l.files)))
     ≡ list_any (is_drifted (map (λ name. name.now) l.allowed)) (map (option_map (λ code. code.items)) l.files))

@@ -26,7 +26,8 @@ returns-clause-memory g c =
 
 pub returns-clause-cut : goal.returns-clause-cut
 returns-clause-cut g c =
-    let named : names_in c.in_ok-sources.sources.items ≡ map (told_name c.args.asked.form) (map (λ (n : Bor (List ℕ)). n.now) c.args.names.now) =
+    let named : names_in c.in_ok-sources.sources.items ≡ map (told_name c.args.asked.form)
+    (map (λ (n : Bor (List ℕ)). n.now) c.args.names.now) =
     c.in_ok-sources.ensures.names ∙ ap (λ ns. map string_bytes ns) c.as_slice.ensures.value ∙ c.in_ok-names.ensures
     ∙ sym (mapped_twice (λ (n : Bor (List ℕ)). n.now) (told_name c.args.asked.form) c.args.names.now) in
     cut_anyway _ _ _ _ _ _ _ _ _ named c.in_ok-sources.ensures.texts (rw c.as_slice-sources.ensures.value at c.told.ensures.cut)

@@ -1,6 +1,6 @@
 use Rattle.std.proofs.Common.{◌≡◌, Err, map, option_map, rules}
 use Rattle.flt_commands.proofs.Explaining.{cut_named, cut_reported, sent_of_report}
-use Rattle.flt_commands.proofs.Reported.{answered_of, quiet_for, remarked_after, those_of}
+use Rattle.flt_commands.proofs.Reported.{answered_of, codes_given, may_have, quiet_for, remarked_after, those_of}
 use Rattle.flt_words.specs.Request.{Explain}
 use Rattle.flt_commands.specs.declared.fault.CommandFault.TheVariants.{OutOfMemory}
 use Rattle.flt_commands.proofs.explained.report_on_files.Goals as goal
@@ -21,14 +21,15 @@ returns-clause-answered g c =
     (option_map (λ name. name.now) c.args.asked.journal) warnings c.args.asked.is_c (map (λ name. name.now) c.args.files.now) in
     let said = rw (look, chosen, allowed) at c.in_ok-said.ensures.said in
     answered_of c.covered_texts_break_nothing.ensures c.driven_texts_break_nothing.ensures
-    c.fails_exactly_where_nothing_is_spelled.ensures.nowhere shown _ _ _ request _ _ _ said c.in_ok-said.ensures.written
-    (those_of _ _ c.report_on_explanation.ensures.texts) c.report_on_explanation.ensures.reported
+    c.fails_exactly_where_nothing_is_spelled.ensures.nowhere shown _ _ _ request _ _ _ _ said c.in_ok-said.ensures.written
+    (those_of _ _ c.report_on_explanation.ensures.texts) (may_have c.report_on_explanation.result)
+    (codes_given _ _ c.report_on_explanation.ensures.codes) c.report_on_explanation.ensures.reported
     (remarked_after request _ _ _ c.in_ok-before.ensures.found c.report_on_explanation.ensures.remarked)
 
 pub returns-clause-quiet : goal.returns-clause-quiet
 returns-clause-quiet g c =
-    λ colour warnings. quiet_for c.args.asked.form colour c.args.asked.states _ warnings c.args.asked.is_c _ _ _ _ c.in_ok-before.ensures.found c.report_on_explanation.ensures.reported
-    c.report_on_explanation.ensures.quiet
+    λ colour warnings. quiet_for c.args.asked.form colour c.args.asked.states _ warnings c.args.asked.is_c _ _ _ _
+    c.in_ok-before.ensures.found c.report_on_explanation.ensures.reported c.report_on_explanation.ensures.quiet
 
 pub returns-clause-sent : goal.returns-clause-sent
 returns-clause-sent g c =
@@ -36,5 +37,5 @@ returns-clause-sent g c =
 
 pub returns-clause-memory : goal.returns-clause-memory
 returns-clause-memory g c =
-    cut_reported _ _ _ _ _ _ _ g.O.Sink.taken _ _ _ _ _ _ _ c.report_on_explanation.ensures.err
+    cut_reported _ _ _ _ _ _ _ g.O.Sink.taken _ _ _ _ _ _ _ _ c.report_on_explanation.ensures.err
     c.in_ok-said.ensures.said c.in_ok-said.ensures.held
