@@ -613,7 +613,7 @@ impl<'a> Timeline<'a> {
     /// # Errors
     ///
     /// If memory is refused.
-    pub fn put_line(&self, out: &mut String, filter: usize, line: usize) -> Result<(), AllocError> {
+    pub fn put_text_line(&self, out: &mut String, filter: usize, line: usize) -> Result<(), AllocError> {
         put_line(out, files_of(self.files.as_slice(), filter), line)
     }
 
