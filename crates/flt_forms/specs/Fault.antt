@@ -14,6 +14,8 @@ use Rattle.flt_tree.specs.Names.{Text}
 use Rattle.flt_columns.specs.Columns.{column_up_to}
 use Rattle.flt_forms.specs.Preface.{preface}
 use Rattle.flt_forms.specs.Members.{array_member, bytes_member, filled_member, line_of, number_member, string_member, text_items, text_member}
+use Rattle.flt_details.specs.Sources.{file_at, file_line, file_name}
+use Rattle.flt_details.specs.declared.sources.FilePart.{FilePart}
 
 -- ---- how to fix it
 
@@ -46,9 +48,10 @@ abbrev pub last_column : Text → SyntaxFault → List ℕ → ℕ
 last_column text f found = column_up_to text f.line f.column (length found)
 
 -- where a text is refused, what is found there, and by which fault
-abbrev pub place : Text → SyntaxFault → List ℕ → List Token
-place text f found =
-    number_member (codes "line") f.line ++ (number_member (codes "column") f.column ++ (number_member (codes "end_line") f.line
+abbrev pub place : List FilePart → Text → SyntaxFault → List ℕ → List Token
+place files text f found =
+    number_member (codes "line") (file_line files f.line) ++ (number_member (codes "column") f.column
+    ++ (number_member (codes "end_line") (file_line files f.line)
     ++ (number_member (codes "end_column") (last_column text f found) ++ string_member (codes "rule") (fault_name f.kind))))
 
 -- the words and symbols of the language that may stand there, and the names that the text declares
@@ -58,15 +61,15 @@ choices c =
     ++ array_member (codes "names") (text_items (map (λ name. name.now) c.names))
 
 -- a fault of a file, with what is said of it and how to fix it
-abbrev pub fault : List ℕ → Text → Trouble → List ℕ → List ℕ → List Token
-fault name text t message help =
-    begin_object ∷ preface (codes "fault") name ++
-    (place text t.spot.fault t.spot.bytes.now ++ (bytes_member (codes "found") (Some t.spot.bytes)
+abbrev pub fault : List FilePart → Text → Trouble → List ℕ → List ℕ → List Token
+fault files text t message help =
+    begin_object ∷ preface (codes "fault") (file_name files (file_at files t.spot.fault.line)) ++
+    (place files text t.spot.fault t.spot.bytes.now ++ (bytes_member (codes "found") (Some t.spot.bytes)
     ++ (choices t.choices ++ (bytes_member (codes "meant") t.meant ++ (text_member (codes "message") message
     ++ (filled_member (codes "help") help ++ end_object ∷ []))))))
 
 -- the line of a text that doesn't parse: its first fault, what is said of it, and how to fix it
-pub record IsFaultLine (name text printed : List ℕ) : Type 0 where
+pub record IsFaultLine (files : List FilePart) (text printed : List ℕ) : Type 0 where
   pub trouble : Trouble
   pub described : IsDescribed text (Some trouble)
-  pub line : printed ≡ line_of (fault name text trouble (title_of trouble) (help_of trouble))
+  pub line : printed ≡ line_of (fault files text trouble (title_of trouble) (help_of trouble))

@@ -8,6 +8,8 @@ use Rattle.json.specs.Token.{Token, begin_array, begin_object, end_array, end_ob
 use Rattle.json.specs.Written.{Written}
 use Rattle.flt_places.specs.declared.places.Region.{Region}
 use Rattle.flt_details.specs.declared.operands.Marks.{Marks}
+use Rattle.flt_details.specs.Sources.{file_at, file_line, file_name}
+use Rattle.flt_details.specs.declared.sources.FilePart.{FilePart}
 
 -- these tokens stand behind what was
 pub record Added (old new : Written) (ts : List Token) : Type 0 where
@@ -50,20 +52,25 @@ text_items = flat_map (λ bytes. string (utf8_lossy bytes) ∷ [])
 abbrev pub object_member : List ℕ → List Token → List Token
 object_member name members = key name ∷ begin_object ∷ (members ++ end_object ∷ [])
 
--- where something stands: its first byte, and its last
-abbrev pub region_members : Region → List Token
-region_members r =
-    number_member (codes "line") r.first.line ++ (number_member (codes "column") r.first.column
-    ++ (number_member (codes "end_line") r.end.line ++ number_member (codes "end_column") (r.end.column - 1)))
+-- the name of a file, unless it is that of the whole object
+abbrev pub other_file : List FilePart → ℕ → ℕ → List Token
+other_file files home file = if file == home then [] else string_member (codes "file") (file_name files file)
+
+-- where something stands: its file, if it isn't that of the whole object, its first byte, and its last
+abbrev pub region_members : List FilePart → ℕ → Region → List Token
+region_members files home r =
+    other_file files home (file_at files r.first.line) ++ (number_member (codes "line") (file_line files r.first.line)
+    ++ (number_member (codes "column") r.first.column ++ (number_member (codes "end_line") (file_line files r.end.line)
+    ++ number_member (codes "end_column") (r.end.column - 1))))
 
 -- where that is which a finding names in a statement, or null
-abbrev pub operand_member : Option Region → List Token
-operand_member None = null_member (codes "operand")
-operand_member (Some r) = object_member (codes "operand") (region_members r)
+abbrev pub operand_member : List FilePart → ℕ → Option Region → List Token
+operand_member files home None = null_member (codes "operand")
+operand_member files home (Some r) = object_member (codes "operand") (region_members files home r)
 
 -- where a statement stands, and in it what a finding names
-abbrev pub marks_members : Marks → List Token
-marks_members m = region_members m.statement ++ operand_member m.operand
+abbrev pub marks_members : List FilePart → ℕ → Marks → List Token
+marks_members files home m = region_members files home m.statement ++ operand_member files home m.operand
 
 -- a member whose value is an array of these items
 abbrev pub array_member : List ℕ → List Token → List Token

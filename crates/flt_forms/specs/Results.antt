@@ -1,5 +1,5 @@
 -- Results of SARIF 2.1.0 (OASIS): findings and faults of texts.
-use Rattle.std.specs.Prelude.{ℕ, List, [], ◌∷◌, ◌++◌, Bool, Option, Some, None, codes, flat_map, if◌then◌else◌, length}
+use Rattle.std.specs.Prelude.{ℕ, List, [], ◌∷◌, ◌++◌, Bool, Option, Some, None, codes, flat_map, if◌then◌else◌, length, slice_get}
 use Rattle.flt_details.specs.declared.operands.Marks.{Marks}
 use Rattle.flt_details.specs.declared.study.Detail.{Detail}
 use Rattle.flt_details.specs.declared.study.Maker.{Maker}
@@ -15,6 +15,8 @@ use Rattle.flt_columns.specs.Columns.{column_behind, column_of}
 use Rattle.flt_forms.specs.Fingerprints.{finding_key, fingerprint, numbered}
 use Rattle.flt_forms.specs.Members.{array_member, filled_member, number_member, object_member, string_member, text_member}
 use Rattle.flt_forms.specs.Rules.{of_rule}
+use Rattle.flt_details.specs.Sources.{file_at, file_line}
+use Rattle.flt_forms.specs.declared.file.Artifact.{Artifact}
 use Rattle.flt_forms.specs.declared.file.File.{File}
 use Rattle.flt_forms.specs.declared.rules.Reported.TheVariants.{Broken, Unread}
 use Rattle.flt_forms.specs.declared.uri.Reference.{Reference}
@@ -40,37 +42,43 @@ abbrev pub reference : Reference → List Token
 reference r = text_member (codes "uri") r.uri ++ base r.is_absolute
 
 -- a file, by its name and its number
-abbrev pub artifact_location : File → List Token
-artifact_location file =
-    key (codes "artifactLocation") ∷ begin_object ∷
-    (reference file.reference ++ (number_member (codes "index") file.number ++ end_object ∷ []))
+abbrev pub artifact_by : Option Artifact → List Token
+artifact_by None = []
+artifact_by (Some a) =
+    key (codes "artifactLocation") ∷ begin_object ∷ (reference a.reference ++ (number_member (codes "index") a.number ++ end_object ∷ []))
 
--- where something in a text begins and ends, from 1; the last column is one behind its last byte
-abbrev pub whole_region : List ℕ → Text → Region → List Token
-whole_region name text r =
-    object_member name (number_member (codes "startLine") r.first.line ++ (number_member (codes "startColumn") (column_of text r.first)
-    ++ (number_member (codes "endLine") r.end.line ++ number_member (codes "endColumn") (column_of text r.end))))
+-- the file in which a line of a text is
+abbrev pub artifact_location : File → ℕ → List Token
+artifact_location file line = artifact_by (slice_get file.artifacts.items (file_at file.files.items line))
+
+-- where something in a text begins and ends in its file, from 1; the last column is one behind its last byte
+abbrev pub whole_region : List ℕ → File → Region → List Token
+whole_region name file r =
+    object_member name (number_member (codes "startLine") (file_line file.files.items r.first.line)
+    ++ (number_member (codes "startColumn") (column_of file.lines r.first)
+    ++ (number_member (codes "endLine") (file_line file.files.items r.end.line)
+    ++ number_member (codes "endColumn") (column_of file.lines r.end))))
 
 -- where a region of a file is
 abbrev pub physical : File → Region → List Token
 physical file r =
     key (codes "physicalLocation") ∷ begin_object
-    ∷ (artifact_location file ++ (whole_region (codes "region") file.lines r ++ end_object ∷ []))
+    ∷ (artifact_location file r.first.line ++ (whole_region (codes "region") file r ++ end_object ∷ []))
 
 -- the same with words
 abbrev pub location : File → Region → List ℕ → List Token
 location file r words = begin_object ∷ (physical file r ++ (message words ++ end_object ∷ []))
 
 -- what is marked: what a finding names, with the statement round it, or else the statement
-abbrev pub marked_regions : Text → Region → Option Region → List Token
-marked_regions text statement None = whole_region (codes "region") text statement
-marked_regions text statement (Some operand) =
-    whole_region (codes "region") text operand ++ whole_region (codes "contextRegion") text statement
+abbrev pub marked_regions : File → Region → Option Region → List Token
+marked_regions file statement None = whole_region (codes "region") file statement
+marked_regions file statement (Some operand) =
+    whole_region (codes "region") file operand ++ whole_region (codes "contextRegion") file statement
 
 abbrev pub marked_physical : File → Marks → List Token
 marked_physical file m =
     key (codes "physicalLocation") ∷ begin_object ∷
-    (artifact_location file ++ (marked_regions file.lines m.statement m.operand ++ end_object ∷ []))
+    (artifact_location file m.statement.first.line ++ (marked_regions file m.statement m.operand ++ end_object ∷ []))
 
 -- the same with words
 abbrev pub marked_location : File → Marks → List ℕ → List Token
@@ -191,15 +199,15 @@ abbrev pub place_of : SyntaxFault → Position
 place_of f = record { line = f.line; column = f.column }
 
 -- where a text is refused, up to behind what stands there
-abbrev pub fault_region : Text → Position → List ℕ → List Token
-fault_region text at found =
-    object_member (codes "region") (number_member (codes "startLine") at.line ++ (number_member (codes "startColumn") (column_of text at)
-    ++ (number_member (codes "endLine") at.line ++ number_member (codes "endColumn") (column_behind text at (length found)))))
+abbrev pub fault_region : File → Position → List ℕ → List Token
+fault_region file at found =
+    object_member (codes "region") (number_member (codes "startLine") (file_line file.files.items at.line) ++ (number_member (codes "startColumn") (column_of file.lines at)
+    ++ (number_member (codes "endLine") (file_line file.files.items at.line) ++ number_member (codes "endColumn") (column_behind file.lines at (length found)))))
 
 abbrev pub fault_physical : File → SyntaxFault → List ℕ → List Token
 fault_physical file f found =
     key (codes "physicalLocation") ∷ begin_object ∷
-    (artifact_location file ++ (fault_region file.lines (place_of f) found ++ end_object ∷ []))
+    (artifact_location file f.line ++ (fault_region file (place_of f) found ++ end_object ∷ []))
 
 abbrev pub fault_location : File → SyntaxFault → List ℕ → List ℕ → List Token
 fault_location file f found words = begin_object ∷ (fault_physical file f found ++ (message words ++ end_object ∷ []))

@@ -8,36 +8,37 @@ use Rattle.flt_details.specs.declared.study.Stage.{Stage}
 use Rattle.flt_details.specs.declared.study.WayKind.{WayKind}
 use Rattle.flt_details.specs.declared.study.WayKind.TheVariants.{Clean, Behind, Unreached, Unknown}
 use Rattle.flt_places.specs.declared.places.Region.{Region}
+use Rattle.flt_details.specs.declared.sources.FilePart.{FilePart}
 
 -- how a step comes out
 abbrev pub side : Bool → List ℕ
 side granted = if granted then codes "yes" else codes "no"
 
 -- a step: its point, where that is, and how it comes out
-abbrev pub step : (ℕ → Region) → Stage → List Token
-step region s =
-    begin_object ∷ number_member (codes "point") s.point ++ (region_members (region s.point)
+abbrev pub step : List FilePart → ℕ → (ℕ → Region) → Stage → List Token
+step files home region s =
+    begin_object ∷ number_member (codes "point") s.point ++ (region_members files home (region s.point)
     ++ (string_member (codes "side") (side s.granted) ++ (filled_member (codes "words") s.words.items ++ end_object ∷ [])))
 
 -- several, in order
-abbrev pub steps : (ℕ → Region) → List Stage → List Token
-steps region stages = begin_array ∷ flat_map (step region) stages ++ end_array ∷ []
+abbrev pub steps : List FilePart → ℕ → (ℕ → Region) → List Stage → List Token
+steps files home region stages = begin_array ∷ flat_map (step files home region) stages ++ end_array ∷ []
 
 -- the step that made a finding so, with where its statement stands, and in it what the finding names
-abbrev pub maker : Maker → List Token
-maker m =
-    begin_object ∷ number_member (codes "point") m.stage.point ++ (marks_members m.marks
+abbrev pub maker : List FilePart → ℕ → Maker → List Token
+maker files home m =
+    begin_object ∷ number_member (codes "point") m.stage.point ++ (marks_members files home m.marks
     ++ (string_member (codes "side") (side m.stage.granted) ++ (filled_member (codes "words") m.stage.words.items ++ end_object ∷ [])))
 
 -- a member whose value is that, or null
-abbrev pub maker_member : List ℕ → Option Maker → List Token
-maker_member name None = null_member name
-maker_member name (Some m) = key name ∷ maker m
+abbrev pub maker_member : List FilePart → ℕ → List ℕ → Option Maker → List Token
+maker_member files home name None = null_member name
+maker_member files home name (Some m) = key name ∷ maker files home m
 
 -- a member whose value is steps, or null
-abbrev pub steps_member : (ℕ → Region) → List ℕ → Option (List Stage) → List Token
-steps_member region name None = null_member name
-steps_member region name (Some stages) = key name ∷ steps region stages
+abbrev pub steps_member : List FilePart → ℕ → (ℕ → Region) → List ℕ → Option (List Stage) → List Token
+steps_member files home region name None = null_member name
+steps_member files home region name (Some stages) = key name ∷ steps files home region stages
 
 -- which finding's path serves
 abbrev pub like_member : Option ℕ → List Token

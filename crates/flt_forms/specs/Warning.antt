@@ -7,6 +7,8 @@ use Rattle.flt_warning_details.specs.declared.detail.RelatedPlace.{RelatedPlace}
 use Rattle.flt_warning_details.specs.declared.detail.WarningDetail.{WarningDetail}
 use Rattle.flt_forms.specs.Members.{array_member, filled_member, line_of, marks_members, null_member, number_member, string_member, text_member}
 use Rattle.flt_forms.specs.Preface.{preface}
+use Rattle.flt_details.specs.Sources.{file_at, file_name}
+use Rattle.flt_details.specs.declared.sources.FilePart.{FilePart}
 
 -- the numbers of a callback and of a point, from 0
 abbrev pub numbers : Site → List Token
@@ -21,8 +23,8 @@ site_members None = no_site
 site_members (Some s) = numbers s
 
 -- that it is no finding, and where it is
-abbrev pub place : WarningDetail → List Token
-place d = string_member (codes "level") (codes "warning") ++ (site_members d.site ++ marks_members d.marks)
+abbrev pub place : List FilePart → ℕ → WarningDetail → List Token
+place files home d = string_member (codes "level") (codes "warning") ++ (site_members d.site ++ marks_members files home d.marks)
 
 -- what is said of it
 abbrev pub words : WarningDetail → List Token
@@ -32,12 +34,12 @@ words d =
     ++ filled_member (codes "note") d.note)))
 
 -- another place, with what is there
-abbrev pub related_place : RelatedPlace → List Token
-related_place p = begin_object ∷ (marks_members p.marks ++ (text_member (codes "message") p.words ++ end_object ∷ []))
+abbrev pub related_place : List FilePart → ℕ → RelatedPlace → List Token
+related_place files home p = begin_object ∷ (marks_members files home p.marks ++ (text_member (codes "message") p.words ++ end_object ∷ []))
 
 -- the other places, in order
-abbrev pub related : WarningDetail → List Token
-related d = array_member (codes "related") (flat_map related_place d.related)
+abbrev pub related : List FilePart → ℕ → WarningDetail → List Token
+related files home d = array_member (codes "related") (flat_map (related_place files home) d.related)
 
 -- the reason of the comment that allows it, or null
 abbrev pub suppressed : Option (List ℕ) → List Token
@@ -45,10 +47,15 @@ suppressed None = null_member (codes "suppressed")
 suppressed (Some reason) = text_member (codes "suppressed") reason
 
 -- a warning of a file
-abbrev pub warning : List ℕ → WarningDetail → List Token
-warning name d =
-    begin_object ∷ preface (codes "warning") name ++ (place d ++ (words d ++ (related d ++ (suppressed d.reason ++ end_object ∷ []))))
+-- the file in which a warning is
+abbrev pub home_of : List FilePart → WarningDetail → ℕ
+home_of files d = file_at files d.marks.statement.first.line
+
+abbrev pub warning : List FilePart → WarningDetail → List Token
+warning files d =
+    begin_object ∷ preface (codes "warning") (file_name files (home_of files d)) ++ (place files (home_of files d) d
+    ++ (words d ++ (related files (home_of files d) d ++ (suppressed d.reason ++ end_object ∷ []))))
 
 -- a line for each warning, in order
-abbrev pub warning_line : List ℕ → WarningDetail → List ℕ
-warning_line name d = line_of (warning name d)
+abbrev pub warning_line : List FilePart → WarningDetail → List ℕ
+warning_line files d = line_of (warning files d)
