@@ -1,6 +1,8 @@
 -- The texts that files make. This project's own rule.
-use Rattle.std.specs.Prelude.{ℕ, zero, suc, ◌+◌, ◌-◌, ◌==◌, ◌||◌, Bool, true, false, not, List, [], ◌∷◌, ◌++◌, Option, Some, None, codes, drop, eqb, flat_map, get_or, if◌then◌else◌, slice_get, take}
+use Rattle.std.specs.Prelude.{◌≡◌, ◌<◌, ℕ, suc, ◌+◌, ◌-◌, ◌==◌, ◌||◌, Bool, true, false, not, List, [], ◌∷◌, ◌++◌, Option, Some, None, codes, drop, eqb, flat_map, get_or, if◌then◌else◌, length, slice_get, take, unwrap_or}
 use Rattle.std.specs.List.{starts_with}
+use Rattle.flt_details.specs.Reports.{EndsWith}
+use Rattle.flt_places.specs.Places.{line_of}
 use Rattle.flt_commands.specs.Inputs.{Text}
 
 -- ---- how a text begins
@@ -41,3 +43,52 @@ beginnings_from files number (text ∷ texts) =
 
 abbrev pub beginnings : List (Option Text) → List Text → List ℕ
 beginnings files texts = beginnings_from files 0 texts
+
+-- the number of the file after the last one of the text of a number, where there are so many files
+abbrev pub end_of : List ℕ → ℕ → ℕ → ℕ
+end_of beginnings text files = unwrap_or (slice_get beginnings (text + 1)) files
+
+-- ---- the texts
+
+-- texts, one after the other
+abbrev pub chained : List Text → Text
+chained texts = flat_map (λ (text : Text). text) texts
+
+-- the text that the files from one up to another make, by what each of them gives
+abbrev pub text_between : List Text → ℕ → ℕ → Text
+text_between texts first end = chained (take (end - first) (drop first texts))
+
+-- the texts of these numbers on, which begin with these files
+abbrev pub joined_from : List ℕ → ℕ → List Text → List ℕ → List Text
+joined_from beginnings number texts [] = []
+joined_from beginnings number texts (first ∷ others) =
+    text_between texts first (end_of beginnings number (length texts)) ∷ joined_from beginnings (number + 1) texts others
+
+-- the texts that files make, by what each of them gives
+abbrev pub joined : List (Option Text) → List Text → List Text
+joined files texts = joined_from (beginnings files texts) 0 texts (beginnings files texts)
+
+-- ---- their lines
+
+-- how many lines end in a text
+abbrev pub line_ends : Text → ℕ
+line_ends [] = 0
+line_ends (b ∷ z) = if b == 10 then suc (line_ends z) else line_ends z
+
+-- for each of some files the line of its text that is line 1 of it, where the first of them has this number, and its own text comes after so
+-- many lines of the same text
+abbrev pub firsts_from : List (Option Text) → ℕ → ℕ → List Text → List ℕ
+firsts_from files number before [] = []
+firsts_from files number before (text ∷ texts) =
+    let first = if begins files number text then 1 else before + 1 in
+    first ∷ firsts_from files (number + 1) ((first - 1) + line_ends text) texts
+
+abbrev pub firsts : List (Option Text) → List Text → List ℕ
+firsts files texts = firsts_from files 0 0 texts
+
+-- The law of the map: where what files give ends with the end of a line, line L of the text that they make, from the line on with which a
+-- file begins, is the line of what that file gives whose number is as far from its first one
+abbrev pub LinesAreOfTheirFiles : Type 0
+LinesAreOfTheirFiles =
+    (before : List Text) (text : Text) (after : List Text) (line : ℕ) → EndsWith (chained before) (10 ∷ []) → EndsWith text (10 ∷ []) →
+    line < line_ends text → line_of (chained (before ++ text ∷ after)) (line_ends (chained before) + line + 1) ≡ line_of text (line + 1)
