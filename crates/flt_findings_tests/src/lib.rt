@@ -1,5 +1,5 @@
-//! Tests of findings with ample memory: the warnings of a text, the comments that allow them, and the details of each; runs to a deadlock,
-//! where there is one and where there is none; and the flows of runs. They are apart from the crates that they test, so that none is proved
+//! Tests of findings with ample memory: the warnings of a text, the comments that allow them, and the details of each; runs to a deadlock
+//! and that there is none; and the flows of runs. They are apart from the crates that they test, so that none is proved
 //! twice.
 #![tactic(auto)]
 

@@ -118,7 +118,7 @@ fn draw_marks(
     for mark in marks {
         let number = mark.site.place.line;
         let line = scene.lines.line(number);
-        let excerpt = excerpt(files, scene.lines, number);
+        let excerpt = excerpt(&*files, &*scene.lines, number);
         drawing.draw(page, files, excerpt, line, &mark.site, stroke(mark.sign))?;
         tell_mark(page, scene, finding, subject, shown, mark.sign)?;
     }

@@ -169,7 +169,7 @@ fn draw_marks(
 {
     for mark in marks {
         let number = mark.site.place.line;
-        let excerpt = excerpt(files, lines, number);
+        let excerpt = excerpt(&*files, &*lines, number);
         drawing.draw(
             page,
             files,

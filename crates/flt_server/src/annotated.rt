@@ -1,6 +1,6 @@
 //! The annotations of C files, as texts that are read.
 
-use flt_c::{FileFlaw, Line, Place, PlaceFlaw, extract, in_place};
+use flt_c::{PlaceFlaw, in_place};
 use flt_outline::byte_of;
 use flt_places::Lines;
 use flt_session::{Encoding, Spot};
@@ -8,22 +8,7 @@ use flt_tree::Position;
 use std::alloc::{AllocError, Global};
 
 /// The greatest number of bytes of a C file that is read.
-const MAX_FILE: usize = 262_144;
-
-/// The annotations of a C file: a text in which each is in its line and at its column, and where each line of them begins.
-#[derive(Drop)]
-pub(crate) struct Annotated {
-    pub(crate) text: Vec<u8>,
-    starts: Vec<Line>,
-}
-
-/// A C file that has annotations.
-#[derive(Drop)]
-pub(crate) struct CFile<'a> {
-    pub(crate) bytes: &'a [u8],
-    pub(crate) lines: Lines<'a>,
-    starts: &'a [Line],
-}
+const MAX_FILE: usize = 65_536;
 
 /// The beginnings of the two comments that are annotations.
 const MARKERS: [&[u8]; 2] = [b"//@flt", b"/*@flt"];
@@ -52,61 +37,56 @@ pub(crate) fn is_too_long_in_c(bytes: &[u8]) -> bool {
     MAX_FILE < bytes.len()
 }
 
-/// Where the lines of the annotations of a C file begin.
-fn starts_in(alloc: Global, bytes: &[u8]) -> Result<Result<Vec<Line>, PlaceFlaw>, AllocError> {
-    let files = [Vec::from_slice(alloc, bytes)?];
-    match extract(alloc, &files)? {
-        Ok(found) => Ok(Ok(found.lines)),
-        Err(FileFlaw { file: _, flaw }) => Ok(Err(PlaceFlaw::Flawed(flaw))),
-    }
-}
-
-/// The annotations of a C file, or why they make no text.
-pub(crate) fn annotated(
+/// The annotations of a C file, each in its line and at its column, or why they make no text.
+pub(crate) fn annotations(
     alloc: Global,
     bytes: &[u8],
-) -> Result<Result<Annotated, PlaceFlaw>, AllocError> {
-    let starts = match starts_in(alloc, bytes)? {
-        Ok(starts) => starts,
-        Err(flaw) => return Ok(Err(flaw)),
-    };
+) -> Result<Result<Vec<u8>, PlaceFlaw>, AllocError> {
     let file = Vec::from_slice(alloc, bytes)?;
-    match in_place(alloc, file)? {
-        Ok(text) => Ok(Ok(Annotated { text, starts })),
-        Err(flaw) => Ok(Err(flaw)),
-    }
+    in_place(alloc, file)
 }
 
-/// The annotations of a C file, if they make a text.
-pub(crate) fn annotated_in(alloc: Global, bytes: &[u8]) -> Result<Option<Annotated>, AllocError> {
+/// The same, if they make a text.
+pub(crate) fn annotations_in(alloc: Global, bytes: &[u8]) -> Result<Option<Vec<u8>>, AllocError> {
     if !has_marker(bytes) || is_too_long_in_c(bytes) {
         return Ok(None);
     }
-    match annotated(alloc, bytes)? {
-        Ok(annotated) => Ok(Some(annotated)),
+    match annotations(alloc, bytes)? {
+        Ok(text) => Ok(Some(text)),
         Err(_) => Ok(None),
     }
 }
 
-/// Whether text may be written at a place of the line in which an annotation begins here. It must not be right after the annotation's
-/// marker; a line of a comment over several lines has none, and begins with the first column.
-fn goes_on(start: Place, place: Position) -> bool {
-    start.column < place.column || start.column == 1
+/// A C file that has annotations.
+#[derive(Drop)]
+pub(crate) struct CFile<'a> {
+    pub(crate) bytes: &'a [u8],
+    pub(crate) lines: Lines<'a>,
+}
+
+/// A byte of a C file, and the byte in its place in the text of annotations.
+#[derive(Clone, Copy)]
+pub(crate) struct Pair {
+    pub(crate) own: usize,
+    pub(crate) read: usize,
+}
+
+/// The pair before one.
+fn before(pair: Pair) -> Pair {
+    Pair {
+        own: pair.own.saturating_sub(1),
+        read: pair.read.saturating_sub(1),
+    }
+}
+
+fn is_blank(byte: u8) -> bool {
+    byte == b' ' || byte == b'\t'
 }
 
 impl<'a> CFile<'a> {
-    /// A C file with these annotations.
-    pub(crate) fn of(
-        alloc: Global,
-        bytes: &'a [u8],
-        annotated: &'a Annotated,
-    ) -> Result<CFile<'a>, AllocError> {
+    pub(crate) fn of(alloc: Global, bytes: &'a [u8]) -> Result<CFile<'a>, AllocError> {
         let lines = Lines::of(alloc, bytes)?;
-        Ok(CFile {
-            bytes,
-            lines,
-            starts: annotated.starts.as_slice(),
-        })
+        Ok(CFile { bytes, lines })
     }
 
     /// The byte of a place of the client, from 0.
@@ -119,23 +99,43 @@ impl<'a> CFile<'a> {
         self.lines.place(self.byte_of(encoding, spot))
     }
 
-    /// Whether the byte of the file is of an expression, of which the text has none, where it has another byte.
-    fn is_expression(&self, at: usize, text: &[u8], byte: usize) -> bool {
-        match (self.bytes.get(at), text.get(byte)) {
+    /// Whether a byte of the file isn't in the text, which has a blank in its place.
+    fn is_left_out(&self, text: &[u8], pair: Pair) -> bool {
+        match (self.bytes.get(pair.own), text.get(pair.read)) {
             (Some(own), Some(b' ')) => *own != b' ',
             _ => false,
         }
     }
 
-    /// Whether a byte of the file, which is the other one of the text, is in the expression of a lock or ends one.
-    pub(crate) fn is_taken_off(&self, at: usize, text: &[u8], byte: usize) -> bool {
-        self.is_expression(at, text, byte)
-            || self.is_expression(at.saturating_sub(1), text, byte.saturating_sub(1))
+    /// Whether a byte, or the one before it, is code, of a marker, or of the expression of a lock.
+    fn is_beside_others(&self, text: &[u8], pair: Pair) -> bool {
+        self.is_left_out(text, pair) || self.is_left_out(text, before(pair))
     }
 
-    /// Whether an annotation begins in the line of a place, before it.
-    pub(crate) fn has_begun(&self, place: Position) -> bool {
-        self.starts.iter().any(|start| start.place.line == place.line
-            && goes_on(start.place, place))
+    /// Whether code or a marker follows in the line, before a word of the text.
+    fn is_before_others(&self, text: &[u8], pair: Pair) -> bool {
+        let own = self.bytes.get(pair.own..).unwrap_or(b"");
+        let read = text.get(pair.read..).unwrap_or(b"");
+        for (own, read) in own.iter().zip(read.iter()) {
+            if *read != b' ' {
+                return false;
+            }
+            if !is_blank(*own) {
+                return true;
+            }
+        }
+        false
+    }
+
+    /// Whether a byte is within an annotation, or ends one. The text has so many bytes before it in its line. An empty line isn't: in the
+    /// text it may be one of code.
+    pub(crate) fn is_annotated(&self, text: &[u8], pair: Pair, column: usize) -> bool {
+        let start = pair.read.saturating_sub(column);
+        let line = text.get(start..pair.read).unwrap_or(b"");
+        if line.iter().any(|byte| *byte != b' ') {
+            return !self.is_beside_others(text, pair);
+        }
+        let is_empty = column == 0 && matches!(text.get(pair.read), None | Some(b'\n'));
+        !is_empty && !self.is_beside_others(text, pair) && !self.is_before_others(text, pair)
     }
 }

@@ -1,6 +1,6 @@
 //! The diagnostics of a document.
 
-use crate::annotated::{annotated, has_marker, is_too_long_in_c};
+use crate::annotated::{annotations, has_marker, is_too_long_in_c};
 use crate::drifts::put_drifts;
 use crate::faults::{is_too_long, put_unanalysed, put_unread, put_unread_in_c};
 use crate::findings::put_findings;
@@ -64,9 +64,9 @@ fn put_marked(alloc: Global, writer: &mut Writer, open: OpenText<'_>) -> Result<
     if is_too_long_in_c(open.text) {
         return put_unread_in_c(writer, &whole);
     }
-    match annotated(alloc, open.text)? {
-        Ok(annotated) => {
-            let document = document_in_c(alloc, open, &annotated)?;
+    match annotations(alloc, open.text)? {
+        Ok(text) => {
+            let document = document_in_c(alloc, open, text.as_slice())?;
             put_annotated(alloc, writer, &document)
         }
         Err(PlaceFlaw::Flawed(Flaw::Bare)) => Ok(()),

@@ -15,8 +15,10 @@ use std::alloc::{AllocError, Global};
 /// The greatest number of bytes of a text that is read.
 const MAX_TEXT: usize = 65_536;
 
-/// The mark with which further lines of a report begin.
-const MARK: &[u8] = b"   = ";
+/// The marks with which further lines of a report begin.
+const NOTE: &[u8] = b"   = note: ";
+
+const HELP: &[u8] = b"   = help: ";
 
 /// The members that each diagnostic begins with, after its place: a severity of the protocol, and the number of the rule or the fault.
 pub(crate) fn put_kind(writer: &mut Writer, severity: usize, code: &str) -> Result<(), AllocError> {
@@ -25,10 +27,18 @@ pub(crate) fn put_kind(writer: &mut Writer, severity: usize, code: &str) -> Resu
     put_string(writer, "source", "fltstack")
 }
 
+/// The words of a further line of a report.
+fn words_of(line: &[u8]) -> &[u8] {
+    match line.strip_prefix(NOTE) {
+        Some(words) => words,
+        None => line.strip_prefix(HELP).unwrap_or(line),
+    }
+}
+
 fn add_notes(alloc: Global, out: &mut Vec<u8>, notes: &[u8]) -> Result<(), AllocError> {
     let lines = lines_of(alloc, notes)?;
     for line in lines.as_slice() {
-        add_line(out, line.strip_prefix(MARK).unwrap_or(line))?;
+        add_line(out, words_of(line))?;
     }
     Ok(())
 }
@@ -86,16 +96,6 @@ pub(crate) fn put_unread(
     }
 }
 
-/// Why a text isn't read that is too long: of a C file each annotation is in its line and at its column.
-fn length_words(document: &Document<'_>) -> &'static str {
-    match &document.c_file {
-        Some(_) => {
-            "annotations have at most 65,536 bytes, with the blanks and lines before them: these aren't analysed"
-        }
-        None => "a text has at most 65,536 bytes: this one isn't analysed",
-    }
-}
-
 /// The diagnostic of a text that is too long to be read, at its first byte.
 pub(crate) fn put_unanalysed(
     writer: &mut Writer,
@@ -104,7 +104,11 @@ pub(crate) fn put_unanalysed(
     writer.begin_object()?;
     document.put_part(writer, "range", Part { start: 0, end: 0 })?;
     put_kind(writer, 1, "E06")?;
-    put_string(writer, "message", length_words(document))?;
+    put_string(
+        writer,
+        "message",
+        "a text has at most 65,536 bytes: this one isn't analysed",
+    )?;
     writer.end_object()
 }
 
@@ -126,7 +130,7 @@ pub(crate) fn put_unread_in_c(
     put_spared(
         writer,
         document,
-        "the file has more than 262,144 bytes, too many to be read while it is edited: `fltstack explain` reads it",
+        "the file has more than 65,536 bytes, too many to be read while it is edited: `fltstack explain` reads it",
     )
 }
 

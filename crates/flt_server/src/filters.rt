@@ -1,7 +1,7 @@
 //! The language of filters, as a session asks about it.
 
 use crate::actions::actions;
-use crate::annotated::annotated_in;
+use crate::annotated::annotations_in;
 use crate::completion::completion;
 use crate::diagnostics::{diagnostics, diagnostics_in_c};
 use crate::folds::folds;
@@ -69,10 +69,10 @@ fn result_in_c(
     open: OpenText<'_>,
     question: Question,
 ) -> Result<Vec<u8>, AllocError> {
-    let Some(annotated) = annotated_in(alloc, open.text)? else {
+    let Some(text) = annotations_in(alloc, open.text)? else {
         return result_nowhere(alloc, question);
     };
-    let document = document_in_c(alloc, open, &annotated)?;
+    let document = document_in_c(alloc, open, text.as_slice())?;
     result_of(alloc, &document, question)
 }
 

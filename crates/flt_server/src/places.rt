@@ -1,6 +1,6 @@
 //! Documents, and places in them as members of JSON objects.
 
-use crate::annotated::{Annotated, CFile};
+use crate::annotated::{CFile, Pair};
 use flt_outline::{Part, byte_of, spot_of};
 use flt_places::{Lines, Region};
 use flt_session::{Encoding, OpenText, Spot};
@@ -36,15 +36,14 @@ pub(crate) fn document_of<'a>(
     })
 }
 
-/// A C file that is open, with these annotations.
+/// A C file that is open, with this text of annotations.
 pub(crate) fn document_in_c<'a>(
     alloc: Global,
     open: OpenText<'a>,
-    annotated: &'a Annotated,
+    text: &'a [u8],
 ) -> Result<Document<'a>, AllocError> {
-    let text = annotated.text.as_slice();
     let lines = Lines::of(alloc, text)?;
-    let c_file = CFile::of(alloc, open.text, annotated)?;
+    let c_file = CFile::of(alloc, open.text)?;
     Ok(Document {
         uri: open.uri,
         text,
@@ -89,12 +88,14 @@ impl Document<'_> {
 
     /// The byte of a place of the client, from 0; none if the place is in C code, or in the expression of a lock.
     fn byte_annotated(&self, c_file: &CFile<'_>, spot: Spot) -> Option<usize> {
-        let at = c_file.byte_of(self.encoding, spot);
-        let place = c_file.lines.place(at);
-        let byte = self.byte_in(place);
-        let is_text = c_file.has_begun(place) && !self.ends_before(byte, place);
-        if is_text && !c_file.is_taken_off(at, self.text, byte) {
-            Some(byte)
+        let own = c_file.byte_of(self.encoding, spot);
+        let place = c_file.lines.place(own);
+        let read = self.byte_in(place);
+        let column = place.column.saturating_sub(1);
+        if !self.ends_before(read, place)
+            && c_file.is_annotated(self.text, Pair { own, read }, column)
+        {
+            Some(read)
         } else {
             None
         }
