@@ -17,8 +17,9 @@ use Rattle.flt_notes.specs.Told.{Tells}
 use Rattle.flt_notes.specs.Whole.{IsPrint, Look}
 use Rattle.flt_notes.specs.declared.noted.Noted.{Noted}
 use Rattle.flt_notes.specs.declared.explaining.Told.{Told}
-use Rattle.flt_reports.specs.FileText.{plain, texts_of}
-use Rattle.flt_reports.specs.declared.file_text.FileText.{FileText}
+use Rattle.flt_details.specs.Reports.{texts_of}
+use Rattle.flt_details.specs.declared.sources.Source.{Source}
+use Rattle.flt_commands.specs.Joined.{files_in, files_of, joined}
 use Rattle.flt_words.specs.declared.request.Colour.{Colour}
 use Rattle.flt_words.specs.declared.request.Colour.TheVariants.{Auto, Always, Never}
 use Rattle.flt_words.specs.declared.request.Form.{Form}
@@ -42,50 +43,30 @@ use Rattle.flt_commands.specs.declared.explain.Explanation.TheVariants.{Told as 
 use Rattle.flt_commands.specs.declared.failure.Failure.{Failure}
 use Rattle.flt_commands.specs.declared.failure.Failure.TheVariants.{CannotRead, CannotWrite, OutOfMemory}
 
--- the names of the files in which texts are, and these files
-abbrev pub names_in : List FileText → List Text
-names_in sources = map (λ (s : FileText). s.name.now) sources
-
-abbrev pub files_in : List FileText → List Text
-files_in sources = map (λ (s : FileText). s.file.now) sources
-
--- the file in which a text is: the C file whose annotations it is, or the text itself
-abbrev pub file_of : Option Text → Text → Text
-file_of None text = text
-file_of (Some code) text = code
-
--- the same of texts, of which the first has this number among all
-abbrev pub files_from : List (Option Text) → ℕ → List Text → List Text
-files_from codes number [] = []
-files_from codes number (text ∷ texts) = file_of (get_or codes number None) text ∷ files_from codes (number + 1) texts
-
-abbrev pub files_of : List (Option Text) → List Text → List Text
-files_of codes texts = files_from codes 0 texts
-
 -- a file's name, as a form tells it
 abbrev pub told_name : Form → Text → Text
 told_name Short name = visible name
 told_name form name = name
 
 -- JSON objects with the runs of the noted findings
-pub record AreToldWithRuns (options : WarningOptions) (sources : List FileText) (t : Told) : Type 0 where
+pub record AreToldWithRuns (options : WarningOptions) (sources : List Source) (t : Told) : Type 0 where
   pub runs : Bor (List FindingRun)
   pub found : AreRuns (texts_of sources) t.noted runs.now
-  pub lines : AreLines Object options (map plain sources) (Some runs) t.explained.output.items t.explained.status
+  pub lines : AreLines Object options sources (Some runs) t.explained.output.items t.explained.status
 
 -- a SARIF document with them
-pub record IsToldWithRuns (options : WarningOptions) (sources : List FileText) (unread : List UnreadFile) (t : Told) : Type 0 where
+pub record IsToldWithRuns (options : WarningOptions) (sources : List Source) (unread : List UnreadFile) (t : Told) : Type 0 where
   pub runs : List FindingRun
   pub found : AreRuns (texts_of sources) t.noted runs
-  pub document : IsSarif options (map plain sources) unread runs t.explained.output.items t.explained.status
+  pub document : IsSarif options sources unread runs t.explained.output.items t.explained.status
 
 -- what is told in a form: reports, a sentence or a JSON object for each finding, a SARIF document, which tells of these files that they
 -- aren't read, or a page on reports, in which these drifts come before them
-abbrev pub IsTold : Form → WarningOptions → Text → List FileText → List UnreadFile → Told → Type 0
+abbrev pub IsTold : Form → WarningOptions → Text → List Source → List UnreadFile → Told → Type 0
 IsTold Human options drifts sources unread t = AreReports options (texts_of sources) t.explained.output.items t.explained.status
-IsTold Short options drifts sources unread t = AreLines Sentence options (map plain sources) None t.explained.output.items t.explained.status
-IsTold Lines options drifts sources unread t = AreLines Object options (map plain sources) None t.explained.output.items t.explained.status
-IsTold Sarif options drifts sources unread t = IsSarif options (map plain sources) unread [] t.explained.output.items t.explained.status
+IsTold Short options drifts sources unread t = AreLines Sentence options sources None t.explained.output.items t.explained.status
+IsTold Lines options drifts sources unread t = AreLines Object options sources None t.explained.output.items t.explained.status
+IsTold Sarif options drifts sources unread t = IsSarif options sources unread [] t.explained.output.items t.explained.status
 IsTold LinesWithRuns options drifts sources unread t = AreToldWithRuns options sources t
 IsTold SarifWithRuns options drifts sources unread t = IsToldWithRuns options sources unread t
 IsTold Html options drifts sources unread t = IsPageOn options drifts sources t.explained.output.items t.explained.status
@@ -110,14 +91,14 @@ abbrev pub look_of : Asked → Look
 look_of asked = record { coloured = asked.coloured; states = asked.states; options = asked.options }
 
 -- a report on these texts has exactly these notes: one for each finding that it reports by itself
-pub record HasReport (look : Look) (sources : List FileText) (notes : List Noted) : Type 0 where
+pub record HasReport (look : Look) (sources : List Source) (notes : List Noted) : Type 0 where
   pub printed : Text
   pub status : ℕ
   pub print : IsPrint look sources notes printed status
 
 -- for people all of what is printed is the reports with the notes, to the letter; a page has these without colours, after these drifts,
 -- with pictures. The runs in other forms are those that a report has
-abbrev pub IsPrintTold : Form → Look → Text → List FileText → Told → Type 0
+abbrev pub IsPrintTold : Form → Look → Text → List Source → Told → Type 0
 IsPrintTold Human look drifts sources e = IsPrint look sources e.noted e.explained.output.items e.explained.status
 IsPrintTold Html look drifts sources e = IsPaged look drifts sources e.noted e.explained.output.items e.explained.status
 IsPrintTold LinesWithRuns look drifts sources e = HasReport look sources e.noted
@@ -128,10 +109,9 @@ IsPrintTold _ look drifts sources e = Unit {0}
 -- with what came of the findings of these texts
 pub record IsToldUnder (form : Form) (look : Look) (journal : Option Text) (drifts : Text) (names texts : List Text)
     (codes : List (Option Text)) (unread : List UnreadFile) (e : Told) : Type 0 where
-  pub sources : List FileText
-  pub named : names_in sources ≡ map (told_name form) names
-  pub given : texts_of sources ≡ texts
-  pub shown : files_in sources ≡ files_of codes texts
+  pub sources : List Source
+  pub given : texts_of sources ≡ joined codes texts
+  pub files : files_in sources ≡ files_of codes (map (told_name form) names) texts
   pub told : IsTold form look.options drifts sources unread e
   pub noted : AreNotedFor form journal texts e.noted
   pub notes : IsNoteTold form texts look.states e
@@ -253,10 +233,10 @@ IsSent old new (Ok answer) = Appends old new (take (sent_of answer) (output answ
 IsSent old new (Err f) = Appends old new []
 
 -- where memory runs out, what went out is told of the first texts: whole reports, or whole lines of each
-abbrev pub IsCutIn : Form → WarningOptions → ℕ → List FileText → Option Text → Option Text → Type 0
+abbrev pub IsCutIn : Form → WarningOptions → ℕ → List Source → Option Text → Option Text → Type 0
 IsCutIn Human options states sources old new = IsCut options (texts_of sources) states old new
-IsCutIn Short options states sources old new = AreFirstLines Sentence options (map plain sources) old new
-IsCutIn Lines options states sources old new = AreFirstLines Object options (map plain sources) old new
+IsCutIn Short options states sources old new = AreFirstLines Sentence options sources old new
+IsCutIn Lines options states sources old new = AreFirstLines Object options sources old new
 IsCutIn Sarif options states sources old new = Appends old new []
 IsCutIn Html options states sources old new = Appends old new []
 IsCutIn LinesWithRuns options states sources old new = Appends old new []
@@ -265,7 +245,7 @@ IsCutIn SarifWithRuns options states sources old new = Appends old new []
 -- the same of names and what they give; or nothing went out
 pub data IsCutUnder (form : Form) (options : WarningOptions) (states : ℕ) (names texts : List Text) (old new : Option Text) : Type 0 where
   none_out : Appends old new [] → IsCutUnder form options states names texts old new
-  some_out : (sources : List FileText) → names_in sources ≡ map (told_name form) names → texts_of sources ≡ texts →
+  some_out : (sources : List Source) → texts_of sources ≡ joined codes texts →
       IsCutIn form options states sources old new → IsCutUnder form options states names texts old new
 
 -- the same after these drifts; or nothing went out

@@ -1,7 +1,9 @@
 -- The texts that files make. This project's own rule.
-use Rattle.std.specs.Prelude.{◌≡◌, ◌<◌, ℕ, suc, ◌+◌, ◌-◌, ◌==◌, ◌||◌, Bool, true, false, not, List, [], ◌∷◌, ◌++◌, Option, Some, None, codes, drop, eqb, flat_map, get_or, if◌then◌else◌, length, slice_get, take, unwrap_or}
+use Rattle.std.specs.Prelude.{◌≡◌, ◌<◌, ℕ, suc, ◌+◌, ◌-◌, ◌==◌, ◌||◌, Bool, true, false, not, List, [], ◌∷◌, ◌++◌, Option, Some, None, codes, drop, eqb, flat_map, get_or, if◌then◌else◌, length, map, slice_get, take, unwrap_or}
 use Rattle.std.specs.List.{starts_with}
 use Rattle.flt_details.specs.Reports.{EndsWith}
+use Rattle.flt_details.specs.declared.sources.FilePart.{FilePart}
+use Rattle.flt_details.specs.declared.sources.Source.{Source}
 use Rattle.flt_places.specs.Places.{line_of}
 use Rattle.flt_commands.specs.Inputs.{Text}
 
@@ -92,3 +94,40 @@ abbrev pub LinesAreOfTheirFiles : Type 0
 LinesAreOfTheirFiles =
     (before : List Text) (text : Text) (after : List Text) (line : ℕ) → EndsWith (chained before) (10 ∷ []) → EndsWith text (10 ∷ []) →
     line < line_ends text → line_of (chained (before ++ text ∷ after)) (line_ends (chained before) + line + 1) ≡ line_of text (line + 1)
+
+-- ---- their files
+
+-- a file of a text: its name, the line of the text that is its line 1, and its bytes
+pub record FileIn : Type 0 where
+  pub name : Text
+  pub first : ℕ
+  pub bytes : Text
+
+-- the files of texts
+abbrev pub file_in : FilePart → FileIn
+file_in f = record { name = f.name.now; first = f.first; bytes = f.bytes.now }
+
+abbrev pub files_in : List Source → List (List FileIn)
+files_in sources = map (λ (s : Source). map file_in s.files.now) sources
+
+-- the file in which a text is: the C file whose annotations it is, or the text itself
+abbrev pub file_of : Option Text → Text → Text
+file_of None text = text
+file_of (Some code) text = code
+
+-- some files with these names, the lines with which they begin, and what they give, from this number on
+abbrev pub all_files : List (Option Text) → ℕ → List Text → List ℕ → List Text → List FileIn
+all_files files number names firsts [] = []
+all_files files number names firsts (text ∷ texts) =
+    record { name = get_or names number []; first = get_or firsts number 0; bytes = file_of (get_or files number None) text }
+    ∷ all_files files (number + 1) names firsts texts
+
+-- those of each text, where these files begin texts
+abbrev pub files_from : List ℕ → ℕ → List FileIn → List ℕ → List (List FileIn)
+files_from beginnings number all [] = []
+files_from beginnings number all (first ∷ others) =
+    take (end_of beginnings number (length all) - first) (drop first all) ∷ files_from beginnings (number + 1) all others
+
+abbrev pub files_of : List (Option Text) → List Text → List Text → List (List FileIn)
+files_of files names texts =
+    files_from (beginnings files texts) 0 (all_files files 0 names (firsts files texts) texts) (beginnings files texts)

@@ -11,7 +11,8 @@ use Rattle.flt_forms.specs.declared.unread.UnreadFile.{UnreadFile}
 use Rattle.flt_frames.specs.Handling.{IsServed, IsServedSoFar, Reply}
 use Rattle.flt_notes.specs.Whole.{IsPrint, Look}
 use Rattle.flt_notes.specs.declared.noted.Noted.{Noted}
-use Rattle.flt_reports.specs.declared.file_text.FileText.{FileText}
+use Rattle.flt_details.specs.declared.sources.Source.{Source}
+use Rattle.flt_commands.specs.Joined.{files_in}
 use Rattle.flt_words.specs.declared.request.Form.TheVariants.{Human}
 use Rattle.flt_commands.specs.Allowed.{options_of}
 use Rattle.flt_commands.specs.Drifts.{drifts_told}
@@ -28,10 +29,9 @@ look = record { coloured = false; states = 40000; options = options_of (record {
 
 -- this is what `explain` prints of this text in a file of this name, whose lines it shows, to the letter
 pub record IsExplained (name file text printed : Text) : Type 0 where
-  pub source : FileText
-  pub named : source.name.now ≡ name
+  pub source : Source
   pub given : source.text.now ≡ text
-  pub shown : source.file.now ≡ file
+  pub files : files_in (source ∷ []) ≡ (record { name = name; first = 1; bytes = file } ∷ []) ∷ []
   pub notes : List Noted
   pub status : ℕ
   pub print : IsPrint look (source ∷ []) notes printed status

@@ -62,7 +62,7 @@ fn shown_file(alloc: Global, file: FilePart<'_>) -> Result<ShownText, AllocError
 
 /// The files in which texts are, as reports show them.
 fn shown_texts(alloc: Global, sources: &[Source<'_>]) -> Result<Items<ShownText>, AllocError>
-    ensures { IfOk result (λ all. all ≡ map spec.shown_text sources.now) }
+    ensures { IfOk result (λ all. all ≡ spec.shown_files sources.now) }
 {
     let mut all = Items::new(alloc);
     for source in sources {
