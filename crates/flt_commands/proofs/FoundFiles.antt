@@ -3,6 +3,7 @@ use Rattle.std.proofs.Common.{◌⊎◌, inl, inr, ◌≡◌, ◌∙◌, ℕ, Li
 use Rattle.std.proofs.Math.Path.{subst}
 use Rattle.std.proofs.lemmas.List.{length-map, map_push}
 use Rattle.std.specs.List.{list_any}
+use Rattle.std.specs.declared.alloc.AllocError.{AllocError}
 use Rattle.flt_c.specs.InPlace.{in_place}
 use Rattle.flt_forms.specs.declared.unread.UnreadFile.{UnreadFile}
 use Rattle.flt_commands.proofs.SomeRead.{missing_more, read_lengths, read_more}
@@ -20,11 +21,11 @@ code_of f = option_map (λ code. code.items) f.code
 
 -- what isn't read gives nothing, whether it is C or not
 nothing_if : (is_c : Bool) (gives : Giving) (name : Text) → gives name None → gives_laid_if is_c gives name None
-nothing_if true gives name none = inr none
-nothing_if false gives name none = none
+nothing_if true gives name nothing = inr nothing
+nothing_if false gives name nothing = nothing
 
 pub nothing_given : (all : Bool) (gives : Giving) (name : Text) → gives name None → gives_annotations all gives name None
-nothing_given all gives name none = nothing_if (is_taken_for_c all name) gives name none
+nothing_given all gives name nothing = nothing_if (is_taken_for_c all name) gives name nothing
 
 -- what is found is what C files that give their annotations give
 found_if : (all : Bool) (gives : Giving) (name text : Text) (code : Option Text) → GivesFound all gives name text code →

@@ -1,4 +1,4 @@
-pub mod After
+pub mod AfterDrifts
 pub mod ButOne
 pub mod Covered
 pub mod Drawing

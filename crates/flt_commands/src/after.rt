@@ -1,7 +1,7 @@
 //! The output of `explain` for some texts, after the drifts of C files.
 
 ghost use Rattle.std.specs.Io.KnownBytes.{Appends};
-ghost use Rattle.std.specs.Prelude.{◌≡◌, ◌≢◌, ⊥, IfErr, IfOk, IsTrue, OnOk, false, length, map, option_map, take};
+ghost use Rattle.std.specs.Prelude.{◌≡◌, ◌≢◌, IfErr, IfOk, IsTrue, OnOk, false, length, map, option_map, take};
 ghost use Rattle.flt_commands.specs.Explain as spec;
 
 use crate::explain::{Asked, explain_read};
@@ -59,7 +59,7 @@ fn explain_held<O: Sink, W: SearchWatch>(
     out: &mut O,
     watch: &mut W,
 ) -> Result<Told, CommandFault>
-    requires back { spec.HoldsBack asked.entry.form (option_map (λ name. name.now) asked.entry.journal) }
+    requires back { spec.HoldsBack asked.form (option_map (λ name. name.now) asked.journal) }
     requires each { length texts.now ≡ length names.now }
     ensures told { IfOk result (spec.IsToldAfter first.items within.now worth asked.entry.form (spec.look_of asked.entry)
         (option_map (λ name. name.now) asked.entry.journal) (map (λ name. name.now) names.now) (map (λ text. text.items) texts.now)
@@ -114,7 +114,7 @@ fn explain_early<O: Sink, W: SearchWatch>(
 
 /// The output for the texts of some files, in a form, with files that aren't read, after some drifts, or with some within a page. The first
 /// drifts are written at once, and the output for each text as soon as it is made, unless all of it is held back.
-#[tactic(auto, using(crate::proofs::Sent::none_sent, crate::proofs::After::nothing_after))]
+#[tactic(auto, using(crate::proofs::Sent::none_sent, crate::proofs::AfterDrifts::nothing_after))]
 pub(crate) fn explain_after<O: Sink, W: SearchWatch>(
     alloc: Global,
     asked: Asked<'_>,

@@ -1,6 +1,6 @@
 //! The texts that files give: of a C file the annotations at their places, with the file itself beside them.
 
-ghost use Rattle.std.specs.Prelude.{◌≡◌, ◌&&◌, ◌⊎◌, ◌++◌, ◌∷◌, [], List, None, Some, IfOk, OnErr, OnOk, false, map, option_map, true};
+ghost use Rattle.std.specs.Prelude.{◌≡◌, ◌&&◌, ◌⊎◌, ◌++◌, ◌∷◌, ℕ, [], List, None, Some, IfOk, OnErr, OnOk, false, map, option_map, true};
 ghost use Rattle.std.specs.List.{list_any};
 ghost use Rattle.flt_commands.specs.Annotated as spec;
 ghost use Rattle.flt_commands.specs.Inputs.{is_standard as is_standard_name};

@@ -140,7 +140,7 @@ fn gap(form: Form, printed: &[u8]) -> &'static [u8]
 }
 
 /// The drifts of the C files among some files with these names, as a form prints them, except for kinds of the names `allowed`.
-pub(crate) fn drifted(
+pub(crate) fn tell_drifts(
     alloc: Global,
     form: Form,
     allowed: &[&str],

@@ -13,7 +13,7 @@ ghost use Rattle.flt_reports.specs.Source.{plain, texts_of};
 use crate::after::explain_after;
 use crate::annotated::find_each;
 use crate::answer::Answer;
-use crate::drifts::drifted;
+use crate::drifts::tell_drifts;
 use crate::failure::Failure;
 use crate::fault::CommandFault;
 use crate::finding_runs::runs_of;
@@ -449,7 +449,7 @@ pub fn explain_files<'a, I: Inputs, P: Pictures, O: Sink, W: SearchWatch>(
     let beginnings = beginnings(alloc, texts.as_slice(), codes.as_slice())?;
     contents.texts = joined(alloc, texts.as_slice(), beginnings.as_slice())?;
     *remark = unread_lines(alloc, unread.as_slice())?;
-    let drifts = drifted(
+    let drifts = tell_drifts(
         alloc,
         asked.form,
         asked.allowed,

@@ -5,7 +5,7 @@ ghost use Rattle.flt_c.specs.InPlace.{in_place as laid_in};
 ghost use Rattle.flt_commands.specs.Served as spec;
 ghost use Rattle.flt_notes.specs.Whole.{look_for};
 
-use crate::drifts::drifted;
+use crate::drifts::tell_drifts;
 use crate::remarks::lines_on_file;
 use crate::unread::Unread;
 use flt_c::{PlaceFlaw, in_place};
@@ -86,7 +86,7 @@ fn printed_after(
     ensures { IfOk result (λ out. spec.IsExplainedInC name.now file.now annotations.now out.items) }
 {
     let files = [Some(Vec::from_slice(alloc, file)?)];
-    let drifts = drifted(alloc, Form::Human, &[], &[name], &files)?;
+    let drifts = tell_drifts(alloc, Form::Human, &[], &[name], &files)?;
     let own = printed(alloc, name, file, annotations)?;
     let mut out = drifts.printed;
     out.extend_from_slice(own.as_slice())?;

@@ -1,3 +1,4 @@
+pub mod Clearing
 pub mod Digits
 pub mod FilledSets
 pub mod FirstFindings

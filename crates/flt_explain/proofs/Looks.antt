@@ -1,8 +1,7 @@
 -- One more look of a walk, and one more walk.
-use Rattle.std.proofs.Common.{◌≡◌, ℕ, zero, suc, ◌+◌, ◌-◌, ◌<◌, ◌≤◌, Bool, true, false, List, [], ◌∷◌, Option, Some, None, length, drop, get_or, refl, sym, ap, ◌∙◌, arith}
+use Rattle.std.proofs.Common.{◌≡◌, ℕ, zero, suc, ◌+◌, ◌-◌, ◌<◌, ◌≤◌, false, List, Option, Some, None, refl, sym, ap, ◌∙◌, arith}
 use Rattle.std.specs.Prelude.{is_some}
 use Rattle.flt_graph.specs.declared.graph.Graph.{Graph}
-use Rattle.flt_analyse.specs.Pending.{least_from}
 use Rattle.flt_explain.specs.Sight.{past}
 use Rattle.flt_explain.specs.Walk.{progress, known, wrong, faults_told, led, looked_at, looked, first_pending, step_at, step, steps, walked, walked_from}
 use Rattle.flt_explain.specs.declared.finding.Fault.{Fault}
@@ -10,23 +9,6 @@ use Rattle.flt_explain.specs.declared.finding.Finding.{Finding}
 use Rattle.flt_explain.specs.declared.sight.Sight.{Sight}
 use Rattle.flt_explain.specs.declared.tell.Spot.{Spot}
 use Rattle.flt_explain.specs.declared.walk.Walk.{Walk}
-
--- ---- the least point
-
--- a flag that is set at an index is the first, where none before was
-pub first_at : (bs : List Bool) (i k : ℕ) → get_or bs i false ≡ true → least_from k (drop i bs) ≡ Some k
-first_at [] i k e = absurd (cc)
-first_at (true ∷ bs) zero k e = refl
-first_at (false ∷ bs) zero k e = absurd (cc)
-first_at (b ∷ bs) (suc i) k e = first_at bs i k e
-
--- one that isn't set is passed over
-pub not_at : (bs : List Bool) (i k : ℕ) → i < length bs → get_or bs i false ≡ false →
-    least_from (suc k) (drop (suc i) bs) ≡ least_from k (drop i bs)
-not_at [] i k h e = absurd (omega arith)
-not_at (true ∷ bs) zero k h e = absurd (cc)
-not_at (false ∷ bs) zero k h e = refl
-not_at (b ∷ bs) (suc i) k h e = not_at bs i k (omega arith) e
 
 -- ---- a look
 

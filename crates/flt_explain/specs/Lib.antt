@@ -4,6 +4,7 @@ pub mod Faults
 pub mod Findings
 pub mod Locks
 pub mod Mending
+pub mod Pending
 pub mod Sets
 pub mod Sight
 pub mod Subjects

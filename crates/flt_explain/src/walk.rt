@@ -4,6 +4,7 @@ ghost use Rattle.std.specs.Prelude.{◌≡◌, ◌<◌, length, OnOk, IfOk, IfSo
 ghost use Rattle.std.specs.Option.{option_copied};
 ghost use Rattle.flt_analyse.specs.Pending.{least};
 ghost use Rattle.flt_explain.specs.ByPoint.{AreBefore, AreByPoint};
+ghost use Rattle.flt_explain.specs.Pending.{IsClear, earliest as earliest_by};
 ghost use Rattle.flt_explain.specs.Told.{at_point};
 ghost use Rattle.flt_explain.specs.Walk as spec;
 
@@ -28,18 +29,30 @@ struct Walk {
     pending: Items<bool>,
 }
 
-/// The least flag that is set, from 0.
-#[tactic(auto, using(crate::proofs::Looks::first_at, crate::proofs::Looks::not_at))]
-fn first(flags: &[bool]) -> Option<usize>
+/// The least flag that is set, from 0. No flag before a number is set.
+#[tactic(auto, using(crate::proofs::Clearing::first_set, crate::proofs::Clearing::none_set, crate::proofs::Clearing::one_more))]
+fn first(flags: &[bool], from: usize) -> Option<usize>
+    requires { IsClear from flags.now }
     ensures value { result ≡ least flags.now }
     ensures within { IfSome result (λ point. point < length flags.now) }
+    ensures clear { IfSome result (λ point. IsClear point flags.now) }
 {
-    for place in 0..flags.len() {
+    for place in from..flags.len() {
         if flags[place] {
             return Some(place);
         }
     }
     None
+}
+
+/// The least of a number and the point of a path.
+fn earliest(number: usize, way: &Option<Way>) -> usize
+    ensures { result ≡ earliest_by number way.now }
+{
+    match way {
+        Some(way) => number.min(way.point),
+        None => number,
+    }
 }
 
 impl Walk {
@@ -85,13 +98,16 @@ impl Walk {
         self.mark(point, true);
     }
 
-    /// Takes the least point that is pending.
-    fn take(&mut self) -> Option<usize>
+    /// Takes the least point that is pending. No point before a number is.
+    #[tactic(auto, using(crate::proofs::Clearing::still_clear))]
+    fn take(&mut self, from: usize) -> Option<usize>
+        requires { IsClear from self.old.pending }
         ensures point { result ≡ spec.first_pending self.old }
         ensures within { IfSome result (λ point. point < length self.old.pending) }
+        ensures clear { IfSome result (λ point. IsClear point self.new.pending) }
         ensures rest { self.new ≡ spec.taken_if self.old result }
     {
-        let point = first(self.pending.as_slice())?;
+        let point = first(self.pending.as_slice(), from)?;
         self.mark(point, false);
         Some(point)
     }
@@ -163,7 +179,8 @@ impl Walk {
         Ok(())
     }
 
-    /// Looks at a point that was taken: reports its faults, and continues as if it had none. The findings there are these.
+    /// Looks at a point that was taken: reports its faults, and continues as if it had none. The findings there are these. Returns from where
+    /// on points are pending, at the earliest.
     #[tactic(auto, using(crate::proofs::Looks::looked_by), unfolding(crate::specs::Walk::looked))]
     fn look(
         &mut self,
@@ -172,47 +189,54 @@ impl Walk {
         spot: Spot,
         here: &mut Items<Finding>,
         findings: &mut Items<Finding>,
-    ) -> Result<(), AllocError>
-        requires { here.old ≡ at_point spot.callback spot.point findings.old }
+    ) -> Result<usize, AllocError>
+        requires clear { IsClear spot.point self.old.pending }
+        requires here { here.old ≡ at_point spot.callback spot.point findings.old }
+        ensures clear { IfOk result (λ from. IsClear from self.new.pending) }
         ensures looked { OnOk result (spec.progress self.new findings.new ≡ spec.looked graph.now spot (spec.progress self.old findings.old)) }
         ensures here { OnOk result (here.new ≡ at_point spot.callback spot.point findings.new) }
     {
         let Some(sight) = self.known(spot.point) else {
-            return Ok(());
+            return Ok(spot.point);
         };
         let faults = wrong(alloc, graph, spot, &sight.state)?;
         spot.tell_faults(here, findings, sight, faults.as_slice())?;
         let ways = sight.past(graph, spot.callback, spot.point, faults.as_slice());
+        let from = earliest(earliest(spot.point, &ways.first), &ways.second);
         self.follow(spot, ways, here, findings)?;
-        Ok(())
+        Ok(from)
     }
 
-    /// Looks at the least pending point, and returns whether there was one. The findings of the callback are these, by their points.
+    /// Looks at the least pending point, if there is one. No point before a number is pending, and the findings of the callback are these, by
+    /// their points. Returns from where on points are pending then, at the earliest.
     #[tactic(auto, unfolding(crate::specs::Walk::step))]
     fn step(
         &mut self,
         alloc: Global,
         graph: &Graph,
         callback: usize,
+        from: usize,
         by_point: &mut ByPoint,
         findings: &mut Items<Finding>,
-    ) -> Result<bool, AllocError>
+    ) -> Result<Option<usize>, AllocError>
+        requires clear { IsClear from self.old.pending }
         requires wide { length by_point.old.lists ≡ length self.old.pending }
         requires by_point { AreByPoint callback by_point.old.lists findings.old }
-        ensures pending { IfOk result (λ pending. pending ≡ is_some (spec.first_pending self.old)) }
+        ensures pending { IfOk result (λ next. is_some next ≡ is_some (spec.first_pending self.old)) }
+        ensures clear { IfOk result (λ next. IfSome next (λ point. IsClear point self.new.pending)) }
         ensures walk { OnOk result (self.new ≡ (spec.step graph.now callback (spec.progress self.old findings.old)).walk) }
         ensures found { OnOk result (findings.new ≡ (spec.step graph.now callback (spec.progress self.old findings.old)).found) }
         ensures wide { OnOk result (length by_point.new.lists ≡ length self.new.pending) }
         ensures by_point { OnOk result (AreByPoint callback by_point.new.lists findings.new) }
     {
-        let Some(point) = self.take() else {
-            return Ok(false);
+        let Some(point) = self.take(from) else {
+            return Ok(None);
         };
         let mut here = by_point.copied(alloc, point)?;
         let spot = spot(graph, callback, point);
-        self.look(alloc, graph, spot, &mut here, findings)?;
+        let next = self.look(alloc, graph, spot, &mut here, findings)?;
         by_point.replace(point, here);
-        Ok(true)
+        Ok(Some(next))
     }
 }
 
@@ -249,10 +273,11 @@ pub(crate) fn walk_callback(
 {
     let mut walk = Walk::open(alloc, graph, callback)?;
     let mut by_point = ByPoint::none(alloc, graph.points(callback))?;
+    let mut from = 0;
     for _look in 0..graph.points(callback).saturating_mul(LOOKS) {
-        let is_pending = walk.step(alloc, graph, callback, &mut by_point, findings)?;
-        if !is_pending {
-            return Ok(());
+        match walk.step(alloc, graph, callback, from, &mut by_point, findings)? {
+            Some(next) => from = next,
+            None => return Ok(()),
         }
     }
     Ok(())

@@ -1,4 +1,4 @@
-use Rattle.flt_commands.proofs.After.{early_sent}
+use Rattle.flt_commands.proofs.AfterDrifts.{early_sent}
 use Rattle.flt_commands.proofs.after.explain_early.Goals as goal
 
 pub returns-clause-told : goal.returns-clause-told

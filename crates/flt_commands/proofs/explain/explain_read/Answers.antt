@@ -1,5 +1,5 @@
 use Rattle.std.proofs.Common.{◌≡◌, ◌∙◌, ℕ, List, Bor, ap, map, string_bytes, sym}
-use Rattle.flt_commands.proofs.After.{cut_anyway}
+use Rattle.flt_commands.proofs.AfterDrifts.{cut_anyway}
 use Rattle.flt_commands.proofs.Explaining.{cut_some, told_under}
 use Rattle.flt_commands.proofs.Firsts.{mapped_twice}
 use Rattle.flt_commands.specs.Explain.{names_in, told_name}

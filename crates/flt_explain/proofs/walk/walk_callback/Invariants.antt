@@ -1,5 +1,6 @@
 use Rattle.std.proofs.Common.{◌≡◌, ◌-◌, length}
 use Rattle.flt_explain.specs.ByPoint.{AreByPoint}
+use Rattle.flt_explain.specs.Pending.{IsClear}
 use Rattle.flt_explain.specs.Walk.{steps, looks, progress, opened}
 use Rattle.flt_explain.proofs.walk.walk_callback.Given as goal
 
@@ -8,6 +9,7 @@ abbrev pub invariant-loop-look : goal.invariant-loop-look
 invariant-loop-look l = record {
   found : (steps l.graph l.callback (l._look-end - l._look) (progress l.walk l.findings)).found
       ≡ (steps l.graph l.callback (looks l.graph l.callback) (progress (opened l.graph l.callback) l.fn.findings)).found;
+  clear : IsClear l.from l.walk.pending;
   wide : length l.by_point.lists ≡ length l.walk.pending;
   by_point : AreByPoint l.callback l.by_point.lists l.findings;
 }

@@ -1,7 +1,7 @@
 use Rattle.std.proofs.Common.{◌≡◌, ◌++◌, ◌||◌, drop, map, option_map}
 use Rattle.std.specs.List.{list_any}
 use Rattle.flt_commands.specs.Drifts.{is_drifted, parts_from}
-use Rattle.flt_commands.proofs.drifts.drifted.Given as goal
+use Rattle.flt_commands.proofs.drifts.tell_drifts.Given as goal
 
 abbrev pub invariant-loop-number : goal.invariant-loop-number
 invariant-loop-number l =

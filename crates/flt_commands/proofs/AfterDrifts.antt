@@ -27,58 +27,18 @@ use Rattle.flt_commands.specs.declared.fault.CommandFault.TheVariants.{OutOfMemo
 
 -- ---- what goes out before the end is cut as where memory runs out
 
--- the reports of all files but the last are those of the first files
-whole_of : (options : WarningOptions) (texts : List Text) (states : ℕ) (printed : Text) → IsAllButLast options texts states printed →
-    AreWhole options texts states printed
-whole_of options [] states printed is = inl is
-whole_of options (t ∷ ts) states printed is =
-    inr (record { before = is.before; others = is.last ∷ []; whole = is.whole; are = is.are })
-
 -- all lines are those of the first texts
-all_lines : (style : Style) (options : WarningOptions) (sources : List Source) (t : Told) (old new : Option Text) →
-    AreLines style options sources None t.explained.output.items t.explained.status → t.sent ≡ length t.explained.output.items →
-    Appends old new (take t.sent t.explained.output.items) → AreFirstLines style options sources old new
-all_lines style options sources t old new told early sent =
-    let all : take t.sent t.explained.output.items ≡ t.explained.output.items =
-    ap (λ n. take n t.explained.output.items) early ∙ take-length t.explained.output.items in
-    record {
-      count = length sources;
-      printed = t.explained.output.items;
-      status = t.explained.status;
-      are = subst (λ ss. AreLines style options ss None t.explained.output.items t.explained.status) (sym (take-length sources)) told;
-      sent = subst (Appends old new) all sent;
-    }
-
-pub cut_told : {O : Type 0} (taken : O → Option Text) (old new : O) (form : Form) (options : WarningOptions) (states : ℕ) (drifts : Text)
-    (sources : List FileText) (unread : List UnreadFile) (t : Told) → IsTold form options drifts sources unread t →
-    GoesOutEarly form options (texts_of sources) states t →
-    Appends (taken old) (taken new) (take t.sent t.explained.output.items) → (HoldsBack form None → new ≡ old) →
-    IsCutIn form options states sources (taken old) (taken new)
-cut_told taken old new Human options states drifts sources unread t told early sent held = record {
-  printed = take t.sent t.explained.output.items;
-  added = sent;
-  are = whole_of options (texts_of sources) states _ early;
+pub whole_lines : (style : Style) (options : WarningOptions) (sources : List Source) (printed : Text) (status : ℕ) (old new : Option Text) →
+    AreLines style options sources None printed status → Appends old new printed → AreFirstLines style options sources old new
+whole_lines style options sources printed status old new told sent = record {
+  count = length sources;
+  printed = printed;
+  status = status;
+  are = subst (λ ss. AreLines style options ss None printed status) (sym (take-length sources)) told;
+  sent = sent;
 }
-cut_told taken old new Short options states drifts sources unread t told early sent held =
-    all_lines Sentence options (map plain sources) t (taken old) (taken new) told early sent
-cut_told taken old new Lines options states drifts sources unread t told early sent held =
-    all_lines Object options (map plain sources) t (taken old) (taken new) told early sent
-cut_told taken old new Sarif options states drifts sources unread t told early sent held = rw (held tt) (Appends-nil (taken old))
-cut_told taken old new Html options states drifts sources unread t told early sent held = rw (held tt) (Appends-nil (taken old))
-cut_told taken old new LinesWithRuns options states drifts sources unread t told early sent held = rw (held tt) (Appends-nil (taken old))
-cut_told taken old new SarifWithRuns options states drifts sources unread t told early sent held = rw (held tt) (Appends-nil (taken old))
 
-pub cut_result : {O : Type 0} (taken : O → Option Text) (old new : O) (form : Form) (options : WarningOptions) (states : ℕ)
-    (drifts : Text) (sources : List FileText) (unread : List UnreadFile) (result : Result Told CommandFault) →
-    IfOk result (IsTold form options drifts sources unread) →
-    IfOk result (GoesOutEarly form options (texts_of sources) states) →
-    IfOk result (λ t. Appends (taken old) (taken new) (take t.sent t.explained.output.items)) → (HoldsBack form None → new ≡ old) →
-    IfOk result (λ t. IsCutIn form options states sources (taken old) (taken new))
-cut_result taken old new form options states drifts sources unread (Ok t) told early sent held =
-    cut_told taken old new form options states drifts sources unread t told early sent held
-cut_result taken old new form options states drifts sources unread (Err e) told early sent held = tt
-
--- the same of names and what they give
+-- of names and what they give
 pub cut_anyway : (form : Form) (options : WarningOptions) (states : ℕ) (names texts : List Text) (sources : List FileText)
     (result : Result Told CommandFault) (old new : Option Text) → names_in sources ≡ map (told_name form) names → texts_of sources ≡ texts →
     IfOk result (λ t. IsCutIn form options states sources old new) → IfOk result (λ t. IsCutUnder form options states names texts old new)
