@@ -7,7 +7,6 @@ pub mod Names
 pub mod Operands
 pub mod Page
 pub mod Reports
-pub mod Sources
 pub mod Stages
 pub mod Subjects
 pub mod Tracing

@@ -1,24 +1,15 @@
 //! The texts that are reported, and the result of a report.
 
 ghost use Rattle.std.specs.Prelude.{◌≡◌};
-ghost use Rattle.flt_details.specs.Sources as spec;
+ghost use Rattle.flt_details.specs.Reports as spec;
 
-/// A file in which some lines of a text are: from one line on, up to the first line of the next file.
-#[derive(Clone, Copy)]
-pub struct FilePart<'a> {
-    /// The name under which it is reported.
-    pub name: &'a str,
-    /// The line of the text that is line 1 of the file. Lines count from 1.
-    pub first: usize,
-    /// All bytes of the file. Its lines are those that reports show.
-    pub bytes: &'a [u8],
-}
+use flt_places::Files;
 
-/// A text, and the files in which it is, one after the other. An ordinary text is a file by itself.
+/// A text, and the files in which its lines are.
 #[derive(Clone, Copy)]
 pub struct Source<'a> {
     pub text: &'a [u8],
-    pub files: &'a [FilePart<'a>],
+    pub files: Files<'a>,
 }
 
 impl<'a> Source<'a> {
@@ -26,10 +17,7 @@ impl<'a> Source<'a> {
     pub fn name(&self) -> &'a str
         ensures { result.now ≡ spec.name_of self.now }
     {
-        match self.files {
-            [] => "",
-            [first, ..] => first.name,
-        }
+        self.files.file_name(0)
     }
 }
 
