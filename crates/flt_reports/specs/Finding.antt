@@ -6,19 +6,18 @@ use Rattle.flt_explain.specs.declared.finding.Finding.{Finding}
 use Rattle.flt_graph.specs.Graph.{span_at}
 use Rattle.flt_graph.specs.declared.graph.Graph.{Graph}
 use Rattle.flt_origins.specs.declared.grouping.Traced.{Traced}
+use Rattle.flt_places.specs.Files.{file_at}
 use Rattle.flt_places.specs.Places.{place_in}
+use Rattle.flt_places.specs.declared.files.Files.{Files}
 use Rattle.flt_tree.specs.Names.{Text}
 use Rattle.flt_tree.specs.declared.filter.Position.{Position}
 use Rattle.flt_ways.specs.declared.answer.Answer.{Answer}
 use Rattle.flt_ways.specs.declared.answer.Answer.TheVariants as answer
 use Rattle.flt_details.specs.Closing.{rule_name}
-use Rattle.flt_details.specs.Page.{shown}
-use Rattle.flt_details.specs.Sources.{file_at}
+use Rattle.flt_details.specs.Page.{line_told, shown}
 use Rattle.flt_details.specs.Tracing.{other_way, way_of}
-use Rattle.flt_details.specs.declared.sources.FilePart.{FilePart}
 use Rattle.flt_details.specs.declared.study.Words.{Words}
 use Rattle.flt_details.specs.declared.tracing.Shown.{Shown}
-use Rattle.flt_reports.specs.Excerpts.{line_told}
 use Rattle.flt_reports.specs.Heading.{at_file_place, heading, name_at}
 use Rattle.flt_reports.specs.Indents.{headed}
 use Rattle.flt_reports.specs.Shown.{shown_lines}
@@ -39,14 +38,14 @@ abbrev pub place_of : Text → Graph → ℕ → ℕ → Position
 place_of text g callback point = place_in text (span_at g callback point).start
 
 -- a finding's rule and title, the file, and its point
-unfoldable pub head_lines : Bool → List FilePart → Text → Graph → Finding → Words → Text
+unfoldable pub head_lines : Bool → Files → Text → Graph → Finding → Words → Text
 head_lines coloured files text g found w =
     heading coloured (Some (rule_name found.rule)) w.title.items (name_at files (place_of text g found.callback found.point).line)
     ++ (at_file_place files (place_of text g found.callback found.point)
     ++ (head_told w.head.items ++ numbers_told found.callback found.point))
 
 -- the file that is named in its heading
-abbrev pub home_of : List FilePart → Text → Graph → Finding → ℕ
+abbrev pub home_of : Files → Text → Graph → Finding → ℕ
 home_of files text g found = file_at files (place_of text g found.callback found.point).line
 
 -- ---- the paths to it
@@ -65,13 +64,13 @@ notes answer.Unreached =
 notes answer.Unknown = note_line (codes "no path was found among the situations that were looked at")
 
 -- the branches of the path that shows it, and of the other one where two do
-unfoldable pub paths_told : List FilePart → ℕ → Text → Graph → ℕ → Answer → Text
+unfoldable pub paths_told : Files → ℕ → Text → Graph → ℕ → Answer → Text
 paths_told files home text g callback a =
     path_lines files home text g callback (codes "   = path: ") (way_of a)
     ++ (path_lines files home text g callback (codes "   = other path: ") (other_way a) ++ notes a)
 
 -- the lines that show a finding, and the paths to it; nothing where it isn't known what shows it
-unfoldable pub shown_part : Bool → List FilePart → ℕ → Text → Graph → Finding → Text → Option Shown → Text
+unfoldable pub shown_part : Bool → Files → ℕ → Text → Graph → Finding → Text → Option Shown → Text
 shown_part coloured files home text g found subject None = []
 shown_part coloured files home text g found subject (Some s) =
     shown_lines coloured files text g found subject s ++ paths_told files home text g found.callback s.answer
@@ -88,12 +87,12 @@ unfoldable pub before_line : Bool → Text
 before_line is_below = if is_below then codes ", " else codes "   = note: also at line "
 
 -- numbers of lines, where another one may stand before the first; nothing where there are none
-abbrev pub listed_from : List FilePart → ℕ → Bool → List ℕ → Text
+abbrev pub listed_from : Files → ℕ → Bool → List ℕ → Text
 listed_from files home is_below [] = if is_below then 10 ∷ [] else []
 listed_from files home is_below (n ∷ ns) = before_line is_below ++ (line_told files home n ++ listed_from files home true ns)
 
 -- the lines on which the others of a group stand, each once
-unfoldable pub others_told : List FilePart → ℕ → List Traced → Text
+unfoldable pub others_told : Files → ℕ → List Traced → Text
 others_told files home others = listed_from files home false (each_once 0 (map (λ (t : Traced). t.finding.line) others))
 
 -- ---- how to fix it
@@ -113,7 +112,7 @@ note_told note = if length note == 0 then [] else headed (codes "   = note: ") (
 -- ---- all of it
 
 -- what is wrong and where, what shows it, where the others of its group are, and how to fix it
-unfoldable pub finding_report : Bool → List FilePart → Text → Graph → Finding → Words → Option Shown → List Traced → Text
+unfoldable pub finding_report : Bool → Files → Text → Graph → Finding → Words → Option Shown → List Traced → Text
 finding_report coloured files text g found w s others =
     head_lines coloured files text g found w
     ++ (shown_part coloured files (home_of files text g found) text g found w.subject.items s
