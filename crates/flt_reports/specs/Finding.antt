@@ -1,12 +1,12 @@
 -- The report of findings that are put together. This project's own program.
-use Rattle.std.specs.Prelude.{ℕ, ◌==◌, Bool, true, false, if◌then◌else◌, List, [], ◌∷◌, ◌++◌, Option, Some, None, codes, length, map}
+use Rattle.std.specs.Prelude.{ℕ, ◌==◌, ◌&&◌, Bool, true, false, if◌then◌else◌, List, [], ◌∷◌, ◌++◌, Option, Some, None, codes, length, map}
 use Rattle.std.specs.Fmt.{decimal}
 use Rattle.std.specs.List.{slice_split}
 use Rattle.flt_explain.specs.declared.finding.Finding.{Finding}
 use Rattle.flt_graph.specs.Graph.{span_at}
 use Rattle.flt_graph.specs.declared.graph.Graph.{Graph}
 use Rattle.flt_origins.specs.declared.grouping.Traced.{Traced}
-use Rattle.flt_places.specs.Files.{file_at}
+use Rattle.flt_places.specs.Files.{file_at, file_line}
 use Rattle.flt_places.specs.Places.{place_in}
 use Rattle.flt_places.specs.declared.files.Files.{Files}
 use Rattle.flt_tree.specs.Names.{Text}
@@ -77,23 +77,25 @@ shown_part coloured files home text g found subject (Some s) =
 
 -- ---- the others of its group
 
--- numbers without those that are the same as the one before them
-abbrev pub each_once : ℕ → List ℕ → List ℕ
-each_once before [] = []
-each_once before (n ∷ ns) = if n == before then each_once before ns else n ∷ each_once n ns
+-- two lines of a text are in the same line of a file
+abbrev pub is_same_line : Files → ℕ → ℕ → Bool
+is_same_line files line other = file_at files line == file_at files other && file_line files line == file_line files other
 
 -- what stands before the first of some numbers of lines, and before each other one
 unfoldable pub before_line : Bool → Text
 before_line is_below = if is_below then codes ", " else codes "   = note: also at line "
 
--- numbers of lines, where another one may stand before the first; nothing where there are none
-abbrev pub listed_from : Files → ℕ → Bool → List ℕ → Text
-listed_from files home is_below [] = if is_below then 10 ∷ [] else []
-listed_from files home is_below (n ∷ ns) = before_line is_below ++ (line_told files home n ++ listed_from files home true ns)
+-- the numbers of lines, without those that are in the same line of a file as the one before; another one may stand before the first, which
+-- is then this one. Nothing where there are none
+abbrev pub listed_from : Files → ℕ → Bool → ℕ → List ℕ → Text
+listed_from files home is_below before [] = if is_below then 10 ∷ [] else []
+listed_from files home is_below before (n ∷ ns) =
+    if is_below && is_same_line files before n then listed_from files home is_below before ns
+    else before_line is_below ++ (line_told files home n ++ listed_from files home true n ns)
 
 -- the lines on which the others of a group stand, each once
 unfoldable pub others_told : Files → ℕ → List Traced → Text
-others_told files home others = listed_from files home false (each_once 0 (map (λ (t : Traced). t.finding.line) others))
+others_told files home others = listed_from files home false 0 (map (λ (t : Traced). t.finding.line) others)
 
 -- ---- how to fix it
 

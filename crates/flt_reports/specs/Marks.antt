@@ -1,5 +1,5 @@
 -- Lines of a text with marks under them. This project's own program.
-use Rattle.std.specs.Prelude.{ℕ, ◌==◌, ◌||◌, ◌-◌, Bool, false, if◌then◌else◌, [], ◌∷◌, ◌++◌, Option, Some, None, codes, drop, length, max, min, replicate, slice_get, take}
+use Rattle.std.specs.Prelude.{ℕ, ◌==◌, ◌&&◌, ◌||◌, ◌-◌, Bool, false, if◌then◌else◌, [], ◌∷◌, ◌++◌, Option, Some, None, codes, drop, length, max, min, replicate, slice_get, take}
 use Rattle.std.specs.Fmt.{decimal}
 use Rattle.std.specs.Int.{is_in_range}
 use Rattle.std.specs.List.{count_by}
@@ -32,14 +32,14 @@ without_return line = if is_return (slice_get line (length line - 1)) then take 
 abbrev pub bar : Bool → Text
 bar coloured = blue coloured ++ codes " | " ++ plain coloured
 
--- dots between lines that aren't neighbours in the text; 0 for the line before where there is none
+-- dots between lines of a file that aren't neighbours; 0 for the line before where there is none
 unfoldable pub dots : ℕ → ℕ → Text
 dots before number = if before == 0 || number - 1 == before then [] else codes "..." ++ 10 ∷ []
 
--- between a line and the one before it: the name of its file, where this one isn't the file that is named, else dots
+-- between a line of the text and the line of this file that was drawn before: the name of its file, where this one isn't the file that is named, else dots
 unfoldable pub gap : Files → ℕ → ℕ → ℕ → Text
 gap files file before number =
-    if file_at files number == file then dots before number
+    if file_at files number == file then dots before (file_line files number)
     else codes "  ::: " ++ (shown (file_name files (file_at files number)) ++ 10 ∷ [])
 
 -- a line of the text, with its number as far right as the margin is wide
@@ -87,10 +87,10 @@ marked coloured margin excerpt line site stroke =
     replicate margin 32 ++ bar coloured ++ replicate (columns_before excerpt site) 32
     ++ colour_of coloured stroke ++ replicate (signs line site) (sign_of stroke) ++ plain coloured
 
--- the line of a site; nothing where it is the one that was drawn before
+-- the line of its file for a line of the text; nothing where it is the one that was drawn before
 unfoldable pub line_once : Bool → ℕ → Files → ℕ → ℕ → Text → ℕ → Text
 line_once coloured margin files file before line number =
-    if number == before then []
+    if file_at files number == file && file_line files number == before then []
     else gap files file before number ++ numbered_line coloured margin (file_line files number) line
 
 -- the line of a site as it is, with signs under the site

@@ -7,7 +7,7 @@ use Rattle.flt_origins.specs.declared.facts.Fact.{Fact}
 use Rattle.flt_origins.specs.declared.origin.Cause.{Cause}
 use Rattle.flt_origins.specs.declared.origin.Cause.TheVariants.{Entry, Made}
 use Rattle.flt_origins.specs.declared.origin.Origin.{Origin}
-use Rattle.flt_places.specs.Files.{file_at}
+use Rattle.flt_places.specs.Files.{file_at, file_line}
 use Rattle.flt_places.specs.Places.{line_of, site_of}
 use Rattle.flt_places.specs.declared.files.Files.{Files}
 use Rattle.flt_tree.specs.Names.{Text}
@@ -66,7 +66,7 @@ all_drawn coloured margin files file text g found subject a before [] = []
 all_drawn coloured margin files file text g found subject a before (m ∷ marks) =
     drawn coloured margin files file before (excerpt files text m.site.place.line) (line_of text m.site.place.line) m.site (stroke m.sign)
     ++ (mark_told g found subject a m.sign
-    ++ all_drawn coloured margin files (file_at files m.site.place.line) text g found subject a m.site.place.line marks)
+    ++ all_drawn coloured margin files (file_at files m.site.place.line) text g found subject a (file_line files m.site.place.line) marks)
 
 -- all of them
 unfoldable pub shown_lines : Bool → Files → Text → Graph → Finding → Text → Shown → Text

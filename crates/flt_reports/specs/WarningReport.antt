@@ -2,7 +2,7 @@
 use Rattle.std.specs.Prelude.{ℕ, ◌==◌, ◌+◌, ◌-◌, Bool, if◌then◌else◌, List, [], ◌∷◌, ◌++◌, Option, Some, None, codes, length, slice_get}
 use Rattle.flt_details.specs.Page.{shown}
 use Rattle.flt_details.specs.declared.operands.Marks.{Marks}
-use Rattle.flt_places.specs.Files.{file_at}
+use Rattle.flt_places.specs.Files.{file_at, file_line}
 use Rattle.flt_places.specs.Places.{line_of}
 use Rattle.flt_places.specs.declared.files.Files.{Files}
 use Rattle.flt_places.specs.declared.places.Region.{Region}
@@ -81,7 +81,7 @@ all_drawn coloured margin files file text related before [] = []
 all_drawn coloured margin files file text related before (m ∷ marks) =
     drawn coloured margin files file before (excerpt files text m.site.place.line) (line_of text m.site.place.line) m.site (stroke m.sign)
     ++ (mark_words related m.sign
-    ++ all_drawn coloured margin files (file_at files m.site.place.line) text related m.site.place.line marks)
+    ++ all_drawn coloured margin files (file_at files m.site.place.line) text related (file_line files m.site.place.line) marks)
 
 -- all of them
 unfoldable pub places_drawn : Bool → Files → Text → WarningDetail → Text

@@ -113,14 +113,7 @@ fn tell_ways(
 {
     let (way, other) = shown.ways();
     tell_way(page, home, scene, callback, "   = path: ", way)?;
-    tell_way(
-        page,
-        home,
-        scene,
-        callback,
-        "   = other path: ",
-        other,
-    )?;
+    tell_way(page, home, scene, callback, "   = other path: ", other)?;
     page.texts(&[notes(&shown.answer)])
 }
 
@@ -143,9 +136,7 @@ fn tell_shown(
     let Some(shown) = shown else {
         return Ok(());
     };
-    draw_shown(
-        alloc, page, coloured, scene, finding, subject, shown,
-    )?;
+    draw_shown(alloc, page, coloured, scene, finding, subject, shown)?;
     tell_ways(page, home, scene, finding.callback, shown)
 }
 
@@ -163,6 +154,13 @@ fn before_line(is_below: bool) -> &'static str
     }
 }
 
+/// Whether two lines of a text are in the same line of a file.
+fn is_same_line(files: &Files<'_>, line: usize, other: usize) -> bool
+    ensures { result ≡ spec.is_same_line files.now line other }
+{
+    files.file_at(line) == files.file_at(other) && files.file_line(line) == files.file_line(other)
+}
+
 /// Writes the line numbers of the others of a group, each once.
 #[tactic(auto, unfolding(crate::specs::Finding::others_told))]
 fn tell_others(
@@ -177,7 +175,7 @@ fn tell_others(
     let mut told = false;
     for other in others {
         let line = other.finding.line;
-        if line != last {
+        if !told || !is_same_line(&files, last, line) {
             page.texts(&[before_line(told)])?;
             page.say(&[Part::Line(files, home, line)])?;
             last = line;
@@ -246,9 +244,7 @@ pub(crate) fn report_finding(
     let site = scene.site(finding.callback, finding.point);
     let home = scene.files.file_at(site.place.line);
     tell_head(page, coloured, scene, finding, words)?;
-    tell_shown(
-        alloc, page, coloured, home, scene, finding, subject, shown,
-    )?;
+    tell_shown(alloc, page, coloured, home, scene, finding, subject, shown)?;
     tell_others(page, scene.files, home, others)?;
     tell_help(alloc, page, words.help.as_slice())?;
     tell_note(page, words.note.as_slice())

@@ -4,7 +4,7 @@ ghost use Rattle.std.specs.Prelude.{◌≡◌, ◌+◌, ◌≤◌, drop, option_
 ghost use Rattle.std.specs.Int.{is_in_range};
 ghost use Rattle.std.specs.List.{count_by};
 ghost use Rattle.flt_details.specs.Page.{Writes};
-ghost use Rattle.flt_places.specs.Files.{file_at};
+ghost use Rattle.flt_places.specs.Files.{file_at, file_line};
 ghost use Rattle.flt_reports.specs.Excerpts.{of_excerpt};
 ghost use Rattle.flt_reports.specs.Marks as spec;
 
@@ -14,8 +14,8 @@ use flt_details::Page;
 use flt_places::{Files, Site};
 use std::alloc::{AllocError, Global};
 
-/// The lines that are drawn: whether in colours, the width of their numbers, the file that is named last, and the number in the text of the
-/// last one, 0 if there is none.
+/// The lines that are drawn: whether in colours, the width of their numbers, the file that is named last, and the number there of the last
+/// line, 0 if there is none.
 #[derive(Clone, Copy)]
 pub(crate) struct Drawing {
     coloured: bool,
@@ -184,17 +184,12 @@ impl Drawing {
 
     /// Writes the text between the last line and another one: the name of its file, if that isn't named yet.
     #[tactic(auto, unfolding(crate::specs::Marks::gap))]
-    fn tell_gap(
-        self,
-        page: &mut Page,
-        files: &Files<'_>,
-        number: usize,
-    ) -> Result<(), AllocError>
+    fn tell_gap(self, page: &mut Page, files: &Files<'_>, number: usize) -> Result<(), AllocError>
         ensures { Writes result page.old page.new (spec.gap files.now self.file self.last number) }
     {
         let file = files.file_at(number);
         if file == self.file {
-            return page.texts(&[self.dots(number)]);
+            return page.texts(&[self.dots(files.file_line(number))]);
         }
         page.line(&[b"  ::: ", files.file_name(file).as_bytes()])
     }
@@ -211,7 +206,7 @@ impl Drawing {
         page.line(&[line])
     }
 
-    /// Draws the line of a site, if it isn't the last one drawn.
+    /// Draws the line of its file for a line of the text, if it isn't the last one drawn.
     #[tactic(auto, unfolding(crate::specs::Marks::line_once))]
     fn draw_once(
         self,
@@ -223,7 +218,7 @@ impl Drawing {
         ensures { Writes result page.old page.new
             (spec.line_once self.coloured self.margin files.now self.file self.last line.now number) }
     {
-        if number == self.last {
+        if files.file_at(number) == self.file && files.file_line(number) == self.last {
             return Ok(());
         }
         self.tell_gap(page, files, number)?;
@@ -292,12 +287,12 @@ impl Drawing {
         ensures coloured { OnOk result (self.new.coloured ≡ self.old.coloured) }
         ensures margin { OnOk result (self.new.margin ≡ self.old.margin) }
         ensures file { OnOk result (self.new.file ≡ file_at files.now site.now.place.line) }
-        ensures last { OnOk result (self.new.last ≡ site.now.place.line) }
+        ensures last { OnOk result (self.new.last ≡ file_line files.now site.now.place.line) }
     {
         let shown = without_return(excerpt.bytes);
         self.draw_once(page, files, shown, site.place.line)?;
         self.file = files.file_at(site.place.line);
-        self.last = site.place.line;
+        self.last = files.file_line(site.place.line);
         self.draw_marks(alloc, page, excerpt, without_return(line), site, stroke)
     }
 }

@@ -66,14 +66,7 @@ pub(crate) fn tell_way(
         (spec.path_lines scene.now.files home scene.now.lines.now scene.now.graph.now callback word.now (option_copied way.entry)) }
 {
     match way {
-        Some(way) => tell_steps(
-            page,
-            home,
-            scene,
-            callback,
-            word,
-            way.steps.as_slice(),
-        ),
+        Some(way) => tell_steps(page, home, scene, callback, word, way.steps.as_slice()),
         None => Ok(()),
     }
 }
