@@ -5,7 +5,7 @@ use Rattle.std.specs.Int.{is_in_range}
 use Rattle.std.specs.List.{count_by}
 use Rattle.flt_tree.specs.Names.{Text}
 use Rattle.flt_details.specs.Page.{shown}
-use Rattle.flt_places.specs.Files.{column_behind, file_at, file_line, file_name}
+use Rattle.flt_places.specs.Files.{behind, file_at, file_line, file_name}
 use Rattle.flt_places.specs.declared.files.Files.{Files}
 use Rattle.flt_places.specs.declared.places.Site.{Site}
 use Rattle.flt_reports.specs.Colours.{blue, plain, red, yellow}
@@ -79,7 +79,7 @@ signs line site = max (columns (drop (site.place.column - 1) line) (bytes_marked
 
 -- how many columns are before a site where its line is shown so
 abbrev pub columns_before : Excerpt → Site → ℕ
-columns_before excerpt site = columns excerpt.bytes (column_behind excerpt.before site.place.column - 1)
+columns_before excerpt site = columns excerpt.bytes (behind excerpt.before site.place.column - 1)
 
 -- signs under a site in a line that is shown so
 unfoldable pub marked : Bool → ℕ → Excerpt → Text → Site → Stroke → Text
