@@ -11,6 +11,7 @@ use Rattle.flt_commands.specs.Annotated.{AreAnnotations, AreFlawed, AreFound, Ar
 use Rattle.flt_commands.specs.Inputs.{Giving, IsMissing, Text, is_standard, none}
 use Rattle.flt_commands.specs.declared.annotated.Found.{Found}
 use Rattle.flt_commands.specs.declared.annotated.FoundFiles.{FoundFiles}
+use Rattle.flt_commands.specs.declared.annotated.NamedFiles.{NamedFiles}
 use Rattle.flt_commands.specs.declared.unread.Unread.{Unread}
 
 -- the C file of a text, or none
@@ -56,44 +57,44 @@ module _ (all : Bool) (gives : Giving) (name file : Text) (is : is_taken_for_c a
 
 -- ---- of several names
 
-module _ (all : Bool) (gives : Giving) (before : List Text) (name : Bor Text) (old new : FoundFiles)
+module _ (all : Bool) (gives : Giving) (before : List Text) (name : Bor Text) (old new : NamedFiles)
     (are : AreFoundIn all gives before old) where
   -- a name more that gives a text
   pub found_more : (f : Found) → GivesFound all gives name.now f.text.items f.stands.items (code_of f) →
       is_standard name.now && list_any is_standard before ≡ false →
-      new.names.items ≡ old.names.items ++ name ∷ [] → new.texts.items ≡ old.texts.items ++ f.text ∷ [] →
-      new.stands.items ≡ old.stands.items ++ f.stands ∷ [] → new.codes.items ≡ old.codes.items ++ f.code ∷ [] → new.unread.items ≡ old.unread.items →
+      new.read.names.items ≡ old.read.names.items ++ name ∷ [] → new.read.texts.items ≡ old.read.texts.items ++ f.text ∷ [] →
+      new.read.stands.items ≡ old.read.stands.items ++ f.stands ∷ [] → new.read.codes.items ≡ old.read.codes.items ++ f.code ∷ [] → new.unread.items ≡ old.unread.items →
       AreFoundIn all gives (before ++ name.now ∷ []) new
   found_more f one other named put placed coded same =
-      let names : map (λ (n : Bor Text). n.now) new.names.items ≡ map (λ (n : Bor Text). n.now) old.names.items ++ name.now ∷ [] =
-      ap (map (λ (n : Bor Text). n.now)) named ∙ map_push (λ n. n.now) old.names.items name in
-      let texts : map (λ (t : Vec ℕ Global). t.items) new.texts.items ≡
-      map (λ (t : Vec ℕ Global). t.items) old.texts.items ++ f.text.items ∷ [] =
-      ap (map (λ (t : Vec ℕ Global). t.items)) put ∙ map_push (λ t. t.items) old.texts.items f.text in
-      let places : places_in new ≡ places_in old ++ f.stands.items ∷ [] =
-      ap (map (λ (s : Vec Stand Global). s.items)) placed ∙ map_push (λ s. s.items) old.stands.items f.stands in
-      let codes : codes_in new ≡ codes_in old ++ code_of f ∷ [] =
-      ap (map (option_map (λ (t : Vec ℕ Global). t.items))) coded ∙ map_push (option_map (λ t. t.items)) old.codes.items f.code in
+      let names : map (λ (n : Bor Text). n.now) new.read.names.items ≡ map (λ (n : Bor Text). n.now) old.read.names.items ++ name.now ∷ [] =
+      ap (map (λ (n : Bor Text). n.now)) named ∙ map_push (λ n. n.now) old.read.names.items name in
+      let texts : map (λ (t : Vec ℕ Global). t.items) new.read.texts.items ≡
+      map (λ (t : Vec ℕ Global). t.items) old.read.texts.items ++ f.text.items ∷ [] =
+      ap (map (λ (t : Vec ℕ Global). t.items)) put ∙ map_push (λ t. t.items) old.read.texts.items f.text in
+      let places : places_in new.read ≡ places_in old.read ++ f.stands.items ∷ [] =
+      ap (map (λ (s : Vec Stand Global). s.items)) placed ∙ map_push (λ s. s.items) old.read.stands.items f.stands in
+      let codes : codes_in new.read ≡ codes_in old.read ++ code_of f ∷ [] =
+      ap (map (option_map (λ (t : Vec ℕ Global). t.items))) coded ∙ map_push (option_map (λ t. t.items)) old.read.codes.items f.code in
       record {
-        read = rw same (read_more (gives_annotations all gives) before name old.names.items old.texts.items old.unread.items are.read f.text
-            new.names.items new.texts.items (found_if all gives name.now f.text.items f.stands.items (code_of f) one) other named put);
+        read = rw same (read_more (gives_annotations all gives) before name old.read.names.items old.read.texts.items old.unread.items are.read f.text
+            new.read.names.items new.read.texts.items (found_if all gives name.now f.text.items f.stands.items (code_of f) one) other named put);
         found = rw (names, texts, places, codes) (found name.now f.text.items f.stands.items (code_of f) are.found one);
       }
 
   -- a name more that gives none
   pub unfound_more : (file : UnreadFile) → string_bytes file.name ≡ name.now → IsMissing (gives_annotations all gives) before name.now →
-      new.names.items ≡ old.names.items → new.texts.items ≡ old.texts.items → new.stands.items ≡ old.stands.items →
-      new.codes.items ≡ old.codes.items →
+      new.read.names.items ≡ old.read.names.items → new.read.texts.items ≡ old.read.texts.items → new.read.stands.items ≡ old.read.stands.items →
+      new.read.codes.items ≡ old.read.codes.items →
       new.unread.items ≡ old.unread.items ++ file ∷ [] → AreFoundIn all gives (before ++ name.now ∷ []) new
   unfound_more file same lost names texts places codes put = record {
-    read = rw (names, texts) (missing_more (gives_annotations all gives) before name old.names.items old.texts.items old.unread.items
+    read = rw (names, texts) (missing_more (gives_annotations all gives) before name old.read.names.items old.read.texts.items old.unread.items
         are.read file new.unread.items same lost put);
     found = rw (names, texts, places, codes) are.found;
   }
 
 -- as many texts as names are found
-pub found_many : (all : Bool) (gives : Giving) (names : List Text) (f : FoundFiles) → AreFoundIn all gives names f →
-    length f.texts.items ≡ length f.names.items
+pub found_many : (all : Bool) (gives : Giving) (names : List Text) (f : NamedFiles) → AreFoundIn all gives names f →
+    length f.read.texts.items ≡ length f.read.names.items
 found_many all gives names f are =
-    sym (length-map f.texts.items (λ t. t.items)) ∙ read_lengths (gives_annotations all gives) names _ _ _ are.read
-    ∙ length-map f.names.items (λ n. n.now)
+    sym (length-map f.read.texts.items (λ t. t.items)) ∙ read_lengths (gives_annotations all gives) names _ _ _ are.read
+    ∙ length-map f.read.names.items (λ n. n.now)

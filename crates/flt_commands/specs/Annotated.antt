@@ -8,6 +8,7 @@ use Rattle.flt_c_files.specs.Names.{is_c_file}
 use Rattle.flt_places.specs.declared.files.Stand.{Stand}
 use Rattle.flt_commands.specs.Inputs.{AreRead, Giving, Text, unread_names}
 use Rattle.flt_commands.specs.declared.annotated.FoundFiles.{FoundFiles}
+use Rattle.flt_commands.specs.declared.annotated.NamedFiles.{NamedFiles}
 
 -- where a line of annotations is
 abbrev pub stand_of : Line → Stand
@@ -68,7 +69,14 @@ pub data AreFound (all : Bool) (gives : Giving) : List Text → List Text → Li
       (code : Option Text) → AreFound all gives names texts places codes → GivesFound all gives name text stands code →
       AreFound all gives (names ++ name ∷ []) (texts ++ text ∷ []) (places ++ stands ∷ []) (codes ++ code ∷ [])
 
--- the C files among some files, or none
+-- the names of files that are read, and what they give
+abbrev pub names_in : FoundFiles → List Text
+names_in f = map (λ name. name.now) f.names.items
+
+abbrev pub texts_in : FoundFiles → List Text
+texts_in f = map (λ text. text.items) f.texts.items
+
+-- the C files among them, or none
 abbrev pub codes_in : FoundFiles → List (Option Text)
 codes_in f = map (option_map (λ code. code.items)) f.codes.items
 
@@ -77,7 +85,6 @@ abbrev pub places_in : FoundFiles → List (List Stand)
 places_in f = map (λ stands. stands.items) f.stands.items
 
 -- what is known of some files
-pub record AreFoundIn (all : Bool) (gives : Giving) (names : List Text) (f : FoundFiles) : Type 0 where
-  pub read : AreRead (gives_annotations all gives) names (map (λ name. name.now) f.names.items) (map (λ text. text.items) f.texts.items)
-      (unread_names f.unread.items)
-  pub found : AreFound all gives (map (λ name. name.now) f.names.items) (map (λ text. text.items) f.texts.items) (places_in f) (codes_in f)
+pub record AreFoundIn (all : Bool) (gives : Giving) (names : List Text) (f : NamedFiles) : Type 0 where
+  pub read : AreRead (gives_annotations all gives) names (names_in f.read) (texts_in f.read) (unread_names f.unread.items)
+  pub found : AreFound all gives (names_in f.read) (texts_in f.read) (places_in f.read) (codes_in f.read)

@@ -117,8 +117,7 @@ fn find_one<I: Inputs>(
     found_in(alloc, inputs, all, name)
 }
 
-/// The names of some files that are read, their texts and where the lines of these are, the C files among them, and the files that aren't
-/// read.
+/// The names of some files that are read, their texts and where the lines of these are, and the C files among them.
 #[derive(Drop)]
 pub(crate) struct FoundFiles<'a> {
     pub(crate) names: Vec<&'a str>,
@@ -127,10 +126,16 @@ pub(crate) struct FoundFiles<'a> {
     pub(crate) stands: Vec<Vec<Stand>>,
     /// Of each text the C file whose annotations it is, if it is a C file's.
     pub(crate) codes: Vec<Option<Vec<u8>>>,
+}
+
+/// Files that are read, and those that aren't.
+#[derive(Drop)]
+pub(crate) struct NamedFiles<'a> {
+    pub(crate) read: FoundFiles<'a>,
     pub(crate) unread: Vec<UnreadFile>,
 }
 
-impl<'a> FoundFiles<'a> {
+impl<'a> NamedFiles<'a> {
     /// Adds one name, with the text that it gives or why it gives none. `is_used` says whether the standard input is among those before it.
     fn add<I: Inputs>(
         &mut self,
@@ -146,10 +151,10 @@ impl<'a> FoundFiles<'a> {
     {
         match find_one(alloc, inputs, all, is_used, name)? {
             Ok(found) => {
-                self.names.push(name)?;
-                self.texts.push(found.text)?;
-                self.stands.push(found.stands)?;
-                self.codes.push(found.code)?;
+                self.read.names.push(name)?;
+                self.read.texts.push(found.text)?;
+                self.read.stands.push(found.stands)?;
+                self.read.codes.push(found.code)?;
             }
             Err(why) => {
                 let file = why.file(alloc, name)?;
@@ -166,14 +171,16 @@ pub(crate) fn find_each<'a, I: Inputs>(
     inputs: &I,
     all: bool,
     names: &[&'a str],
-) -> Result<FoundFiles<'a>, AllocError>
+) -> Result<NamedFiles<'a>, AllocError>
     ensures { IfOk result (spec.AreFoundIn all (I.gives inputs.now) (map (λ name. name.now) names.now)) }
 {
-    let mut found = FoundFiles {
-        names: Vec::new(alloc),
-        texts: Vec::new(alloc),
-        stands: Vec::new(alloc),
-        codes: Vec::new(alloc),
+    let mut found = NamedFiles {
+        read: FoundFiles {
+            names: Vec::new(alloc),
+            texts: Vec::new(alloc),
+            stands: Vec::new(alloc),
+            codes: Vec::new(alloc),
+        },
         unread: Vec::new(alloc),
     };
     let mut is_used = false;

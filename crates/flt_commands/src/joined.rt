@@ -1,12 +1,16 @@
 //! The texts that files make: the annotations of a C file that don't begin with `filter` go on with the text of the C file before it.
 
-ghost use Rattle.std.specs.Prelude.{◌≡◌, ◌<◌, ◌≤◌, ◌++◌, ◌∷◌, [], IfOk, List, MatchResult, OnOk, Some, drop, length, map, option_map, string_bytes};
-ghost use Rattle.flt_places.specs.declared.files.Stand.{Stand as StandOf};
+ghost use Rattle.std.specs.Prelude.{◌≡◌, ◌<◌, ◌≤◌, ◌+◌, Err, IfOk, List, MatchResult, None, OnOk, [], false, flat_map, get_or, length, map, option_map, slice_get, slice_range, string_bytes};
+ghost use Rattle.std.specs.List.{AllZip, filter};
+ghost use Rattle.flt_c.specs.Files.{extracted};
+ghost use Rattle.flt_commands.specs.Annotated.{codes_in, names_in, places_in, texts_in};
 ghost use Rattle.flt_commands.specs.Inputs.{Text};
 ghost use Rattle.flt_commands.specs.Joined as spec;
 ghost use Rattle.flt_commands.specs.Joining as made;
+ghost use Rattle.flt_commands.specs.declared.annotated.FoundFiles.{FoundFiles as Found};
+ghost use Rattle.flt_forms.specs.declared.unread.UnreadFile.{UnreadFile as UnreadOf};
 
-use crate::annotated::stands_of;
+use crate::annotated::{FoundFiles, stands_of};
 use crate::unread::Unread;
 use flt_c::{FileFlaw, PlaceFlaw, extract};
 use flt_details::Source;
@@ -51,22 +55,30 @@ fn begins_filter(text: &[u8]) -> bool
 
 // ---- which files make a text
 
-fn is_c(codes: &[Option<Vec<u8>>], number: usize) -> bool
-    ensures { result ≡ spec.is_code (get_or (map (option_map (λ code. code.items)) codes.now) number None) }
+fn is_c(found: &FoundFiles<'_>, number: usize) -> bool
+    ensures { result ≡ spec.is_code (get_or (codes_in found.now) number None) }
 {
-    matches!(codes.get(number), Some(Some(_)))
+    matches!(found.codes.get(number), Some(Some(_)))
+}
+
+fn begins_text(found: &FoundFiles<'_>, number: usize) -> bool
+    ensures { result ≡ spec.begins_filter (get_or (texts_in found.now) number []) }
+{
+    match found.texts.get(number) {
+        Some(text) => begins_filter(text.as_slice()),
+        None => false,
+    }
 }
 
 /// Whether the file of a number, from 0, goes on with the text of the file before it: both are C files, and its annotations don't begin with
 /// `filter`.
-fn goes_on(texts: &[Vec<u8>], codes: &[Option<Vec<u8>>], number: usize) -> bool
-    requires { number < length texts.now }
-    ensures { result ≡ made.goes_on_at (map (λ text. text.items) texts.now) (map (option_map (λ code. code.items)) codes.now) number }
+fn goes_on(found: &FoundFiles<'_>, number: usize) -> bool
+    ensures { result ≡ made.goes_on_at found.now number }
 {
     number != 0
-        && is_c(codes, number - 1)
-        && is_c(codes, number)
-        && !begins_filter(texts[number].as_slice())
+        && is_c(found, number.saturating_sub(1))
+        && is_c(found, number)
+        && !begins_text(found, number)
 }
 
 /// Some files, from one number up to another.
@@ -76,30 +88,33 @@ pub(crate) struct Span {
     pub(crate) end: usize,
 }
 
-/// The files of each text.
-fn spans(
-    alloc: Global,
-    texts: &[Vec<u8>],
-    codes: &[Option<Vec<u8>>],
-) -> Result<Vec<Span>, AllocError>
-    requires { length codes.now ≡ length texts.now }
-    ensures grouped { IfOk result (λ spans. (names : List Text) → length names ≡ length texts.now →
-        spec.AreGrouped
-        (spec.given_in names (map (λ text. text.items) texts.now) (map (option_map (λ code. code.items)) codes.now))
-        (map (made.files_in
-        (spec.given_in names (map (λ text. text.items) texts.now) (map (option_map (λ code. code.items)) codes.now))) spans.items)) }
-    ensures within { IfOk result (λ spans. made.AreSpans (length texts.now) spans.items) }
+/// Adds the file of a number to the last of some spans, if it goes on with its text; else it begins one.
+fn add_file(spans: &mut Vec<Span>, found: &FoundFiles<'_>, number: usize) -> Result<(), AllocError>
+    requires own { made.AreOwn found.now }
+    requires within { number < length found.now.names.items }
+    requires before { made.AreSpansUpTo found.now number spans.old.items }
+    ensures { OnOk result (made.AreSpansUpTo found.now (number + 1) spans.new.items) }
 {
-    let mut spans: Vec<Span> = Vec::new(alloc);
-    for number in 0..texts.len() {
-        let end = number + 1;
-        let mut first = number;
-        if goes_on(texts, codes, number) {
-            if let Some(last) = spans.pop() {
-                first = last.first;
-            }
+    let mut first = number;
+    if goes_on(found, number) {
+        if let Some(last) = spans.pop() {
+            first = last.first;
         }
-        spans.push(Span { first, end })?;
+    }
+    spans.push(Span {
+        first,
+        end: number + 1,
+    })
+}
+
+/// The files of each text.
+fn spans(alloc: Global, found: &FoundFiles<'_>) -> Result<Vec<Span>, AllocError>
+    requires { made.AreOwn found.now }
+    ensures { IfOk result (λ spans. made.AreSpans found.now spans.items) }
+{
+    let mut spans = Vec::new(alloc);
+    for number in 0..found.names.len() {
+        add_file(&mut spans, found, number)?;
     }
     Ok(spans)
 }
@@ -116,7 +131,7 @@ pub(crate) struct OwnText {
 /// A text that files make.
 #[derive(Drop)]
 pub(crate) struct JoinedText {
-    pub(crate) span: Span,
+    span: Span,
     /// None if it is what its only file gives.
     own: Option<OwnText>,
 }
@@ -135,7 +150,7 @@ fn codes_among(alloc: Global, codes: &[Option<Vec<u8>>]) -> Result<Vec<Vec<u8>>,
     Ok(all)
 }
 
-/// The annotations of several C files, or why they make no text.
+/// The annotations of some C files, or why they make no text.
 fn own_text(
     alloc: Global,
     codes: &[Option<Vec<u8>>],
@@ -158,33 +173,195 @@ fn own_text(
 /// The text of the files of a span, or why they make none.
 fn joined_text(
     alloc: Global,
-    texts: &[Vec<u8>],
-    _stands: &[Vec<Stand>],
-    codes: &[Option<Vec<u8>>],
+    found: &FoundFiles<'_>,
     span: Span,
 ) -> Result<Result<JoinedText, FileFlaw>, AllocError>
-    requires own { made.AreOwn (map (λ text. text.items) texts.now) (map (λ stands. stands.items) _stands.now)
-        (map (option_map (λ code. code.items)) codes.now) }
-    requires same { length codes.now ≡ length texts.now }
-    requires some { span.first < span.end }
-    requires within { span.end ≤ length texts.now }
-    requires several { span.first + 1 < span.end → made.AreCodes (slice_range codes.now span.first span.end) }
-    ensures { IfOk result (λ done. (names : List Text) → length names ≡ length texts.now → MatchResult done
-        (made.IsJoined (spec.given_in names (map (λ text. text.items) texts.now) (map (option_map (λ code. code.items)) codes.now))
-        (map (λ text. text.items) texts.now) (map (λ stands. stands.items) _stands.now)
-        (made.files_in (spec.given_in names (map (λ text. text.items) texts.now) (map (option_map (λ code. code.items)) codes.now)) span))
-        (λ flaw. spec.text_of
-        (made.files_in (spec.given_in names (map (λ text. text.items) texts.now) (map (option_map (λ code. code.items)) codes.now)) span)
-        ≡ Err flaw)) }
+    requires own { made.AreOwn found.now }
+    requires span { made.IsSpan found.now span }
+    ensures { IfOk result (λ done. MatchResult done
+        (made.IsJoined found.now (made.files_in (made.files_of found.now) span))
+        (λ flaw. spec.text_of (made.files_in (made.files_of found.now) span) ≡ Err flaw)) }
 {
     if span.end - span.first < 2 {
         return Ok(Ok(JoinedText { span, own: None }));
     }
-    match own_text(alloc, &codes[span.first..span.end])? {
+    match own_text(alloc, &found.codes[span.first..span.end])? {
         Ok(own) => Ok(Ok(JoinedText {
             span,
             own: Some(own),
         })),
         Err(flaw) => Ok(Err(flaw)),
+    }
+}
+
+/// The name of the file of a number in a span; empty if there is none.
+fn name_in<'a>(found: &FoundFiles<'a>, span: Span, file: usize) -> &'a str
+    ensures { result.now ≡ spec.name_by (slice_get (made.files_in (made.files_of found.now) span) file) }
+{
+    if file < span.end.saturating_sub(span.first) {
+        match found.names.get(span.first.saturating_add(file)) {
+            Some(name) => name,
+            None => "",
+        }
+    } else {
+        ""
+    }
+}
+
+/// Files that are read, and the texts that they make.
+#[derive(Drop)]
+pub(crate) struct Joined<'a> {
+    pub(crate) found: FoundFiles<'a>,
+    texts: Vec<JoinedText>,
+    /// The files that aren't read, and those of them with which a text would be too long.
+    pub(crate) unread: Vec<UnreadFile>,
+}
+
+impl Joined<'_> {
+    /// Adds the text of the files of a span, or the file by which there is none.
+    fn add(&mut self, alloc: Global, span: Span) -> Result<(), AllocError>
+        requires own { made.AreOwn self.old.found }
+        requires span { made.IsSpan self.old.found span }
+        ensures { OnOk result (made.IsAdded self.old self.new (made.files_in (made.files_of self.old.found) span)) }
+    {
+        match joined_text(alloc, &self.found, span)? {
+            Ok(text) => self.texts.push(text),
+            Err(FileFlaw { file, flaw }) => {
+                let name = name_in(&self.found, span, file);
+                let unread = Unread::Flawed(PlaceFlaw::Flawed(flaw)).file(alloc, name)?;
+                self.unread.push(unread)
+            }
+        }
+    }
+}
+
+/// The texts that files make, beside these files that aren't read.
+pub(crate) fn join<'a>(
+    alloc: Global,
+    found: FoundFiles<'a>,
+    unread: Vec<UnreadFile>,
+) -> Result<Joined<'a>, AllocError>
+    requires { made.AreOwn found }
+    ensures { IfOk result (made.AreJoined found unread.items) }
+{
+    let spans = spans(alloc, &found)?;
+    let mut joined = Joined {
+        found,
+        texts: Vec::new(alloc),
+        unread,
+    };
+    for span in spans.as_slice() {
+        joined.add(alloc, *span)?;
+    }
+    Ok(joined)
+}
+
+// ---- sources
+
+/// The bytes of a file: of a C file, or of what another one gives.
+fn bytes_of<'s>(code: Option<&'s Option<Vec<u8>>>, text: &'s [u8]) -> &'s [u8] {
+    match code {
+        Some(Some(code)) => code.as_slice(),
+        _ => text,
+    }
+}
+
+/// What the file of a number gives; nothing if there is no such file.
+fn text_at<'s>(found: &'s FoundFiles<'_>, number: usize) -> &'s [u8]
+    ensures { result.now ≡ get_or (texts_in found.now) number [] }
+{
+    match found.texts.get(number) {
+        Some(text) => text.as_slice(),
+        None => &[],
+    }
+}
+
+/// Where the lines of that are.
+fn stands_at<'s>(found: &'s FoundFiles<'_>, number: usize) -> &'s [Stand]
+    ensures { result.now ≡ get_or (places_in found.now) number [] }
+{
+    match found.stands.get(number) {
+        Some(stands) => stands.as_slice(),
+        None => &[],
+    }
+}
+
+/// The files that are read, under these names.
+pub(crate) fn files_of<'s>(
+    alloc: Global,
+    found: &'s FoundFiles<'_>,
+    names: &'s [String],
+) -> Result<Vec<SourceFile<'s>>, AllocError>
+    ensures { IfOk result (λ files. (told : Text → Text) → made.AreOwn found.now →
+        map string_bytes names.now ≡ map told (names_in found.now) → made.AreSourceFiles told found.now files.items) }
+{
+    let mut files = Vec::new(alloc);
+    for (number, name) in names.iter().enumerate() {
+        let bytes = bytes_of(found.codes.get(number), text_at(found, number));
+        let lines = Lines::of(alloc, bytes)?;
+        files.push(SourceFile {
+            name: name.as_str(),
+            lines,
+        })?;
+    }
+    Ok(files)
+}
+
+/// The files of a span.
+fn files_between<'s>(files: &'s [SourceFile<'s>], span: Span) -> &'s [SourceFile<'s>]
+    ensures { span.end ≤ length files.now → result.now ≡ slice_range files.now span.first span.end }
+{
+    if span.first <= span.end && span.end <= files.len() {
+        &files[span.first..span.end]
+    } else {
+        &[]
+    }
+}
+
+impl Joined<'_> {
+    /// The bytes of a text, and where its lines are.
+    fn parts<'s>(&'s self, text: &'s JoinedText) -> (&'s [u8], &'s [Stand])
+        ensures bytes { result.0.now ≡ made.bytes_of self.now.found text.now }
+        ensures stands { result.1.now ≡ made.stands_in self.now.found text.now }
+    {
+        match &text.own {
+            Some(own) => (own.bytes.as_slice(), own.stands.as_slice()),
+            None => (
+                text_at(&self.found, text.span.first),
+                stands_at(&self.found, text.span.first),
+            ),
+        }
+    }
+
+    /// The source of a text, which is in some of these files.
+    fn source<'s>(&'s self, files: &'s [SourceFile<'s>], text: &'s JoinedText) -> Source<'s>
+        ensures { made.IsSpan self.now.found text.now.span → length files.now ≡ length self.now.found.names.items →
+            made.IsSourceIn files.now self.now.found text.now result }
+    {
+        let (bytes, stands) = self.parts(text);
+        Source {
+            text: bytes,
+            files: Files {
+                all: files_between(files, text.span),
+                stands,
+            },
+        }
+    }
+
+    /// The sources of the texts, which are in these files.
+    pub(crate) fn sources<'s>(
+        &'s self,
+        alloc: Global,
+        files: &'s [SourceFile<'s>],
+    ) -> Result<Vec<Source<'s>>, AllocError>
+        ensures { IfOk result (λ sources. (told : Text → Text) (found : Found) (unread : List UnreadOf) →
+            (are : made.AreJoined found unread self.now) → made.AreSourceFiles told found files.now →
+            AllZip (spec.IsSourceOf told) (filter spec.make_text are.groups) sources.items) }
+    {
+        let mut sources = Vec::new(alloc);
+        for text in self.texts.as_slice() {
+            sources.push(self.source(files, text))?;
+        }
+        Ok(sources)
     }
 }

@@ -1,6 +1,6 @@
 use Rattle.std.proofs.Common.{refl}
 use Rattle.flt_commands.proofs.FoundFiles.{found_more, unfound_more}
-use Rattle.flt_commands.proofs.annotated.FoundFiles.add.Goals as goal
+use Rattle.flt_commands.proofs.annotated.NamedFiles.add.Goals as goal
 
 pub returns-in_ok-push-in-Ok-4 : goal.returns-in_ok-push-in-Ok-4
 returns-in_ok-push-in-Ok-4 g c before are used =
