@@ -63,11 +63,3 @@ pub(crate) struct Who {
     /// Whether the activation, or the run, ends with it.
     pub(crate) ends: bool,
 }
-
-/// A file in which lines of a filter's text are, from one line on.
-#[derive(Clone, Copy)]
-pub struct FileStart<'a> {
-    pub name: &'a str,
-    /// The line of the text that is line 1 of the file.
-    pub first: usize,
-}
