@@ -39,9 +39,9 @@ physical artifact file r =
 abbrev pub location : Artifact → Text → Region → List ℕ → List Token
 location artifact file r words = item (physical artifact file r ++ message words)
 
--- the places of a result: the word that a drift is about
-abbrev pub locations : Artifact → Text → Drift → List ℕ → List Token
-locations artifact file d words = array_member (codes "locations") (location artifact file (region_of file d) words)
+-- the places of a result: one
+abbrev pub locations : Artifact → Text → Region → List ℕ → List Token
+locations artifact file r words = array_member (codes "locations") (location artifact file r words)
 
 -- ---- results
 
@@ -49,14 +49,14 @@ locations artifact file d words = array_member (codes "locations") (location art
 abbrev pub properties : DriftKind → List Token
 properties kind = object_member (codes "properties") (string_member (codes "help") (help kind))
 
--- a drift of a file of this fingerprint, in these words
-abbrev pub result_members : Artifact → Text → List ℕ → Drift → List ℕ → List Token
-result_members artifact file print d words =
-    of_rule (Drifted d.kind) ++ (level d.kind ++ (message words ++ (locations artifact file d words
-    ++ (fingerprints [] words print ++ (properties d.kind ++ not_suppressed)))))
+-- a drift of a kind and of this fingerprint in a file, which is there, in these words
+abbrev pub result_members : Artifact → Text → Region → List ℕ → List ℕ → DriftKind → List Token
+result_members artifact file r words print kind =
+    of_rule (Drifted kind) ++ (level kind ++ (message words ++ (locations artifact file r words
+    ++ (fingerprints [] words print ++ (properties kind ++ not_suppressed)))))
 
 abbrev pub result : Artifact → Text → List ℕ → Drift → List Token
-result artifact file print d = item (result_members artifact file print d (sentence file d))
+result artifact file print d = item (result_members artifact file (region_of file d) (sentence file d) print d.kind)
 
 -- where some bytes of a file are
 abbrev pub region_by : Text → Span → Region

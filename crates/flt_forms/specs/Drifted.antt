@@ -39,15 +39,15 @@ words file d =
     string_member (codes "drift") (code d.kind) ++ (text_member (codes "message") (sentence file d)
     ++ string_member (codes "help") (help d.kind))
 
--- a drift of the C file of a name
-abbrev pub drift : List ℕ → Text → Drift → List Token
-drift name file d =
-    begin_object ∷ preface (codes "drift") name ++ (level d.kind ++ (place (region_of file d) ++ (words file d ++ end_object ∷ [])))
+-- a drift of the C file of a name, which is there
+abbrev pub drift : List ℕ → Text → Region → Drift → List Token
+drift name file r d =
+    begin_object ∷ preface (codes "drift") name ++ (level d.kind ++ (place r ++ (words file d ++ end_object ∷ [])))
 
 -- ---- the drifts of a file
 
 abbrev pub drift_line : List ℕ → Text → Drift → List ℕ
-drift_line name file d = line_of (drift name file d)
+drift_line name file d = line_of (drift name file (region_of file d) d)
 
 -- a line for each drift, in their order
 abbrev pub lines_of : List ℕ → Text → List Drift → List ℕ

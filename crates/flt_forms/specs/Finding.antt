@@ -26,7 +26,8 @@ home_of files d = file_at files d.marks.statement.first.line
 -- where it is
 abbrev pub place : Files → ℕ → Detail → List Token
 place files home d =
-    number_member (codes "callback") d.finding.callback ++ (number_member (codes "point") d.finding.point ++ marks_members files home d.marks)
+    number_member (codes "callback") d.finding.callback
+    ++ (number_member (codes "point") d.finding.point ++ marks_members files home d.marks)
 
 -- the rule that is broken
 abbrev pub rule : Finding → List Token
@@ -49,21 +50,22 @@ abbrev pub path : Files → ℕ → (ℕ → Region) → Route → List Token
 path files home region r =
     key (codes "path") ∷ begin_object ∷ string_member (codes "kind") (kind_name r.kind)
     ++ (like_member r.like ++
-    (key (codes "steps") ∷ (steps files home region r.stages ++ (steps_member files home region (codes "other") r.other ++ end_object ∷ []))))
+    (key (codes "steps") ∷ (steps files home region r.stages
+    ++ (steps_member files home region (codes "other") r.other ++ end_object ∷ []))))
 
 -- where it comes from, and how it is reached
 abbrev pub route : Files → ℕ → (ℕ → Region) → Route → List Token
 route files home region r = state r.state ++ (maker_member files home (codes "origin") r.origin ++ path files home region r)
 
--- a finding of a file, where the points of its callback are there, with its run
-abbrev pub finding : Files → (ℕ → Region) → List Token → Detail → List Token
-finding files region run d =
-    begin_object ∷ preface (codes "finding") (file_name files (home_of files d)) ++ (place files (home_of files d) d
-    ++ (rule d.finding ++ (words d.words ++ (route files (home_of files d) region d.route ++ (run ++ end_object ∷ [])))))
+-- a finding of the file of a number, where the points of its callback are there, with its run
+abbrev pub finding : Files → ℕ → (ℕ → Region) → List Token → Detail → List Token
+finding files home region run d =
+    begin_object ∷ preface (codes "finding") (file_name files home) ++ (place files home d
+    ++ (rule d.finding ++ (words d.words ++ (route files home region d.route ++ (run ++ end_object ∷ [])))))
 
 -- the line of a finding
 abbrev pub finding_line : Files → Text → Graph → List Token → Detail → List ℕ
-finding_line files text graph run d = line_of (finding files (region_at text graph d.finding.callback) run d)
+finding_line files text graph run d = line_of (finding files (home_of files d) (region_at text graph d.finding.callback) run d)
 
 -- the line of the finding of a number, with the run of that number
 abbrev pub numbered_line : Files → Text → Graph → (ℕ → List Token) → ℕ → Detail → List ℕ

@@ -12,7 +12,6 @@ use Rattle.flt_details.specs.declared.judged.Judged.TheVariants.{Unread, Known}
 use Rattle.flt_details.specs.declared.sources.Source.{Source}
 use Rattle.flt_details.specs.declared.study.Detail.{Detail}
 use Rattle.flt_graph.specs.declared.graph.Graph.{Graph}
-use Rattle.flt_tree.specs.Names.{Text}
 use Rattle.flt_tree.specs.declared.filter.Filter.{Filter}
 use Rattle.flt_warning_details.specs.declared.detail.WarningDetail.{WarningDetail}
 use Rattle.flt_warning_details.specs.declared.options.WarningOptions.{WarningOptions}
@@ -35,22 +34,22 @@ use Rattle.flt_forms.specs.declared.unread.UnreadFile.{UnreadFile}
 use Rattle.flt_forms.specs.declared.uri.Reference.{Reference}
 
 -- the result of a text that doesn't parse: its first fault, what is said of it, and how to fix it
-pub record IsFaultResult (file : File) (text : Text) (tokens : List Token) : Type 0 where
+pub record IsFaultResult (file : File) (s : Source) (tokens : List Token) : Type 0 where
   pub trouble : Trouble
-  pub described : IsDescribed text (Some trouble)
-  pub result : tokens ≡ fault_result file trouble.spot.fault trouble.spot.bytes.now (title_of trouble) (help_of file.files trouble)
+  pub described : IsDescribed s.text.now (Some trouble)
+  pub result : tokens ≡ fault_result file trouble.spot.fault trouble.spot.bytes.now (title_of trouble) (help_of s.files trouble)
 
 -- one result for each of these findings, in their order, with its run
-pub record AreFindingResults (file : File) (run : ℕ → List Token) (text : Text) (filter : Filter) (graph : Graph) (found : List Finding)
+pub record AreFindingResults (file : File) (run : ℕ → List Token) (s : Source) (filter : Filter) (graph : Graph) (found : List Finding)
     (tokens : List Token) : Type 0 where
   pub details : List Detail
-  pub each : AreDetails file.files text filter graph found details
+  pub each : AreDetails s.files s.text.now filter graph found details
   pub results : tokens ≡ results_of file graph run details
 
 -- the results of a text: one where it doesn't parse, else one for each finding
-unfoldable pub HasResults : File → (ℕ → List Token) → Text → Judged → List Token → Type 0
-HasResults file run text (Unread f) tokens = IsFaultResult file text tokens
-HasResults file run text (Known tree graph found) tokens = AreFindingResults file run text tree.filter graph found tokens
+unfoldable pub HasResults : File → (ℕ → List Token) → Source → Judged → List Token → Type 0
+HasResults file run s (Unread f) tokens = IsFaultResult file s tokens
+HasResults file run s (Known tree graph found) tokens = AreFindingResults file run s tree.filter graph found tokens
 
 -- the same with those of its warnings last, and its status, which comes of the same findings and warnings, in a document of files of
 -- these names; its findings have these runs, by their numbers
@@ -64,7 +63,7 @@ pub record IsPart (options : WarningOptions) (names : List (Bor (List ℕ))) (ru
   pub are : AreWarned s options.allowed judged warned
   pub own : status ≡ status_of options.is_strict judged warned
   pub first : List Token
-  pub results : HasResults file run s.text.now judged first
+  pub results : HasResults file run s judged first
   pub all : tokens ≡ first ++ warning.results_of file warned
 
 -- the results of several texts, of which the first has this number, in the order of the texts; the status is the greatest of theirs. Their

@@ -50,12 +50,12 @@ suppressed (Some reason) = text_member (codes "suppressed") reason
 abbrev pub home_of : Files → WarningDetail → ℕ
 home_of files d = file_at files d.marks.statement.first.line
 
--- a warning of a file
-abbrev pub warning : Files → WarningDetail → List Token
-warning files d =
-    begin_object ∷ preface (codes "warning") (file_name files (home_of files d)) ++ (place files (home_of files d) d
-    ++ (words d ++ (related files (home_of files d) d ++ (suppressed d.reason ++ end_object ∷ []))))
+-- a warning of the file of a number
+abbrev pub warning : Files → ℕ → WarningDetail → List Token
+warning files home d =
+    begin_object ∷ preface (codes "warning") (file_name files home) ++ (place files home d
+    ++ (words d ++ (related files home d ++ (suppressed d.reason ++ end_object ∷ []))))
 
 -- a line for each warning, in order
 abbrev pub warning_line : Files → WarningDetail → List ℕ
-warning_line files d = line_of (warning files d)
+warning_line files d = line_of (warning files (home_of files d) d)

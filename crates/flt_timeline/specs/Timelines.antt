@@ -16,12 +16,12 @@ use Rattle.flt_timeline.specs.Tellings.{AreToldBy}
 use Rattle.flt_timeline.specs.declared.timeline.Timeline.{Timeline}
 
 -- the files of one of some filters, where each of them has these: those of the first one of its altitude
-abbrev pub files_for : List Filter → List Files → Bor Filter → Option Files
-files_for filters files filter = slice_get files (filter_of filters filter.now.altitude)
+abbrev pub files_for : List Filter → List Files → Filter → Option Files
+files_for filters files filter = slice_get files (filter_of filters filter.altitude)
 
 -- the same of the filters in another order
 abbrev pub files_in : List Filter → List Files → List (Bor Filter) → List (Option Files)
-files_in filters files ordered = map (files_for filters files) ordered
+files_in filters files ordered = map (λ (f : Bor Filter). files_for filters files f.now) ordered
 
 -- the timeline of a journal on some filters, in any order, whose texts are in these files, as far as they are known, of which this is the
 -- verdict: what is told of each entry and who was on is by the machine; each entry stands in one row, in the journal's order; the rows are cut where an entry doesn't join the one before it; each

@@ -173,7 +173,8 @@ happening_words filters files operation (happenings.Detaches altitude) = codes "
 happening_words filters files operation (happenings.Unlinks altitude key) = unlink_words altitude key
 happening_words filters files operation (happenings.IsDetached altitude) = codes "detached " ++ decimal altitude
 happening_words filters files operation (happenings.Starts started) = callback_words filters started ++ starts_word started.draining
-happening_words filters files operation (happenings.Runs filter line outcome) = line_words (files_of files filter) line ++ outcome_word outcome
+happening_words filters files operation (happenings.Runs filter line outcome) =
+    line_words (files_of files filter) line ++ outcome_word outcome
 happening_words filters files operation (happenings.IsRefused entry) = entry_words entry
 happening_words filters files operation happenings.IsLeftOut = codes "not judged"
 

@@ -35,8 +35,8 @@ pub(crate) enum Happening {
     Unlinks(u32, Key),
     IsDetached(u32),
     Starts(Started),
-    /// The number of a filter, from the highest altitude, and a line of its text, from 1, whose statement others see; and if it is a call or a
-    /// test, whether it succeeds or holds.
+    /// The number of a filter, from the highest altitude, and a line of its text, from 1, whose statement others see; and if it is a call
+    /// or a test, whether it succeeds or holds.
     Runs(usize, usize, Option<bool>),
     /// It isn't enabled.
     IsRefused(JournalEntry),

@@ -608,8 +608,8 @@ impl<'a> Timeline<'a> {
         Ok(out)
     }
 
-    /// Writes the number in its file of a line of the text of a filter, after the file's name if there are several. Filters count from 0, from
-    /// the highest altitude, and lines from 1.
+    /// Writes the number in its file of a line of the text of a filter, after the file's name if there are several. Filters count from 0,
+    /// from the highest altitude, and lines from 1.
     ///
     /// # Errors
     ///

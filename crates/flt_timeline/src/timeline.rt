@@ -85,7 +85,7 @@ fn course_by<'a>(
 
 /// The files of one of some filters, by its altitude, if they are known.
 fn files_for<'a>(trees: &[Tree], files: &[Files<'a>], filter: &Filter) -> Option<Files<'a>>
-    ensures { result ≡ spec.files_for (filters_of trees.now) files.now filter }
+    ensures { result ≡ spec.files_for (filters_of trees.now) files.now filter.now }
 {
     files.get(tree_at(trees, filter.altitude)).copied()
 }
@@ -108,7 +108,8 @@ fn files_in<'a>(
 
 impl<'a> Timeline<'a> {
     /// The timeline of a journal on some filters, in any order, with the monitor's verdict. Entries after the one that ends the run aren't
-    /// run. The files of the filters' texts, in the order of the filters, name the lines; without them these have their numbers in the texts.
+    /// run. The files of the filters' texts, in the order of the filters, name the lines; without them these have their numbers in the
+    /// texts.
     ///
     /// # Errors
     ///
