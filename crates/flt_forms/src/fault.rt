@@ -92,7 +92,7 @@ fn last_column(files: &Files<'_>, fault: SyntaxFault, found: &[u8]) -> usize
     file_column_up_to(files, place_of(fault), found.len())
 }
 
-/// Writes a place, and the last column of what is found there.
+/// Writes a place, and the last column of the bytes that are found there.
 fn put_fault_place(writer: &mut Writer, first: Position, last: usize) -> Result<(), AllocError>
     ensures { Adds result writer.old writer.new (spec.fault_place first last) }
 {
