@@ -45,7 +45,9 @@ impl Walk {
         requires some { 0 < points_at graph.now callback }
         ensures { IfOk result (λ w. w ≡ spec.opening graph.now callback) }
     {
-        let mut points = Items::new(alloc);
+        let mut room = Vec::new(alloc);
+        room.reserve(graph.points(callback))?;
+        let mut points = Items::from_vec(room);
         'points: for _point in 0..graph.points(callback) {
             points.push(None)?;
         }

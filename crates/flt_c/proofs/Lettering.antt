@@ -53,7 +53,8 @@ over (b ∷ z) (suc m) s next aside p l e h =
     ap (with_letters (other b ∷ [])) (skipped m next aside z less)
     ∙ fronts (other b ∷ []) (map other (take m z)) (letters_from zero next aside (drop m z)))
 
-one : (s next : Scanner) (aside : Bool) (b : ℕ) (z : List ℕ) → continuation (b ∷ z) ≡ 0 → step s b ≡ Ok next →
+-- one letter more
+pub one : (s next : Scanner) (aside : Bool) (b : ℕ) (z : List ℕ) → continuation (b ∷ z) ≡ 0 → step s b ≡ Ok next →
     letters_from zero s aside (b ∷ z)
     ≡ with_letters (letter_of s b (is_aside s b aside next) next ∷ []) (letters_from zero next (is_aside s b aside next) z)
 one s next aside b z e h = rw (e, h) refl

@@ -5,6 +5,7 @@ pub mod Follow
 pub mod InPlaces
 pub mod Kept
 pub mod Lettering
+pub mod OverRuns
 pub mod Pieced
 pub mod Placing
 pub mod Reading

@@ -64,7 +64,8 @@ pub past_column : (at : Place) (b : ℕ) (x : Bool) → (b == 10) ≡ x → at.c
 past_column at b true e h = rw e (omega arith)
 past_column at b false e h = rw e (omega (arith, h))
 
-read_on : (s next : Scanner) (b : ℕ) (z : List ℕ) → continuation (b ∷ z) ≡ 0 → step s b ≡ Ok next →
+-- one byte more is read
+pub read_on : (s next : Scanner) (b : ℕ) (z : List ℕ) → continuation (b ∷ z) ≡ 0 → step s b ≡ Ok next →
     read zero s (b ∷ z) ≡ with_front (added s b) (read zero next z)
 read_on s next b z e h = rw (e, h) refl
 

@@ -7,5 +7,6 @@ pub mod Locks
 pub mod Modes
 pub mod Pieces
 pub mod Places
+pub mod Runs
 pub mod Scan
 pub mod Texts

@@ -28,7 +28,7 @@ pub enum Front {
     Directive,
 }
 
-fn is_space(b: u8) -> bool
+pub(crate) fn is_space(b: u8) -> bool
     ensures { result ≡ spec.is_space b }
 {
     b == b' ' || b == b'\t' || b == b'\r' || b == 11 || b == 12

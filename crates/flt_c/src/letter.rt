@@ -1,13 +1,17 @@
 //! The parts of a C file: each byte belongs to code, to an annotation, to a comment `@flt-`, or to something else.
 
-ghost use Rattle.std.specs.Prelude.{◌≡◌, ◌<◌, ◌≤◌, ◌++◌, ◌^◌, length, map, take, IfOk, OnOk, MatchResult, Ok, Err};
+ghost use Rattle.std.specs.Prelude.{◌≡◌, ◌<◌, ◌++◌, ◌^◌, length, map, IfOk, OnOk, MatchResult, Ok, Err};
 ghost use Rattle.flt_c.specs.Letters as spec;
+ghost use Rattle.flt_c.specs.Runs as runs;
 
 use crate::fault::Fault;
 use crate::files::{Flaw, MAX_FILE};
 use crate::front::{is_code, is_directive};
 use crate::mode::{Mode, is_note};
-use crate::scan::{Scanner, after, blamed, continuation, join, open_at_end, start, step};
+use crate::run::{plain_count, plain_in};
+use crate::scan::{
+    Scanner, after, before, blamed, continuation, join, open_at_end, pass, start, step,
+};
 use std::alloc::{AllocError, Global};
 
 /// The part of a C file that a byte belongs to.
@@ -45,54 +49,67 @@ fn is_plain_comment(mode: Mode) -> bool
     matches!(mode, Mode::Line | Mode::Block | Mode::BlockStar)
 }
 
-/// Whether a comment `@flt-` is being read after a byte.
-fn is_aside(s: Scanner, b: u8, before: bool, next: Scanner) -> bool
-    ensures { result ≡ spec.is_aside s b before next }
+/// Whether a comment `@flt-` is being read after a byte, between two modes.
+fn is_aside(mode: Mode, b: u8, before: bool, next: Mode) -> bool
+    ensures { result ≡ runs.is_aside_between mode b before next }
 {
-    (is_marked(s.mode) && b == b'-') || (before && is_plain_comment(next.mode))
+    (is_marked(mode) && b == b'-') || (before && is_plain_comment(next))
 }
 
-/// Whether a byte is code that a compiler reads.
-fn is_compiled(s: Scanner, b: u8, next: Scanner) -> bool
-    ensures { result ≡ spec.is_compiled s b next }
+/// Whether a byte is code that a compiler reads, after which reading is here.
+fn is_compiled(mode: Mode, depth: usize, b: u8, next: &Scanner) -> bool
+    ensures { result ≡ runs.is_compiled_between mode depth b next.now }
 {
-    is_code(s.mode) && is_code(next.mode) && !(b == b'/' || is_directive(next.front) || 0 < s.depth)
+    is_code(mode) && is_code(next.mode) && !(b == b'/' || is_directive(next.front) || 0 < depth)
 }
 
-/// The part that a byte belongs to.
-fn part_of(s: Scanner, b: u8, aside: bool, next: Scanner) -> Part
-    ensures { result ≡ spec.part_of s b aside next }
+/// The part that a byte belongs to, after which reading is here.
+fn part_of(mode: Mode, depth: usize, b: u8, aside: bool, next: &Scanner) -> Part
+    ensures { result ≡ runs.part_between mode depth b aside next.now }
 {
-    if is_note(s.mode) && is_note(next.mode) {
+    if is_note(mode) && is_note(next.mode) {
         return Part::Note;
     }
     if aside {
         return Part::Aside;
     }
-    if is_compiled(s, b, next) {
+    if is_compiled(mode, depth, b, next) {
         Part::Code
     } else {
         Part::Other
     }
 }
 
-/// The first `n` bytes of a text.
-fn before(z: &[u8], n: usize) -> &[u8]
-    requires { n ≤ length z.now }
-    ensures { result.now ≡ take n z.now }
+/// Whether a comment `@flt-` is being read after some plain bytes.
+fn is_run_aside(mode: Mode, before: bool) -> bool
+    ensures { result ≡ runs.is_run_aside mode before }
 {
-    &z[..n]
+    before && is_plain_comment(mode)
 }
 
-/// Adds the bytes of a continuation.
-fn put_others(out: &mut Vec<Letter>, bytes: &[u8]) -> Result<(), AllocError>
-    ensures { OnOk result (out.new.items ≡ out.old.items ++ map spec.other bytes.now) }
+/// The part that plain bytes belong to.
+fn run_part(s: &Scanner, aside: bool) -> Part
+    ensures { result ≡ runs.run_part s.now aside }
+{
+    if is_note(s.mode) {
+        return Part::Note;
+    }
+    if aside {
+        return Part::Aside;
+    }
+    if is_code(s.mode) && !(is_directive(s.front) || 0 < s.depth) {
+        Part::Code
+    } else {
+        Part::Other
+    }
+}
+
+/// Adds bytes of one part.
+fn put_run(out: &mut Vec<Letter>, part: Part, bytes: &[u8]) -> Result<(), AllocError>
+    ensures { OnOk result (out.new.items ≡ out.old.items ++ map (runs.lettered part) bytes.now) }
 {
     for byte in bytes {
-        out.push(Letter {
-            byte: *byte,
-            part: Part::Other,
-        })?;
+        out.push(Letter { byte: *byte, part })?;
     }
     Ok(())
 }
@@ -109,33 +126,35 @@ fn read(alloc: Global, file: &[u8]) -> Result<Result<Vec<Letter>, Fault>, AllocE
     let mut aside = false;
     let mut rest = file;
     while let [b, ..] = rest {
+        let run = plain_count(plain_in(s.mode, s.front), rest);
         let n = continuation(rest);
-        if n == 0 {
-            match step(s, *b) {
-                Ok(next) => {
-                    aside = is_aside(s, *b, aside, next);
-                    out.push(Letter {
-                        byte: *b,
-                        part: part_of(s, *b, aside, next),
-                    })?;
-                    s = next;
-                    rest = after(rest, 1);
-                }
-                Err(fault) => return Ok(Err(fault)),
+        if 0 < run {
+            aside = is_run_aside(s.mode, aside);
+            put_run(&mut out, run_part(&s, aside), before(rest, run))?;
+            pass(&mut s, run);
+            rest = after(rest, run);
+        } else if n == 0 {
+            let mode = s.mode;
+            let depth = s.depth;
+            if let Err(fault) = step(&mut s, *b) {
+                return Ok(Err(fault));
             }
+            aside = is_aside(mode, *b, aside, s.mode);
+            out.push(Letter {
+                byte: *b,
+                part: part_of(mode, depth, *b, aside, &s),
+            })?;
+            rest = after(rest, 1);
         } else {
-            match join(s, n) {
-                Ok(next) => {
-                    put_others(&mut out, before(rest, n))?;
-                    s = next;
-                    rest = after(rest, n);
-                }
-                Err(fault) => return Ok(Err(fault)),
+            if let Err(fault) = join(&mut s, n) {
+                return Ok(Err(fault));
             }
+            put_run(&mut out, Part::Other, before(rest, n))?;
+            rest = after(rest, n);
         }
     }
-    if let Some(kind) = open_at_end(s) {
-        return Ok(Err(blamed(s, kind)));
+    if let Some(kind) = open_at_end(&s) {
+        return Ok(Err(blamed(&s, kind)));
     }
     Ok(Ok(out))
 }

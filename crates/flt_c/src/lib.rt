@@ -15,6 +15,7 @@ mod letter;
 mod lock;
 mod mode;
 mod place;
+mod run;
 mod scan;
 mod text;
 

@@ -1,7 +1,8 @@
 //! Places in a file.
 
-ghost use Rattle.std.specs.Prelude.{◌≡◌};
+ghost use Rattle.std.specs.Prelude.{◌≡◌, ◌<◌, ◌^◌};
 ghost use Rattle.flt_c.specs.Places as spec;
+ghost use Rattle.flt_c.specs.Runs as runs;
 
 /// A place in a file: its line and column, which count from 1, and the number of bytes before it.
 #[derive(Clone, Copy, Debug)]
@@ -35,5 +36,18 @@ pub(crate) fn past(at: Place, b: u8) -> Place
             column: at.column + 1,
             start: at.start + 1,
         }
+    }
+}
+
+/// The place so many bytes further on in a line.
+pub(crate) fn further(at: Place, n: usize) -> Place
+    requires small { spec.IsSmall at }
+    requires short { n < 2 ^ 40 }
+    ensures { result ≡ runs.further at n }
+{
+    Place {
+        line: at.line,
+        column: at.column + n,
+        start: at.start + n,
     }
 }

@@ -1,13 +1,14 @@
 //! The reading of a C file, byte by byte, and the bytes of it that are the text of its annotations.
 
-ghost use Rattle.std.specs.Prelude.{◌≡◌, ◌<◌, ◌≤◌, ◌+◌, ◌^◌, length, drop, IfOk};
+ghost use Rattle.std.specs.Prelude.{◌≡◌, ◌<◌, ◌≤◌, ◌+◌, ◌^◌, length, drop, take, MatchResult, OnOk, Ok, Err};
 ghost use Rattle.flt_c.specs.Places as places;
+ghost use Rattle.flt_c.specs.Runs as runs;
 ghost use Rattle.flt_c.specs.Scan as spec;
 
 use crate::fault::{Fault, FaultKind};
 use crate::front::{Front, begins_directive, is_lenient, next_depth, next_front};
 use crate::mode::{Mode, is_note, turn, unended};
-use crate::place::{Place, past};
+use crate::place::{Place, further, past};
 
 /// The state of reading.
 #[derive(Clone, Copy)]
@@ -57,8 +58,8 @@ fn opened_by(old: Mode, new: Mode) -> Opened
     }
 }
 
-fn opening(s: Scanner, new: Mode) -> Place
-    ensures { result ≡ spec.opening s new }
+fn opening(s: &Scanner, new: Mode) -> Place
+    ensures { result ≡ spec.opening s.now new }
 {
     match opened_by(s.mode, new) {
         Opened::No => s.opened,
@@ -68,8 +69,8 @@ fn opening(s: Scanner, new: Mode) -> Place
 }
 
 /// Where the directive began that may begin a skipped group.
-fn grouping(s: Scanner, b: u8) -> Place
-    ensures { result ≡ spec.grouping s b }
+fn grouping(s: &Scanner, b: u8) -> Place
+    ensures { result ≡ spec.grouping s.now b }
 {
     if begins_directive(s.front, next_front(s.mode, s.front, b)) && s.depth == 0 {
         s.at
@@ -80,8 +81,8 @@ fn grouping(s: Scanner, b: u8) -> Place
 
 /// The place at which a fault is reported: a raw string at its quote, a group at its directive, the others where their piece of the file
 /// began.
-pub(crate) fn blamed(s: Scanner, kind: FaultKind) -> Fault
-    ensures { result ≡ spec.blamed s kind }
+pub(crate) fn blamed(s: &Scanner, kind: FaultKind) -> Fault
+    ensures { result ≡ spec.blamed s.now kind }
 {
     let place = match kind {
         FaultKind::RawString => s.at,
@@ -92,15 +93,15 @@ pub(crate) fn blamed(s: Scanner, kind: FaultKind) -> Fault
 }
 
 /// Whether an annotation begins with this mode.
-fn begins(s: Scanner, mode: Mode) -> bool
-    ensures { result ≡ spec.begins s mode }
+fn begins(s: &Scanner, mode: Mode) -> bool
+    ensures { result ≡ spec.begins s.now mode }
 {
     is_note(mode) && !is_note(s.mode)
 }
 
 /// Where the last annotation of the line began, after one more byte.
-fn noting(s: Scanner, b: u8, mode: Mode) -> Option<Place>
-    ensures { result ≡ spec.noting s b mode }
+fn noting(s: &Scanner, b: u8, mode: Mode) -> Option<Place>
+    ensures { result ≡ spec.noting s.now b mode }
 {
     if b == b'\n' && !is_note(mode) {
         return None;
@@ -112,37 +113,40 @@ fn noting(s: Scanner, b: u8, mode: Mode) -> Option<Place>
     }
 }
 
-/// The state after a byte with which a mode begins or continues.
-fn go_on(s: Scanner, b: u8, mode: Mode) -> Result<Scanner, Fault>
-    requires small { places.IsSmall s.at }
-    requires flat { s.depth < 2 ^ 40 }
-    ensures value { result ≡ spec.go_on s b mode }
-    ensures moves { IfOk result (λ next. next.at ≡ places.past s.at b) }
-    ensures deepens { IfOk result (λ next. next.depth ≤ s.depth + 1) }
+/// Takes a byte with which a mode begins or continues. After a fault the state is of no use.
+fn go_on(s: &mut Scanner, b: u8, mode: Mode) -> Result<(), Fault>
+    requires small { places.IsSmall s.old.at }
+    requires flat { s.old.depth < 2 ^ 40 }
+    ensures value { MatchResult result
+        (λ _. spec.go_on s.old b mode ≡ Ok s.new)
+        (λ fault. spec.go_on s.old b mode ≡ Err fault) }
+    ensures moves { OnOk result (s.new.at ≡ places.past s.old.at b) }
+    ensures deepens { OnOk result (s.new.depth ≤ s.old.depth + 1) }
 {
     if begins(s, mode) && s.joined {
         return Err(blamed(s, FaultKind::Continued));
     }
-    Ok(Scanner {
-        mode,
-        front: next_front(s.mode, s.front, b),
-        depth: next_depth(s.mode, s.front, s.depth, b),
-        at: past(s.at, b),
-        last: s.at,
-        opened: opening(s, mode),
-        group: grouping(s, b),
-        joined: s.joined && b != b'\n',
-        noted: noting(s, b, mode),
-    })
+    s.noted = noting(s, b, mode);
+    s.group = grouping(s, b);
+    s.opened = opening(s, mode);
+    s.depth = next_depth(s.mode, s.front, s.depth, b);
+    s.front = next_front(s.mode, s.front, b);
+    s.joined = s.joined && b != b'\n';
+    s.last = s.at;
+    s.at = past(s.at, b);
+    s.mode = mode;
+    Ok(())
 }
 
-/// The state after one more byte.
-pub(crate) fn step(s: Scanner, b: u8) -> Result<Scanner, Fault>
-    requires small { places.IsSmall s.at }
-    requires flat { s.depth < 2 ^ 40 }
-    ensures value { result ≡ spec.step s b }
-    ensures moves { IfOk result (λ next. next.at ≡ places.past s.at b) }
-    ensures deepens { IfOk result (λ next. next.depth ≤ s.depth + 1) }
+/// Takes one more byte.
+pub(crate) fn step(s: &mut Scanner, b: u8) -> Result<(), Fault>
+    requires small { places.IsSmall s.old.at }
+    requires flat { s.old.depth < 2 ^ 40 }
+    ensures value { MatchResult result
+        (λ _. spec.step s.old b ≡ Ok s.new)
+        (λ fault. spec.step s.old b ≡ Err fault) }
+    ensures moves { OnOk result (s.new.at ≡ places.past s.old.at b) }
+    ensures deepens { OnOk result (s.new.depth ≤ s.old.depth + 1) }
 {
     match turn(is_lenient(s.front, s.depth), 0 < s.depth, s.mode, b) {
         Ok(mode) => go_on(s, b, mode),
@@ -150,38 +154,43 @@ pub(crate) fn step(s: Scanner, b: u8) -> Result<Scanner, Fault>
     }
 }
 
-/// The state after a continuation of `n` bytes.
-pub(crate) fn join(s: Scanner, n: usize) -> Result<Scanner, Fault>
-    requires small { places.IsSmall s.at }
+/// Takes a continuation of `n` bytes.
+pub(crate) fn join(s: &mut Scanner, n: usize) -> Result<(), Fault>
+    requires small { places.IsSmall s.old.at }
     requires short { n ≤ 3 }
-    ensures value { result ≡ spec.join s n }
-    ensures moves { IfOk result (λ next. next.at ≡ places.past_continuation s.at n) }
-    ensures deepens { IfOk result (λ next. next.depth ≡ s.depth) }
+    ensures value { MatchResult result
+        (λ _. spec.join s.old n ≡ Ok s.new)
+        (λ fault. spec.join s.old n ≡ Err fault) }
+    ensures moves { OnOk result (s.new.at ≡ places.past_continuation s.old.at n) }
+    ensures deepens { OnOk result (s.new.depth ≡ s.old.depth) }
 {
     if is_note(s.mode) {
         return Err(blamed(s, FaultKind::Continued));
     }
-    match s.noted {
-        Some(place) => Err(Fault {
+    if let Some(place) = s.noted {
+        return Err(Fault {
             kind: FaultKind::Continued,
             place,
-        }),
-        None => Ok(Scanner {
-            mode: s.mode,
-            front: s.front,
-            depth: s.depth,
-            at: Place {
-                line: s.at.line + 1,
-                column: 1,
-                start: s.at.start + n,
-            },
-            last: s.last,
-            opened: s.opened,
-            group: s.group,
-            joined: true,
-            noted: None,
-        }),
+        });
     }
+    s.at = Place {
+        line: s.at.line + 1,
+        column: 1,
+        start: s.at.start + n,
+    };
+    s.joined = true;
+    Ok(())
+}
+
+/// Takes some plain bytes.
+pub(crate) fn pass(s: &mut Scanner, n: usize)
+    requires some { 0 < n }
+    requires short { n < 2 ^ 40 }
+    requires small { places.IsSmall s.old.at }
+    ensures { s.new ≡ runs.passed s.old n }
+{
+    s.last = further(s.at, n - 1);
+    s.at = further(s.at, n);
 }
 
 /// The number of bytes of the line continuation at the start of a text, or 0.
@@ -206,9 +215,18 @@ pub(crate) fn after(z: &[u8], n: usize) -> &[u8]
     &z[n..]
 }
 
+/// The first `n` bytes.
+#[inline(always)]
+pub(crate) fn before(z: &[u8], n: usize) -> &[u8]
+    requires { n ≤ length z.now }
+    ensures { result.now ≡ take n z.now }
+{
+    &z[..n]
+}
+
 /// The fault of an end of the file here: something isn't closed.
-pub(crate) fn open_at_end(s: Scanner) -> Option<FaultKind>
-    ensures { result ≡ spec.open_at_end s }
+pub(crate) fn open_at_end(s: &Scanner) -> Option<FaultKind>
+    ensures { result ≡ spec.open_at_end s.now }
 {
     match unended(is_lenient(s.front, s.depth), s.mode) {
         Some(kind) => Some(kind),

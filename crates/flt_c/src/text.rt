@@ -1,6 +1,7 @@
 //! The text that annotations make, and where each line of it begins in C.
 
 ghost use Rattle.std.specs.Prelude.{◌≡◌, ◌<◌, ◌^◌, length, IfOk, OnOk, MatchResult, Ok, Err};
+ghost use Rattle.flt_c.specs.Runs as runs;
 ghost use Rattle.flt_c.specs.Scan as scan;
 ghost use Rattle.flt_c.specs.Texts as spec;
 
@@ -8,7 +9,10 @@ use crate::fault::Fault;
 use crate::lock::take_off;
 use crate::mode::{Mode, is_blank, is_note};
 use crate::place::Place;
-use crate::scan::{Scanner, after, blamed, continuation, join, open_at_end, start, step};
+use crate::run::{plain_count, plain_in};
+use crate::scan::{
+    Scanner, after, before, blamed, continuation, join, open_at_end, pass, start, step,
+};
 use std::alloc::{AllocError, Global};
 
 /// Where a line of the text begins in C: the number of its file, from 0, and the place of its first byte there.
@@ -52,9 +56,9 @@ impl Annotations {
     }
 
     /// Adds the bytes that are settled by a byte after a `*` in a block: a `*/` ends the line there.
-    fn add_after_star(&mut self, file: usize, s: Scanner, b: u8) -> Result<(), AllocError>
-        requires { s.mode ≡ Mode.BlockTextStar }
-        ensures { OnOk result (spec.text_in self.new ≡ spec.put_all file (spec.text_in self.old) (scan.added s b)) }
+    fn add_after_star(&mut self, file: usize, s: &Scanner, b: u8) -> Result<(), AllocError>
+        requires { s.now.mode ≡ Mode.BlockTextStar }
+        ensures { OnOk result (spec.text_in self.new ≡ spec.put_all file (spec.text_in self.old) (scan.added s.now b)) }
     {
         match b {
             b'/' => self.put(file, b'\n', s.last),
@@ -67,8 +71,8 @@ impl Annotations {
     }
 
     /// Adds the bytes of the text that a byte settles.
-    fn add(&mut self, file: usize, s: Scanner, b: u8) -> Result<(), AllocError>
-        ensures { OnOk result (spec.text_in self.new ≡ spec.put_all file (spec.text_in self.old) (scan.added s b)) }
+    fn add(&mut self, file: usize, s: &Scanner, b: u8) -> Result<(), AllocError>
+        ensures { OnOk result (spec.text_in self.new ≡ spec.put_all file (spec.text_in self.old) (scan.added s.now b)) }
     {
         match s.mode {
             Mode::LineText => self.put(file, b, s.at),
@@ -91,9 +95,32 @@ impl Annotations {
         }
     }
 
+    /// Adds some bytes, the first of which is at this place in a file, and none of which is a line feed.
+    fn put_run(&mut self, file: usize, bytes: &[u8], place: Place) -> Result<(), AllocError>
+        ensures { OnOk result (spec.text_in self.new ≡ runs.put_run file (spec.text_in self.old) place bytes.now) }
+    {
+        if self.fresh {
+            self.lines.push(Line { file, place })?;
+        }
+        self.bytes.extend_from_slice(bytes)?;
+        self.fresh = false;
+        Ok(())
+    }
+
+    /// Adds some plain bytes, if they belong to an annotation.
+    fn add_run(&mut self, file: usize, s: &Scanner, bytes: &[u8]) -> Result<(), AllocError>
+        ensures { OnOk result (spec.text_in self.new ≡ runs.add_run file (spec.text_in self.old) s.now bytes.now) }
+    {
+        if is_note(s.mode) {
+            self.put_run(file, bytes, s.at)
+        } else {
+            Ok(())
+        }
+    }
+
     /// Ends the file: an annotation's line ends there.
-    fn end(&mut self, file: usize, s: Scanner) -> Result<(), AllocError>
-        ensures { OnOk result (spec.text_in self.new ≡ spec.put_all file (spec.text_in self.old) (scan.last_line s)) }
+    fn end(&mut self, file: usize, s: &Scanner) -> Result<(), AllocError>
+        ensures { OnOk result (spec.text_in self.new ≡ spec.put_all file (spec.text_in self.old) (scan.last_line s.now)) }
     {
         if is_note(s.mode) {
             self.put(file, b'\n', s.at)
@@ -123,30 +150,29 @@ impl Annotations {
         let mut s = start();
         let mut rest = file;
         while let [b, ..] = rest {
+            let run = plain_count(plain_in(s.mode, s.front), rest);
             let n = continuation(rest);
-            if n == 0 {
-                match step(s, *b) {
-                    Ok(next) => {
-                        self.add(number, s, *b)?;
-                        s = next;
-                        rest = after(rest, 1);
-                    }
-                    Err(fault) => return Ok(Err(fault)),
+            if 0 < run {
+                self.add_run(number, &s, before(rest, run))?;
+                pass(&mut s, run);
+                rest = after(rest, run);
+            } else if n == 0 {
+                self.add(number, &s, *b)?;
+                if let Err(fault) = step(&mut s, *b) {
+                    return Ok(Err(fault));
                 }
+                rest = after(rest, 1);
             } else {
-                match join(s, n) {
-                    Ok(next) => {
-                        s = next;
-                        rest = after(rest, n);
-                    }
-                    Err(fault) => return Ok(Err(fault)),
+                if let Err(fault) = join(&mut s, n) {
+                    return Ok(Err(fault));
                 }
+                rest = after(rest, n);
             }
         }
-        if let Some(kind) = open_at_end(s) {
-            return Ok(Err(blamed(s, kind)));
+        if let Some(kind) = open_at_end(&s) {
+            return Ok(Err(blamed(&s, kind)));
         }
-        self.end(number, s)?;
+        self.end(number, &s)?;
         Ok(Ok(()))
     }
 }

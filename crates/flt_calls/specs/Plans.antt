@@ -3,17 +3,21 @@ use Rattle.std.specs.Prelude.{◌≡◌, ℕ, ◌+◌, Bool, true, false, List, 
 use Rattle.flt_rules.specs.Held.{held, holds_lock, without_last}
 use Rattle.flt_rules.specs.declared.held.HeldLock.{HeldLock}
 use Rattle.flt_tree.specs.declared.filter.Callback.{Callback}
+use Rattle.flt_tree.specs.declared.filter.Filter.{Filter}
 use Rattle.flt_tree.specs.declared.filter.Statement.{Statement, out-Statement}
 use Rattle.flt_tree.specs.declared.filter.Statement.TheOpen.{Statement-F}
 use Rattle.flt_tree.specs.declared.variable.OperationVariable.TheVariants.{Removed, Data}
-use Rattle.flt_frame.specs.Standings.{activation_with}
+use Rattle.flt_frame.specs.Loading.{AreLoaded}
+use Rattle.flt_frame.specs.Standings.{activation_with, StandsFor}
+use Rattle.flt_frame.specs.declared.loaded.Loaded.{Loaded}
 use Rattle.flt_frame.specs.declared.standing.Standing.{Standing}
 use Rattle.flt_graph.specs.Points.{remaining}
 use Rattle.flt_graph.specs.Turns.{StandsWith}
 use Rattle.flt_model.specs.declared.event.Event.{Event}
 use Rattle.flt_model.specs.declared.event.Object.TheVariants.{Visit}
 use Rattle.flt_model.specs.Effects.{Step, onward}
-use Rattle.flt_model.specs.Program.{body_at}
+use Rattle.flt_model.specs.Program.{body_at, callbacks_at}
+use Rattle.flt_model.specs.Steps as steps
 use Rattle.flt_model.specs.Steps.{leaves_choice}
 use Rattle.flt_model.specs.Trace.{gains, loses}
 use Rattle.flt_model.specs.Variables.{operation_in, with_number, with_context_in, with_operation_in, with_old}
@@ -124,3 +128,17 @@ begins_with_choice (s ∷ rest) = leaves_choice_by (out-Statement s)
 -- the choice that is written: a step that leaves none is made with `yes`
 abbrev pub choice_at : List Statement → Bool → Bool
 choice_at rest grant = if begins_with_choice rest then grant else true
+
+-- ---- the plan of a step
+
+-- a plan is the next step of a caller, in each world with this store in which these filters run and the caller stands
+abbrev pub PlansStep : Loaded → Store → Caller → Bool → Plan → Type 0
+PlansStep l store c grant plan =
+    (p : List Filter) (t : List Event) (actors : List Actor) (activations : List Activation) (choice : Bool) (step : Step) →
+    AreLoaded p l → IsCaller actors activations c → IsCounted t c.activation c.standing →
+    StandsFor (callbacks_at p c.filter) c.standing (get_or activations c.activation nobody) →
+    choice ≡ choice_at (get_or activations c.activation nobody).rest grant →
+    steps.board p t (world_of store actors activations) c.activation choice ≡ Some step →
+    IsPlanned (world_of store actors activations) c.activation plan []
+    (remaining_by (get_or activations c.activation nobody).rest true)
+    (remaining_by (get_or activations c.activation nobody).rest false) step

@@ -1,12 +1,11 @@
 //! The plan of an activation's next instruction.
 
-ghost use Rattle.std.specs.Prelude.{◌≡◌, ◌≢◌, [], List, Bool, true, false, Some, IfOk, get_or, OnOk, OnErr};
+ghost use Rattle.std.specs.Prelude.{◌≡◌, ◌≢◌, [], List, true, false, Some, IfOk, OnOk, OnErr};
 ghost use Rattle.flt_calls.specs.Decoding as spec;
 ghost use Rattle.flt_calls.specs.Own.{AreOwn};
-ghost use Rattle.flt_calls.specs.Plans.{IsCaller, IsCounted, IsPlanned, Plans, TakesNone, choice_at, is_end, remaining_by, world_of};
+ghost use Rattle.flt_calls.specs.Plans.{IsCaller, IsPlanned, Plans, PlansStep, TakesNone, is_end, world_of};
 ghost use Rattle.flt_calls.specs.declared.plans.Write.TheVariants as write;
 ghost use Rattle.flt_frame.specs.Loading.{AreLoaded, instruction_in};
-ghost use Rattle.flt_frame.specs.Standings.{StandsFor};
 ghost use Rattle.flt_graph.specs.Instruction as invocation;
 ghost use Rattle.flt_model.specs.Effects.{Step};
 ghost use Rattle.flt_model.specs.Program.{callbacks_at};
@@ -218,15 +217,7 @@ pub fn plan_step(
     caller: &Caller,
     grant: bool,
 ) -> Result<Plan, AllocError>
-    ensures planned { IfOk result (λ plan. (p : List Filter) (t : List Event) (actors : List machine.Actor)
-        (acts : List machine.Activation) (choice : Bool) (step : Step) →
-        AreLoaded p loaded.now → IsCaller actors acts caller.now → IsCounted t caller.now.activation caller.now.standing →
-        StandsFor (callbacks_at p caller.now.filter) caller.now.standing (get_or acts caller.now.activation machine.nobody) →
-        choice ≡ choice_at (get_or acts caller.now.activation machine.nobody).rest grant →
-        steps.board p t (world_of store.now actors acts) caller.now.activation choice ≡ Some step →
-        IsPlanned (world_of store.now actors acts) caller.now.activation plan []
-        (remaining_by (get_or acts caller.now.activation machine.nobody).rest true)
-        (remaining_by (get_or acts caller.now.activation machine.nobody).rest false) step) }
+    ensures planned { IfOk result (PlansStep loaded.now store.now caller.now grant) }
     ensures ends { IfOk result (λ plan. (p : List Filter) → AreLoaded p loaded.now →
         is_end plan.write ≡ spec.is_ending
         (instruction_in loaded.now caller.now.filter caller.now.standing.callback caller.now.standing.point)) }

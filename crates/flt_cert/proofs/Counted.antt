@@ -1,6 +1,6 @@
 -- Counts of edges, two at most.
-use Rattle.std.proofs.Common.{◌≡◌, ◌<◌, ◌≤◌, ◌+◌, ℕ, Bool, true, false, List, length, set, get_or, sym, ap, ◌∙◌, arith, inl, inr, take_all}
-use Rattle.std.specs.Prelude.{◌⊎◌, ◌==◌, nat_lt, sum_by, is_some, Option, Some, None}
+use Rattle.std.proofs.Common.{◌≡◌, ◌<◌, ◌≤◌, ◌+◌, ℕ, Bool, true, false, List, length, set, get_or, refl, sym, ap, ◌∙◌, arith, inl, inr, take_all}
+use Rattle.std.specs.Prelude.{◌⊎◌, ◌==◌, ◌||◌, nat_lt, sum_by, is_some, Option, Some, None}
 use Rattle.std.proofs.lemmas.Bool.{cond-true, cond-false, cases_eq, cases_lt, lt-ltb, le-ltb, eq-eqb, ne_eqb}
 use Rattle.std.proofs.lemmas.List.{get_or-set_same, get_or-set_other, get_or_past}
 use Rattle.std.proofs.lemmas.List.Sums.{sum_by_more}
@@ -9,7 +9,7 @@ use Rattle.flt_graph.specs.Graph.{callback_at, points_at, instruction_at, no_poi
 use Rattle.flt_graph.specs.declared.graph.Graph.{Graph}
 use Rattle.flt_graph.specs.declared.graph.Point.{Point}
 use Rattle.flt_cert.specs.Counts.{capped, AreCounts, edges_so_far}
-use Rattle.flt_graph.specs.Kept.{edge, failing, edges_of, edges_into, is_repeat}
+use Rattle.flt_graph.specs.Kept.{edge, failing, edges_of, edges_into, is_repeat, is_kept}
 
 small : (n : ℕ) → n < 2 → capped n ≡ n
 small n h = cond-true (nat_lt n 2) n 2 (lt-ltb n 2 h)
@@ -145,7 +145,82 @@ pub beyond_is_no_repeat : (g : Graph) (callback p : ℕ) → points_at g callbac
 beyond_is_no_repeat g callback p beyond =
     ap (λ (q : Point). is_repeat q.instruction) (get_or_past (callback_at g callback).points p no_point beyond)
 
--- which points are kept, one point after the other
+-- ---- which points are kept
+
+-- each `repeat` below a number is marked, and nothing else is changed
+pub record Marked (kept before : List Bool) (g : Graph) (callback n : ℕ) : Type 0 where
+  pub done : (p : ℕ) → p < 512 → p < n → get_or kept p false ≡ (is_repeat (instruction_at g callback p) || get_or before p false)
+  pub left : (p : ℕ) → n ≤ p → get_or kept p false ≡ get_or before p false
+
+-- at first none is
+pub none_marked : (kept : List Bool) (g : Graph) (callback : ℕ) → Marked kept kept g callback 0
+none_marked kept g callback = record {
+  done = λ p few below. absurd (omega (arith, below));
+  left = λ p beyond. refl;
+}
+
+-- a `repeat` is marked
+pub repeat_marked : (kept before : List Bool) (g : Graph) (callback n : ℕ) → n < length kept →
+    is_repeat (instruction_at g callback n) ≡ true → Marked kept before g callback n → Marked (set kept n true) before g callback (n + 1)
+repeat_marked kept before g callback n within is m = record {
+  done = λ p few below. by p few below (cases_eq p n);
+  left = λ p beyond. get_or-set_other kept n p true false (λ e. omega arith) ∙ m.left p (omega arith);
+}
+  where
+    by : (p : ℕ) → p < 512 → p < n + 1 → ((p ≡ n) ⊎ (p ≡ n → ⊥)) →
+        get_or (set kept n true) p false ≡ (is_repeat (instruction_at g callback p) || get_or before p false)
+    by p few below (inl e) =
+        ap (λ k. get_or (set kept n true) k false) e
+        ∙ (get_or-set_same kept n true false within
+        ∙ sym (ap (λ b. b || get_or before p false) (ap (λ k. is_repeat (instruction_at g callback k)) e ∙ is)))
+    by p few below (inr e) = get_or-set_other kept n p true false e ∙ m.done p few (omega arith)
+
+-- any other point stays as it is
+pub other_left : (kept before : List Bool) (g : Graph) (callback n : ℕ) →
+    (n < 512 → is_repeat (instruction_at g callback n) ≡ false) → Marked kept before g callback n → Marked kept before g callback (n + 1)
+other_left kept before g callback n isnt m = record {
+  done = λ p few below. by p few below (cases_eq p n);
+  left = λ p beyond. m.left p (omega arith);
+}
+  where
+    by : (p : ℕ) → p < 512 → p < n + 1 → ((p ≡ n) ⊎ (p ≡ n → ⊥)) →
+        get_or kept p false ≡ (is_repeat (instruction_at g callback p) || get_or before p false)
+    by p few below (inl e) =
+        m.left p (omega arith)
+        ∙ sym (ap (λ b. b || get_or before p false) (ap (λ k. is_repeat (instruction_at g callback k)) e ∙ isnt (omega arith)))
+    by p few below (inr e) = m.done p few (omega arith)
+
+-- all are marked where no point is left
+pub all_marked : (kept before : List Bool) (g : Graph) (callback n : ℕ) → points_at g callback ≤ n → Marked kept before g callback n →
+    (p : ℕ) → p < 512 → get_or kept p false ≡ (is_repeat (instruction_at g callback p) || get_or before p false)
+all_marked kept before g callback n all m p few = by (cases_lt p n)
+  where
+    by : ((p < n) ⊎ (n ≤ p)) → get_or kept p false ≡ (is_repeat (instruction_at g callback p) || get_or before p false)
+    by (inl below) = m.done p few below
+    by (inr beyond) =
+        m.left p beyond ∙ sym (ap (λ b. b || get_or before p false) (beyond_is_no_repeat g callback p (omega arith)))
+
+-- a point is kept for its edges, as a `repeat` or as the first one
+pub all_kept : (g : Graph) (callback : ℕ) (edges : List ℕ) (joined kept : List Bool) → AreCounts edges (edges_into g callback) →
+    ((p : ℕ) → p < 512 → get_or joined p false ≡ nat_lt 1 (get_or edges p 0)) →
+    ((p : ℕ) → p < 512 → get_or kept p false ≡ (is_repeat (instruction_at g callback p) || get_or joined p false)) →
+    length kept ≡ 512 → (p : ℕ) → p < 512 → get_or (set kept 0 true) p false ≡ is_kept g callback p
+all_kept g callback edges joined kept counts j k long p few = by (cases_eq p 0)
+  where
+    rest : Bool
+    rest = is_repeat (instruction_at g callback p) || nat_lt 1 (edges_into g callback p)
+
+    by : ((p ≡ 0) ⊎ (p ≡ 0 → ⊥)) → get_or (set kept 0 true) p false ≡ is_kept g callback p
+    by (inl e) =
+        ap (λ n. get_or (set kept 0 true) n false) e
+        ∙ (get_or-set_same kept 0 true false (omega arith) ∙ sym (ap (λ b. b || rest) (eq-eqb p 0 e)))
+    by (inr e) =
+        get_or-set_other kept 0 p true false e
+        ∙ (k p few
+        ∙ (ap (λ b. is_repeat (instruction_at g callback p) || b) (j p few ∙ counted_kept edges g callback p counts few)
+        ∙ sym (ap (λ b. b || rest) (ne_eqb p 0 e))))
+
+-- marks that are set one point after the other
 pub kept_next : (kept : List Bool) (keeps : ℕ → Bool) (n : ℕ) (b : Bool) → n < length kept → b ≡ keeps n →
     ((p : ℕ) → p < n → get_or kept p false ≡ keeps p) → (p : ℕ) → p < n + 1 → get_or (set kept n b) p false ≡ keeps p
 kept_next kept keeps n b within here before p below = by (cases_eq p n)

@@ -14,6 +14,11 @@ pub points_step : (n number : ℕ) (found : List Point) (p : Point) (i j : Place
     points_from (n - number) found i ≡ points_from (n - (number + 1)) (found ++ p ∷ []) j
 points_step n number found p i j h count read = rw (one_left n number h, count, read) refl
 
+-- a point that can't be read is refused at the line that its reading names
+pub bad_point : (n number : ℕ) (found : List Point) (m : ℕ) (i : Place) → number < n → length found ≡ number → point number i ≡ Err m →
+    points_from (n - number) found i ≡ Err m
+bad_point n number found m i h count read = rw (one_left n number h, count, read) refl
+
 -- where no line can be read, no callback is
 pub no_line : (left : ℕ) (found : Certificate) (i : Place) (n : ℕ) → line i ≡ Err n → callbacks_from left found i ≡ Err n
 unfolding callbacks_from

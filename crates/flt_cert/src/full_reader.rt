@@ -34,22 +34,24 @@ pub(crate) fn point(
     lines.asked(point_of(alloc, number, line))
 }
 
-#[tactic(auto, unfolding(crate::specs::Reading::points))]
+#[tactic(auto, unfolding(crate::specs::Reading::points), using(crate::proofs::ReadLaws::bad_point))]
 fn points(alloc: Global, lines: &mut Lines, count: usize) -> Result<Items<Option<Abs>>, CertFault>
     requires { count ≤ 512 }
     ensures { spec.Reads (spec.points count lines.old) result lines.new }
 {
-    let mut found = Items::new(alloc);
+    let mut found = Vec::new(alloc);
+    found.reserve(count)?;
     for number in 0..count {
+        found.reserve(1)?;
         // At most points no lock is held.
         if let Some(state) = lines.state(alloc, number) {
-            found.push(Some(state))?;
+            found.push_reserved(Some(state));
             continue;
         }
         let point = point(alloc, lines, number)?;
-        found.push(point)?;
+        found.push_reserved(point);
     }
-    Ok(found)
+    Ok(Items::from_vec(found))
 }
 
 /// The callback with this number, from its first line on.

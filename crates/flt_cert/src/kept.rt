@@ -1,7 +1,8 @@
 //! The points that a thin certificate keeps.
 
-ghost use Rattle.std.specs.Prelude.{◌≡◌, ◌+◌, ◌<◌, ℕ, false, get_or, length};
+ghost use Rattle.std.specs.Prelude.{◌≡◌, ◌+◌, ◌<◌, ◌||◌, ℕ, false, get_or, length, nat_lt};
 ghost use Rattle.flt_cert.specs.Counts.{AreCounts};
+ghost use Rattle.flt_graph.specs.Graph.{instruction_at};
 ghost use Rattle.flt_graph.specs.Kept as spec;
 
 use crate::full_cert::MAX_POINTS;
@@ -65,19 +66,30 @@ fn is_repeat(instruction: &Instruction) -> bool
     matches!(instruction, Instruction::Repeat(_, _, _))
 }
 
-/// Whether a point is kept, by the counts of edges. Most points are beyond the last one of a short callback, and none of them is a `repeat`.
-#[tactic(auto, using(crate::proofs::Counted::counted_kept, crate::proofs::Counted::beyond_is_no_repeat))]
-#[inline(always)]
-fn is_kept(graph: &Graph, edges: &[u8], callback: usize, point: usize) -> bool
-    requires counts { AreCounts edges.now (spec.edges_into graph.now callback) }
-    requires long { length edges.now ≡ 512 }
-    requires few { point < 512 }
-    ensures { result ≡ spec.is_kept graph.now callback point }
+/// Whether two edges or more lead into each point, up to 512 points, by the counts of edges.
+fn joined_points(edges: &[u8; MAX_POINTS]) -> [bool; MAX_POINTS]
+    ensures joined { (p : ℕ) → p < 512 → get_or result p false ≡ nat_lt 1 (get_or edges.now p 0) }
+    ensures count { length result ≡ 512 }
 {
-    if point < graph.points(callback) && is_repeat(graph.instruction_ref(callback, point)) {
-        return true;
+    let mut joined = [false; MAX_POINTS];
+    for point in 0..MAX_POINTS {
+        joined[point] = 1 < edges[point];
     }
-    point == 0 || 1 < edges[point]
+    joined
+}
+
+/// Keeps each `repeat` of a callback. Points beyond its last one aren't looked at.
+fn keep_repeats(graph: &Graph, callback: usize, kept: &mut [bool])
+    requires { length kept.old ≡ 512 }
+    ensures kept { (p : ℕ) → p < 512 →
+        get_or kept.new p false ≡ (spec.is_repeat (instruction_at graph.now callback p) || get_or kept.old p false) }
+    ensures count { length kept.new ≡ 512 }
+{
+    for point in 0..graph.points(callback) {
+        if point < MAX_POINTS && is_repeat(graph.instruction_ref(callback, point)) {
+            kept[point] = true;
+        }
+    }
 }
 
 /// Whether each point of a callback is kept, up to 512 points: the first one, each `repeat`, and each one into which two edges or more
@@ -87,9 +99,8 @@ pub fn kept_points(graph: &Graph, callback: usize) -> [bool; MAX_POINTS]
     ensures count { length result ≡ 512 }
 {
     let edges = edges_in(graph, callback);
-    let mut kept = [false; MAX_POINTS];
-    for point in 0..MAX_POINTS {
-        kept[point] = is_kept(graph, &edges, callback, point);
-    }
+    let mut kept = joined_points(&edges);
+    keep_repeats(graph, callback, &mut kept);
+    kept[0] = true;
     kept
 }

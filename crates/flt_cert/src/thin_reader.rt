@@ -70,7 +70,9 @@ fn slots<'a>(
     ensures { reading.ReadsBy (λ r. (r.0, r.1.now)) (spec.slots count lines.old) result lines.new }
 {
     let first = point(alloc, lines, 0)?;
-    let mut found = Items::new(alloc);
+    let mut room = Vec::new(alloc);
+    room.reserve(count)?;
+    let mut found = Items::from_vec(room);
     found.push(Some(first))?;
     let line = slots_from(alloc, lines, count, &mut found)?;
     Ok((found, line))

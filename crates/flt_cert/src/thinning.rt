@@ -36,13 +36,13 @@ fn thin_points(
     ensures { IfOk result (λ slots. slots ≡ spec.thin_points graph.now callback 0 points.now) }
 {
     let kept = kept_points(graph, callback);
-    let mut room = Vec::new(alloc);
-    room.reserve(points.len())?;
-    let mut slots = Items::from_vec(room);
+    let mut slots = Vec::new(alloc);
+    slots.reserve(points.len())?;
     for number in 0..points.len() {
-        slots.push(slot_of(kept[number], &points[number]))?;
+        slots.reserve(1)?;
+        slots.push_reserved(slot_of(kept[number], &points[number]));
     }
-    Ok(slots)
+    Ok(Items::from_vec(slots))
 }
 
 /// The thin certificate of a full one, with the points that are kept.

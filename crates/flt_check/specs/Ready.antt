@@ -21,7 +21,7 @@ waiting g callback slots point later None = followed g callback later 0 (take po
 
 -- so for each point from the number on
 pub record IsReady (g : Graph) (callback : ℕ) (slots : List Slot) (point : ℕ) (states : List Point) : Type 0 where
-  pub count : length states ≡ 512
+  pub wide : length slots ≤ length states
   pub each : (later : ℕ) → point ≤ later → later < length slots →
       get_or states later None ≡ waiting g callback slots point later (get_or slots later None)
 

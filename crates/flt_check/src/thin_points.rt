@@ -17,6 +17,12 @@ use flt_graph::Graph;
 use flt_rules::Rule;
 use std::array;
 
+/// How many points a short callback has at most. Places for their states are set to none in few instructions.
+const SHORT: usize = 36;
+
+/// How many points a callback has at most that is neither short nor long.
+const MEDIUM: usize = 128;
+
 /// The rule that a point breaks by leading to another with a state, if it breaks one. A later point that isn't given waits with this state
 /// from now on.
 fn follow_to(
@@ -209,9 +215,9 @@ fn point_fault(
 }
 
 /// No state waits.
-fn nothing_waits() -> [Option<Abs>; MAX_POINTS]
-    ensures count { length result ≡ 512 }
-    ensures none { (k : ℕ) → k < 512 → get_or result k None ≡ None }
+fn nothing_waits<const N: usize>() -> [Option<Abs>; N]
+    ensures count { length result ≡ N }
+    ensures none { (k : ℕ) → k < N → get_or result k None ≡ None }
 {
     array::from_fn(|_| None)
 }
@@ -238,7 +244,25 @@ fn first_broken(
     None
 }
 
-/// The first point of a callback at which a rule is broken, and the least such rule.
+/// The first point of a callback at which a rule is broken, and the least such rule, with places for as many states that wait.
+#[inline(never)]
+fn fault_among<const N: usize>(
+    graph: &Graph,
+    slots: &[Slot],
+    callback: usize,
+) -> Option<(usize, Rule)>
+    requires given { spec.AreGiven graph.now callback slots.now }
+    requires room { length slots.now ≤ N }
+    requires few { N ≤ 512 }
+    ensures none { IfNone result (spec.FaultlessBefore graph.now callback slots.now (length slots.now)) }
+    ensures some { IfSome result (λ q. spec.IsFirstBroken graph.now callback slots.now q.0 q.1) }
+{
+    let mut states = nothing_waits::<N>();
+    first_broken(graph, slots, &mut states, callback, &mut None)
+}
+
+/// The first point of a callback at which a rule is broken, and the least such rule. All places are set to none, and most callbacks have
+/// few points.
 pub(crate) fn callback_fault(
     graph: &Graph,
     slots: &[Slot],
@@ -249,8 +273,13 @@ pub(crate) fn callback_fault(
     ensures none { IfNone result (spec.FaultlessBefore graph.now callback slots.now (length slots.now)) }
     ensures some { IfSome result (λ q. spec.IsFirstBroken graph.now callback slots.now q.0 q.1) }
 {
-    let mut states = nothing_waits();
-    first_broken(graph, slots, &mut states, callback, &mut None)
+    if slots.len() <= SHORT {
+        fault_among::<SHORT>(graph, slots, callback)
+    } else if slots.len() <= MEDIUM {
+        fault_among::<MEDIUM>(graph, slots, callback)
+    } else {
+        fault_among::<MAX_POINTS>(graph, slots, callback)
+    }
 }
 
 /// Whether a slot is given and not kept, or kept and not given.

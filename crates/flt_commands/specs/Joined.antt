@@ -1,10 +1,12 @@
--- The texts that files make. This project's own rule.
-use Rattle.std.specs.Prelude.{◌≡◌, ◌<◌, ℕ, suc, ◌+◌, ◌-◌, ◌==◌, ◌||◌, Bool, true, false, not, List, [], ◌∷◌, ◌++◌, Option, Some, None, codes, drop, eqb, flat_map, get_or, if◌then◌else◌, length, map, slice_get, take, unwrap_or}
-use Rattle.std.specs.List.{starts_with}
-use Rattle.flt_details.specs.Reports.{EndsWith}
-use Rattle.flt_details.specs.declared.sources.FilePart.{FilePart}
+-- The texts that files make. This project's own program.
+use Rattle.std.specs.Prelude.{◌≡◌, ℕ, suc, ◌==◌, ◌&&◌, ◌||◌, Bool, true, false, not, List, [], ◌∷◌, ◌++◌, Option, Some, None, Result, Ok, Err, codes, drop, eqb, flat_map, if◌then◌else◌, map, slice_get}
+use Rattle.std.specs.List.{AllZip, filter, starts_with}
+use Rattle.flt_c.specs.Files.{extracted}
+use Rattle.flt_c.specs.Texts as c
+use Rattle.flt_c.specs.declared.files.FileFlaw.{FileFlaw}
 use Rattle.flt_details.specs.declared.sources.Source.{Source}
-use Rattle.flt_places.specs.Places.{line_of}
+use Rattle.flt_places.specs.declared.files.SourceFile.{SourceFile}
+use Rattle.flt_commands.specs.Annotated.{stand_of}
 use Rattle.flt_commands.specs.Inputs.{Text}
 
 -- ---- how a text begins
@@ -24,110 +26,110 @@ begins_filter text = starts_with eqb (drop (before_first false text) text) (code
 
 -- ---- which files make a text
 
+-- a file that is read: its name, what it gives, and itself, if it is a C file, which gives its annotations
+pub record Given : Type 0 where
+  pub name : Text
+  pub text : Text
+  pub code : Option Text
+
+abbrev pub given_in : List Text → List Text → List (Option Text) → List Given
+given_in (name ∷ names) (text ∷ texts) (code ∷ codes) =
+    record { name = name; text = text; code = code } ∷ given_in names texts codes
+given_in _ _ _ = []
+
 abbrev pub is_code : Option Text → Bool
 is_code (Some code) = true
 is_code None = false
 
--- the file of a number is a C file
-abbrev pub is_c : List (Option Text) → ℕ → Bool
-is_c files number = is_code (get_or files number None)
+-- a C file goes on with the text of a C file right before it, unless its annotations begin with `filter`
+abbrev pub goes_on_by : Option Text → Option Text → Text → Bool
+goes_on_by before code text = is_code before && (is_code code && not (begins_filter text))
 
--- The file of a number, which gives this text, begins a text. A C file goes on with the text of a C file right before it, unless its
--- annotations begin with `filter`
-abbrev pub begins : List (Option Text) → ℕ → Text → Bool
-begins files number text = (number == 0 || not (is_c files number)) || (not (is_c files (number - 1)) || begins_filter text)
+-- the C file that is the last of some files, if it is one
+abbrev pub last_code : List Given → Option Text
+last_code [] = None
+last_code (file ∷ []) = file.code
+last_code (file ∷ next ∷ files) = last_code (next ∷ files)
 
--- the numbers of the files that begin texts, from this number on
-abbrev pub beginnings_from : List (Option Text) → ℕ → List Text → List ℕ
-beginnings_from files number [] = []
-beginnings_from files number (text ∷ texts) =
-    if begins files number text then number ∷ beginnings_from files (number + 1) texts else beginnings_from files (number + 1) texts
-
-abbrev pub beginnings : List (Option Text) → List Text → List ℕ
-beginnings files texts = beginnings_from files 0 texts
-
--- the number of the file after the last one of the text of a number, where there are so many files
-abbrev pub end_of : List ℕ → ℕ → ℕ → ℕ
-end_of beginnings text files = unwrap_or (slice_get beginnings (text + 1)) files
+-- files, put together where they make a text: each begins one, or goes on with that of the file before it
+pub data AreGrouped : List Given → List (List Given) → Type 0 where
+  no_file : AreGrouped [] []
+  begins : {files : List Given} {groups : List (List Given)} (file : Given) → AreGrouped files groups →
+      goes_on_by (last_code files) file.code file.text ≡ false → AreGrouped (files ++ file ∷ []) (groups ++ (file ∷ []) ∷ [])
+  goes_on : {files : List Given} {groups : List (List Given)} {group : List Given} (file : Given) →
+      AreGrouped files (groups ++ group ∷ []) → goes_on_by (last_code files) file.code file.text ≡ true →
+      AreGrouped (files ++ file ∷ []) (groups ++ (group ++ file ∷ []) ∷ [])
 
 -- ---- the texts
 
--- texts, one after the other
-abbrev pub chained : List Text → Text
-chained texts = flat_map (λ (text : Text). text) texts
+-- the C files among some files
+abbrev pub codes_of : Option Text → List Text
+codes_of None = []
+codes_of (Some code) = code ∷ []
 
--- the text that the files from one up to another make, by what each of them gives
-abbrev pub text_between : List Text → ℕ → ℕ → Text
-text_between texts first end = chained (take (end - first) (drop first texts))
+-- the text of a file and further ones: its bytes, or the annotations of C files
+abbrev pub text_by : Option Text → Text → List Given → Result c.Text FileFlaw
+text_by None text others = Ok (record { bytes = text; lines = []; fresh = true })
+text_by (Some code) text others = extracted (code ∷ flat_map (λ (g : Given). codes_of g.code) others)
 
--- the texts of these numbers on, which begin with these files
-abbrev pub joined_from : List ℕ → ℕ → List Text → List ℕ → List Text
-joined_from beginnings number texts [] = []
-joined_from beginnings number texts (first ∷ others) =
-    text_between texts first (end_of beginnings number (length texts)) ∷ joined_from beginnings (number + 1) texts others
-
--- the texts that files make, by what each of them gives
-abbrev pub joined : List (Option Text) → List Text → List Text
-joined files texts = joined_from (beginnings files texts) 0 texts (beginnings files texts)
-
--- ---- their lines
-
--- how many lines end in a text
-abbrev pub line_ends : Text → ℕ
-line_ends [] = 0
-line_ends (b ∷ z) = if b == 10 then suc (line_ends z) else line_ends z
-
--- for each of some files the line of its text that is line 1 of it, where the first of them has this number, and its own text comes after so
--- many lines of the same text
-abbrev pub firsts_from : List (Option Text) → ℕ → ℕ → List Text → List ℕ
-firsts_from files number before [] = []
-firsts_from files number before (text ∷ texts) =
-    let first = if begins files number text then 1 else before + 1 in
-    first ∷ firsts_from files (number + 1) ((first - 1) + line_ends text) texts
-
-abbrev pub firsts : List (Option Text) → List Text → List ℕ
-firsts files texts = firsts_from files 0 0 texts
-
--- The law of the map: where what files give ends with the end of a line, line L of the text that they make, from the line on with which a
--- file begins, is the line of what that file gives whose number is as far from its first one
-abbrev pub LinesAreOfTheirFiles : Type 0
-LinesAreOfTheirFiles =
-    (before : List Text) (text : Text) (after : List Text) (line : ℕ) → EndsWith (chained before) (10 ∷ []) → EndsWith text (10 ∷ []) →
-    line < line_ends text → line_of (chained (before ++ text ∷ after)) (line_ends (chained before) + line + 1) ≡ line_of text (line + 1)
+-- the text that some files make, or why they make none
+abbrev pub text_of : List Given → Result c.Text FileFlaw
+text_of [] = Ok c.empty
+text_of (file ∷ files) = text_by file.code file.text files
 
 -- ---- their files
 
--- a file of a text: its name, the line of the text that is its line 1, and its bytes
+-- a file as reports name it, and its bytes
 pub record FileIn : Type 0 where
   pub name : Text
-  pub first : ℕ
   pub bytes : Text
 
--- the files of texts
-abbrev pub file_in : FilePart → FileIn
-file_in f = record { name = f.name.now; first = f.first; bytes = f.bytes.now }
+abbrev pub file_in : SourceFile → FileIn
+file_in f = record { name = f.name.now; bytes = f.lines }
 
-abbrev pub files_in : List Source → List (List FileIn)
-files_in sources = map (λ (s : Source). map file_in s.files.now) sources
+-- the bytes of a file
+abbrev pub bytes_by : Option Text → Text → Text
+bytes_by None text = text
+bytes_by (Some code) text = code
 
--- the file in which a text is: the C file whose annotations it is, or the text itself
-abbrev pub file_of : Option Text → Text → Text
-file_of None text = text
-file_of (Some code) text = code
+-- a file that is read, under the name that this has in reports
+abbrev pub file_of : (Text → Text) → Given → FileIn
+file_of told g = record { name = told g.name; bytes = bytes_by g.code g.text }
 
--- some files with these names, the lines with which they begin, and what they give, from this number on
-abbrev pub all_files : List (Option Text) → ℕ → List Text → List ℕ → List Text → List FileIn
-all_files files number names firsts [] = []
-all_files files number names firsts (text ∷ texts) =
-    record { name = get_or names number []; first = get_or firsts number 0; bytes = file_of (get_or files number None) text }
-    ∷ all_files files (number + 1) names firsts texts
+-- these files make this text: its lines are where annotations are, by what `extract` says of them
+pub record IsSourceOf (told : Text → Text) (group : List Given) (s : Source) : Type 0 where
+  pub text : c.Text
+  pub is : text_of group ≡ Ok text
+  pub bytes : s.text.now ≡ text.bytes
+  pub files : map file_in s.files.all.now ≡ map (file_of told) group
+  pub stands : s.files.stands.now ≡ map stand_of text.lines
 
--- those of each text, where these files begin texts
-abbrev pub files_from : List ℕ → ℕ → List FileIn → List ℕ → List (List FileIn)
-files_from beginnings number all [] = []
-files_from beginnings number all (first ∷ others) =
-    take (end_of beginnings number (length all) - first) (drop first all) ∷ files_from beginnings (number + 1) all others
+-- files make a text
+abbrev pub is_made : Result c.Text FileFlaw → Bool
+is_made (Ok text) = true
+is_made (Err flaw) = false
 
-abbrev pub files_of : List (Option Text) → List Text → List Text → List (List FileIn)
-files_of files names texts =
-    files_from (beginnings files texts) 0 (all_files files 0 names (firsts files texts) texts) (beginnings files texts)
+abbrev pub make_text : List Given → Bool
+make_text group = is_made (text_of group)
+
+-- the name of the file of a number; none where there is no such file
+abbrev pub name_by : Option Given → Text
+name_by (Some g) = g.name
+name_by None = []
+
+-- the name of the file by which a text is too long, so that none is made
+abbrev pub flawed_by : List Given → Result c.Text FileFlaw → List Text
+flawed_by group (Ok text) = []
+flawed_by group (Err flaw) = name_by (slice_get group flaw.file) ∷ []
+
+abbrev pub flawed_in : List Given → List Text
+flawed_in group = flawed_by group (text_of group)
+
+-- files of these names that are read, which give these texts, of C files their annotations, make these sources, under the names that reports
+-- have for them; and these of them aren't read, since with them a text would be too long
+pub record AreSources (told : Text → Text) (names texts : List Text) (codes : List (Option Text)) (sources : List Source)
+    (flawed : List Text) : Type 0 where
+  pub groups : List (List Given)
+  pub grouped : AreGrouped (given_in names texts codes) groups
+  pub each : AllZip (IsSourceOf told) (filter make_text groups) sources
+  pub flawed : flawed ≡ flat_map flawed_in groups

@@ -1,9 +1,21 @@
 //! The texts that files make: the annotations of a C file that don't begin with `filter` go on with the text of the C file before it.
 
-ghost use Rattle.std.specs.Prelude.{◌≡◌, ◌<◌, IfOk, OnOk, ◌++◌, flat_map, length, map, option_map};
+ghost use Rattle.std.specs.Prelude.{◌≡◌, ◌<◌, ◌≤◌, ◌+◌, Err, IfOk, List, MatchResult, None, OnOk, [], false, flat_map, get_or, length, map, option_map, slice_get, slice_range, string_bytes};
+ghost use Rattle.std.specs.List.{AllZip, filter};
+ghost use Rattle.flt_c.specs.Files.{extracted};
+ghost use Rattle.flt_commands.specs.Annotated.{codes_in, names_in, places_in, texts_in};
+ghost use Rattle.flt_commands.specs.Inputs.{Text};
 ghost use Rattle.flt_commands.specs.Joined as spec;
+ghost use Rattle.flt_commands.specs.Joining as made;
+ghost use Rattle.flt_commands.specs.declared.annotated.FoundFiles.{FoundFiles as Found};
+ghost use Rattle.flt_forms.specs.declared.unread.UnreadFile.{UnreadFile as UnreadOf};
 
-use flt_details::{FilePart, Source};
+use crate::annotated::{FoundFiles, stands_of};
+use crate::unread::Unread;
+use flt_c::{FileFlaw, PlaceFlaw, extract};
+use flt_details::Source;
+use flt_forms::UnreadFile;
+use flt_places::{Files, Lines, SourceFile, Stand};
 use std::alloc::{AllocError, Global};
 
 // ---- how a text begins
@@ -16,7 +28,8 @@ fn is_blank(byte: u8) -> bool
 
 /// The number of the bytes before the first word or sign of a text: blanks, ends of lines and remarks.
 fn before_first(text: &[u8]) -> usize
-    ensures { result ≡ spec.before_first false text.now }
+    ensures value { result ≡ spec.before_first false text.now }
+    ensures within { result ≤ length text.now }
 {
     let mut at: usize = 0;
     let mut in_remark = false;
@@ -42,145 +55,313 @@ fn begins_filter(text: &[u8]) -> bool
 
 // ---- which files make a text
 
-fn is_c(codes: &[Option<Vec<u8>>], number: usize) -> bool
-    ensures { result ≡ spec.is_c (map (option_map (λ code. code.items)) codes.now) number }
+fn is_c(found: &FoundFiles<'_>, number: usize) -> bool
+    ensures { result ≡ spec.is_code (get_or (codes_in found.now) number None) }
 {
-    matches!(codes.get(number), Some(Some(_)))
+    matches!(found.codes.get(number), Some(Some(_)))
 }
 
-/// Whether the file of a number, from 0, begins a text. A C file goes on with the text of a C file right before it, unless its annotations
-/// begin with `filter`.
-fn begins(codes: &[Option<Vec<u8>>], number: usize, text: &[u8]) -> bool
-    ensures { result ≡ spec.begins (map (option_map (λ code. code.items)) codes.now) number text.now }
+fn begins_text(found: &FoundFiles<'_>, number: usize) -> bool
+    ensures { result ≡ spec.begins_filter (get_or (texts_in found.now) number []) }
 {
-    number == 0
-        || !is_c(codes, number)
-        || !is_c(codes, number.saturating_sub(1))
-        || begins_filter(text)
+    match found.texts.get(number) {
+        Some(text) => begins_filter(text.as_slice()),
+        None => false,
+    }
 }
 
-/// The numbers of the files that begin texts.
-pub(crate) fn beginnings(
+/// Whether the file of a number, from 0, goes on with the text of the file before it: both are C files, and its annotations don't begin with
+/// `filter`.
+fn goes_on(found: &FoundFiles<'_>, number: usize) -> bool
+    ensures { result ≡ made.goes_on_at found.now number }
+{
+    number != 0
+        && is_c(found, number.saturating_sub(1))
+        && is_c(found, number)
+        && !begins_text(found, number)
+}
+
+/// Some files, from one number up to another.
+#[derive(Clone, Copy)]
+pub(crate) struct Span {
+    pub(crate) first: usize,
+    pub(crate) end: usize,
+}
+
+/// Adds the file of a number to the last of some spans, if it goes on with its text; else it begins one.
+fn add_file(spans: &mut Vec<Span>, found: &FoundFiles<'_>, number: usize) -> Result<(), AllocError>
+    requires own { made.AreOwn found.now }
+    requires within { number < length found.now.names.items }
+    requires before { made.AreSpansUpTo found.now number spans.old.items }
+    ensures { OnOk result (made.AreSpansUpTo found.now (number + 1) spans.new.items) }
+{
+    let mut first = number;
+    if goes_on(found, number) {
+        if let Some(last) = spans.pop() {
+            first = last.first;
+        }
+    }
+    spans.push(Span {
+        first,
+        end: number + 1,
+    })
+}
+
+/// The files of each text.
+fn spans(alloc: Global, found: &FoundFiles<'_>) -> Result<Vec<Span>, AllocError>
+    requires { made.AreOwn found.now }
+    ensures { IfOk result (λ spans. made.AreSpans found.now spans.items) }
+{
+    let mut spans = Vec::new(alloc);
+    for number in 0..found.names.len() {
+        add_file(&mut spans, found, number)?;
+    }
+    Ok(spans)
+}
+
+// ---- their texts
+
+/// The annotations of several C files, and where their lines are.
+#[derive(Drop)]
+pub(crate) struct OwnText {
+    bytes: Vec<u8>,
+    stands: Vec<Stand>,
+}
+
+/// A text that files make.
+#[derive(Drop)]
+pub(crate) struct JoinedText {
+    span: Span,
+    /// None if it is what its only file gives.
+    own: Option<OwnText>,
+}
+
+/// Copies of the C files among some files.
+fn codes_among(alloc: Global, codes: &[Option<Vec<u8>>]) -> Result<Vec<Vec<u8>>, AllocError>
+    ensures { IfOk result (λ all. map (λ code. code.items) all.items
+        ≡ flat_map spec.codes_of (map (option_map (λ code. code.items)) codes.now)) }
+{
+    let mut all = Vec::new(alloc);
+    for code in codes {
+        if let Some(code) = code {
+            all.push(Vec::from_slice(alloc, code.as_slice())?)?;
+        }
+    }
+    Ok(all)
+}
+
+/// The annotations of some C files, or why they make no text.
+fn own_text(
     alloc: Global,
-    texts: &[Vec<u8>],
     codes: &[Option<Vec<u8>>],
-) -> Result<Vec<usize>, AllocError>
-    ensures { IfOk result (λ all. all.items ≡ spec.beginnings (map (option_map (λ code. code.items)) codes.now)
-        (map (λ text. text.items) texts.now)) }
+) -> Result<Result<OwnText, FileFlaw>, AllocError>
+    ensures { IfOk result (λ done. MatchResult done
+        (made.IsExtracted (flat_map spec.codes_of (map (option_map (λ code. code.items)) codes.now)))
+        (λ flaw. extracted (flat_map spec.codes_of (map (option_map (λ code. code.items)) codes.now)) ≡ Err flaw)) }
 {
-    let mut all = Vec::new(alloc);
-    for (number, text) in texts.iter().enumerate() {
-        if begins(codes, number, text.as_slice()) {
-            all.push(number)?;
+    let files = codes_among(alloc, codes)?;
+    match extract(alloc, files.as_slice())? {
+        Ok(found) => {
+            let stands = stands_of(alloc, found.lines.as_slice())?;
+            let bytes = found.bytes;
+            Ok(Ok(OwnText { bytes, stands }))
         }
-    }
-    Ok(all)
-}
-
-/// The number of the file after the last one of the text of a number.
-fn end_of(beginnings: &[usize], text: usize, files: usize) -> usize
-    ensures { result ≡ spec.end_of beginnings.now text files }
-{
-    match beginnings.get(text + 1) {
-        Some(next) => *next,
-        None => files,
+        Err(flaw) => Ok(Err(flaw)),
     }
 }
 
-// ---- texts
-
-/// Texts, one after the other.
-fn chained(alloc: Global, texts: &[Vec<u8>]) -> Result<Vec<u8>, AllocError>
-    ensures { IfOk result (λ whole. whole.items ≡ flat_map (λ text. text.items) texts.now) }
-{
-    let mut whole = Vec::new(alloc);
-    for text in texts {
-        whole.extend_from_slice(text.as_slice())?;
-    }
-    Ok(whole)
-}
-
-/// The texts that files make, by the numbers of those that begin one.
-pub(crate) fn joined(
+/// The text of the files of a span, or why they make none.
+fn joined_text(
     alloc: Global,
-    texts: &[Vec<u8>],
-    beginnings: &[usize],
-) -> Result<Vec<Vec<u8>>, AllocError>
-    ensures { IfOk result (λ all. map (λ text. text.items) all.items
-        ≡ spec.joined_from beginnings.now 0 (map (λ text. text.items) texts.now) beginnings.now) }
+    found: &FoundFiles<'_>,
+    span: Span,
+) -> Result<Result<JoinedText, FileFlaw>, AllocError>
+    requires own { made.AreOwn found.now }
+    requires span { made.IsSpan found.now span }
+    ensures { IfOk result (λ done. MatchResult done
+        (made.IsJoined found.now (made.files_in (made.files_of found.now) span))
+        (λ flaw. spec.text_of (made.files_in (made.files_of found.now) span) ≡ Err flaw)) }
 {
-    let mut all = Vec::new(alloc);
-    for (text, first) in beginnings.iter().enumerate() {
-        let end = end_of(beginnings, text, texts.len());
-        all.push(chained(alloc, &texts[*first..end])?)?;
+    if span.end - span.first < 2 {
+        return Ok(Ok(JoinedText { span, own: None }));
     }
-    Ok(all)
+    match own_text(alloc, &found.codes[span.first..span.end])? {
+        Ok(own) => Ok(Ok(JoinedText {
+            span,
+            own: Some(own),
+        })),
+        Err(flaw) => Ok(Err(flaw)),
+    }
 }
 
-// ---- files
-
-/// How many lines end in a text.
-fn line_ends(text: &[u8]) -> usize
-    ensures { result ≡ spec.line_ends text.now }
+/// The name of the file of a number in a span; empty if there is none.
+fn name_in<'a>(found: &FoundFiles<'a>, span: Span, file: usize) -> &'a str
+    ensures { result.now ≡ spec.name_by (slice_get (made.files_in (made.files_of found.now) span) file) }
 {
-    let mut many: usize = 0;
-    for byte in text {
-        if *byte == b'\n' {
-            many += 1;
+    if file < span.end.saturating_sub(span.first) {
+        match found.names.get(span.first.saturating_add(file)) {
+            Some(name) => name,
+            None => "",
+        }
+    } else {
+        ""
+    }
+}
+
+/// Files that are read, and the texts that they make.
+#[derive(Drop)]
+pub(crate) struct Joined<'a> {
+    pub(crate) found: FoundFiles<'a>,
+    texts: Vec<JoinedText>,
+    /// The files that aren't read, and those of them with which a text would be too long.
+    pub(crate) unread: Vec<UnreadFile>,
+}
+
+impl Joined<'_> {
+    /// Adds the text of the files of a span, or the file by which there is none.
+    fn add(&mut self, alloc: Global, span: Span) -> Result<(), AllocError>
+        requires own { made.AreOwn self.old.found }
+        requires span { made.IsSpan self.old.found span }
+        ensures { OnOk result (made.IsAdded self.old self.new (made.files_in (made.files_of self.old.found) span)) }
+    {
+        match joined_text(alloc, &self.found, span)? {
+            Ok(text) => self.texts.push(text),
+            Err(FileFlaw { file, flaw }) => {
+                let name = name_in(&self.found, span, file);
+                let unread = Unread::Flawed(PlaceFlaw::Flawed(flaw)).file(alloc, name)?;
+                self.unread.push(unread)
+            }
         }
     }
-    many
 }
 
-/// The file in which a text is: the C file of its number among all, if the text is the annotations of one, or the text itself.
-fn file_of<'s>(codes: &'s [Option<Vec<u8>>], number: usize, text: &'s [u8]) -> &'s [u8] {
-    match codes.get(number) {
+/// The texts that files make, beside these files that aren't read.
+pub(crate) fn join<'a>(
+    alloc: Global,
+    found: FoundFiles<'a>,
+    unread: Vec<UnreadFile>,
+) -> Result<Joined<'a>, AllocError>
+    requires { made.AreOwn found }
+    ensures { IfOk result (made.AreJoined found unread.items) }
+{
+    let spans = spans(alloc, &found)?;
+    let mut joined = Joined {
+        found,
+        texts: Vec::new(alloc),
+        unread,
+    };
+    for span in spans.as_slice() {
+        joined.add(alloc, *span)?;
+    }
+    Ok(joined)
+}
+
+// ---- sources
+
+/// The bytes of a file: of a C file, or of what another one gives.
+fn bytes_of<'s>(code: Option<&'s Option<Vec<u8>>>, text: &'s [u8]) -> &'s [u8] {
+    match code {
         Some(Some(code)) => code.as_slice(),
         _ => text,
     }
 }
 
-/// The files, each with the line of the text in which it is that is its line 1.
-pub(crate) fn parts<'s>(
-    alloc: Global,
-    names: &'s [String],
-    texts: &'s [Vec<u8>],
-    codes: &'s [Option<Vec<u8>>],
-) -> Result<Vec<FilePart<'s>>, AllocError>
-    requires { length texts.now ≡ length names.now }
+/// What the file of a number gives; nothing if there is no such file.
+fn text_at<'s>(found: &'s FoundFiles<'_>, number: usize) -> &'s [u8]
+    ensures { result.now ≡ get_or (texts_in found.now) number [] }
 {
-    let mut all = Vec::new(alloc);
-    let mut first = 1;
-    for (number, text) in texts.iter().enumerate() {
-        let text = text.as_slice();
-        if begins(codes, number, text) {
-            first = 1;
-        }
-        all.push(FilePart {
-            name: names[number].as_str(),
-            first,
-            bytes: file_of(codes, number, text),
-        })?;
-        first += line_ends(text);
+    match found.texts.get(number) {
+        Some(text) => text.as_slice(),
+        None => &[],
     }
-    Ok(all)
 }
 
-/// The texts that files make, each with its files.
-pub(crate) fn sources<'s>(
+/// Where the lines of that are.
+fn stands_at<'s>(found: &'s FoundFiles<'_>, number: usize) -> &'s [Stand]
+    ensures { result.now ≡ get_or (places_in found.now) number [] }
+{
+    match found.stands.get(number) {
+        Some(stands) => stands.as_slice(),
+        None => &[],
+    }
+}
+
+/// The files that are read, under these names.
+pub(crate) fn files_of<'s>(
     alloc: Global,
-    joined: &'s [Vec<u8>],
-    beginnings: &[usize],
-    parts: &'s [FilePart<'s>],
-) -> Result<Vec<Source<'s>>, AllocError> {
-    let mut all = Vec::new(alloc);
-    for (number, text) in joined.iter().enumerate() {
-        let first = beginnings[number];
-        let end = end_of(beginnings, number, parts.len());
-        all.push(Source {
-            text: text.as_slice(),
-            files: &parts[first..end],
+    found: &'s FoundFiles<'_>,
+    names: &'s [String],
+) -> Result<Vec<SourceFile<'s>>, AllocError>
+    ensures { IfOk result (λ files. (told : Text → Text) → made.AreOwn found.now →
+        map string_bytes names.now ≡ map told (names_in found.now) → made.AreSourceFiles told found.now files.items) }
+{
+    let mut files = Vec::new(alloc);
+    for (number, name) in names.iter().enumerate() {
+        let bytes = bytes_of(found.codes.get(number), text_at(found, number));
+        let lines = Lines::of(alloc, bytes)?;
+        files.push(SourceFile {
+            name: name.as_str(),
+            lines,
         })?;
     }
-    Ok(all)
+    Ok(files)
+}
+
+/// The files of a span.
+fn files_between<'s>(files: &'s [SourceFile<'s>], span: Span) -> &'s [SourceFile<'s>]
+    ensures { span.end ≤ length files.now → result.now ≡ slice_range files.now span.first span.end }
+{
+    if span.first <= span.end && span.end <= files.len() {
+        &files[span.first..span.end]
+    } else {
+        &[]
+    }
+}
+
+impl Joined<'_> {
+    /// The bytes of a text, and where its lines are.
+    fn parts<'s>(&'s self, text: &'s JoinedText) -> (&'s [u8], &'s [Stand])
+        ensures bytes { result.0.now ≡ made.bytes_of self.now.found text.now }
+        ensures stands { result.1.now ≡ made.stands_in self.now.found text.now }
+    {
+        match &text.own {
+            Some(own) => (own.bytes.as_slice(), own.stands.as_slice()),
+            None => (
+                text_at(&self.found, text.span.first),
+                stands_at(&self.found, text.span.first),
+            ),
+        }
+    }
+
+    /// The source of a text, which is in some of these files.
+    fn source<'s>(&'s self, files: &'s [SourceFile<'s>], text: &'s JoinedText) -> Source<'s>
+        ensures { made.IsSpan self.now.found text.now.span → length files.now ≡ length self.now.found.names.items →
+            made.IsSourceIn files.now self.now.found text.now result }
+    {
+        let (bytes, stands) = self.parts(text);
+        Source {
+            text: bytes,
+            files: Files {
+                all: files_between(files, text.span),
+                stands,
+            },
+        }
+    }
+
+    /// The sources of the texts, which are in these files.
+    pub(crate) fn sources<'s>(
+        &'s self,
+        alloc: Global,
+        files: &'s [SourceFile<'s>],
+    ) -> Result<Vec<Source<'s>>, AllocError>
+        ensures { IfOk result (λ sources. (told : Text → Text) (found : Found) (unread : List UnreadOf) →
+            (are : made.AreJoined found unread self.now) → made.AreSourceFiles told found files.now →
+            AllZip (spec.IsSourceOf told) (filter spec.make_text are.groups) sources.items) }
+    {
+        let mut sources = Vec::new(alloc);
+        for text in self.texts.as_slice() {
+            sources.push(self.source(files, text))?;
+        }
+        Ok(sources)
+    }
 }

@@ -50,20 +50,16 @@ pub fn advance(loaded: &Loaded, frame: Frame) -> Advanced
     ensures few { result.steps ≤ 1000000 }
     ensures advance { (p : List Filter) → AreLoaded p loaded.now → IsAdvance p result }
 {
-    let mut after = frame.standing;
+    let mut advanced = Advanced {
+        frame,
+        after: frame.standing,
+        steps: 0,
+    };
     match loaded.graphs.get(frame.filter) {
         Some(graph) => {
-            let steps = go_locally(graph, &frame, &mut after);
-            Advanced {
-                frame,
-                after,
-                steps,
-            }
+            advanced.steps = go_locally(graph, &frame, &mut advanced.after);
+            advanced
         }
-        None => Advanced {
-            frame,
-            after,
-            steps: 0,
-        },
+        None => advanced,
     }
 }

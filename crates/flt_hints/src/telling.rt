@@ -29,10 +29,16 @@ pub struct Told {
 /// The greatest number of bytes of a token that are shown.
 const MAX_SHOWN: usize = 80;
 
+fn bytes(out: &mut Vec<u8>, bytes: &[u8]) -> Result<(), AllocError>
+    ensures { OnOk result (out.new.items ≡ out.old.items ++ bytes.now) }
+{
+    out.extend_from_slice(bytes)
+}
+
 fn text(out: &mut Vec<u8>, text: &str) -> Result<(), AllocError>
     ensures { OnOk result (out.new.items ≡ out.old.items ++ text.now) }
 {
-    out.extend_from_slice(text.as_bytes())
+    bytes(out, text.as_bytes())
 }
 
 /// A byte as it is shown: `?` if it isn't printable ASCII.
@@ -360,7 +366,7 @@ fn incomplete(out: &mut Vec<u8>, call: OpenCall, line: &[u8]) -> Result<(), Allo
     text(out, "the call before this isn't complete: ")?;
     quoted(out, call.word())?;
     text(out, " in line ")?;
-    out.extend_from_slice(line)
+    bytes(out, line)
 }
 
 /// The same with the operand that it lacks.

@@ -1,22 +1,20 @@
 -- What a commit goes by: the plan of the instruction at which the activation stands is a step where the local steps lead.
 use Rattle.std.proofs.Common.{◌≡◌, ◌≤◌, ℕ, ◌+◌, ◌*◌, Bool, true, false, not, ◌||◌, List, [], ◌∷◌, ◌++◌, Option, Some, length, ap, sym, subst, refl, ◌∙◌, arith}
-use Rattle.std.proofs.Math.ListN.{set, get_or}
+use Rattle.std.proofs.Math.ListN.{set}
 use Rattle.std.proofs.lemmas.List.{length-append}
 use Rattle.std.specs.Prelude.{IfSome}
 use Rattle.flt_tree.specs.declared.filter.Callback.{Callback}
 use Rattle.flt_tree.specs.declared.filter.Filter.{Filter}
 use Rattle.flt_tree.specs.declared.filter.Statement.{Statement}
 use Rattle.flt_graph.specs.declared.instruction.Instruction.{Instruction}
-use Rattle.flt_model.specs.declared.event.Event.{Event}
 use Rattle.flt_model.specs.declared.moves.JournalEntry.{JournalEntry}
 use Rattle.flt_model.specs.declared.moves.JournalEntry.TheVariants.{Go}
 use Rattle.flt_model.specs.Effects.{Step}
 use Rattle.flt_model.specs.Program.{callbacks_at}
 use Rattle.flt_model.specs.Runs.{Moment, next}
 use Rattle.flt_model.specs.Steps as steps
-use Rattle.flt_model.specs.World.{Store, Actor, Activation, nobody, activation_at, actor_at}
+use Rattle.flt_model.specs.World.{Store, Activation, activation_at, actor_at}
 use Rattle.flt_store.specs.Changes.{after_change}
-use Rattle.flt_store.specs.Stores.{world_of}
 use Rattle.flt_frame.specs.Firsts.{Remains}
 use Rattle.flt_frame.specs.Leads.{IsAdvance}
 use Rattle.flt_frame.specs.Loading.{AreLoaded, instruction_in}
@@ -27,7 +25,7 @@ use Rattle.flt_frame.specs.declared.standing.Standing.{Standing}
 use Rattle.flt_calls.specs.Continuing.{leads_on}
 use Rattle.flt_calls.specs.Decoding.{is_ending}
 use Rattle.flt_calls.specs.Own.{AreOf, AreOwn}
-use Rattle.flt_calls.specs.Plans.{IsCaller, IsCounted, IsPlanned, TakesNone, choice_at, is_end, remaining_by}
+use Rattle.flt_calls.specs.Plans.{IsPlanned, PlansStep, TakesNone, choice_at, is_end, remaining_by}
 use Rattle.flt_calls.specs.declared.caller.Caller.{Caller}
 use Rattle.flt_calls.specs.declared.plans.Plan.{Plan}
 use Rattle.flt_machine.specs.Blocking.{is_blocked}
@@ -45,21 +43,10 @@ Law = (p : List Filter) (l : Loaded) (filter : ℕ) (s : Standing) (act : Activa
     AreLoaded p l → StandsFor (callbacks_at p filter) s act →
     Remains (callbacks_at p filter) s act.rest (instruction_in l filter s.callback s.point)
 
--- a plan is the step of the caller, in each world with this store
-abbrev pub PlannedBy : Loaded → Store → Caller → Bool → Plan → Type 0
-PlannedBy l s c grant plan =
-    (p : List Filter) (t : List Event) (actors : List Actor) (acts : List Activation) (choice : Bool) (step : Step) →
-    AreLoaded p l → IsCaller actors acts c → IsCounted t c.activation c.standing →
-    StandsFor (callbacks_at p c.filter) c.standing (get_or acts c.activation nobody) →
-    choice ≡ choice_at (get_or acts c.activation nobody).rest grant →
-    steps.board p t (world_of s actors acts) c.activation choice ≡ Some step →
-    IsPlanned (world_of s actors acts) c.activation plan [] (remaining_by (get_or acts c.activation nobody).rest true)
-    (remaining_by (get_or acts c.activation nobody).rest false) step
-
 -- what is found out of a commit before it is made
 pub record IsPlanOf (l : Loaded) (s : Store) (c : Caller) (i : Instruction) (grant : Bool) (plan : Plan) : Type 0 where
   pub free : is_refused_lock s c i ≡ false
-  pub planned : PlannedBy l s c grant plan
+  pub planned : PlansStep l s c grant plan
   pub ends : (p : List Filter) →
       AreLoaded p l → is_end plan.write ≡ is_ending (instruction_in l c.filter c.standing.callback c.standing.point)
   pub takes : TakesNone c.standing.locks plan.write
@@ -129,7 +116,7 @@ module _ (p : List Filter) (b : Situation) (advanced : Advanced) (grant : Bool) 
 
     planned : IsPlanned mid.world advanced.frame.activation plan [] (remaining_by act.rest true) (remaining_by act.rest false) made.0
     planned =
-        subst (λ (s : Store). PlannedBy l s (caller_of b advanced) grant plan) at.store is.planned p mid.trace mid.world.actors
+        subst (λ (s : Store). PlansStep l s (caller_of b advanced) grant plan) at.store is.planned p mid.trace mid.world.actors
         mid.world.activations (choice_at act.rest grant) made.0 loaded
         (caller_is p b advanced grant m at fresh advance) (counted_there p b advanced grant m at fresh advance) stands refl made.1
 

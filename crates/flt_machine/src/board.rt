@@ -2,6 +2,7 @@
 
 ghost use Rattle.std.specs.Prelude.{◌≡◌, ◌≢◌, ◌↔◌, ◌≤◌, ◌<◌, ℕ, true, List, length, option_map, Some, None, IfOk, OnOk, OnErr, MatchOption, if◌then◌else◌};
 ghost use Rattle.std.specs.List.{list_any};
+ghost use Rattle.std.specs.Option.{option_copied};
 ghost use Rattle.flt_costs.specs.Costs.{IsStarted, callback_cost, steps_of};
 ghost use Rattle.flt_dispatch.specs.Turns as turns;
 ghost use Rattle.flt_frame.specs.Loading.{AreLoaded};
@@ -85,11 +86,11 @@ impl Board {
 
     // ---- activations
 
-    pub(crate) fn standing(&self, activation: usize) -> Option<Standing>
-        ensures { result ≡ spec.standing_of self.now activation }
+    pub(crate) fn standing(&self, activation: usize) -> Option<&Standing>
+        ensures { option_copied result ≡ spec.standing_of self.now activation }
     {
         match self.standings.get(activation) {
-            Some(Some(kept)) => Some(*kept.get()),
+            Some(Some(kept)) => Some(kept.get()),
             _ => None,
         }
     }
@@ -120,7 +121,7 @@ impl Board {
             activation,
             filter: actor.filter,
             draining: actor.draining,
-            standing,
+            standing: *standing,
         })
     }
 

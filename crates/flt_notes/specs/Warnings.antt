@@ -42,4 +42,4 @@ warnings_line n = if n == 0 then [] else warning_count n ++ 10 ∷ []
 pub record ArePromised (x : Warned) (details : List WarningDetail) (printed : List ℕ) : Type 0 where
   pub reports : List ℕ
   pub are : AreShownReports x details reports
-  pub whole : printed ≡ nothing_report x.name ++ reports ++ warnings_line (shown_count details)
+  pub whole : printed ≡ nothing_report x.files ++ reports ++ warnings_line (shown_count details)

@@ -10,9 +10,9 @@ use crate::lines::run_rows;
 use crate::noted::{Again, schedule_of};
 use crate::setters::{Setter, is_same};
 use flt_explain::Finding;
+use flt_places::Files;
 use flt_schedules::{Outcome, Outlook, Schedule, Suspect, Suspects, outcomes_among};
 use flt_search::{Broken, SearchWatch};
-use flt_timeline::FileStart;
 use std::alloc::{AllocError, Global};
 
 /// A text that sets what another doesn't, and the outcomes in it of the other's findings that need this.
@@ -48,32 +48,18 @@ fn numbered(alloc: Global, first: usize, lines: &[u8]) -> Result<Vec<u8>, AllocE
     Ok(out)
 }
 
-/// The number, in the last file of the first filter, of a line after all lines of its text.
-fn last_line(files: &[&[FileStart<'_>]], line: usize) -> usize {
-    let Some(files) = files.get(0) else {
-        return line;
-    };
-    match files.last() {
-        Some(last) => line.saturating_sub(last.first.saturating_sub(1)),
-        None => line,
-    }
-}
-
-/// The lines of the added callback, by their numbers, and a run of the text with it as rows.
+/// The lines of the added callback, by their numbers, and a run of the text with it as rows. The text is in these files.
 fn setter_rows(
     alloc: Global,
-    files: &[&[FileStart<'_>]],
+    files: &Files<'_>,
     setter: &Setter,
     broken: &Broken,
 ) -> Result<Vec<u8>, AllocError>
-    ensures { IfOk result (λ out. rows.AreSetterRows setter.now broken.now out.items) }
+    ensures { IfOk result (λ out. rows.AreSetterRows setter.now files.now broken.now out.items) }
 {
-    let mut out = numbered(
-        alloc,
-        last_line(files, setter.line),
-        setter.added.as_bytes(),
-    )?;
-    let broken_rows = run_rows(alloc, setter.trees.as_slice(), files, broken)?;
+    let first = files.file_line(setter.line);
+    let mut out = numbered(alloc, first, setter.added.as_bytes())?;
+    let broken_rows = run_rows(alloc, setter.trees.as_slice(), &[*files], broken)?;
     out.extend_from_slice(broken_rows.as_bytes())?;
     Ok(out)
 }
@@ -202,7 +188,7 @@ impl Setting {
         }
     }
 
-    /// The lines after the one on a run: those of the callback, and the run as rows.
+    /// The lines after the one on a run: those of the callback, and the run as rows. The text is in these files.
     ///
     /// # Errors
     ///
@@ -210,10 +196,10 @@ impl Setting {
     pub(crate) fn rows(
         &self,
         alloc: Global,
-        files: &[&[FileStart<'_>]],
+        files: &Files<'_>,
         again: &Again,
     ) -> Result<Vec<u8>, AllocError>
-        ensures { IfOk result (λ out. rows.AreRowsBy self.now.setter again.now out.items) }
+        ensures { IfOk result (λ out. rows.AreRowsBy self.now.setter files.now again.now out.items) }
     {
         match again {
             Again::Runs(broken) => setter_rows(alloc, files, &self.setter, broken),

@@ -8,11 +8,11 @@ ghost use Rattle.flt_notes.specs.Warned.{warned_of};
 use crate::lines::{journal_rows, lengths_of, plural};
 use crate::warned::WarnedText;
 use flt_deadlocks::{Answer, Deadlock, Watched, find_deadlock};
-use flt_details::{FileLines, Page, Part, word_of};
+use flt_details::{Page, Part, word_of};
 use flt_explain::Subject;
 use flt_model::{Journal, Verdict};
 use flt_order::Acquisition;
-use flt_reports::tell_line;
+use flt_places::Files;
 use flt_search::{Bounds, SearchWatch};
 use flt_tree::Tree;
 use flt_waits::Blocked;
@@ -25,7 +25,7 @@ use std::fmt;
 #[tactic(auto, unfolding(crate::specs::Deadlocked::wait_words))]
 fn tell_wait(
     page: &mut Page,
-    files: &[FileLines<'_>],
+    files: &Files<'_>,
     home: usize,
     tree: &Tree,
     wait: &Blocked,
@@ -38,8 +38,8 @@ fn tell_wait(
         Part::Text(" waits for "),
         Part::Quoted(word_of(tree, Subject::Lock(wait.lock))),
         Part::Text(" on line "),
-    ])?;
-    tell_line(page, files, home, wait.span.line)
+        Part::Line(*files, home, wait.span.line),
+    ])
 }
 
 /// Writes that an activation holds that lock.
@@ -63,7 +63,7 @@ fn tell_holder(page: &mut Page, holder: Option<usize>) -> Result<(), AllocError>
 /// Writes the line of an activation that waits.
 fn tell_wait_line(
     page: &mut Page,
-    files: &[FileLines<'_>],
+    files: &Files<'_>,
     home: usize,
     tree: &Tree,
     wait: &Blocked,
@@ -79,7 +79,7 @@ fn tell_wait_line(
 /// The lines of the activations that wait.
 fn wait_lines(
     alloc: Global,
-    files: &[FileLines<'_>],
+    files: &Files<'_>,
     home: usize,
     tree: &Tree,
     waits: &[Blocked],
@@ -94,10 +94,14 @@ fn wait_lines(
 }
 
 /// The file whose lines need no name before them: the only one; none of several.
-fn named(files: &[FileLines<'_>]) -> usize
+fn named(files: &Files<'_>) -> usize
     ensures { result ≡ spec.named files.now }
 {
-    if files.len() > 1 { files.len() } else { 0 }
+    if files.all.len() > 1 {
+        files.all.len()
+    } else {
+        0
+    }
 }
 
 // ---- a run
@@ -116,11 +120,10 @@ fn deadlock_lines(text: &WarnedText<'_>, deadlock: &Deadlock) -> Result<Vec<u8>,
     ensures { IfOk result (λ lines. spec.AreDeadlockLines (warned_of text.now) deadlock.now lines.items) }
 {
     let line = deadlock_line(text.alloc, &deadlock.journal)?;
-    let files = [text.starts];
     let rows = journal_rows(
         text.alloc,
         text.own,
-        &files,
+        &[*text.files],
         &deadlock.journal,
         Verdict::Legal,
     )?;

@@ -3,14 +3,15 @@
 ghost use Rattle.std.specs.Prelude.{◌≡◌, ◌++◌, Some, IfOk, OnOk, codes, map, string_bytes};
 ghost use Rattle.flt_notes.specs.Lines as spec;
 ghost use Rattle.flt_notes.specs.Noted.{own_of, schedule_of as schedule_in};
-ghost use Rattle.flt_notes.specs.Rows.{AreJournalRows, AreNoteRows, AreRunRows};
+ghost use Rattle.flt_notes.specs.Rows.{AreJournalRows, AreNoteRows, AreRunRows, own_files as own_files_of};
 
 use crate::noted::{Again, Noted, schedule_of};
 use flt_graph::Place;
 use flt_model::{Journal, JournalEntry, Move, Verdict, Violation};
+use flt_places::Files;
 use flt_schedules::{Schedule, Scheduled, Unset, only};
 use flt_search::Broken;
-use flt_timeline::{FileStart, Timeline};
+use flt_timeline::Timeline;
 use flt_tree::Tree;
 use std::alloc::{AllocError, Global};
 use std::fmt;
@@ -406,16 +407,16 @@ pub(crate) fn again_line(alloc: Global, again: &Option<Again>) -> Result<String,
 
 /// The files of the filters in whose runs a finding has its outcome: of all filters, or of that of a number alone.
 pub fn own_files<'f>(
-    files: &'f [&'f [FileStart<'f>]],
+    files: &'f [Files<'f>],
     filter: usize,
     scheduled: &Scheduled,
-) -> &'f [&'f [FileStart<'f>]] {
+) -> &'f [Files<'f>]
+    ensures { result.now ≡ own_files_of files.now filter scheduled.now }
+{
     match scheduled {
         Scheduled::Together(_) => files,
-        Scheduled::Alone(_) => match files.get(filter) {
-            Some(_) => &files[filter..filter + 1],
-            None => &[],
-        },
+        Scheduled::Alone(_) if filter < files.len() => &files[filter..filter + 1],
+        Scheduled::Alone(_) => &[],
     }
 }
 
@@ -423,14 +424,13 @@ pub fn own_files<'f>(
 pub(crate) fn journal_rows(
     alloc: Global,
     own: &[Tree],
-    files: &[&[FileStart<'_>]],
+    files: &[Files<'_>],
     journal: &Journal,
     verdict: Verdict,
 ) -> Result<String, AllocError>
-    ensures { IfOk result (λ rows. AreJournalRows own.now journal.now verdict (string_bytes rows)) }
+    ensures { IfOk result (λ rows. AreJournalRows own.now files.now journal.now verdict (string_bytes rows)) }
 {
-    let timeline = Timeline::of(alloc, own, journal, verdict)?;
-    let timeline = timeline.in_files(alloc, own, files)?;
+    let timeline = Timeline::of(alloc, own, files, journal, verdict)?;
     let rows = timeline.text(alloc, INDENT)?;
     let mut out = String::from_str(alloc, LEGEND)?;
     out.push_str(rows.as_str())?;
@@ -441,10 +441,10 @@ pub(crate) fn journal_rows(
 pub(crate) fn run_rows(
     alloc: Global,
     own: &[Tree],
-    files: &[&[FileStart<'_>]],
+    files: &[Files<'_>],
     broken: &Broken,
 ) -> Result<String, AllocError>
-    ensures { IfOk result (λ rows. AreRunRows own.now broken.now (string_bytes rows)) }
+    ensures { IfOk result (λ rows. AreRunRows own.now files.now broken.now (string_bytes rows)) }
 {
     let verdict = Verdict::Breaks(broken.violation, broken.entry);
     journal_rows(alloc, own, files, &broken.journal, verdict)
@@ -454,10 +454,10 @@ pub(crate) fn run_rows(
 pub(crate) fn note_rows(
     alloc: Global,
     trees: &[Tree],
-    files: &[&[FileStart<'_>]],
+    files: &[Files<'_>],
     noted: &Noted,
 ) -> Result<String, AllocError>
-    ensures { IfOk result (λ rows. AreNoteRows trees.now noted.now (string_bytes rows)) }
+    ensures { IfOk result (λ rows. AreNoteRows trees.now files.now noted.now (string_bytes rows)) }
 {
     match schedule_of(&noted.scheduled) {
         Schedule::Breaks(broken) => {

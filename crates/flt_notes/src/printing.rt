@@ -26,11 +26,11 @@ use crate::setters::Setter;
 use crate::totals::Tally;
 use crate::warned::WarnedText;
 use crate::warnings::promise_and_warnings;
-use flt_details::{FilePart, Source, fault_line, file_line, file_lines, findings_line};
+use flt_details::{Source, fault_line, findings_line};
 use flt_explain::{Finding, findings};
 use flt_graph::{Graph, lower};
 use flt_model::Violation;
-use flt_places::Lines;
+use flt_places::{Files, Lines};
 use flt_reasons::{Kind, Notice, describe};
 use flt_reports::{Report, report_findings, report_unread};
 use flt_schedules::{
@@ -38,7 +38,6 @@ use flt_schedules::{
 };
 use flt_search::SearchWatch;
 use flt_syntax::SyntaxFault;
-use flt_timeline::FileStart;
 use flt_tree::Tree;
 use flt_warning_details::{
     WarningDetail, WarningOptions, texts_without_circles_are_orderly, warned_status,
@@ -62,7 +61,7 @@ pub(crate) struct Stage<'a> {
     /// The trees of the texts that parse.
     pub(crate) trees: &'a [Tree],
     /// The files of each of these texts.
-    pub(crate) files: &'a [&'a [FileStart<'a>]],
+    pub(crate) files: &'a [Files<'a>],
     /// The greatest number of states from which the search for runs of a text continues.
     pub(crate) states: u32,
     /// Which warnings are left out, and whether they count.
@@ -113,46 +112,6 @@ fn tree_at<'a>(trees: &'a [Tree], _text: &[u8], place: usize) -> &'a Tree
     ensures spelled { Spells _text.now result.now.filter }
 {
     &trees[place]
-}
-
-/// The lines of a text with which its files begin.
-pub fn starts_of<'a>(
-    alloc: Global,
-    files: &[FilePart<'a>],
-) -> Result<Vec<FileStart<'a>>, AllocError> {
-    let mut starts = Vec::new(alloc);
-    for file in files {
-        starts.push(FileStart {
-            name: file.name,
-            first: file.first,
-        })?;
-    }
-    Ok(starts)
-}
-
-/// The last line of the report of a text that parses, with the line of the first finding in its file.
-fn last_line(alloc: Global, source: Source<'_>, found: &[Finding]) -> Result<String, AllocError>
-    ensures { IfOk result (λ line. string_bytes line ≡ spec.closing_in source.entry.files.now found.now) }
-{
-    let files = file_lines(alloc, source.files)?;
-    match found {
-        [] => findings_line(alloc, found),
-        [first, ..] => {
-            let mut first = *first;
-            first.line = file_line(files.as_slice(), first.line);
-            findings_line(alloc, &[first])
-        }
-    }
-}
-
-/// The last line of the report of a text that doesn't parse, with the line of its fault in its file.
-fn unread_line(alloc: Global, source: Source<'_>, fault: SyntaxFault) -> Result<String, AllocError>
-    ensures { IfOk result (λ line. string_bytes line ≡ syntax_line (spec.fault_in source.entry.files.now fault) ++ 10 ∷ []) }
-{
-    let files = file_lines(alloc, source.files)?;
-    let mut fault = fault;
-    fault.line = file_line(files.as_slice(), fault.line);
-    fault_line(alloc, fault)
 }
 
 /// The last of the outcomes of findings, which is taken away.
@@ -321,14 +280,11 @@ impl Stage<'_> {
         setting: &Option<Setting>,
         noted: &Noted,
     ) -> Result<Vec<u8>, AllocError>
-        ensures { IfOk result (λ rows. AreSettingRows setting.now noted.now.again rows.items) }
+        ensures { IfOk result (λ rows. AreSettingRows setting.now source.entry.files noted.now.again rows.items) }
     {
         match setting {
             Some(setting) => match &noted.again {
-                Some(again) => {
-                    let starts = starts_of(self.alloc, source.files)?;
-                    setting.rows(self.alloc, &[starts.as_slice()], again)
-                }
+                Some(again) => setting.rows(self.alloc, &source.files, again),
                 None => Ok(Vec::new(self.alloc)),
             },
             None => Ok(Vec::new(self.alloc)),
@@ -345,7 +301,7 @@ impl Stage<'_> {
     ) -> Result<(), AllocError>
         requires said { spec.IsSaid self.now.trees.now self.now.states output.old }
         ensures said { OnOk result (spec.IsSaid self.now.trees.now self.now.states output.new) }
-        ensures note { OnOk result (spec.AddsNote self.now.trees.now self.now.states setting.now noted output.old output.new) }
+        ensures note { OnOk result (spec.AddsNote self.now.trees.now self.now.files.now self.now.states source.entry setting.now noted output.old output.new) }
     {
         let rows = note_rows(self.alloc, self.trees, self.files, &noted)?;
         let again = self.again_rows(source, setting, &noted)?;
@@ -376,7 +332,7 @@ impl Stage<'_> {
         ensures said { OnOk result (spec.IsSaid self.now.trees.now self.now.states output.new) }
         ensures noted { OnOk result (spec.HasNotes self.now.trees.now known.entry output.new.noted) }
         ensures numbers { OnOk result (numbers_in output.new.noted ≡ numbers_in output.old.noted ++ report.now.finding ∷ []) }
-        ensures block { OnOk result (spec.AddsBlock self.now.trees.now self.now.states known.entry.source.text.now report.now
+        ensures block { OnOk result (spec.AddsBlock self.now.trees.now self.now.files.now self.now.states known.entry.source report.now
             output.old output.new) }
     {
         output.lines(report.lines.as_slice())?;
@@ -400,7 +356,7 @@ impl Stage<'_> {
         ensures said { OnOk result (spec.IsSaid self.now.trees.now self.now.states output.new) }
         ensures noted { OnOk result (spec.HasNotes self.now.trees.now known.entry output.new.noted) }
         ensures numbers { OnOk result (numbers_in output.new.noted ≡ map (λ r. r.finding) reports.now) }
-        ensures added { OnOk result (spec.AddBlocks self.now.trees.now self.now.states known.entry.source.text.now reports.now
+        ensures added { OnOk result (spec.AddBlocks self.now.trees.now self.now.files.now self.now.states known.entry.source reports.now
             output.old output.new) }
     {
         for report in reports {
@@ -422,7 +378,7 @@ impl Stage<'_> {
         ensures said { OnOk result (spec.IsSaid self.now.trees.now self.now.states output.new) }
         ensures noted { OnOk result (spec.HasNotes self.now.trees.now known.entry output.new.noted) }
         ensures firsts { OnOk result (AreFirsts known.entry.found.now (numbers_in output.new.noted)) }
-        ensures body { OnOk result (spec.AddsBody (spec.look_of self.now) self.now.trees.now known.entry output.old output.new) }
+        ensures body { OnOk result (spec.AddsBody (spec.look_of self.now) self.now.trees.now self.now.files.now known.entry output.old output.new) }
     {
         let reports = self.reports(known)?;
         let reports = reports.as_slice();
@@ -444,17 +400,13 @@ impl Stage<'_> {
             known.entry.details.now said.items) }
     {
         let lines = Lines::of(self.alloc, known.source.text)?;
-        let files = file_lines(self.alloc, known.source.files)?;
-        let starts = starts_of(self.alloc, known.source.files)?;
         let text = WarnedText {
             alloc: self.alloc,
             coloured: self.coloured,
             states: self.states,
             own: only(self.trees, known.place),
             tree: known.tree,
-            name: known.source.name(),
-            files: files.as_slice(),
-            starts: starts.as_slice(),
+            files: &known.source.files,
             lines: &lines,
         };
         promise_and_warnings(&text, known.details, watch)
@@ -471,7 +423,7 @@ impl Stage<'_> {
         requires silent { spec.IsSilent self.now.trees.now self.now.states output.old }
         ensures said { OnOk result (spec.IsSaid self.now.trees.now self.now.states output.new) }
         ensures noted { OnOk result (output.new.noted ≡ []) }
-        ensures body { OnOk result (spec.AddsBody (spec.look_of self.now) self.now.trees.now known.entry output.old output.new) }
+        ensures body { OnOk result (spec.AddsBody (spec.look_of self.now) self.now.trees.now self.now.files.now known.entry output.old output.new) }
     {
         let said = self.promise_and_warnings(known, watch)?;
         output.lines(said.as_slice())?;
@@ -489,7 +441,7 @@ impl Stage<'_> {
         ensures said { OnOk result (spec.IsSaid self.now.trees.now self.now.states output.new) }
         ensures noted { OnOk result (spec.HasNotes self.now.trees.now known.entry output.new.noted) }
         ensures firsts { OnOk result (AreFirsts known.entry.found.now (numbers_in output.new.noted)) }
-        ensures body { OnOk result (spec.AddsBody (spec.look_of self.now) self.now.trees.now known.entry output.old output.new) }
+        ensures body { OnOk result (spec.AddsBody (spec.look_of self.now) self.now.trees.now self.now.files.now known.entry output.old output.new) }
     {
         if !known.found.is_empty() {
             return self.put_found(output, known, watch);
@@ -505,12 +457,12 @@ impl Stage<'_> {
         watch: &mut W,
     ) -> Result<Part, AllocError>
         requires known { spec.IsKnownIn (spec.look_of self.now) self.now.trees.now known }
-        ensures { IfOk result (spec.IsKnownPart (spec.look_of self.now) self.now.trees.now known.entry) }
+        ensures { IfOk result (spec.IsKnownPart (spec.look_of self.now) self.now.trees.now self.now.files.now known.entry) }
     {
         texts_without_circles_are_orderly();
         let mut output = Output::new(self.alloc);
         self.put_findings(&mut output, known, watch)?;
-        let line = last_line(self.alloc, known.source, known.found)?;
+        let line = findings_line(self.alloc, &known.source.files, known.found)?;
         output.lines(line.as_bytes())?;
         let tally = Tally {
             status: warned_status(self.options.is_strict, known.found, known.details),
@@ -527,14 +479,14 @@ impl Stage<'_> {
         watch: &mut W,
     ) -> Result<Part, AllocError>
         requires tree { IsTreeOf self.now.trees.now source.text.now place }
-        ensures { IfOk result (spec.IsParsedPart (spec.look_of self.now) self.now.trees.now source.entry place) }
+        ensures { IfOk result (spec.IsParsedPart (spec.look_of self.now) self.now.trees.now self.now.files.now source.entry place) }
     {
         let tree = tree_at(self.trees, source.text, place);
         let graph = lower(self.alloc, tree)?;
         let found = findings(self.alloc, &graph)?;
         let found = found.as_slice();
         let allowed = self.options.allowed;
-        let details = warning_details(self.alloc, source.text, tree, &graph, found, allowed)?;
+        let details = warning_details(self.alloc, source, tree, &graph, found, allowed)?;
         let known = Known {
             source,
             place,
@@ -549,13 +501,13 @@ impl Stage<'_> {
     /// The report of a text that doesn't parse.
     fn unread_part(&self, source: Source<'_>, fault: SyntaxFault) -> Result<Part, AllocError>
         requires unread { IsUnread source.text.now fault }
-        ensures report { IfOk result (spec.HasReport self.now.options (filters_of self.now.trees.now) source.entry.text.now) }
+        ensures report { IfOk result (spec.HasReport self.now.options (filters_of self.now.trees.now) source.entry) }
         ensures print { IfOk result (spec.IsUnreadPart (spec.look_of self.now) source.entry) }
         ensures silent { IfOk result (λ p. spec.IsSilent self.now.trees.now self.now.states p.output) }
     {
         let mut output = Output::new(self.alloc);
         output.lines(report_unread(self.alloc, self.coloured, source)?.as_slice())?;
-        let line = unread_line(self.alloc, source, fault)?;
+        let line = fault_line(self.alloc, &source.files, fault)?;
         output.lines(line.as_bytes())?;
         let tally = Tally {
             status: 2,
@@ -605,7 +557,7 @@ impl Stage<'_> {
     /// The report of a text that is taken for a certificate, a journal or a script.
     fn other_part(&self, source: Source<'_>, kind: Kind) -> Result<Part, AllocError>
         requires other { IsOther source.text.now kind }
-        ensures report { IfOk result (spec.HasReport self.now.options (filters_of self.now.trees.now) source.entry.text.now) }
+        ensures report { IfOk result (spec.HasReport self.now.options (filters_of self.now.trees.now) source.entry) }
         ensures print { IfOk result (spec.IsNoticePart (spec.look_of self.now) self.now.trees.now source.entry) }
         ensures silent { IfOk result (λ p. spec.IsSilent self.now.trees.now self.now.states p.output) }
     {
@@ -620,7 +572,7 @@ impl Stage<'_> {
         watch: &mut W,
     ) -> Result<Part, AllocError>
         requires text { IsStudied self.now.trees.now studied.now }
-        ensures { IfOk result (spec.IsPart (spec.look_of self.now) self.now.trees.now studied.now) }
+        ensures { IfOk result (spec.IsPart (spec.look_of self.now) self.now.trees.now self.now.files.now studied.now) }
     {
         match studied.reading {
             Reading::Unread(fault) => self.unread_part(studied.source, fault),

@@ -1,8 +1,6 @@
 //! A text with warnings.
 
-use flt_details::FileLines;
-use flt_places::Lines;
-use flt_timeline::FileStart;
+use flt_places::{Files, Lines};
 use flt_tree::Tree;
 use std::alloc::Global;
 
@@ -16,10 +14,7 @@ pub(crate) struct WarnedText<'a> {
     /// The tree of the text, alone.
     pub(crate) own: &'a [Tree],
     pub(crate) tree: &'a Tree,
-    /// The name of the text's first file.
-    pub(crate) name: &'a str,
-    pub(crate) files: &'a [FileLines<'a>],
-    /// The lines with which they begin.
-    pub(crate) starts: &'a [FileStart<'a>],
+    /// The files in which the text is.
+    pub(crate) files: &'a Files<'a>,
     pub(crate) lines: &'a Lines<'a>,
 }

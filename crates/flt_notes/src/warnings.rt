@@ -95,7 +95,7 @@ pub(crate) fn promise_and_warnings<W: SearchWatch>(
 ) -> Result<Vec<u8>, AllocError>
     ensures { IfOk result (λ out. spec.ArePromised (warned_of text.now) details.now out.items) }
 {
-    let mut out = report_nothing(text.alloc, text.name)?;
+    let mut out = report_nothing(text.alloc, text.files)?;
     let reports = shown_reports(text, details, watch)?;
     let count = warnings_line(text.alloc, shown_count(details))?;
     out.extend_from_slice(reports.as_slice())?;

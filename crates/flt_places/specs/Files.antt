@@ -1,5 +1,5 @@
 -- The files in which the lines of a text are. This project's own program.
-use Rattle.std.specs.Prelude.{ℕ, ◌+◌, ◌-◌, ◌^◌, List, [], Option, Some, None, min, slice_get}
+use Rattle.std.specs.Prelude.{ℕ, ◌+◌, ◌-◌, ◌^◌, List, [], Option, Some, None, get_or, length, min, slice_get}
 use Rattle.flt_tree.specs.Names.{Text}
 use Rattle.flt_tree.specs.declared.filter.Position.{Position}
 use Rattle.flt_places.specs.Places.{line_of}
@@ -9,14 +9,27 @@ use Rattle.flt_places.specs.declared.files.Stand.{Stand}
 
 -- ---- lines
 
--- where a line of this number is, by its own stand; in the first file, under its own number, if it has none
-abbrev pub stand_or : ℕ → Option Stand → Stand
-stand_or line (Some s) = s
-stand_or line None = record { file = 0; line = line; before = 0 }
+-- a number behind another one, up to the greatest
+abbrev pub behind : ℕ → ℕ → ℕ
+behind number more = min (number + more) (2 ^ 64 - 1)
+
+-- the last of some stands; where there are none, one above the first line of the first file
+abbrev pub last_stand : List Stand → Stand
+last_stand stands = get_or stands (length stands - 1) (record { file = 0; line = 0; before = 0 })
+
+-- where a line of this number is that comes after those with these stands: as far after the last of them as in the text
+abbrev pub stand_after : List Stand → ℕ → Stand
+stand_after stands line =
+    record { file = (last_stand stands).file; line = behind (last_stand stands).line (line - length stands); before = 0 }
+
+-- where a line of this number is, by its own stand, if it has one of these
+abbrev pub stand_by : List Stand → ℕ → Option Stand → Stand
+stand_by stands line (Some s) = s
+stand_by stands line None = stand_after stands line
 
 -- where a line of the text is
 abbrev pub stand_at : Files → ℕ → Stand
-stand_at f line = stand_or line (slice_get f.stands.now (line - 1))
+stand_at f line = stand_by f.stands.now line (slice_get f.stands.now (line - 1))
 
 -- the number of the file in which it is, and its number there
 abbrev pub file_at : Files → ℕ → ℕ
@@ -27,13 +40,9 @@ file_line f line = (stand_at f line).line
 
 -- ---- places
 
--- a column behind so many bytes, up to the greatest number
-abbrev pub column_behind : ℕ → ℕ → ℕ
-column_behind before column = min (before + column) (2 ^ 64 - 1)
-
 -- the place in its file of a place in the text
 abbrev pub file_place : Files → Position → Position
-file_place f at = record { line = file_line f at.line; column = column_behind (stand_at f at.line).before at.column }
+file_place f at = record { line = file_line f at.line; column = behind (stand_at f at.line).before at.column }
 
 -- ---- files
 

@@ -26,13 +26,39 @@ pub struct Stand {
     pub before: usize,
 }
 
-/// The files of a text, and where its lines are in them. A line without a stand is a line of the first file, under its own number: an
-/// ordinary text is a file by itself, without stands.
+/// The files of a text, and where its lines are in them. A line after the last one that has a stand is as far after it in that file as in
+/// the text. So an ordinary text is a file by itself, without stands.
 #[derive(Clone, Copy)]
 pub struct Files<'a> {
     pub all: &'a [SourceFile<'a>],
     /// Of each line of the text, from the first one on.
     pub stands: &'a [Stand],
+}
+
+/// The last of some stands; without any, one above the first line of the first file.
+fn last_stand(stands: &[Stand]) -> Stand
+    ensures { result ≡ spec.last_stand stands.now }
+{
+    match stands {
+        [.., last] => *last,
+        [] => Stand {
+            file: 0,
+            line: 0,
+            before: 0,
+        },
+    }
+}
+
+/// Where a line is that comes after those with these stands.
+fn stand_after(stands: &[Stand], line: usize) -> Stand
+    ensures { result ≡ spec.stand_after stands.now line }
+{
+    let last = last_stand(stands);
+    Stand {
+        file: last.file,
+        line: last.line.saturating_add(line.saturating_sub(stands.len())),
+        before: 0,
+    }
 }
 
 impl<'a> Files<'a> {
@@ -42,11 +68,7 @@ impl<'a> Files<'a> {
     {
         match self.stands.get(line.saturating_sub(1)) {
             Some(stand) => *stand,
-            None => Stand {
-                file: 0,
-                line,
-                before: 0,
-            },
+            None => stand_after(self.stands, line),
         }
     }
 

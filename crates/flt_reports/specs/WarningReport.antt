@@ -1,10 +1,10 @@
 -- The report of a warning. This project's own program.
 use Rattle.std.specs.Prelude.{ℕ, ◌==◌, ◌+◌, ◌-◌, Bool, if◌then◌else◌, List, [], ◌∷◌, ◌++◌, Option, Some, None, codes, length, slice_get}
 use Rattle.flt_details.specs.Page.{shown}
-use Rattle.flt_details.specs.Sources.{file_at}
 use Rattle.flt_details.specs.declared.operands.Marks.{Marks}
-use Rattle.flt_details.specs.declared.sources.FilePart.{FilePart}
+use Rattle.flt_places.specs.Files.{file_at, file_line}
 use Rattle.flt_places.specs.Places.{line_of}
+use Rattle.flt_places.specs.declared.files.Files.{Files}
 use Rattle.flt_places.specs.declared.places.Region.{Region}
 use Rattle.flt_places.specs.declared.places.Site.{Site}
 use Rattle.flt_tree.specs.Names.{Text}
@@ -33,7 +33,7 @@ point_part None = 10 ∷ []
 point_part (Some p) = numbers_told p.callback p.point
 
 -- a warning's kind and title, the file, and where it is
-unfoldable pub head_lines : Bool → List FilePart → WarningDetail → Text
+unfoldable pub head_lines : Bool → Files → WarningDetail → Text
 head_lines coloured files d =
     warning_heading coloured (kind_name d.kind) d.title (name_at files d.marks.statement.first.line)
     ++ (at_file_place files d.marks.statement.first ++ (head_part d.head ++ point_part d.site))
@@ -76,15 +76,15 @@ mark_words related None = 10 ∷ []
 mark_words related (Some number) = words_of (slice_get related number)
 
 -- each mark under what is shown for its line, with what it says, where this line was drawn before
-unfoldable pub all_drawn : Bool → ℕ → List FilePart → ℕ → Text → List RelatedPlace → ℕ → List (Mark (Option ℕ)) → Text
+unfoldable pub all_drawn : Bool → ℕ → Files → ℕ → Text → List RelatedPlace → ℕ → List (Mark (Option ℕ)) → Text
 all_drawn coloured margin files file text related before [] = []
 all_drawn coloured margin files file text related before (m ∷ marks) =
     drawn coloured margin files file before (excerpt files text m.site.place.line) (line_of text m.site.place.line) m.site (stroke m.sign)
     ++ (mark_words related m.sign
-    ++ all_drawn coloured margin files (file_at files m.site.place.line) text related m.site.place.line marks)
+    ++ all_drawn coloured margin files (file_at files m.site.place.line) text related (file_line files m.site.place.line) marks)
 
 -- all of them
-unfoldable pub places_drawn : Bool → List FilePart → Text → WarningDetail → Text
+unfoldable pub places_drawn : Bool → Files → Text → WarningDetail → Text
 places_drawn coloured files text d =
     all_drawn coloured (width (greatest_line files 0 (marks_of text d))) files (file_at files d.marks.statement.first.line) text d.related 0
     (marks_of text d)
@@ -92,6 +92,6 @@ places_drawn coloured files text d =
 -- ---- all of it
 
 -- what a warning says and where, its places, what to write, and what may come of it
-unfoldable pub warning_report : Bool → List FilePart → Text → WarningDetail → Text
+unfoldable pub warning_report : Bool → Files → Text → WarningDetail → Text
 warning_report coloured files text d =
     head_lines coloured files d ++ (places_drawn coloured files text d ++ (help_told d.help ++ note_told d.note))

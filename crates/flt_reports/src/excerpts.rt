@@ -1,12 +1,17 @@
-//! The lines of files that reports show, and how they are named.
+//! The lines of files that reports show.
 
 ghost use Rattle.std.specs.Prelude.{◌≡◌};
-ghost use Rattle.flt_details.specs.Page.{Writes};
 ghost use Rattle.flt_reports.specs.Excerpts as spec;
 
-use flt_details::{FileLines, Page, file_at, file_line, file_name, line_in_file};
-use flt_places::Lines;
-use std::alloc::AllocError;
+use flt_places::{Files, Lines};
+
+/// A line that is shown for a line of a text.
+#[derive(Clone, Copy)]
+pub(crate) struct Excerpt<'a> {
+    pub(crate) bytes: &'a [u8],
+    /// How many of its bytes are before those of the text.
+    pub(crate) before: usize,
+}
 
 /// Whether a line has so many bytes that no report shows it.
 fn is_long(line: &[u8]) -> bool
@@ -15,35 +20,20 @@ fn is_long(line: &[u8]) -> bool
     line.len() > 1000
 }
 
-/// The bytes that a report shows for a line of a text, by its number, from 1: the line of its file, or the text's own if that is too long.
-pub(crate) fn excerpt<'a>(files: &'a [FileLines<'a>], text: &Lines<'a>, number: usize) -> &'a [u8]
-    ensures { result.now ≡ spec.excerpt files.now text.now number }
+/// What a report shows for a line of a text, by its number, from 1: the line of its file, or the text's own if that is too long.
+pub(crate) fn excerpt<'a>(files: &Files<'a>, text: &Lines<'a>, number: usize) -> Excerpt<'a>
+    ensures { spec.of_excerpt result ≡ spec.excerpt files.now text.now number }
 {
-    let line = line_in_file(files, number);
+    let line = files.line_in_file(number);
     if is_long(line) {
-        text.line(number)
+        Excerpt {
+            bytes: text.line(number),
+            before: 0,
+        }
     } else {
-        line
+        Excerpt {
+            bytes: line,
+            before: files.stand_at(number).before,
+        }
     }
-}
-
-/// Writes the number of a line in its file, after the file's name if it isn't that of this number.
-///
-/// # Errors
-///
-/// If memory is refused.
-#[tactic(auto, unfolding(crate::specs::Excerpts::line_told))]
-pub fn tell_line(
-    page: &mut Page,
-    files: &[FileLines<'_>],
-    home: usize,
-    line: usize,
-) -> Result<(), AllocError>
-    ensures { Writes result page.old page.new (spec.line_told files.now home line) }
-{
-    let file = file_at(files, line);
-    if file != home {
-        page.words(&[file_name(files, file).as_bytes(), b":"])?;
-    }
-    page.numbers(&[""], &[file_line(files, line)])
 }

@@ -7,9 +7,9 @@ ghost use Rattle.flt_reports.specs.Fault as spec;
 use crate::excerpts::excerpt;
 use crate::heading::{name_at, tell_file_place, tell_heading};
 use crate::marks::{Drawing, Stroke};
-use flt_details::{FileLines, Page, Source, fault_name, file_at, file_line, file_lines};
+use flt_details::{Page, Source, fault_name, line_words};
 use flt_hints::{Spot, Told, Trouble, describe, tell};
-use flt_places::{Lines, Site};
+use flt_places::{Files, Lines, Site};
 use flt_tree::Position;
 use std::alloc::{AllocError, Global};
 
@@ -37,9 +37,10 @@ fn tell_meant(page: &mut Page, meant: &[u8]) -> Result<(), AllocError>
 /// Draws the line with marks under the refused text, and after them the word that is probably meant.
 #[tactic(auto, unfolding(crate::specs::Fault::spot_drawn))]
 fn draw_spot(
+    alloc: Global,
     page: &mut Page,
     coloured: bool,
-    files: &[FileLines<'_>],
+    files: &Files<'_>,
     lines: &Lines<'_>,
     spot: &Spot<'_>,
     meant: &[u8],
@@ -51,7 +52,8 @@ fn draw_spot(
         place: place_of(spot),
         length: spot.bytes.len(),
     };
-    Drawing::new(coloured, file_line(files, line), file_at(files, line)).draw(
+    Drawing::new(coloured, files.file_line(line), files.file_at(line)).draw(
+        alloc,
         page,
         files,
         excerpt(files, lines, line),
@@ -68,7 +70,7 @@ fn draw(
     alloc: Global,
     page: &mut Page,
     coloured: bool,
-    files: &[FileLines<'_>],
+    files: &Files<'_>,
     text: &[u8],
     spot: &Spot<'_>,
     meant: &[u8],
@@ -79,7 +81,7 @@ fn draw(
     match spot.token {
         Some(_) => {
             let lines = Lines::of(alloc, text)?;
-            draw_spot(page, coloured, files, &lines, spot, meant)
+            draw_spot(alloc, page, coloured, files, &lines, spot, meant)
         }
         None => Ok(()),
     }
@@ -96,12 +98,11 @@ fn report_spot(
     told: &Told,
 ) -> Result<(), AllocError>
     ensures { Writes result page.old page.new
-        (spec.fault_report coloured source.entry.files.now source.entry.text.now spot.now told.now.title.items
+        (spec.fault_report coloured source.entry.files source.entry.text.now spot.now told.now.title.items
         told.now.meant.items told.now.notes.items) }
 {
     let code = Some(fault_name(spot.fault.kind));
-    let files = file_lines(alloc, source.files)?;
-    let files = files.as_slice();
+    let files = &source.files;
     let name = name_at(files, spot.fault.line);
     tell_heading(page, coloured, code, told.title.as_slice(), name)?;
     tell_file_place(page, files, place_of(spot))?;
@@ -127,12 +128,31 @@ fn lines_in(
     told: &Told,
 ) -> Result<Vec<u8>, AllocError>
     ensures { IfOk result (λ lines. lines.items ≡
-        spec.fault_report coloured source.entry.files.now source.entry.text.now spot.now told.now.title.items
+        spec.fault_report coloured source.entry.files source.entry.text.now spot.now told.now.title.items
         told.now.meant.items told.now.notes.items) }
 {
     let mut page = Page::new(alloc);
     report_spot(alloc, &mut page, coloured, source, spot, told)?;
     Ok(page.out)
+}
+
+/// The name of the line of a call that lacks an operand; empty if there is none.
+fn line_of_call(
+    alloc: Global,
+    files: &Files<'_>,
+    trouble: &Trouble<'_>,
+) -> Result<Vec<u8>, AllocError>
+    ensures { IfOk result (λ line. line.items ≡ spec.line_of_call files.now trouble.now) }
+{
+    match trouble.open_call {
+        Some(call) => line_words(
+            alloc,
+            files,
+            files.file_at(trouble.spot.fault.line),
+            call.line,
+        ),
+        None => Ok(Vec::new(alloc)),
+    }
 }
 
 /// The report of a text's trouble.
@@ -144,9 +164,10 @@ fn report_trouble(
     trouble: &Trouble<'_>,
 ) -> Result<Vec<u8>, AllocError>
     ensures { IfOk result (λ lines. lines.items
-        ≡ spec.trouble_report coloured source.entry.files.now source.entry.text.now trouble.now) }
+        ≡ spec.trouble_report coloured source.entry.files source.entry.text.now trouble.now) }
 {
-    let told = tell(alloc, trouble)?;
+    let line = line_of_call(alloc, &source.files, trouble)?;
+    let told = tell(alloc, trouble, line.as_slice())?;
     let lines = lines_in(alloc, coloured, source, &trouble.spot, &told)?;
     Ok(lines)
 }
@@ -159,7 +180,7 @@ fn report_described(
     trouble: &Option<Trouble<'_>>,
 ) -> Result<Vec<u8>, AllocError>
     ensures { IfOk result (λ lines. lines.items
-        ≡ spec.report_of coloured source.entry.files.now source.entry.text.now trouble.now) }
+        ≡ spec.report_of coloured source.entry.files source.entry.text.now trouble.now) }
 {
     match trouble {
         Some(trouble) => report_trouble(alloc, coloured, source, trouble),
@@ -174,7 +195,7 @@ pub(crate) fn report_fault(
     source: Source<'_>,
 ) -> Result<Vec<u8>, AllocError>
     ensures { IfOk result (λ lines.
-        spec.IsFaultReport coloured source.entry.files.now source.entry.text.now lines.items) }
+        spec.IsFaultReport coloured source.entry.files source.entry.text.now lines.items) }
 {
     let described = describe(alloc, source.text)?;
     let lines = report_described(alloc, coloured, source, &described)?;

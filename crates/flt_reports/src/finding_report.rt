@@ -6,15 +6,14 @@ ghost use Rattle.flt_details.specs.Page.{Writes};
 ghost use Rattle.flt_reports.specs.Finding as spec;
 ghost use Rattle.flt_reports.specs.Indents.{headed};
 
-use crate::excerpts::tell_line;
 use crate::heading::{name_at, tell_file_place, tell_heading};
 use crate::indents::begin;
 use crate::shown_lines::draw_shown;
 use crate::way_lines::tell_way;
-use flt_details::{FileLines, Page, Scene, Shown, Words, file_at};
+use flt_details::{Page, Part, Scene, Shown, Words};
 use flt_explain::Finding;
 use flt_origins::Traced;
-use flt_places::lines_of;
+use flt_places::{Files, lines_of};
 use flt_rules::Rule;
 use flt_ways::Answer;
 use std::alloc::{AllocError, Global};
@@ -66,19 +65,18 @@ pub(crate) fn tell_numbers(page: &mut Page, callback: usize, point: usize) -> Re
 fn tell_head(
     page: &mut Page,
     coloured: bool,
-    files: &[FileLines<'_>],
     scene: &Scene<'_>,
     finding: &Finding,
     words: &Words,
 ) -> Result<(), AllocError>
     ensures { Writes result page.old page.new
-        (spec.head_lines coloured files.now scene.now.lines.now scene.now.graph.now finding.now words.now) }
+        (spec.head_lines coloured scene.now.files scene.now.lines.now scene.now.graph.now finding.now words.now) }
 {
     let code = Some(code(finding.rule));
     let site = scene.site(finding.callback, finding.point);
-    let name = name_at(files, site.place.line);
+    let name = name_at(&scene.files, site.place.line);
     tell_heading(page, coloured, code, words.title.as_slice(), name)?;
-    tell_file_place(page, files, site.place)?;
+    tell_file_place(page, &scene.files, site.place)?;
     tell_callback(page, words.head.as_slice())?;
     tell_numbers(page, finding.callback, finding.point)
 }
@@ -105,26 +103,17 @@ fn notes(answer: &Answer) -> &'static str
 #[tactic(auto, unfolding(crate::specs::Finding::paths_told))]
 fn tell_ways(
     page: &mut Page,
-    files: &[FileLines<'_>],
     home: usize,
     scene: &Scene<'_>,
     callback: usize,
     shown: &Shown,
 ) -> Result<(), AllocError>
     ensures { Writes result page.old page.new
-        (spec.paths_told files.now home scene.now.lines.now scene.now.graph.now callback shown.now.answer) }
+        (spec.paths_told scene.now.files home scene.now.lines.now scene.now.graph.now callback shown.now.answer) }
 {
     let (way, other) = shown.ways();
-    tell_way(page, files, home, scene, callback, "   = path: ", way)?;
-    tell_way(
-        page,
-        files,
-        home,
-        scene,
-        callback,
-        "   = other path: ",
-        other,
-    )?;
+    tell_way(page, home, scene, callback, "   = path: ", way)?;
+    tell_way(page, home, scene, callback, "   = other path: ", other)?;
     page.texts(&[notes(&shown.answer)])
 }
 
@@ -134,7 +123,6 @@ fn tell_shown(
     alloc: Global,
     page: &mut Page,
     coloured: bool,
-    files: &[FileLines<'_>],
     home: usize,
     scene: &Scene<'_>,
     finding: &Finding,
@@ -142,15 +130,14 @@ fn tell_shown(
     shown: Option<&Shown>,
 ) -> Result<(), AllocError>
     ensures { Writes result page.old page.new
-        (spec.shown_part coloured files.now home scene.now.lines.now scene.now.graph.now finding.now subject.now (option_copied shown.entry)) }
+        (spec.shown_part coloured scene.now.files home scene.now.lines.now scene.now.graph.now finding.now subject.now
+        (option_copied shown.entry)) }
 {
     let Some(shown) = shown else {
         return Ok(());
     };
-    draw_shown(
-        alloc, page, coloured, files, scene, finding, subject, shown,
-    )?;
-    tell_ways(page, files, home, scene, finding.callback, shown)
+    draw_shown(alloc, page, coloured, scene, finding, subject, shown)?;
+    tell_ways(page, home, scene, finding.callback, shown)
 }
 
 // ---- the others of its group
@@ -167,23 +154,30 @@ fn before_line(is_below: bool) -> &'static str
     }
 }
 
+/// Whether two lines of a text are in the same line of a file.
+fn is_same_line(files: &Files<'_>, line: usize, other: usize) -> bool
+    ensures { result ≡ spec.is_same_line files.now line other }
+{
+    files.file_at(line) == files.file_at(other) && files.file_line(line) == files.file_line(other)
+}
+
 /// Writes the line numbers of the others of a group, each once.
 #[tactic(auto, unfolding(crate::specs::Finding::others_told))]
 fn tell_others(
     page: &mut Page,
-    files: &[FileLines<'_>],
+    files: Files<'_>,
     home: usize,
     others: &[Traced],
 ) -> Result<(), AllocError>
-    ensures { Writes result page.old page.new (spec.others_told files.now home others.now) }
+    ensures { Writes result page.old page.new (spec.others_told files.entry home others.now) }
 {
     let mut last: usize = 0;
     let mut told = false;
     for other in others {
         let line = other.finding.line;
-        if line != last {
+        if !told || !is_same_line(&files, last, line) {
             page.texts(&[before_line(told)])?;
-            tell_line(page, files, home, line)?;
+            page.say(&[Part::Line(files, home, line)])?;
             last = line;
             told = true;
         }
@@ -236,7 +230,6 @@ pub(crate) fn report_finding(
     alloc: Global,
     page: &mut Page,
     coloured: bool,
-    files: &[FileLines<'_>],
     scene: &Scene<'_>,
     finding: &Finding,
     words: &Words,
@@ -244,19 +237,15 @@ pub(crate) fn report_finding(
     others: &[Traced],
 ) -> Result<(), AllocError>
     ensures { Writes result page.old page.new
-        (spec.finding_report coloured files.now scene.now.lines.now scene.now.graph.now finding.now words.now
+        (spec.finding_report coloured scene.now.files scene.now.lines.now scene.now.graph.now finding.now words.now
         (option_copied shown.entry) others.now) }
 {
     let subject = words.subject.as_slice();
-    let home = file_at(
-        files,
-        scene.site(finding.callback, finding.point).place.line,
-    );
-    tell_head(page, coloured, files, scene, finding, words)?;
-    tell_shown(
-        alloc, page, coloured, files, home, scene, finding, subject, shown,
-    )?;
-    tell_others(page, files, home, others)?;
+    let site = scene.site(finding.callback, finding.point);
+    let home = scene.files.file_at(site.place.line);
+    tell_head(page, coloured, scene, finding, words)?;
+    tell_shown(alloc, page, coloured, home, scene, finding, subject, shown)?;
+    tell_others(page, scene.files, home, others)?;
     tell_help(alloc, page, words.help.as_slice())?;
     tell_note(page, words.note.as_slice())
 }

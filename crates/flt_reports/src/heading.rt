@@ -5,7 +5,8 @@ ghost use Rattle.flt_details.specs.Page.{Writes};
 ghost use Rattle.flt_reports.specs.Heading as spec;
 
 use crate::colours::{bold, plain, red, yellow};
-use flt_details::{FileLines, Page, file_at, file_name, file_place};
+use flt_details::Page;
+use flt_places::Files;
 use flt_tree::Position;
 use std::alloc::AllocError;
 
@@ -86,19 +87,19 @@ pub(crate) fn tell_place(page: &mut Page, place: Position) -> Result<(), AllocEr
 }
 
 /// The name of the file in which a line of the text is.
-pub(crate) fn name_at<'f>(files: &[FileLines<'f>], line: usize) -> &'f str
+pub(crate) fn name_at<'f>(files: &Files<'f>, line: usize) -> &'f str
     ensures { result.now ≡ spec.name_at files.now line }
 {
-    file_name(files, file_at(files, line))
+    files.file_name(files.file_at(line))
 }
 
 /// Writes the place in its file of a place in the text, after the file's name.
 pub(crate) fn tell_file_place(
     page: &mut Page,
-    files: &[FileLines<'_>],
+    files: &Files<'_>,
     place: Position,
 ) -> Result<(), AllocError>
     ensures { Writes result page.old page.new (spec.at_file_place files.now place) }
 {
-    tell_place(page, file_place(files, place))
+    tell_place(page, files.file_place(place))
 }

@@ -18,7 +18,6 @@ mod shown_lines;
 mod warning_report;
 mod way_lines;
 
-pub use excerpts::tell_line;
 pub use line_report::{MarkedLine, report_line};
 pub use reports::{Report, report_findings, report_nothing, report_unread};
 pub use warning_report::report_warning;

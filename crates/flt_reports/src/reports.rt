@@ -10,11 +10,11 @@ ghost use Rattle.flt_reports.specs.Reports as spec;
 
 use crate::fault_report::report_fault;
 use crate::finding_report::report_finding;
-use flt_details::{FileLines, Page, Scene, Source, Traces, Words, file_lines, words_of};
+use flt_details::{Page, Scene, Source, Traces, Words, words_of};
 use flt_explain::Finding;
 use flt_graph::Graph;
 use flt_origins::Group;
-use flt_places::Lines;
+use flt_places::{Files, Lines, SourceFile};
 use flt_syntax::Tree;
 use sqlite_items::Items;
 use std::alloc::{AllocError, Global};
@@ -34,13 +34,12 @@ pub struct Report {
 fn lines_in(
     alloc: Global,
     coloured: bool,
-    files: &[FileLines<'_>],
     scene: &Scene<'_>,
     traces: &Traces,
     group: &Group,
     words: &Words,
 ) -> Result<Vec<u8>, AllocError>
-    ensures { IfOk result (λ lines. lines.items ≡ finding_report coloured files.now scene.now.lines.now
+    ensures { IfOk result (λ lines. lines.items ≡ finding_report coloured scene.now.files scene.now.lines.now
         scene.now.graph.now group.now.first.finding words.now (slice_get traces.now.shown group.now.first.number) group.now.others) }
 {
     let mut page = Page::new(alloc);
@@ -48,7 +47,7 @@ fn lines_in(
     let shown = traces.shown(&group.first);
     let others = group.others.as_slice();
     report_finding(
-        alloc, &mut page, coloured, files, scene, &finding, words, shown, others,
+        alloc, &mut page, coloured, scene, &finding, words, shown, others,
     )?;
     Ok(page.out)
 }
@@ -57,17 +56,16 @@ fn lines_in(
 fn group_lines(
     alloc: Global,
     coloured: bool,
-    files: &[FileLines<'_>],
     scene: &Scene<'_>,
     traces: &Traces,
     group: &Group,
 ) -> Result<Vec<u8>, AllocError>
-    ensures { IfOk result (λ lines. spec.AreLines coloured files.now scene.now.lines.now
+    ensures { IfOk result (λ lines. spec.AreLines coloured scene.now.files scene.now.lines.now
         scene.now.tree.now.filter scene.now.graph.now traces.now group.now lines.items) }
 {
     let finding = group.first.finding;
     let words = words_of(alloc, scene, &finding, traces.shown(&group.first))?;
-    let lines = lines_in(alloc, coloured, files, scene, traces, group, &words)?;
+    let lines = lines_in(alloc, coloured, scene, traces, group, &words)?;
     Ok(lines)
 }
 
@@ -75,16 +73,15 @@ fn group_lines(
 fn report_of(
     alloc: Global,
     coloured: bool,
-    files: &[FileLines<'_>],
     scene: &Scene<'_>,
     traces: &Traces,
     group: &Group,
 ) -> Result<Report, AllocError>
     ensures { IfOk result
-        (spec.IsReport coloured files.now scene.now.lines.now scene.now.tree.now.filter scene.now.graph.now
+        (spec.IsReport coloured scene.now.files scene.now.lines.now scene.now.tree.now.filter scene.now.graph.now
         traces.now group.now) }
 {
-    let lines = group_lines(alloc, coloured, files, scene, traces, group)?;
+    let lines = group_lines(alloc, coloured, scene, traces, group)?;
     Ok(Report {
         finding: group.first.number,
         is_behind: traces.is_behind(&group.first),
@@ -96,17 +93,16 @@ fn report_of(
 fn report_groups(
     alloc: Global,
     coloured: bool,
-    files: &[FileLines<'_>],
     scene: &Scene<'_>,
     traces: &Traces,
 ) -> Result<Items<Report>, AllocError>
     ensures { IfOk result
-        (AllZip (spec.IsReport coloured files.now scene.now.lines.now scene.now.tree.now.filter
+        (AllZip (spec.IsReport coloured scene.now.files scene.now.lines.now scene.now.tree.now.filter
         scene.now.graph.now traces.now) traces.now.groups) }
 {
     let mut all = Items::new(alloc);
     for group in traces.groups.as_slice() {
-        all.push(report_of(alloc, coloured, files, scene, traces, group)?)?;
+        all.push(report_of(alloc, coloured, scene, traces, group)?)?;
     }
     Ok(all)
 }
@@ -127,43 +123,77 @@ pub fn report_findings(
     found: &[Finding],
 ) -> Result<Items<Report>, AllocError>
     ensures reports { IfOk result
-        (spec.AreReports coloured source.entry.files.now source.entry.text.now tree.now.filter graph.now found.now) }
+        (spec.AreReports coloured source.entry.files source.entry.text.now tree.now.filter graph.now found.now) }
     ensures firsts { IfOk result (λ all. AreFirsts found.now (spec.numbers_of all)) }
 {
     let lines = Lines::of(alloc, source.text)?;
-    let files = file_lines(alloc, source.files)?;
     let scene = Scene {
         lines: &lines,
+        files: source.files,
         tree,
         graph,
     };
     let traces = Traces::of(alloc, graph, found)?;
-    let reports = report_groups(alloc, coloured, files.as_slice(), &scene, &traces)?;
+    let reports = report_groups(alloc, coloured, &scene, &traces)?;
     Ok(reports)
 }
 
-/// Writes the promise of a text without findings, and how to see its certificate.
-fn tell_nothing(page: &mut Page, name: &[u8]) -> Result<(), AllocError>
-    ensures { Writes result page.old page.new (spec.nothing_report name.now) }
+/// The words before a name: none before the first.
+fn before_name(is_behind: bool, between: &str) -> &str
+    ensures { result.now ≡ spec.before_name is_behind between.now }
 {
-    page.words(&[name])?;
-    page.bytes(b": a certificate covers this text, so that no run of it breaks V1 to V8\n")?;
-    page.bytes(b"   = help: `fltstack analyse ")?;
-    page.words(&[name])?;
-    page.bytes(b"` prints the certificate\n")?;
+    if is_behind { between } else { "" }
+}
+
+/// Writes the names of files, with these words between them.
+fn tell_names(page: &mut Page, between: &str, files: &[SourceFile<'_>]) -> Result<(), AllocError>
+    ensures { Writes result page.old page.new (spec.named between.now files.now) }
+{
+    let mut is_behind = false;
+    for file in files {
+        page.texts(&[before_name(is_behind, between)])?;
+        page.words(&[file.name.as_bytes()])?;
+        is_behind = true;
+    }
     Ok(())
 }
 
-/// The report of a text of this name that has no findings: what that promises, in whole lines.
+/// Writes the command that prints the certificate of a text. That of annotations is extracted first.
+#[tactic(auto, unfolding(crate::specs::Reports::command))]
+fn tell_command(page: &mut Page, files: &Files<'_>) -> Result<(), AllocError>
+    ensures { Writes result page.old page.new (spec.command files.now) }
+{
+    if files.stands.is_empty() {
+        page.bytes(b"fltstack analyse ")?;
+        return tell_names(page, " ", files.all);
+    }
+    page.bytes(b"fltstack extract ")?;
+    tell_names(page, " ", files.all)?;
+    page.bytes(b" | fltstack analyse -")
+}
+
+/// Writes the promise of a text without findings, and how to see its certificate.
+#[tactic(auto, unfolding(crate::specs::Reports::nothing_report))]
+fn tell_nothing(page: &mut Page, files: &Files<'_>) -> Result<(), AllocError>
+    ensures { Writes result page.old page.new (spec.nothing_report files.now) }
+{
+    tell_names(page, ", ", files.all)?;
+    page.bytes(b": a certificate covers this text, so that no run of it breaks V1 to V8\n")?;
+    page.bytes(b"   = help: `")?;
+    tell_command(page, files)?;
+    page.bytes(b"` prints the certificate\n")
+}
+
+/// The report of a text in these files that has no findings: what that promises, in whole lines.
 ///
 /// # Errors
 ///
 /// If memory is refused.
-pub fn report_nothing(alloc: Global, name: &str) -> Result<Vec<u8>, AllocError>
-    ensures { IfOk result (λ lines. lines.items ≡ spec.nothing_report name.now) }
+pub fn report_nothing(alloc: Global, files: &Files<'_>) -> Result<Vec<u8>, AllocError>
+    ensures { IfOk result (λ lines. lines.items ≡ spec.nothing_report files.now) }
 {
     let mut page = Page::new(alloc);
-    tell_nothing(&mut page, name.as_bytes())?;
+    tell_nothing(&mut page, files)?;
     Ok(page.out)
 }
 
@@ -177,7 +207,7 @@ pub fn report_unread(
     coloured: bool,
     source: Source<'_>,
 ) -> Result<Vec<u8>, AllocError>
-    ensures { IfOk result (λ lines. IsFaultReport coloured source.entry.files.now source.entry.text.now lines.items) }
+    ensures { IfOk result (λ lines. IsFaultReport coloured source.entry.files source.entry.text.now lines.items) }
 {
     report_fault(alloc, coloured, source)
 }

@@ -10,7 +10,7 @@ use crate::excerpts::excerpt;
 use crate::mark_order::{Mark, add_mark, greatest_line};
 use crate::mark_words::{Sign, tell_mark};
 use crate::marks::{Drawing, Stroke};
-use flt_details::{FileLines, Page, Scene, Shown, file_at};
+use flt_details::{Page, Scene, Shown};
 use flt_explain::Finding;
 use flt_origins::{Cause, Origin};
 use std::alloc::{AllocError, Global};
@@ -102,9 +102,9 @@ fn stroke(sign: Sign) -> Stroke
 /// Draws marks, in their order, with their words.
 #[tactic(auto, unfolding(crate::specs::Shown::all_drawn))]
 fn draw_marks(
+    alloc: Global,
     page: &mut Page,
     drawing: &mut Drawing,
-    files: &[FileLines<'_>],
     scene: &Scene<'_>,
     finding: &Finding,
     subject: &[u8],
@@ -112,14 +112,22 @@ fn draw_marks(
     marks: &[Mark<Sign>],
 ) -> Result<(), AllocError>
     ensures { Writes result page.old page.new
-        (spec.all_drawn drawing.old.coloured drawing.old.margin files.now drawing.old.file scene.now.lines.now scene.now.graph.now finding.now subject.now
-        shown.now.answer drawing.old.last marks.now) }
+        (spec.all_drawn drawing.old.coloured drawing.old.margin scene.now.files drawing.old.file scene.now.lines.now scene.now.graph.now
+        finding.now subject.now shown.now.answer drawing.old.last marks.now) }
 {
     for mark in marks {
         let number = mark.site.place.line;
         let line = scene.lines.line(number);
-        let excerpt = excerpt(&*files, &*scene.lines, number);
-        drawing.draw(page, files, excerpt, line, &mark.site, stroke(mark.sign))?;
+        let excerpt = excerpt(&scene.files, scene.lines, number);
+        drawing.draw(
+            alloc,
+            page,
+            &scene.files,
+            excerpt,
+            line,
+            &mark.site,
+            stroke(mark.sign),
+        )?;
         tell_mark(page, scene, finding, subject, shown, mark.sign)?;
     }
     Ok(())
@@ -131,26 +139,23 @@ pub(crate) fn draw_shown(
     alloc: Global,
     page: &mut Page,
     coloured: bool,
-    files: &[FileLines<'_>],
     scene: &Scene<'_>,
     finding: &Finding,
     subject: &[u8],
     shown: &Shown,
 ) -> Result<(), AllocError>
     ensures { Writes result page.old page.new
-        (spec.shown_lines coloured files.now scene.now.lines.now scene.now.graph.now finding.now subject.now shown.now) }
+        (spec.shown_lines coloured scene.now.files scene.now.lines.now scene.now.graph.now finding.now subject.now shown.now) }
 {
     let marks = marks_of(alloc, scene, finding, shown)?;
     let marks = marks.as_slice();
-    let home = file_at(
-        files,
-        scene.site(finding.callback, finding.point).place.line,
-    );
-    let mut drawing = Drawing::new(coloured, greatest_line(files, marks), home);
+    let site = scene.site(finding.callback, finding.point);
+    let home = scene.files.file_at(site.place.line);
+    let mut drawing = Drawing::new(coloured, greatest_line(&scene.files, marks), home);
     draw_marks(
+        alloc,
         page,
         &mut drawing,
-        files,
         scene,
         finding,
         subject,

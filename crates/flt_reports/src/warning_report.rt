@@ -10,8 +10,8 @@ use crate::finding_report::{tell_callback, tell_help, tell_note, tell_numbers};
 use crate::heading::{name_at, tell_file_place, tell_warning_heading};
 use crate::mark_order::{Mark, add_mark, greatest_line};
 use crate::marks::{Drawing, Stroke};
-use flt_details::{FileLines, Marks, Page, file_at};
-use flt_places::{Lines, Region, Site};
+use flt_details::{Marks, Page};
+use flt_places::{Files, Lines, Region, Site};
 use flt_warning_details::{RelatedPlace, WarningDetail};
 use flt_warnings::Site as Point;
 use std::alloc::{AllocError, Global};
@@ -45,7 +45,7 @@ fn tell_point(page: &mut Page, point: Option<Point>) -> Result<(), AllocError>
 fn tell_head_lines(
     page: &mut Page,
     coloured: bool,
-    files: &[FileLines<'_>],
+    files: &Files<'_>,
     detail: &WarningDetail,
 ) -> Result<(), AllocError>
     ensures { Writes result page.old page.new (spec.head_lines coloured files.now detail.now) }
@@ -157,20 +157,23 @@ fn tell_mark(
 /// Draws marks, in their order, with their words.
 #[tactic(auto, unfolding(crate::specs::WarningReport::all_drawn))]
 fn draw_marks(
+    alloc: Global,
     page: &mut Page,
     drawing: &mut Drawing,
-    files: &[FileLines<'_>],
+    files: &Files<'_>,
     lines: &Lines<'_>,
     related: &[RelatedPlace],
     marks: &[Mark<Option<usize>>],
 ) -> Result<(), AllocError>
     ensures { Writes result page.old page.new
-        (spec.all_drawn drawing.old.coloured drawing.old.margin files.now drawing.old.file lines.now related.now drawing.old.last marks.now) }
+        (spec.all_drawn drawing.old.coloured drawing.old.margin files.now drawing.old.file lines.now related.now drawing.old.last
+        marks.now) }
 {
     for mark in marks {
         let number = mark.site.place.line;
-        let excerpt = excerpt(&*files, &*lines, number);
+        let excerpt = excerpt(files, lines, number);
         drawing.draw(
+            alloc,
             page,
             files,
             excerpt,
@@ -189,7 +192,7 @@ fn draw_places(
     alloc: Global,
     page: &mut Page,
     coloured: bool,
-    files: &[FileLines<'_>],
+    files: &Files<'_>,
     lines: &Lines<'_>,
     detail: &WarningDetail,
 ) -> Result<(), AllocError>
@@ -198,9 +201,9 @@ fn draw_places(
     let marks = marks_of(alloc, lines, detail)?;
     let marks = marks.as_slice();
     let first = detail.marks.statement.first.line;
-    let mut drawing = Drawing::new(coloured, greatest_line(files, marks), file_at(files, first));
+    let mut drawing = Drawing::new(coloured, greatest_line(files, marks), files.file_at(first));
     let related = detail.related.as_slice();
-    draw_marks(page, &mut drawing, files, lines, related, marks)
+    draw_marks(alloc, page, &mut drawing, files, lines, related, marks)
 }
 
 // ---- all of it
@@ -211,7 +214,7 @@ fn tell(
     alloc: Global,
     page: &mut Page,
     coloured: bool,
-    files: &[FileLines<'_>],
+    files: &Files<'_>,
     lines: &Lines<'_>,
     detail: &WarningDetail,
 ) -> Result<(), AllocError>
@@ -233,7 +236,7 @@ fn tell(
 pub fn report_warning(
     alloc: Global,
     coloured: bool,
-    files: &[FileLines<'_>],
+    files: &Files<'_>,
     lines: &Lines<'_>,
     detail: &WarningDetail,
 ) -> Result<Vec<u8>, AllocError>

@@ -5,9 +5,8 @@ ghost use Rattle.flt_details.specs.Page.{Writes};
 ghost use Rattle.flt_reports.specs.Indents.{headed};
 ghost use Rattle.flt_reports.specs.Ways as spec;
 
-use crate::excerpts::tell_line;
 use crate::indents::begin;
-use flt_details::{FileLines, Page, Scene, step_outcome, tell_branch};
+use flt_details::{Page, Part, Scene, step_outcome, tell_branch};
 use flt_ways::{Step, Way};
 use std::alloc::AllocError;
 
@@ -15,16 +14,16 @@ use std::alloc::AllocError;
 #[tactic(auto, unfolding(crate::specs::Ways::branch_line))]
 fn tell_step(
     page: &mut Page,
-    files: &[FileLines<'_>],
     home: usize,
     scene: &Scene<'_>,
     callback: usize,
     point: usize,
     outcome: &str,
 ) -> Result<(), AllocError>
-    ensures { Writes result page.old page.new (spec.branch_line files.now home scene.now.lines.now scene.now.graph.now callback point outcome.now) }
+    ensures { Writes result page.old page.new
+        (spec.branch_line scene.now.files home scene.now.lines.now scene.now.graph.now callback point outcome.now) }
 {
-    tell_line(page, files, home, scene.line(callback, point))?;
+    page.say(&[Part::Line(scene.files, home, scene.line(callback, point))])?;
     page.bytes(b": ")?;
     tell_branch(page, scene, callback, point, outcome)?;
     page.bytes(b"\n")
@@ -33,7 +32,6 @@ fn tell_step(
 /// Writes the branches among some steps, a line each, the first after a word for them.
 fn tell_steps(
     page: &mut Page,
-    files: &[FileLines<'_>],
     home: usize,
     scene: &Scene<'_>,
     callback: usize,
@@ -41,13 +39,13 @@ fn tell_steps(
     steps: &[Step],
 ) -> Result<(), AllocError>
     ensures { Writes result page.old page.new
-        (headed word.now (spec.branch_lines files.now home scene.now.lines.now scene.now.graph.now callback steps.now)) }
+        (headed word.now (spec.branch_lines scene.now.files home scene.now.lines.now scene.now.graph.now callback steps.now)) }
 {
     let mut told = false;
     for step in steps {
         if let Some(outcome) = step_outcome(scene, callback, *step) {
             begin(page, word, told)?;
-            tell_step(page, files, home, scene, callback, step.point, outcome)?;
+            tell_step(page, home, scene, callback, step.point, outcome)?;
             told = true;
         }
     }
@@ -58,7 +56,6 @@ fn tell_steps(
 #[tactic(auto, unfolding(crate::specs::Ways::path_lines))]
 pub(crate) fn tell_way(
     page: &mut Page,
-    files: &[FileLines<'_>],
     home: usize,
     scene: &Scene<'_>,
     callback: usize,
@@ -66,18 +63,10 @@ pub(crate) fn tell_way(
     way: Option<&Way>,
 ) -> Result<(), AllocError>
     ensures { Writes result page.old page.new
-        (spec.path_lines files.now home scene.now.lines.now scene.now.graph.now callback word.now (option_copied way.entry)) }
+        (spec.path_lines scene.now.files home scene.now.lines.now scene.now.graph.now callback word.now (option_copied way.entry)) }
 {
     match way {
-        Some(way) => tell_steps(
-            page,
-            files,
-            home,
-            scene,
-            callback,
-            word,
-            way.steps.as_slice(),
-        ),
+        Some(way) => tell_steps(page, home, scene, callback, word, way.steps.as_slice()),
         None => Ok(()),
     }
 }

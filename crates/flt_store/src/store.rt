@@ -99,11 +99,12 @@ impl Store {
         ensures granted { OnOk result (heap.new ≡ heap.old) }
         ensures memory { OnErr result (heap.new ≢ heap.old) }
     {
+        // What owns most lists comes last, so that few are dropped if memory is refused.
         let presences = all_attached(heap, filters)?;
+        let holders = all_unheld(heap, filters)?;
+        let items = WorkItems::new(heap, filters)?;
         let queues = Queues::new(heap, filters)?;
         let contexts = Contexts::new(heap, filters)?;
-        let items = WorkItems::new(heap, filters)?;
-        let holders = all_unheld(heap, filters)?;
         Ok(Store {
             presences,
             queues,

@@ -71,11 +71,7 @@ fn tell_named_help(page: &mut Page, kind: Kind, reason: &[u8]) -> Result<(), All
 }
 
 /// Writes why a comment allows nothing.
-fn tell_title(
-    page: &mut Page,
-    files: Files<'_>,
-    allowance: &Allowance,
-) -> Result<(), AllocError>
+fn tell_title(page: &mut Page, files: Files<'_>, allowance: &Allowance) -> Result<(), AllocError>
     ensures { Writes result page.old page.new (spec.title_of files.entry allowance.now) }
 {
     match allowance.kind {
@@ -101,11 +97,7 @@ fn tell_help(page: &mut Page, allowance: &Allowance) -> Result<(), AllocError>
     }
 }
 
-fn title_of(
-    alloc: Global,
-    files: Files<'_>,
-    allowance: &Allowance,
-) -> Result<Items<u8>, AllocError>
+fn title_of(alloc: Global, files: Files<'_>, allowance: &Allowance) -> Result<Items<u8>, AllocError>
     ensures { IfOk result (λ z. z ≡ spec.title_of files.entry allowance.now) }
 {
     let mut page = Page::new(alloc);

@@ -23,10 +23,10 @@ nothing_waits g callback slots later (Some given) = refl
 nothing_waits g callback slots later None = refl
 
 -- at the beginning nothing waits
-pub ready_begins : (g : Graph) (callback : ℕ) (slots : List Slot) (states : List Point) → length slots ≤ 512 → length states ≡ 512 →
-    ((k : ℕ) → k < 512 → get_or states k None ≡ None) → IsReady g callback slots 0 states
-ready_begins g callback slots states few count none = record {
-  count = count;
+pub ready_begins : (g : Graph) (callback : ℕ) (slots : List Slot) (states : List Point) (n : ℕ) → length slots ≤ n →
+    length states ≡ n → ((k : ℕ) → k < n → get_or states k None ≡ None) → IsReady g callback slots 0 states
+ready_begins g callback slots states n room count none = record {
+  wide = omega arith;
   each = λ later low high. none later (omega arith) ∙ sym (nothing_waits g callback slots later (get_or slots later None));
 }
 

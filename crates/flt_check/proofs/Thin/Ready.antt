@@ -158,7 +158,7 @@ module _ (g : Graph) (callback : ℕ) (slots : List Slot)
   pub ready_unreached : (p : ℕ) (states : List Point) → IsReady g callback slots p states → p < length slots →
       get_or (full_points g callback slots) p None ≡ None → IsReady g callback slots (p + 1) states
   ready_unreached p states r h none = record {
-    count = r.count;
+    wide = r.wide;
     each = λ later low high. by later low high (get_or slots later None) refl (r.each later (omega arith) high);
   }
     where
@@ -209,7 +209,7 @@ module _ (g : Graph) (callback : ℕ) (slots : List Slot)
         long = length-full g callback slots
 
         wide : length slots ≤ length states
-        wide = let count = r.count in omega arith
+        wide = r.wide
 
         other : IsOther g callback later
         other = others later high e
@@ -289,7 +289,8 @@ module _ (g : Graph) (callback : ℕ) (slots : List Slot)
     -- after a point that is reached and breaks no rule all is ready for the next one
     pub ready_reached : IsReady g callback slots (p + 1) (put_both slots p next states)
     ready_reached = record {
-      count = length-put slots p next.second (put slots p next.first states) ∙ (length-put slots p next.first states ∙ r.count);
+      wide = subst (λ n. length slots ≤ n) (sym (length-put slots p next.second (put slots p next.first states)
+          ∙ length-put slots p next.first states)) r.wide;
       each = λ later low high. by later low high (get_or slots later None) refl;
     }
       where

@@ -1,16 +1,7 @@
-use Rattle.std.proofs.Common.{◌≡◌, length, ◌∙◌, arith}
-use Rattle.std.proofs.lemmas.List.{length-set}
-use Rattle.flt_graph.specs.Kept.{is_kept}
-use Rattle.flt_cert.proofs.Counted.{kept_next}
+use Rattle.flt_cert.proofs.Counted.{all_kept}
 use Rattle.flt_cert.proofs.kept.kept_points.Goals as goal
 
-pub loop-point-preserved : goal.loop-point-preserved
-loop-point-preserved c =
-    let kept = c.loop-point.kept in
-    let n = c.loop-point.point in
-    let long : length kept ≡ 512 = c.loop-point.invariant.long in
-    record {
-      long = length-set kept n c.is_kept.result ∙ long;
-      each = kept_next kept (is_kept c.args.graph.now c.args.callback) n c.is_kept.result (omega arith) c.is_kept.ensures
-          c.loop-point.invariant.each;
-    }
+pub returns-clause-kept : goal.returns-clause-kept
+returns-clause-kept c =
+    all_kept c.args.graph.now c.args.callback c.edges_in-edges.result c.joined_points-kept.result c.keep_repeats.new.kept
+    c.edges_in-edges.ensures.counts c.joined_points-kept.ensures.joined c.keep_repeats.ensures.kept c.keep_repeats.ensures.count

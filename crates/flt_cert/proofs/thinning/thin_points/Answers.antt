@@ -20,7 +20,7 @@ loop-number-preserved c =
     c.slot_of.ensures
     ∙ (ap (λ (b : Bool). slot_of b c.index-points-number.result) is
     ∙ ap (λ (x : Point). slot_of (is_kept g c.args.callback n) x) read) in
-    c.in_ok-push.ensures.ok
-    ∙ (ap (λ (l : List Slot). l ++ c.slot_of.result ∷ []) c.loop-number.invariant
+    c.push_reserved.ensures.items
+    ∙ (ap (λ (l : List Slot). l ++ c.slot_of.result ∷ []) (c.in_ok-reserve-2.ensures.items ∙ c.loop-number.invariant)
     ∙ (ap (λ (s : Slot). thin_points g c.args.callback 0 (take n points) ++ s ∷ []) slot
     ∙ sym (slots_more g c.args.callback n points within)))

@@ -6,8 +6,8 @@ use Rattle.flt_commands.proofs.annotated.find_each.Goals as goal
 pub loop-name-init : goal.loop-name-init
 loop-name-init g c = record {
   found = record {
-    read = rw (c.new.ensures.items, c.new-2.ensures.items, c.new-4.ensures.items) none;
-    found = rw (c.new.ensures.items, c.new-2.ensures.items, c.new-3.ensures.items) no_file;
+    read = rw (c.new.ensures.items, c.new-2.ensures.items, c.new-5.ensures.items) none;
+    found = rw (c.new.ensures.items, c.new-2.ensures.items, c.new-3.ensures.items, c.new-4.ensures.items) no_file;
   };
   used = refl;
 }

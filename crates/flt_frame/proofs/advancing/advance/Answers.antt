@@ -6,7 +6,7 @@ use Rattle.flt_frame.proofs.advancing.advance.Goals as goal
 
 pub returns-in-Some-clause-advance : goal.returns-in-Some-clause-advance
 returns-in-Some-clause-advance c = λ p made.
-    c.go_locally-steps.ensures.advance (filter_at p c.args.frame.filter)
+    c.go_locally.ensures.advance (filter_at p c.args.frame.filter)
     (loaded_at p c.args.loaded.now.graphs c.args.frame.filter c.in-Some.graph.now made.graphs (sym c.in-Some.ensures.value))
 
 pub returns-in-None-clause-advance : goal.returns-in-None-clause-advance

@@ -7,6 +7,6 @@ use Rattle.flt_hints.proofs.telling.incomplete.Goals as goal
 pub returns : goal.returns
 unfolding incomplete
 returns c =
-    four_pieces c.extend_from_slice.result c.args.out.now.items _ _ _ _ (codes "the call before this isn't complete: ")
+    four_pieces c.bytes.result c.args.out.now.items _ _ _ _ (codes "the call before this isn't complete: ")
     (quoted (word_of c.args.call.kind)) (codes " in line ") c.args.line.now
-    c.in_ok-text.ensures (rw c.word.ensures at c.in_ok-quoted.ensures) c.in_ok-text-2.ensures c.extend_from_slice.ensures
+    c.in_ok-text.ensures (rw c.word.ensures at c.in_ok-quoted.ensures) c.in_ok-text-2.ensures c.bytes.ensures
