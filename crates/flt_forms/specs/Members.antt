@@ -1,15 +1,16 @@
 -- Members of JSON objects, as tokens (RFC 8259).
-use Rattle.std.specs.Prelude.{◌≡◌, ℕ, ◌-◌, codes, List, [], ◌∷◌, ◌++◌, flat_map, OnOk, Option, Some, None, Result}
+use Rattle.std.specs.Prelude.{◌≡◌, ◌==◌, ℕ, ◌-◌, codes, List, [], ◌∷◌, ◌++◌, flat_map, if◌then◌else◌, OnOk, Option, Some, None, Result}
 use Rattle.std.specs.Borrow.{Bor}
 use Rattle.std.specs.Fmt.{decimal}
 use Rattle.std.specs.Str.Lossy.{utf8_lossy}
 use Rattle.json.specs.Print.{print}
 use Rattle.json.specs.Token.{Token, begin_array, begin_object, end_array, end_object, key, string, number, null}
 use Rattle.json.specs.Written.{Written}
-use Rattle.flt_places.specs.declared.places.Region.{Region}
 use Rattle.flt_details.specs.declared.operands.Marks.{Marks}
-use Rattle.flt_details.specs.Sources.{file_at, file_line, file_name}
-use Rattle.flt_details.specs.declared.sources.FilePart.{FilePart}
+use Rattle.flt_places.specs.Files.{file_at, file_name, file_place}
+use Rattle.flt_places.specs.declared.files.Files.{Files}
+use Rattle.flt_places.specs.declared.places.Region.{Region}
+use Rattle.flt_tree.specs.declared.filter.Position.{Position}
 
 -- these tokens stand behind what was
 pub record Added (old new : Written) (ts : List Token) : Type 0 where
@@ -53,23 +54,27 @@ abbrev pub object_member : List ℕ → List Token → List Token
 object_member name members = key name ∷ begin_object ∷ (members ++ end_object ∷ [])
 
 -- the name of a file, unless it is that of the whole object
-abbrev pub other_file : List FilePart → ℕ → ℕ → List Token
+abbrev pub other_file : Files → ℕ → ℕ → List Token
 other_file files home file = if file == home then [] else string_member (codes "file") (file_name files file)
 
--- where something stands: its file, if it isn't that of the whole object, its first byte, and its last
-abbrev pub region_members : List FilePart → ℕ → Region → List Token
+-- where something stands in its file: its first byte, and its last, where this is one column behind it
+abbrev pub place_members : Position → Position → List Token
+place_members first end =
+    number_member (codes "line") first.line ++ (number_member (codes "column") first.column
+    ++ (number_member (codes "end_line") end.line ++ number_member (codes "end_column") (end.column - 1)))
+
+-- where something of a text stands: the file, if it isn't that of the whole object, and where it is there
+abbrev pub region_members : Files → ℕ → Region → List Token
 region_members files home r =
-    other_file files home (file_at files r.first.line) ++ (number_member (codes "line") (file_line files r.first.line)
-    ++ (number_member (codes "column") r.first.column ++ (number_member (codes "end_line") (file_line files r.end.line)
-    ++ number_member (codes "end_column") (r.end.column - 1))))
+    other_file files home (file_at files r.first.line) ++ place_members (file_place files r.first) (file_place files r.end)
 
 -- where that is which a finding names in a statement, or null
-abbrev pub operand_member : List FilePart → ℕ → Option Region → List Token
+abbrev pub operand_member : Files → ℕ → Option Region → List Token
 operand_member files home None = null_member (codes "operand")
 operand_member files home (Some r) = object_member (codes "operand") (region_members files home r)
 
 -- where a statement stands, and in it what a finding names
-abbrev pub marks_members : List FilePart → ℕ → Marks → List Token
+abbrev pub marks_members : Files → ℕ → Marks → List Token
 marks_members files home m = region_members files home m.statement ++ operand_member files home m.operand
 
 -- a member whose value is an array of these items

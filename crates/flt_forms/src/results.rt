@@ -1,14 +1,14 @@
 //! Results of SARIF: findings and faults of texts.
 
-ghost use Rattle.std.specs.Prelude.{◌≡◌, ◌∷◌, ◌++◌, [], IfOk, codes, flat_map, length};
-ghost use Rattle.flt_columns.specs.Columns.{column_behind, column_of};
+ghost use Rattle.std.specs.Prelude.{◌≡◌, ◌∷◌, ◌++◌, [], IfOk, codes, flat_map, option_copied, slice_get};
 ghost use Rattle.flt_forms.specs.Fingerprints.{finding_key};
-ghost use Rattle.flt_forms.specs.Members.{Added, Adds, array_member, number_member};
+ghost use Rattle.flt_forms.specs.Members.{Added, Adds, array_member};
 ghost use Rattle.flt_forms.specs.Points.{regions};
 ghost use Rattle.flt_forms.specs.Results as spec;
 ghost use Rattle.flt_forms.specs.RunFlow.{flow_of, flows_in};
+ghost use Rattle.flt_places.specs.Files.{file_at};
 
-use crate::file::File;
+use crate::file::{Artifact, File};
 use crate::fingerprints as keys;
 use crate::members::{
     close_array, close_object, open_array, open_object, put_filled, put_items, put_key, put_number,
@@ -17,11 +17,12 @@ use crate::members::{
 use crate::points::Points;
 use crate::rules::{Reported, put_of_rule};
 use crate::run_flow::{FileRuns, OwnFlow, put_run_flow};
+use crate::short::place_of;
 use crate::uri::Reference;
-use flt_columns::{column_behind, column_of};
-use flt_details::{Detail, Maker, Marks, Stage, WayKind, file_at, file_line};
+use flt_columns::file_column_behind;
+use flt_details::{Detail, Maker, Marks, Stage, WayKind};
 use flt_graph::Graph;
-use flt_places::{Lines, Region};
+use flt_places::{Files, Region};
 use flt_syntax::SyntaxFault;
 use flt_tree::Position;
 use json::Writer;
@@ -65,16 +66,14 @@ pub(crate) fn put_reference(
     put_base(writer, reference.is_absolute)
 }
 
-/// Writes the file in which a line of a text is, by its name and its number.
-pub(crate) fn put_artifact(
+/// Writes a file, by its name and its number.
+pub(crate) fn put_whole_artifact(
     alloc: Global,
     writer: &mut Writer,
-    file: &File<'_>,
-    line: usize,
-) -> Result<(), AllocError> {
-    let Some(artifact) = file.artifacts.get(file_at(file.files.as_slice(), line)) else {
-        return Ok(());
-    };
+    artifact: &Artifact,
+) -> Result<(), AllocError>
+    ensures { Adds result writer.old writer.new (spec.artifact_by (Some artifact.now)) }
+{
     put_key(writer, "artifactLocation")?;
     open_object(writer)?;
     put_reference(alloc, writer, &artifact.reference)?;
@@ -82,33 +81,68 @@ pub(crate) fn put_artifact(
     close_object(writer)
 }
 
-/// Writes the column of a place, in UTF-16 units.
-fn put_column(
-    writer: &mut Writer,
-    name: &str,
-    lines: &Lines<'_>,
-    place: Position,
-) -> Result<(), AllocError>
-    ensures { Adds result writer.old writer.new (number_member name.now (column_of lines.now place)) }
+/// The file in which a line of a text is, if there is one.
+fn artifact_at<'f>(file: &'f File<'_>, line: usize) -> Option<&'f Artifact>
+    ensures { option_copied result ≡ slice_get file.now.artifacts (file_at file.now.files line) }
 {
-    put_number(writer, name, column_of(lines, place))
+    file.artifacts.get(file.files.file_at(line))
 }
 
-/// Writes where a region begins and ends.
+/// Writes the file in which a line of a text is, by its name and its number.
+pub(crate) fn put_artifact(
+    alloc: Global,
+    writer: &mut Writer,
+    file: &File<'_>,
+    line: usize,
+) -> Result<(), AllocError>
+    ensures { Adds result writer.old writer.new (spec.artifact_location file.now line) }
+{
+    match artifact_at(file, line) {
+        None => Ok(()),
+        Some(artifact) => put_whole_artifact(alloc, writer, artifact),
+    }
+}
+
+/// Writes a region: where it begins, and one column after its end.
+pub(crate) fn put_region(
+    writer: &mut Writer,
+    name: &str,
+    first: Position,
+    end: Position,
+) -> Result<(), AllocError>
+    ensures { Adds result writer.old writer.new (spec.region_member name.now first end) }
+{
+    put_key(writer, name)?;
+    open_object(writer)?;
+    put_number(writer, "startLine", first.line)?;
+    put_number(writer, "startColumn", first.column)?;
+    put_number(writer, "endLine", end.line)?;
+    put_number(writer, "endColumn", end.column)?;
+    close_object(writer)
+}
+
+/// The place that is `count` bytes after a place of a text, in the line of its file; its column counts in UTF-16 units.
+fn units_behind(files: &Files<'_>, place: Position, count: usize) -> Position
+    ensures { result ≡ spec.units_behind files.now place count }
+{
+    Position {
+        line: files.file_line(place.line),
+        column: file_column_behind(files, place, count),
+    }
+}
+
+/// Writes where a region of a text begins and ends in its file.
 pub(crate) fn put_whole_region(
     writer: &mut Writer,
     name: &str,
     file: &File<'_>,
     region: Region,
-) -> Result<(), AllocError> {
-    let files = file.files.as_slice();
-    put_key(writer, name)?;
-    open_object(writer)?;
-    put_number(writer, "startLine", file_line(files, region.first.line))?;
-    put_column(writer, "startColumn", &file.lines, region.first)?;
-    put_number(writer, "endLine", file_line(files, region.end.line))?;
-    put_column(writer, "endColumn", &file.lines, region.end)?;
-    close_object(writer)
+) -> Result<(), AllocError>
+    ensures { Adds result writer.old writer.new (spec.whole_region name.now file.now region) }
+{
+    let first = units_behind(&file.files, region.first, 0);
+    let end = units_behind(&file.files, region.end, 0);
+    put_region(writer, name, first, end)
 }
 
 /// Writes where a region of a file is.
@@ -611,8 +645,8 @@ fn put_next_result(
     };
     let points = Points {
         lines: &file.lines,
-        files: file.files.as_slice(),
-        home: file_at(file.files.as_slice(), detail.marks.statement.first.line),
+        files: file.files,
+        home: file.files.file_at(detail.marks.statement.first.line),
         graph,
         callback: detail.finding.callback,
     };
@@ -652,23 +686,6 @@ pub(crate) fn put_results(
 
 // ---- faults
 
-/// Writes the column after the bytes at which a text is refused.
-fn put_fault_end(
-    writer: &mut Writer,
-    lines: &Lines<'_>,
-    place: Position,
-    found: &[u8],
-) -> Result<(), AllocError>
-    ensures { Adds result writer.old writer.new
-        (number_member (codes "endColumn") (column_behind lines.now place (length found.now))) }
-{
-    put_number(
-        writer,
-        "endColumn",
-        column_behind(lines, place, found.len()),
-    )
-}
-
 /// Writes the region of the bytes at which a text is refused.
 fn put_fault_region(
     writer: &mut Writer,
@@ -678,23 +695,9 @@ fn put_fault_region(
 ) -> Result<(), AllocError>
     ensures { Adds result writer.old writer.new (spec.fault_region file.now place found.now) }
 {
-    put_key(writer, "region")?;
-    open_object(writer)?;
-    let line = file_line(file.files.as_slice(), place.line);
-    put_number(writer, "startLine", line)?;
-    put_column(writer, "startColumn", &file.lines, place)?;
-    put_number(writer, "endLine", line)?;
-    put_fault_end(writer, &file.lines, place, found)?;
-    close_object(writer)
-}
-
-fn place_of(fault: SyntaxFault) -> Position
-    ensures { result ≡ spec.place_of fault }
-{
-    Position {
-        line: fault.line,
-        column: fault.column,
-    }
+    let first = units_behind(&file.files, place, 0);
+    let end = units_behind(&file.files, place, found.len());
+    put_region(writer, "region", first, end)
 }
 
 fn put_fault_physical(

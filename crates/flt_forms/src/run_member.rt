@@ -1,7 +1,6 @@
 //! Runs that break something because of findings, as JSON.
 
 ghost use Rattle.std.specs.Prelude.{◌≡◌, IfOk, Some, codes, flat_map, slice_get};
-ghost use Rattle.flt_details.specs.Reports.{texts_of};
 ghost use Rattle.flt_forms.specs.Members.{Adds, object_member, region_members};
 ghost use Rattle.flt_forms.specs.Run.{at, source_of as run_source};
 ghost use Rattle.flt_forms.specs.RunMember as spec;
@@ -11,9 +10,9 @@ use crate::members::{
     put_region_members, put_string,
 };
 use crate::run::{FindingRun, run_of, source_of as source_of_activation, violation_name};
-use flt_details::{FileLines, Source, file_lines};
+use flt_details::Source;
 use flt_flows::{FlowActivation, FlowStep};
-use flt_places::{Lines, Region};
+use flt_places::{Files, Lines, Region};
 use flt_tree::Span;
 use json::Writer;
 use std::alloc::{AllocError, Global};
@@ -22,14 +21,14 @@ use std::alloc::{AllocError, Global};
 #[derive(Drop)]
 pub(crate) struct TextLines<'s> {
     lines: Lines<'s>,
-    files: Vec<FileLines<'s>>,
+    files: Files<'s>,
 }
 
 /// Texts, and runs of their filters that break something, if they were looked for.
 #[derive(Clone, Copy)]
 pub(crate) struct TextRuns<'r, 's> {
     pub(crate) sources: &'r [Source<'s>],
-    /// The lines of each text, if there are runs.
+    /// The lines of each text, and its files, if there are runs.
     pub(crate) texts: &'r [TextLines<'s>],
     pub(crate) runs: Option<&'r [FindingRun]>,
 }
@@ -137,12 +136,8 @@ fn put_activations(
 
 // ---- entries
 
-fn put_region(
-    writer: &mut Writer,
-    files: &[FileLines<'_>],
-    region: Region,
-) -> Result<(), AllocError>
-    ensures { Adds result writer.old writer.new (object_member (codes "place") (region_members region)) }
+fn put_region(writer: &mut Writer, files: &Files<'_>, region: Region) -> Result<(), AllocError>
+    ensures { Adds result writer.old writer.new (object_member (codes "place") (region_members files.now 0 region)) }
 {
     put_key(writer, "place")?;
     open_object(writer)?;
@@ -152,11 +147,11 @@ fn put_region(
 
 /// Writes where something is in a text, or null.
 fn put_span(writer: &mut Writer, text: &TextLines<'_>, span: Option<Span>) -> Result<(), AllocError>
-    ensures { Adds result writer.old writer.new (spec.region_in lines.now span) }
+    ensures { Adds result writer.old writer.new (spec.region_in text.now span) }
 {
     match span {
         None => put_null(writer, "place"),
-        Some(span) => put_region(writer, text.files.as_slice(), text.lines.region(span)),
+        Some(span) => put_region(writer, &text.files, text.lines.region(span)),
     }
 }
 
@@ -226,18 +221,26 @@ fn put_entries(
 
 // ---- the run
 
-/// The lines of each text.
+/// The lines of a text, and its files.
+fn lines_of<'s>(alloc: Global, source: Source<'s>) -> Result<TextLines<'s>, AllocError>
+    ensures { IfOk result (λ text. text ≡ spec.lines_of source.entry) }
+{
+    let lines = Lines::of(alloc, source.text)?;
+    let files = source.files;
+    Ok(TextLines { lines, files })
+}
+
+/// The lines of each text, and its files.
 pub(crate) fn texts_in<'s>(
     alloc: Global,
     sources: &[Source<'s>],
 ) -> Result<Vec<TextLines<'s>>, AllocError>
-    ensures { IfOk result (λ texts. texts.items ≡ texts_of sources.now) }
+    ensures { IfOk result (λ texts. texts.items ≡ spec.texts_of sources.now) }
 {
     let mut texts = Vec::new(alloc);
     for source in sources {
-        let lines = Lines::of(alloc, source.text)?;
-        let files = file_lines(alloc, source.files)?;
-        texts.push(TextLines { lines, files })?;
+        let text = lines_of(alloc, *source)?;
+        texts.push(text)?;
     }
     Ok(texts)
 }

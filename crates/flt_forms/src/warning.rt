@@ -10,7 +10,7 @@ use crate::members::{
     put_marks, put_null, put_number, put_string,
 };
 use crate::preface::put_preface;
-use flt_details::{FileLines, file_at, file_name};
+use flt_places::Files;
 use flt_warning_details::{RelatedPlace, WarningDetail};
 use flt_warnings::{Kind, Site};
 use json::Writer;
@@ -59,11 +59,11 @@ fn put_site(writer: &mut Writer, site: Option<Site>) -> Result<(), AllocError>
 /// Writes the level and the place of a warning.
 fn put_place(
     writer: &mut Writer,
-    files: &[FileLines<'_>],
+    files: &Files<'_>,
     home: usize,
     detail: &WarningDetail,
 ) -> Result<(), AllocError>
-    ensures { Adds result writer.old writer.new (spec.place detail.now) }
+    ensures { Adds result writer.old writer.new (spec.place files.now home detail.now) }
 {
     put_warning_level(writer)?;
     put_site(writer, detail.site)?;
@@ -84,11 +84,11 @@ fn put_words(alloc: Global, writer: &mut Writer, detail: &WarningDetail) -> Resu
 fn put_related_place(
     alloc: Global,
     writer: &mut Writer,
-    files: &[FileLines<'_>],
+    files: &Files<'_>,
     home: usize,
     place: &RelatedPlace,
 ) -> Result<(), AllocError>
-    ensures { Adds result writer.old writer.new (spec.related_place place.now) }
+    ensures { Adds result writer.old writer.new (spec.related_place files.now home place.now) }
 {
     open_object(writer)?;
     put_marks(writer, files, home, place.marks)?;
@@ -99,11 +99,11 @@ fn put_related_place(
 fn put_related_places(
     alloc: Global,
     writer: &mut Writer,
-    files: &[FileLines<'_>],
+    files: &Files<'_>,
     home: usize,
     places: &Items<RelatedPlace>,
 ) -> Result<(), AllocError>
-    ensures { Adds result writer.old writer.new (flat_map spec.related_place places.now) }
+    ensures { Adds result writer.old writer.new (flat_map (spec.related_place files.now home) places.now) }
 {
     for place in places.as_slice() {
         put_related_place(alloc, writer, files, home, place)?;
@@ -115,11 +115,11 @@ fn put_related_places(
 fn put_related(
     alloc: Global,
     writer: &mut Writer,
-    files: &[FileLines<'_>],
+    files: &Files<'_>,
     home: usize,
     detail: &WarningDetail,
 ) -> Result<(), AllocError>
-    ensures { Adds result writer.old writer.new (spec.related detail.now) }
+    ensures { Adds result writer.old writer.new (spec.related files.now home detail.now) }
 {
     put_key(writer, "related")?;
     open_array(writer)?;
@@ -144,14 +144,14 @@ fn put_suppressed(
 fn put_warning(
     alloc: Global,
     writer: &mut Writer,
-    files: &[FileLines<'_>],
+    files: &Files<'_>,
+    home: usize,
     detail: &WarningDetail,
 ) -> Result<(), AllocError>
-    ensures { Adds result writer.old writer.new (spec.warning name.now detail.now) }
+    ensures { Adds result writer.old writer.new (spec.warning files.now home detail.now) }
 {
-    let home = file_at(files, detail.marks.statement.first.line);
     open_object(writer)?;
-    put_preface(writer, "warning", file_name(files, home))?;
+    put_preface(writer, "warning", files.file_name(home))?;
     put_place(writer, files, home, detail)?;
     put_words(alloc, writer, detail)?;
     put_related(alloc, writer, files, home, detail)?;
@@ -163,13 +163,14 @@ fn put_warning(
 fn put_line(
     alloc: Global,
     out: Vec<u8>,
-    files: &[FileLines<'_>],
+    files: &Files<'_>,
     detail: &WarningDetail,
 ) -> Result<Vec<u8>, AllocError>
-    ensures { IfOk result (λ v. v.items ≡ out.items ++ spec.warning_line name.now detail.now) }
+    ensures { IfOk result (λ v. v.items ≡ out.items ++ spec.warning_line files.now detail.now) }
 {
+    let home = files.file_at(detail.marks.statement.first.line);
     let mut writer = Writer::new(out);
-    put_warning(alloc, &mut writer, files, detail)?;
+    put_warning(alloc, &mut writer, files, home, detail)?;
     let mut out = writer.into_inner();
     out.push(b'\n')?;
     Ok(out)
@@ -179,10 +180,10 @@ fn put_line(
 pub(crate) fn put_warnings(
     alloc: Global,
     out: Vec<u8>,
-    files: &[FileLines<'_>],
+    files: &Files<'_>,
     warned: &[WarningDetail],
 ) -> Result<Vec<u8>, AllocError>
-    ensures { IfOk result (λ v. v.items ≡ out.items ++ flat_map (spec.warning_line name.now) warned.now) }
+    ensures { IfOk result (λ v. v.items ≡ out.items ++ flat_map (spec.warning_line files.now) warned.now) }
 {
     let mut out = out;
     for detail in warned {

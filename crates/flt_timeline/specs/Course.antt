@@ -142,7 +142,8 @@ pub data Gone : Type 0 where
   Stays : (why : Refusal) → Gone
 
 module _ (p : List Filter) (a : ℕ) (grant : Bool) (filter end : ℕ) where
-  -- what the step that others see came to, from one world to another: the number of the filter, its line, and how a call or a test in it came out
+  -- what the step that others see came to, from one world to another: the number of the filter, its line, and how a call or a test in it
+  -- came out
   abbrev pub ran : World → World → Happening
   ran w u =
       let rest = (activation_at w a).rest in

@@ -1,8 +1,10 @@
 -- What is said of an entry, to the letter. This project's own program.
-use Rattle.std.specs.Prelude.{◌≡◌, ℕ, ◌+◌, ◌-◌, Bool, true, false, List, [], ◌∷◌, ◌++◌, Option, Some, None, Result, OnOk, codes, length, map, nat_le, nat_lt, slice_get, if◌then◌else◌}
+use Rattle.std.specs.Prelude.{◌≡◌, ℕ, ◌+◌, Bool, true, false, List, [], ◌∷◌, ◌++◌, Option, Some, None, Result, OnOk, codes, length, map, nat_lt, slice_get, if◌then◌else◌}
 use Rattle.std.specs.Borrow.{Bor}
 use Rattle.std.specs.Char.{is_ascii_graphic}
 use Rattle.std.specs.Fmt.{decimal}
+use Rattle.flt_places.specs.Files.{file_at, file_line, file_name}
+use Rattle.flt_places.specs.declared.files.Files.{Files}
 use Rattle.flt_rules.specs.declared.place.Mode.{Mode}
 use Rattle.flt_rules.specs.declared.place.Mode.TheVariants.{Irp, Fast}
 use Rattle.flt_rules.specs.declared.place.Operation.{Operation}
@@ -20,7 +22,6 @@ use Rattle.flt_model.specs.declared.moves.Move.{Move}
 use Rattle.flt_model.specs.declared.moves.Move.TheVariants as moves
 use Rattle.flt_model.specs.declared.verdict.Violation.{Violation}
 use Rattle.flt_model.specs.declared.verdict.Violation.TheVariants.{V1, V2, V3, V4, V5, V6, V7, V8}
-use Rattle.flt_timeline.specs.declared.telling.FileStart.{FileStart}
 use Rattle.flt_timeline.specs.declared.telling.Happening.{Happening}
 use Rattle.flt_timeline.specs.declared.telling.Happening.TheVariants as happenings
 use Rattle.flt_timeline.specs.declared.telling.Started.{Started}
@@ -141,38 +142,29 @@ operation_words word None = word
 
 -- ---- lines
 
--- the number of the last of some files that begins at a line of the text or before it, where the first of them has this number; else
--- another number
-abbrev pub file_from : ℕ → ℕ → List FileStart → ℕ → ℕ
-file_from number at [] line = at
-file_from number at (file ∷ files) line =
-    if nat_le file.first line then file_from (number + 1) number files line else file_from (number + 1) at files line
-
-abbrev pub file_at : List FileStart → ℕ → ℕ
-file_at files line = file_from 0 0 files line
-
--- a file's name before a line in it, where there are several files
-abbrev pub name_before : ℕ → FileStart → Text
-name_before many file = if nat_lt 1 many then map shown file.name.now ++ codes ":" else []
+-- the name of the file of a line of a text, where there are several files
+abbrev pub name_before : Files → ℕ → Text
+name_before files line = if nat_lt 1 (length files.all.now) then map shown (file_name files (file_at files line)) ++ codes ":" else []
 
 -- a line of a text by its number in its file
-abbrev pub line_by : ℕ → Option FileStart → ℕ → Text
-line_by many None line = decimal line
-line_by many (Some file) line = name_before many file ++ decimal (line - (file.first - 1))
+abbrev pub line_in : Files → ℕ → Text
+line_in files line = name_before files line ++ decimal (file_line files line)
 
-abbrev pub line_words : List FileStart → ℕ → Text
-line_words files line = line_by (length files) (slice_get files (file_at files line)) line
+-- the same; by its number in the text, where the files aren't known
+abbrev pub line_words : Option Files → ℕ → Text
+line_words None line = decimal line
+line_words (Some files) line = line_in files line
 
--- the files of the filter of a number; none where they aren't known
-abbrev pub files_by : Option (Bor (List FileStart)) → List FileStart
-files_by None = []
-files_by (Some files) = files.now
+-- the files of the filter of a number, if they are known
+abbrev pub files_by : Option (Option Files) → Option Files
+files_by None = None
+files_by (Some files) = files
 
-abbrev pub files_of : List (Bor (List FileStart)) → ℕ → List FileStart
+abbrev pub files_of : List (Option Files) → ℕ → Option Files
 files_of files filter = files_by (slice_get files filter)
 
 -- what an entry came to that is about this operation, if it is about one
-abbrev pub happening_words : List (Bor Filter) → List (Bor (List FileStart)) → Option ℕ → Happening → Text
+abbrev pub happening_words : List (Bor Filter) → List (Option Files) → Option ℕ → Happening → Text
 happening_words filters files operation (happenings.Arrives kind mode file) = arrival_words kind mode file
 happening_words filters files operation happenings.Skips = operation_words (codes "skip ") operation
 happening_words filters files operation happenings.Lowers = operation_words (codes "lower ") operation
@@ -181,7 +173,8 @@ happening_words filters files operation (happenings.Detaches altitude) = codes "
 happening_words filters files operation (happenings.Unlinks altitude key) = unlink_words altitude key
 happening_words filters files operation (happenings.IsDetached altitude) = codes "detached " ++ decimal altitude
 happening_words filters files operation (happenings.Starts started) = callback_words filters started ++ starts_word started.draining
-happening_words filters files operation (happenings.Runs filter line outcome) = line_words (files_of files filter) line ++ outcome_word outcome
+happening_words filters files operation (happenings.Runs filter line outcome) =
+    line_words (files_of files filter) line ++ outcome_word outcome
 happening_words filters files operation (happenings.IsRefused entry) = entry_words entry
 happening_words filters files operation happenings.IsLeftOut = codes "not judged"
 

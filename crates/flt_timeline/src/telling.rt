@@ -35,8 +35,8 @@ pub(crate) enum Happening {
     Unlinks(u32, Key),
     IsDetached(u32),
     Starts(Started),
-    /// The number of a filter, from the highest altitude, and a line of its text, from 1, whose statement others see; and if it is a call or a
-    /// test, whether it succeeds or holds.
+    /// The number of a filter, from the highest altitude, and a line of its text, from 1, whose statement others see; and if it is a call
+    /// or a test, whether it succeeds or holds.
     Runs(usize, usize, Option<bool>),
     /// It isn't enabled.
     IsRefused(JournalEntry),
@@ -62,12 +62,4 @@ pub(crate) struct Who {
     pub(crate) activation: Option<usize>,
     /// Whether the activation, or the run, ends with it.
     pub(crate) ends: bool,
-}
-
-/// A file in which lines of a filter's text are, from one line on.
-#[derive(Clone, Copy)]
-pub struct FileStart<'a> {
-    pub name: &'a str,
-    /// The line of the text that is line 1 of the file.
-    pub first: usize,
 }

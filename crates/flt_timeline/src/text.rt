@@ -6,7 +6,7 @@ ghost use Rattle.std.specs.List.{range_with_len};
 ghost use Rattle.flt_timeline.specs.Folds.{part as told_in};
 ghost use Rattle.flt_timeline.specs.Reasons.{refusal_words};
 ghost use Rattle.flt_timeline.specs.Text as spec;
-ghost use Rattle.flt_timeline.specs.Words.{Puts, violation_word as violation_code};
+ghost use Rattle.flt_timeline.specs.Words.{Puts, files_of as files_by_filter, line_words, violation_word as violation_code};
 
 use crate::columns::COLUMNS;
 use crate::folds::{Fold, folds_of, from, part, stretch};
@@ -608,12 +608,20 @@ impl<'a> Timeline<'a> {
         Ok(out)
     }
 
-    /// Writes the number of a line of the text of a filter in its file, after the file's name if there are several.
+    /// Writes the number in its file of a line of the text of a filter, after the file's name if there are several. Filters count from 0,
+    /// from the highest altitude, and lines from 1.
     ///
     /// # Errors
     ///
     /// If memory is refused.
-    pub fn put_text_line(&self, out: &mut String, filter: usize, line: usize) -> Result<(), AllocError> {
+    pub fn put_text_line(
+        &self,
+        out: &mut String,
+        filter: usize,
+        line: usize,
+    ) -> Result<(), AllocError>
+        ensures { Puts result (string_bytes out.old) (string_bytes out.new) (line_words (files_by_filter self.now.files filter) line) }
+    {
         put_line(out, files_of(self.files.as_slice(), filter), line)
     }
 

@@ -4,8 +4,9 @@ ghost use Rattle.std.specs.Prelude.{◌≡◌, ◌++◌, ◌<◌, ◌≤◌, cod
 ghost use Rattle.std.specs.Fmt.{decimal};
 ghost use Rattle.flt_timeline.specs.Words as spec;
 
-use crate::telling::{FileStart, Happening, Started};
+use crate::telling::{Happening, Started};
 use flt_model::{JournalEntry, Key, Move, Violation};
+use flt_places::Files;
 use flt_rules::{Mode, Operation};
 use flt_tree::{Filter, Head};
 use std::alloc::AllocError;
@@ -226,62 +227,69 @@ fn put_start(out: &mut String, filters: &[&Filter], started: Started) -> Result<
     })
 }
 
-/// The number of the last of some files that begins at a line or before it; 0 if none does.
-fn file_at(files: &[FileStart<'_>], line: usize) -> usize
-    ensures { result ≡ spec.file_at files.now line }
+/// The name of the file of a line of a text, before the line's number, if there are several files.
+fn put_file(out: &mut String, files: &Files<'_>, line: usize) -> Result<(), AllocError>
+    ensures { spec.Puts result (string_bytes out.old) (string_bytes out.new) (spec.name_before files.now line) }
 {
-    let mut at = 0;
-    for number in 0..files.len() {
-        if files[number].first <= line {
-            at = number;
-        }
+    if files.all.len() > 1 {
+        put_name(out, files.file_name(files.file_at(line)).as_bytes())?;
+        return out.push_str(":");
     }
-    at
+    Ok(())
 }
 
-/// Writes a line of a text that is in these files: its number in its file, after the file's name if there are several.
+/// A line of a text by its number in its file, after the file's name if there are several.
+fn put_line_in(out: &mut String, files: &Files<'_>, line: usize) -> Result<(), AllocError>
+    ensures { spec.Puts result (string_bytes out.old) (string_bytes out.new) (spec.line_in files.now line) }
+{
+    put_file(out, files, line)?;
+    let line = files.file_line(line);
+    write!(out, "{line}")
+}
+
+/// The same; by its number in the text, if the files aren't known.
 pub(crate) fn put_line(
     out: &mut String,
-    files: &[FileStart<'_>],
+    files: Option<Files<'_>>,
     line: usize,
 ) -> Result<(), AllocError>
-    ensures { spec.Puts result (string_bytes out.old) (string_bytes out.new) (spec.line_words files.now line) }
+    ensures { spec.Puts result (string_bytes out.old) (string_bytes out.new) (spec.line_words files.entry line) }
 {
-    let at = file_at(files, line);
-    let Some(file) = files.get(at) else {
-        return write!(out, "{line}");
-    };
-    if files.len() > 1 {
-        put_name(out, file.name.as_bytes())?;
-        out.push_str(":")?;
+    match files {
+        None => write!(out, "{line}"),
+        Some(files) => put_line_in(out, &files, line),
     }
-    let line = line.saturating_sub(file.first.saturating_sub(1));
-    write!(out, "{line}")
+}
+
+fn put_outcome(out: &mut String, outcome: Option<bool>) -> Result<(), AllocError>
+    ensures { spec.Puts result (string_bytes out.old) (string_bytes out.new) (spec.outcome_word outcome) }
+{
+    match outcome {
+        Some(outcome) => out.push_str(choice_word(outcome)),
+        None => Ok(()),
+    }
 }
 
 fn put_run(
     out: &mut String,
-    files: &[FileStart<'_>],
+    files: Option<Files<'_>>,
     line: usize,
     outcome: Option<bool>,
 ) -> Result<(), AllocError>
     ensures { spec.Puts result (string_bytes out.old) (string_bytes out.new)
-        (spec.line_words files.now line ++ spec.outcome_word outcome) }
+        (spec.line_words files.entry line ++ spec.outcome_word outcome) }
 {
     put_line(out, files, line)?;
-    out.push_str(match outcome {
-        Some(outcome) => choice_word(outcome),
-        None => "",
-    })
+    put_outcome(out, outcome)
 }
 
-/// The files of the filter of a number; none if they aren't known.
-pub(crate) fn files_of<'f>(files: &[&'f [FileStart<'f>]], filter: usize) -> &'f [FileStart<'f>]
-    ensures { result.now ≡ spec.files_of files.now filter }
+/// The files of the filter of a number, if they are known.
+pub(crate) fn files_of<'f>(files: &[Option<Files<'f>>], filter: usize) -> Option<Files<'f>>
+    ensures { result ≡ spec.files_of files.now filter }
 {
     match files.get(filter) {
         Some(files) => *files,
-        None => &[],
+        None => None,
     }
 }
 
@@ -303,11 +311,12 @@ pub(crate) fn put_operation(
 pub(crate) fn put_happening(
     out: &mut String,
     filters: &[&Filter],
-    files: &[&[FileStart<'_>]],
+    files: &[Option<Files<'_>>],
     operation: Option<usize>,
     happening: Happening,
 ) -> Result<(), AllocError>
-    ensures { spec.Puts result (string_bytes out.old) (string_bytes out.new) (spec.happening_words filters.now files.now operation happening) }
+    ensures { spec.Puts result (string_bytes out.old) (string_bytes out.new)
+        (spec.happening_words filters.now files.now operation happening) }
 {
     match happening {
         Happening::Arrives(kind, mode, file) => put_arrival(out, kind, mode, file),
