@@ -1,8 +1,8 @@
 -- How the texts of files are kept until they are reported. This project's own program.
-use Rattle.std.specs.Prelude.{◌≡◌, ◌<◌, ◌≤◌, ◌==◌, ◌&&◌, ◌+◌, ◌-◌, ◌++◌, ◌∷◌, ℕ, All, Bool, true, not, List, [], Option, Some, None, Ok, flat_map, get_or, length, map, slice_get, slice_range, take}
+use Rattle.std.specs.Prelude.{◌≡◌, ◌<◌, ◌≤◌, ◌==◌, ◌&&◌, ◌+◌, ◌-◌, ◌++◌, ◌∷◌, ℕ, All, Bool, true, not, List, [], Option, Some, None, Ok, Result, flat_map, get_or, length, map, slice_get, slice_range, take}
 use Rattle.std.specs.List.{AllZip, filter}
-use Rattle.flt_c.specs.Files.{extracted}
 use Rattle.flt_c.specs.Texts as c
+use Rattle.flt_c.specs.declared.files.FileFlaw.{FileFlaw}
 use Rattle.flt_details.specs.declared.sources.Source.{Source}
 use Rattle.flt_forms.specs.declared.unread.UnreadFile.{UnreadFile}
 use Rattle.flt_places.specs.declared.files.SourceFile.{SourceFile}
@@ -13,7 +13,7 @@ use Rattle.flt_commands.specs.Joined.{AreGrouped, Given, file_in, file_of, flawe
 use Rattle.flt_commands.specs.declared.annotated.FoundFiles.{FoundFiles}
 use Rattle.flt_commands.specs.declared.joined.Joined.{Joined}
 use Rattle.flt_commands.specs.declared.joined.JoinedText.{JoinedText}
-use Rattle.flt_commands.specs.declared.joined.OwnText.{OwnText}
+use Rattle.flt_commands.specs.declared.joined.PlacedText.{PlacedText}
 use Rattle.flt_commands.specs.declared.joined.Span.{Span}
 
 -- ---- the files that are read
@@ -70,36 +70,22 @@ pub record AreSpans (f : FoundFiles) (spans : List Span) : Type 0 where
 
 -- ---- their texts
 
--- the bytes of a text, and where its lines are: its own, or those of its only file
-abbrev pub bytes_by : Option OwnText → Text → Text
-bytes_by (Some own) bytes = own.bytes.items
-bytes_by None bytes = bytes
-
-abbrev pub stands_by : Option OwnText → List Stand → List Stand
-stands_by (Some own) stands = own.stands.items
-stands_by None stands = stands
-
-abbrev pub bytes_of : FoundFiles → JoinedText → Text
-bytes_of f j = bytes_by j.own (get_or (texts_in f) j.span.first [])
-
-abbrev pub stands_in : FoundFiles → JoinedText → List Stand
-stands_in f j = stands_by j.own (get_or (places_in f) j.span.first [])
-
--- C files have these annotations, whose lines are there
-pub record IsExtracted (files : List Text) (own : OwnText) : Type 0 where
+-- this is a text, and its lines are there
+pub record IsPlaced (made : Result c.Text FileFlaw) (p : PlacedText) : Type 0 where
   pub text : c.Text
-  pub is : extracted files ≡ Ok text
-  pub bytes : own.bytes.items ≡ text.bytes
-  pub stands : own.stands.items ≡ map stand_of text.lines
+  pub is : made ≡ Ok text
+  pub bytes : p.bytes.items ≡ text.bytes
+  pub stands : p.stands.items ≡ map stand_of text.lines
 
--- the text of the files of a span is kept so
+-- the text of some files is kept so, of those of a span
 pub record IsJoined (f : FoundFiles) (group : List Given) (j : JoinedText) : Type 0 where
   pub group : group ≡ files_in (files_of f) j.span
   pub span : IsSpan f j.span
-  pub text : c.Text
-  pub is : text_of group ≡ Ok text
-  pub bytes : bytes_of f j ≡ text.bytes
-  pub stands : stands_in f j ≡ map stand_of text.lines
+  pub placed : IsPlaced (text_of group) j.text
+
+-- texts by themselves
+abbrev pub bytes_in : List JoinedText → List Text
+bytes_in texts = map (λ (j : JoinedText). j.text.bytes.items) texts
 
 -- the text of some files is added, or the file by which there is none
 pub record IsAdded (old new : Joined) (group : List Given) : Type 0 where
@@ -124,7 +110,7 @@ abbrev pub AreSourceFiles : (Text → Text) → FoundFiles → List SourceFile �
 AreSourceFiles told f files = map file_in files ≡ map (file_of told) (files_of f)
 
 -- a source is of a text that is kept so
-pub record IsSourceIn (files : List SourceFile) (f : FoundFiles) (j : JoinedText) (s : Source) : Type 0 where
-  pub bytes : s.text.now ≡ bytes_of f j
+pub record IsSourceIn (files : List SourceFile) (j : JoinedText) (s : Source) : Type 0 where
+  pub bytes : s.text.now ≡ j.text.bytes.items
   pub files : s.files.all.now ≡ slice_range files j.span.first j.span.end
-  pub stands : s.files.stands.now ≡ stands_in f j
+  pub stands : s.files.stands.now ≡ j.text.stands.items

@@ -7,7 +7,7 @@ ghost use Rattle.flt_commands.specs.Inputs.{is_standard as is_standard_name};
 
 use crate::inputs::{Inputs, is_standard};
 use crate::unread::Unread;
-use flt_c::{FileFlaw, Line, PlaceFlaw, extract};
+use flt_c::{FileFlaw, Line, extract};
 use flt_c_files::is_c_file;
 use flt_forms::UnreadFile;
 use flt_places::Stand;
@@ -22,9 +22,9 @@ fn is_taken_for_c(all: bool, name: &str) -> bool
 
 /// The text of a file, where its lines are, and the C file in which they are, if it is one's annotations.
 #[derive(Drop)]
-struct Found {
-    text: Vec<u8>,
-    stands: Vec<Stand>,
+pub(crate) struct Found {
+    pub(crate) text: Vec<u8>,
+    pub(crate) stands: Vec<Stand>,
     code: Option<Vec<u8>>,
 }
 
@@ -51,7 +51,10 @@ pub(crate) fn stands_of(alloc: Global, lines: &[Line]) -> Result<Vec<Stand>, All
 }
 
 /// The annotations of a C file, or why they make no text.
-fn annotations(alloc: Global, file: Vec<u8>) -> Result<Result<Found, Unread>, AllocError>
+pub(crate) fn annotations(
+    alloc: Global,
+    file: Vec<u8>,
+) -> Result<Result<Found, Unread>, AllocError>
     ensures found { IfOk result (λ done. IfOk done (λ f. spec.AreAnnotations file.items f.text.items f.stands.items)) }
     ensures code { IfOk result (λ done. IfOk done (λ f. option_map (λ code. code.items) f.code ≡ Some file.items)) }
     ensures flawed { IfOk result (λ done. OnErr done (spec.AreFlawed file.items)) }
@@ -67,7 +70,7 @@ fn annotations(alloc: Global, file: Vec<u8>) -> Result<Result<Found, Unread>, Al
                 code: Some(file),
             }))
         }
-        Err(FileFlaw { flaw, .. }) => Ok(Err(Unread::Flawed(PlaceFlaw::Flawed(flaw)))),
+        Err(FileFlaw { flaw, .. }) => Ok(Err(Unread::Flawed(flaw))),
     }
 }
 

@@ -12,7 +12,7 @@ ghost use Rattle.flt_forms.specs.declared.unread.UnreadFile.{UnreadFile as Unrea
 
 use crate::annotated::{FoundFiles, stands_of};
 use crate::unread::Unread;
-use flt_c::{FileFlaw, PlaceFlaw, extract};
+use flt_c::{FileFlaw, extract};
 use flt_details::Source;
 use flt_forms::UnreadFile;
 use flt_places::{Files, Lines, SourceFile, Stand};
@@ -121,19 +121,52 @@ fn spans(alloc: Global, found: &FoundFiles<'_>) -> Result<Vec<Span>, AllocError>
 
 // ---- their texts
 
-/// The annotations of several C files, and where their lines are.
+/// A text, and where its lines are.
 #[derive(Drop)]
-pub(crate) struct OwnText {
-    bytes: Vec<u8>,
-    stands: Vec<Stand>,
+pub(crate) struct PlacedText {
+    pub(crate) bytes: Vec<u8>,
+    pub(crate) stands: Vec<Stand>,
 }
 
 /// A text that files make.
 #[derive(Drop)]
 pub(crate) struct JoinedText {
-    span: Span,
-    /// None if it is what its only file gives.
-    own: Option<OwnText>,
+    pub(crate) span: Span,
+    pub(crate) text: PlacedText,
+}
+
+/// What the file of a number gives; nothing if there is no such file.
+fn text_at<'s>(found: &'s FoundFiles<'_>, number: usize) -> &'s [u8]
+    ensures { result.now ≡ get_or (texts_in found.now) number [] }
+{
+    match found.texts.get(number) {
+        Some(text) => text.as_slice(),
+        None => &[],
+    }
+}
+
+/// Where the lines of that are.
+fn stands_at<'s>(found: &'s FoundFiles<'_>, number: usize) -> &'s [Stand]
+    ensures { result.now ≡ get_or (places_in found.now) number [] }
+{
+    match found.stands.get(number) {
+        Some(stands) => stands.as_slice(),
+        None => &[],
+    }
+}
+
+/// What the file of a number gives, and where its lines are.
+fn only_text(
+    alloc: Global,
+    found: &FoundFiles<'_>,
+    number: usize,
+) -> Result<PlacedText, AllocError>
+    ensures bytes { IfOk result (λ text. text.bytes.items ≡ get_or (texts_in found.now) number []) }
+    ensures stands { IfOk result (λ text. text.stands.items ≡ get_or (places_in found.now) number []) }
+{
+    let bytes = Vec::from_slice(alloc, text_at(found, number))?;
+    let stands = Vec::from_slice(alloc, stands_at(found, number))?;
+    Ok(PlacedText { bytes, stands })
 }
 
 /// Copies of the C files among some files.
@@ -150,13 +183,13 @@ fn codes_among(alloc: Global, codes: &[Option<Vec<u8>>]) -> Result<Vec<Vec<u8>>,
     Ok(all)
 }
 
-/// The annotations of some C files, or why they make no text.
-fn own_text(
+/// The annotations of the C files among some files, or why they make no text.
+fn annotated_text(
     alloc: Global,
     codes: &[Option<Vec<u8>>],
-) -> Result<Result<OwnText, FileFlaw>, AllocError>
+) -> Result<Result<PlacedText, FileFlaw>, AllocError>
     ensures { IfOk result (λ done. MatchResult done
-        (made.IsExtracted (flat_map spec.codes_of (map (option_map (λ code. code.items)) codes.now)))
+        (made.IsPlaced (extracted (flat_map spec.codes_of (map (option_map (λ code. code.items)) codes.now))))
         (λ flaw. extracted (flat_map spec.codes_of (map (option_map (λ code. code.items)) codes.now)) ≡ Err flaw)) }
 {
     let files = codes_among(alloc, codes)?;
@@ -164,34 +197,28 @@ fn own_text(
         Ok(found) => {
             let stands = stands_of(alloc, found.lines.as_slice())?;
             let bytes = found.bytes;
-            Ok(Ok(OwnText { bytes, stands }))
+            Ok(Ok(PlacedText { bytes, stands }))
         }
         Err(flaw) => Ok(Err(flaw)),
     }
 }
 
 /// The text of the files of a span, or why they make none.
-fn joined_text(
+fn text_between(
     alloc: Global,
     found: &FoundFiles<'_>,
     span: Span,
-) -> Result<Result<JoinedText, FileFlaw>, AllocError>
+) -> Result<Result<PlacedText, FileFlaw>, AllocError>
     requires own { made.AreOwn found.now }
     requires span { made.IsSpan found.now span }
     ensures { IfOk result (λ done. MatchResult done
-        (made.IsJoined found.now (made.files_in (made.files_of found.now) span))
+        (made.IsPlaced (spec.text_of (made.files_in (made.files_of found.now) span)))
         (λ flaw. spec.text_of (made.files_in (made.files_of found.now) span) ≡ Err flaw)) }
 {
     if span.end - span.first < 2 {
-        return Ok(Ok(JoinedText { span, own: None }));
+        return Ok(Ok(only_text(alloc, found, span.first)?));
     }
-    match own_text(alloc, &found.codes[span.first..span.end])? {
-        Ok(own) => Ok(Ok(JoinedText {
-            span,
-            own: Some(own),
-        })),
-        Err(flaw) => Ok(Err(flaw)),
-    }
+    annotated_text(alloc, &found.codes[span.first..span.end])
 }
 
 /// The name of the file of a number in a span; empty if there is none.
@@ -212,7 +239,7 @@ fn name_in<'a>(found: &FoundFiles<'a>, span: Span, file: usize) -> &'a str
 #[derive(Drop)]
 pub(crate) struct Joined<'a> {
     pub(crate) found: FoundFiles<'a>,
-    texts: Vec<JoinedText>,
+    pub(crate) texts: Vec<JoinedText>,
     /// The files that aren't read, and those of them with which a text would be too long.
     pub(crate) unread: Vec<UnreadFile>,
 }
@@ -224,11 +251,11 @@ impl Joined<'_> {
         requires span { made.IsSpan self.old.found span }
         ensures { OnOk result (made.IsAdded self.old self.new (made.files_in (made.files_of self.old.found) span)) }
     {
-        match joined_text(alloc, &self.found, span)? {
-            Ok(text) => self.texts.push(text),
+        match text_between(alloc, &self.found, span)? {
+            Ok(text) => self.texts.push(JoinedText { span, text }),
             Err(FileFlaw { file, flaw }) => {
                 let name = name_in(&self.found, span, file);
-                let unread = Unread::Flawed(PlaceFlaw::Flawed(flaw)).file(alloc, name)?;
+                let unread = Unread::Flawed(flaw).file(alloc, name)?;
                 self.unread.push(unread)
             }
         }
@@ -266,26 +293,6 @@ fn bytes_of<'s>(code: Option<&'s Option<Vec<u8>>>, text: &'s [u8]) -> &'s [u8] {
     }
 }
 
-/// What the file of a number gives; nothing if there is no such file.
-fn text_at<'s>(found: &'s FoundFiles<'_>, number: usize) -> &'s [u8]
-    ensures { result.now ≡ get_or (texts_in found.now) number [] }
-{
-    match found.texts.get(number) {
-        Some(text) => text.as_slice(),
-        None => &[],
-    }
-}
-
-/// Where the lines of that are.
-fn stands_at<'s>(found: &'s FoundFiles<'_>, number: usize) -> &'s [Stand]
-    ensures { result.now ≡ get_or (places_in found.now) number [] }
-{
-    match found.stands.get(number) {
-        Some(stands) => stands.as_slice(),
-        None => &[],
-    }
-}
-
 /// The files that are read, under these names.
 pub(crate) fn files_of<'s>(
     alloc: Global,
@@ -318,50 +325,46 @@ fn files_between<'s>(files: &'s [SourceFile<'s>], span: Span) -> &'s [SourceFile
     }
 }
 
-impl Joined<'_> {
-    /// The bytes of a text, and where its lines are.
-    fn parts<'s>(&'s self, text: &'s JoinedText) -> (&'s [u8], &'s [Stand])
-        ensures bytes { result.0.now ≡ made.bytes_of self.now.found text.now }
-        ensures stands { result.1.now ≡ made.stands_in self.now.found text.now }
-    {
-        match &text.own {
-            Some(own) => (own.bytes.as_slice(), own.stands.as_slice()),
-            None => (
-                text_at(&self.found, text.span.first),
-                stands_at(&self.found, text.span.first),
-            ),
-        }
+/// The source of a text, which is in some of these files.
+fn source_of<'s>(files: &'s [SourceFile<'s>], joined: &'s JoinedText) -> Source<'s>
+    ensures { joined.now.span.end ≤ length files.now → made.IsSourceIn files.now joined.now result }
+{
+    Source {
+        text: joined.text.bytes.as_slice(),
+        files: Files {
+            all: files_between(files, joined.span),
+            stands: joined.text.stands.as_slice(),
+        },
     }
+}
 
-    /// The source of a text, which is in some of these files.
-    fn source<'s>(&'s self, files: &'s [SourceFile<'s>], text: &'s JoinedText) -> Source<'s>
-        ensures { made.IsSpan self.now.found text.now.span → length files.now ≡ length self.now.found.names.items →
-            made.IsSourceIn files.now self.now.found text.now result }
-    {
-        let (bytes, stands) = self.parts(text);
-        Source {
-            text: bytes,
-            files: Files {
-                all: files_between(files, text.span),
-                stands,
-            },
-        }
+/// The sources of some texts, which are in these files.
+pub(crate) fn sources_of<'s>(
+    alloc: Global,
+    files: &'s [SourceFile<'s>],
+    texts: &'s [JoinedText],
+) -> Result<Vec<Source<'s>>, AllocError>
+    ensures { IfOk result (λ sources. All (λ j. j.span.end ≤ length files.now) texts.now →
+        AllZip (made.IsSourceIn files.now) texts.now sources.items) }
+{
+    let mut sources = Vec::new(alloc);
+    for joined in texts {
+        sources.push(source_of(files, joined))?;
     }
+    Ok(sources)
+}
 
-    /// The sources of the texts, which are in these files.
-    pub(crate) fn sources<'s>(
-        &'s self,
-        alloc: Global,
-        files: &'s [SourceFile<'s>],
-    ) -> Result<Vec<Source<'s>>, AllocError>
-        ensures { IfOk result (λ sources. (told : Text → Text) (found : Found) (unread : List UnreadOf) →
-            (are : made.AreJoined found unread self.now) → made.AreSourceFiles told found files.now →
-            AllZip (spec.IsSourceOf told) (filter spec.make_text are.groups) sources.items) }
-    {
-        let mut sources = Vec::new(alloc);
-        for text in self.texts.as_slice() {
-            sources.push(self.source(files, text))?;
-        }
-        Ok(sources)
+/// Texts by themselves.
+pub(crate) fn bytes_in(
+    alloc: Global,
+    texts: Vec<JoinedText>,
+) -> Result<Vec<Vec<u8>>, AllocError>
+    ensures { IfOk result (λ all. map (λ bytes. bytes.items) all.items ≡ made.bytes_in texts.items) }
+{
+    let mut all = Vec::new(alloc);
+    for joined in texts {
+        let JoinedText { text, .. } = joined;
+        all.push(text.bytes)?;
     }
+    Ok(all)
 }

@@ -1,19 +1,22 @@
 //! The server of an editor, over a stream of any kind that is read and one that is written.
 
-ghost use Rattle.std.specs.Prelude.{◌≡◌, ◌≢◌, None, IfErr, IfOk, true};
-ghost use Rattle.flt_c.specs.InPlace.{in_place as laid_in};
+ghost use Rattle.std.specs.Prelude.{◌≡◌, ◌≢◌, ◌∷◌, [], None, IfErr, IfOk, true};
+ghost use Rattle.flt_c.specs.Files.{extracted};
+ghost use Rattle.flt_commands.specs.Annotated.{AreAnnotations};
+ghost use Rattle.flt_commands.specs.Joined.{Given};
 ghost use Rattle.flt_commands.specs.Served as spec;
 ghost use Rattle.flt_notes.specs.Whole.{look_for};
 
-use crate::drifts::tell_drifts;
+use crate::annotated::{Found, annotations};
+use crate::drifts::{drifted_files, tell_drifts};
 use crate::remarks::lines_on_file;
 use crate::unread::Unread;
-use flt_c::{PlaceFlaw, in_place};
 use flt_c_files::is_c_file;
-use flt_details::{FilePart, Source};
+use flt_details::Source;
 use flt_frames::{Incoming, ServeFault, serve};
 use flt_model::{Sink, WriteFault};
 use flt_notes::{Asking, UnwatchedSearch, explain};
+use flt_places::{Files, Lines, SourceFile, Stand};
 use flt_server::Server;
 use flt_session::Reporter;
 use flt_warning_details::WarningOptions;
@@ -55,19 +58,23 @@ fn asking() -> Asking
     }
 }
 
-/// The output of `explain` for a text in a file of a name, whose lines it shows.
-fn printed(alloc: Global, name: &str, file: &[u8], text: &[u8]) -> Result<Vec<u8>, AllocError>
-    ensures { IfOk result (λ out. spec.IsExplained name.now file.now text.now out.items) }
+/// The output of `explain` for a text in a file of a name, whose lines it shows. Where lines of a C file's annotations are, `stands` says.
+fn printed(
+    alloc: Global,
+    name: &str,
+    file: &[u8],
+    text: &[u8],
+    stands: &[Stand],
+) -> Result<Vec<u8>, AllocError>
+    ensures { IfOk result (λ out. (g : Given) → spec.IsGiven name.now file.now text.now stands.now g → spec.IsExplained g out.items) }
 {
-    let files = [FilePart {
-        name,
-        first: 1,
-        bytes: file,
-    }];
-    let sources = [Source {
-        text,
-        files: &files,
-    }];
+    let lines = Lines::of(alloc, file)?;
+    let files = [SourceFile { name, lines }];
+    let files = Files {
+        all: &files,
+        stands,
+    };
+    let sources = [Source { text, files }];
     let mut out = Nowhere { failures: 0 };
     let mut watch = UnwatchedSearch;
     match explain(alloc, asking(), &sources, &mut out, &mut watch) {
@@ -76,40 +83,54 @@ fn printed(alloc: Global, name: &str, file: &[u8], text: &[u8]) -> Result<Vec<u8
     }
 }
 
+/// The drifts of a C file of a name, as they are printed for people.
+fn printed_drifts(alloc: Global, name: &str, file: &[u8]) -> Result<Vec<u8>, AllocError>
+    ensures { IfOk result (spec.AreDriftsOf name.now file.now) }
+{
+    let files = [Some(Vec::from_slice(alloc, file)?)];
+    let drifted = drifted_files(alloc, &[], &[name], &files)?;
+    tell_drifts(alloc, Form::Human, drifted.as_slice())
+}
+
 /// The output of `explain` for the annotations of a C file under a name, after the drifts of the file.
 fn printed_after(
     alloc: Global,
     name: &str,
     file: &[u8],
-    annotations: &[u8],
+    found: &Found,
 ) -> Result<Vec<u8>, AllocError>
-    ensures { IfOk result (λ out. spec.IsExplainedInC name.now file.now annotations.now out.items) }
+    requires { AreAnnotations file.now found.now.text.items found.now.stands.items }
+    ensures { IfOk result (λ out. spec.IsExplainedInC name.now file.now out.items) }
 {
-    let files = [Some(Vec::from_slice(alloc, file)?)];
-    let drifts = tell_drifts(alloc, Form::Human, &[], &[name], &files)?;
-    let own = printed(alloc, name, file, annotations)?;
-    let mut out = drifts.printed;
+    let mut out = printed_drifts(alloc, name, file)?;
+    let own = printed(
+        alloc,
+        name,
+        file,
+        found.text.as_slice(),
+        found.stands.as_slice(),
+    )?;
     out.extend_from_slice(own.as_slice())?;
     Ok(out)
 }
 
 /// The lines of `explain` on a C file that isn't read.
-fn printed_of_unread(alloc: Global, name: &str, flaw: PlaceFlaw) -> Result<Vec<u8>, AllocError>
+fn printed_of_unread(alloc: Global, name: &str, why: Unread) -> Result<Vec<u8>, AllocError>
     ensures { IfOk result (λ out. spec.IsUnread name.now out.items) }
 {
-    let file = Unread::Flawed(flaw).file(alloc, name)?;
+    let file = why.file(alloc, name)?;
     let lines = lines_on_file(alloc, &file)?;
     Ok(lines.into_bytes())
 }
 
 /// The output of `explain` for a C file under a name.
 fn printed_in_c(alloc: Global, name: &str, file: &[u8]) -> Result<Vec<u8>, AllocError>
-    ensures { IfOk result (λ out. spec.IsSaidOfLaid name.now file.now (laid_in file.now) out.items) }
+    ensures { IfOk result (λ out. spec.IsSaidInC name.now file.now (extracted (file.now ∷ [])) out.items) }
 {
     let own = Vec::from_slice(alloc, file)?;
-    match in_place(alloc, own)? {
-        Ok(annotations) => printed_after(alloc, name, file, annotations.as_slice()),
-        Err(flaw) => printed_of_unread(alloc, name, flaw),
+    match annotations(alloc, own)? {
+        Ok(found) => printed_after(alloc, name, file, &found),
+        Err(why) => printed_of_unread(alloc, name, why),
     }
 }
 
@@ -120,7 +141,7 @@ fn printed_for(alloc: Global, name: &str, file: &[u8]) -> Result<Vec<u8>, AllocE
     if is_c_file(name) {
         printed_in_c(alloc, name, file)
     } else {
-        printed(alloc, name, file, file)
+        printed(alloc, name, file, file, &[])
     }
 }
 
