@@ -1,5 +1,5 @@
 -- The drifts of C files that `explain` prints. This project's own program.
-use Rattle.std.specs.Prelude.{◌≡◌, ℕ, ◌+◌, Bool, true, false, List, [], ◌∷◌, ◌++◌, flat_map, map, slice_index_or, Option, Some, None, Result, Ok, Err}
+use Rattle.std.specs.Prelude.{◌≡◌, Bool, true, false, List, [], ◌∷◌, ◌++◌, flat_map, map, Option, Some, None, Result, Ok, Err}
 use Rattle.std.specs.List.{list_any}
 use Rattle.std.specs.Str.{bytes_eq}
 use Rattle.flt_c.specs.declared.files.Flaw.{Flaw}
@@ -11,6 +11,7 @@ use Rattle.flt_drift_reports.specs.Report.{drift_reports}
 use Rattle.flt_drift_reports.specs.Words.{code}
 use Rattle.flt_forms.specs.Drifted.{drift_objects}
 use Rattle.flt_forms.specs.declared.drifted.DriftedFile.{DriftedFile}
+use Rattle.flt_joined.specs.Texts.{Given}
 use Rattle.flt_words.specs.Shown.{visible}
 use Rattle.flt_words.specs.declared.request.Form.{Form}
 use Rattle.flt_words.specs.declared.request.Form.TheVariants.{Html, Human, Lines, LinesWithRuns, Sarif, SarifWithRuns, Short}
@@ -51,20 +52,17 @@ pub record DriftsOf : Type 0 where
 abbrev pub drifts_in : DriftedFile → DriftsOf
 drifts_in f = record { name = f.name.now; file = f.file.now; drifts = f.drifts }
 
--- the file of a name with its drifts that are shown, if it is a C file
+-- a file with its drifts that are shown, if it is a C file
 abbrev pub drifts_by : List Text → Text → Option Text → List DriftsOf
 drifts_by allowed name (Some file) = record { name = name; file = file; drifts = shown_drifts allowed file } ∷ []
 drifts_by allowed name None = []
 
--- the same of files, of which the first has this number among the names, in order
-abbrev pub drifts_from : List Text → List Text → ℕ → List (Option Text) → List DriftsOf
-drifts_from allowed names number [] = []
-drifts_from allowed names number (file ∷ files) =
-    drifts_by allowed (slice_index_or names number []) file ++ drifts_from allowed names (number + 1) files
+abbrev pub drifts_of : List Text → Given → List DriftsOf
+drifts_of allowed g = drifts_by allowed g.name g.code
 
--- these are the C files among files with these names, with their drifts that are shown
-abbrev pub AreDrifted : List Text → List Text → List (Option Text) → List DriftedFile → Type 0
-AreDrifted allowed names files drifted = map drifts_in drifted ≡ drifts_from allowed names 0 files
+-- these are the C files among some files, with their drifts that are shown
+abbrev pub AreDrifted : List Text → List Given → List DriftedFile → Type 0
+AreDrifted allowed files drifted = map drifts_in drifted ≡ flat_map (drifts_of allowed) files
 
 -- ---- how they are printed
 

@@ -12,6 +12,7 @@ use Rattle.flt_forms.specs.declared.drifted.DriftedFile.{DriftedFile}
 use Rattle.flt_forms.specs.declared.run.FindingRun.{FindingRun}
 use Rattle.flt_forms.specs.declared.unread.UnreadFile.{UnreadFile}
 use Rattle.flt_forms.specs.declared.as_lines.Style.TheVariants.{Object, Sentence}
+use Rattle.flt_joined.specs.Texts.{Given}
 use Rattle.flt_model.specs.JournalText.{Entries, spelling}
 use Rattle.flt_notes.specs.Noted.{AreNotes, first_journal}
 use Rattle.flt_notes.specs.Reported.{AreReports, IsAllButLast, IsCut}
@@ -20,9 +21,8 @@ use Rattle.flt_notes.specs.Whole.{IsPrint, Look}
 use Rattle.flt_notes.specs.declared.noted.Noted.{Noted}
 use Rattle.flt_notes.specs.declared.explaining.Told.{Told}
 use Rattle.flt_details.specs.Reports.{texts_of}
-use Rattle.flt_places.specs.declared.files.Stand.{Stand}
 use Rattle.flt_details.specs.declared.sources.Source.{Source}
-use Rattle.flt_commands.specs.Joined.{AreSources}
+use Rattle.flt_commands.specs.Sources.{AreSources}
 use Rattle.flt_words.specs.declared.request.Colour.{Colour}
 use Rattle.flt_words.specs.declared.request.Colour.TheVariants.{Auto, Always, Never}
 use Rattle.flt_words.specs.declared.request.Form.{Form}
@@ -31,11 +31,11 @@ use Rattle.flt_words.specs.declared.request.Form.TheVariants.{Html, Human, Lines
 use Rattle.flt_warning_details.specs.declared.options.WarningOptions.{WarningOptions}
 use Rattle.flt_words.specs.Request.{Choice}
 use Rattle.flt_commands.specs.Allowed.{options_of}
-use Rattle.flt_commands.specs.Annotated.{AreFound, gives_annotations}
+use Rattle.flt_commands.specs.Annotated.{AreFound}
 use Rattle.flt_commands.specs.Drifts.{AreDrifted, drifts_told}
 use Rattle.flt_commands.specs.FindingRuns.{AreRuns}
 use Rattle.flt_commands.specs.InTurn.{AreFirstLines}
-use Rattle.flt_commands.specs.Inputs.{AreRead, Giving, Text, unread_names}
+use Rattle.flt_commands.specs.Inputs.{Giving, Text, unread_names}
 use Rattle.flt_commands.specs.Answer.{output, sent_of}
 use Rattle.flt_commands.specs.Html.{IsPageOn, IsPaged}
 use Rattle.flt_commands.specs.declared.answer.Answer.{Answer}
@@ -137,44 +137,43 @@ pub record IsToldWith (form : Form) (look : Look) (journal : Option Text) (drift
   pub told : IsToldUnder form look journal drifted sources unread own
   pub after : IsAfter (first_in form drifted) (drift_status look.options.is_strict drifted) own e
 
--- the same of files that are read, of the texts that they make, and of the drifts of the C files among them but for kinds of these names:
--- the files have these names and give these texts, of these C files their annotations, and make these sources, whose texts these are; but
--- some of them aren't read beside these others that aren't, since with them a text would be too long
-pub record IsToldOfFiles (form : Form) (look : Look) (allowed : List Text) (journal : Option Text) (names given : List Text)
-    (codes : List (Option Text)) (missing texts : List Text) (unread : List UnreadFile) (e : Told) : Type 0 where
+-- the same of files that are read, of the texts that they make, and of the drifts of the C files among them but for kinds of these names;
+-- of the files these aren't read after all, and others aren't, either
+pub record IsToldOfFiles (form : Form) (look : Look) (allowed : List Text) (journal : Option Text) (files : List Given)
+    (refused texts : List Text) (unread : List UnreadFile) (e : Told) : Type 0 where
   pub drifted : List DriftedFile
-  pub compared : AreDrifted allowed names codes drifted
+  pub compared : AreDrifted allowed files drifted
   pub sources : List Source
-  pub flawed : List Text
-  pub are : AreSources (told_name form) names given codes sources flawed
-  pub texts : texts ≡ texts_of sources
-  pub unread : unread_names unread ≡ missing ++ flawed
+  pub are : AreSources (told_name form) files sources refused
+  pub given : texts ≡ texts_of sources
   pub told : IsToldWith form look journal drifted sources unread e
 
--- the same of those of these files that are read
-pub record IsToldOf (gives : Giving) (is_c : Bool) (form : Form) (look : Look) (allowed : List Text) (journal : Option Text)
-    (files : List Text) (codes : List (Option Text)) (texts : List Text) (unread : List UnreadFile) (e : Told) : Type 0 where
-  pub names : List Text
-  pub given : List Text
-  pub missing : List Text
-  pub read : AreRead (gives_annotations is_c gives) files names given missing
-  pub places : List (List Stand)
-  pub found : AreFound is_c gives names given places codes
-  pub told : IsToldOfFiles form look allowed journal names given codes missing texts unread e
+-- the C files among some files, each in the place of its file
+abbrev pub codes_in : List Given → List (Option Text)
+codes_in files = map (λ (g : Given). g.code) files
 
--- those of these files that are read, of which these are C, make these texts
-pub record GiveTexts (gives : Giving) (is_c : Bool) (files : List Text) (codes : List (Option Text)) (texts : List Text) : Type 0 where
-  pub names : List Text
-  pub given : List Text
-  pub unread : List Text
-  pub read : AreRead (gives_annotations is_c gives) files names given unread
-  pub places : List (List Stand)
-  pub found : AreFound is_c gives names given places codes
+-- the same of those of the files of these names that are read, of which these are C files
+pub record IsToldOf (gives : Giving) (is_c : Bool) (form : Form) (look : Look) (allowed : List Text) (journal : Option Text)
+    (names : List Text) (codes : List (Option Text)) (texts : List Text) (unread : List UnreadFile) (e : Told) : Type 0 where
+  pub files : List Given
+  pub missing : List Text
+  pub found : AreFound is_c gives names files missing
+  pub coded : codes ≡ codes_in files
+  pub refused : List Text
+  pub others : unread_names unread ≡ missing ++ refused
+  pub told : IsToldOfFiles form look allowed journal files refused texts unread e
+
+-- those of the files of these names that are read, of which these are C files, make these texts
+pub record GiveTexts (gives : Giving) (is_c : Bool) (names : List Text) (codes : List (Option Text)) (texts : List Text) : Type 0 where
+  pub files : List Given
+  pub missing : List Text
+  pub found : AreFound is_c gives names files missing
+  pub coded : codes ≡ codes_in files
   pub told : Text → Text
   pub sources : List Source
-  pub flawed : List Text
-  pub are : AreSources told names given codes sources flawed
-  pub texts : texts ≡ texts_of sources
+  pub refused : List Text
+  pub are : AreSources told files sources refused
+  pub given : texts ≡ texts_of sources
 
 -- what is said of the texts that the FILEs that are read make, C files by their annotations, after the drifts of all C files but for
 -- kinds of these names; a journal may not be written
@@ -265,23 +264,20 @@ pub data IsCutAfter (drifts : Text) (form : Form) (options : WarningOptions) (st
 
 -- the same of the texts that files make that are read, after the drifts of the C files among them but for kinds of these names; or
 -- nothing went out
-pub data IsCutOfFiles (form : Form) (options : WarningOptions) (states : ℕ) (allowed names given : List Text) (codes : List (Option Text))
+pub data IsCutOfFiles (form : Form) (options : WarningOptions) (states : ℕ) (allowed : List Text) (files : List Given)
     (old new : Option Text) : Type 0 where
-  none_told : Appends old new [] → IsCutOfFiles form options states allowed names given codes old new
-  some_told : (drifted : List DriftedFile) (sources : List Source) (flawed : List Text) → AreDrifted allowed names codes drifted →
-      AreSources (told_name form) names given codes sources flawed →
-      IsCutAfter (first_in form drifted) form options states sources old new →
-      IsCutOfFiles form options states allowed names given codes old new
+  none_told : Appends old new [] → IsCutOfFiles form options states allowed files old new
+  some_told : (drifted : List DriftedFile) (sources : List Source) (refused : List Text) → AreDrifted allowed files drifted →
+      AreSources (told_name form) files sources refused → IsCutAfter (first_in form drifted) form options states sources old new →
+      IsCutOfFiles form options states allowed files old new
 
--- the same of those of these files that are read; or nothing went out
-pub data IsCutShort (gives : Giving) (is_c : Bool) (form : Form) (options : WarningOptions) (states : ℕ) (allowed files : List Text)
+-- the same of those of the files of these names that are read; or nothing went out
+pub data IsCutShort (gives : Giving) (is_c : Bool) (form : Form) (options : WarningOptions) (states : ℕ) (allowed names : List Text)
     (old new : Option Text) :
     Type 0 where
-  none_read : Appends old new [] → IsCutShort gives is_c form options states allowed files old new
-  some_read : (names given missing : List Text) (places : List (List Stand)) (codes : List (Option Text)) →
-      AreRead (gives_annotations is_c gives) files names given missing → AreFound is_c gives names given places codes →
-      IsCutOfFiles form options states allowed names given codes old new →
-      IsCutShort gives is_c form options states allowed files old new
+  none_read : Appends old new [] → IsCutShort gives is_c form options states allowed names old new
+  some_read : (files : List Given) (missing : List Text) → AreFound is_c gives names files missing →
+      IsCutOfFiles form options states allowed files old new → IsCutShort gives is_c form options states allowed names old new
 
 -- ---- pages
 

@@ -1,12 +1,9 @@
 -- What `serve` reads and writes, and its exit status. This project's own program.
-use Rattle.std.specs.Prelude.{◌≡◌, ℕ, List, [], ◌∷◌, ◌++◌, Bool, false, true, Option, None, Some, Result, Ok, Err, map, string_bytes}
+use Rattle.std.specs.Prelude.{◌≡◌, ℕ, List, [], ◌∷◌, ◌++◌, ◌⊎◌, Bool, false, true, Option, None, Some, string_bytes}
 use Rattle.std.specs.Str.Lossy.{utf8_lossy}
 use Rattle.json.specs.Json.{string}
 use Rattle.json.specs.Print.{print}
 use Rattle.json.specs.Tree.{json_tokens}
-use Rattle.flt_c.specs.Files.{extracted}
-use Rattle.flt_c.specs.Texts as c
-use Rattle.flt_c.specs.declared.files.FileFlaw.{FileFlaw}
 use Rattle.flt_c_files.specs.Names.{is_c_file}
 use Rattle.flt_forms.specs.declared.drifted.DriftedFile.{DriftedFile}
 use Rattle.flt_forms.specs.declared.unread.UnreadFile.{UnreadFile}
@@ -14,9 +11,8 @@ use Rattle.flt_frames.specs.Handling.{IsServed, IsServedSoFar, Reply}
 use Rattle.flt_notes.specs.Whole.{IsPrint, Look}
 use Rattle.flt_notes.specs.declared.noted.Noted.{Noted}
 use Rattle.flt_details.specs.declared.sources.Source.{Source}
-use Rattle.flt_places.specs.declared.files.Stand.{Stand}
-use Rattle.flt_commands.specs.Annotated.{stand_of}
-use Rattle.flt_commands.specs.Joined.{Given, IsSourceOf, bytes_by, text_of}
+use Rattle.flt_joined.specs.Texts.{AreAnnotations, AreFlawed, Given}
+use Rattle.flt_commands.specs.Sources.{IsSourceOf}
 use Rattle.flt_words.specs.declared.request.Form.TheVariants.{Human}
 use Rattle.flt_commands.specs.Allowed.{options_of}
 use Rattle.flt_commands.specs.Drifts.{AreDrifted, drifts_told}
@@ -31,15 +27,6 @@ use Rattle.flt_session.specs.declared.phase.Phase.TheVariants.{Fresh}
 abbrev pub look : Look
 look = record { coloured = false; states = 40000; options = options_of (record { strict = false; allowed = [] }) }
 
--- the text and the stands of its lines that a file gives, which has this name and these bytes
-pub record IsGiven (name file bytes : Text) (stands : List Stand) (g : Given) : Type 0 where
-  pub name : g.name ≡ name
-  pub file : bytes_by g.code g.text ≡ file
-  pub text : c.Text
-  pub is : text_of (g ∷ []) ≡ Ok text
-  pub bytes : bytes ≡ text.bytes
-  pub stands : stands ≡ map stand_of text.lines
-
 -- this is what `explain` prints of the text that this file makes, to the letter
 pub record IsExplained (g : Given) (printed : Text) : Type 0 where
   pub source : Source
@@ -48,26 +35,19 @@ pub record IsExplained (g : Given) (printed : Text) : Type 0 where
   pub status : ℕ
   pub print : IsPrint look (source ∷ []) notes printed status
 
--- a C file of a name, and another one
-abbrev pub c_file : Text → Text → Given
-c_file name file = record { name = name; text = []; code = Some file }
-
-abbrev pub other_file : Text → Text → Given
-other_file name file = record { name = name; text = file; code = None }
-
--- this is what is printed for people of the drifts of a C file of this name
-pub record AreDriftsOf (name file printed : Text) : Type 0 where
+-- the same after the drifts of this file, if it is C
+pub record IsExplainedWithDrifts (g : Given) (printed : Text) : Type 0 where
   pub drifted : List DriftedFile
-  pub are : AreDrifted [] (name ∷ []) (Some file ∷ []) drifted
-  pub printed : printed ≡ drifts_told Human drifted
-
--- this is what `explain` prints of a C file of this name: its drifts, and then what it prints of its annotations
-pub record IsExplainedInC (name file printed : Text) : Type 0 where
-  pub drifts : Text
-  pub are : AreDriftsOf name file drifts
+  pub compared : AreDrifted [] (g ∷ []) drifted
   pub own : Text
-  pub explained : IsExplained (c_file name file) own
-  pub after : printed ≡ drifts ++ own
+  pub explained : IsExplained g own
+  pub after : printed ≡ drifts_told Human drifted ++ own
+
+-- the same of a C file of this name, by its annotations
+pub record IsExplainedInC (name file printed : Text) : Type 0 where
+  pub text : Text
+  pub annotations : AreAnnotations file text
+  pub explained : IsExplainedWithDrifts (record { name = name; text = text; code = Some file }) printed
 
 -- this is what it says on the standard error of a file of this name that isn't read
 pub record IsUnread (name printed : Text) : Type 0 where
@@ -75,14 +55,13 @@ pub record IsUnread (name printed : Text) : Type 0 where
   pub named : string_bytes file.name ≡ name
   pub lines : printed ≡ unread_lines file
 
--- the same of a C file, by its annotations, or by the flaw for which it isn't read
-abbrev pub IsSaidInC : Text → Text → Result c.Text FileFlaw → Text → Type 0
-IsSaidInC name file (Ok text) printed = IsExplainedInC name file printed
-IsSaidInC name file (Err flaw) printed = IsUnread name printed
+-- the same of a C file: by its annotations, or that these make no text
+abbrev pub IsSaidInC : Text → Text → Text → Type 0
+IsSaidInC name file printed = IsExplainedInC name file printed ⊎ (AreFlawed file × IsUnread name printed)
 
 abbrev pub IsSaidIf : Bool → Text → Text → Text → Type 0
-IsSaidIf true name file printed = IsSaidInC name file (extracted (file ∷ [])) printed
-IsSaidIf false name file printed = IsExplained (other_file name file) printed
+IsSaidIf true name file printed = IsSaidInC name file printed
+IsSaidIf false name file printed = IsExplained (record { name = name; text = file; code = None }) printed
 
 -- this is what `explain` says of a file of this name and these bytes, which is C or not by the ending of its name
 abbrev pub IsSaid : Text → Text → Text → Type 0

@@ -1,12 +1,13 @@
 //! The drifts of C files, as `explain` prints them before all else.
 
-ghost use Rattle.std.specs.Prelude.{◌≡◌, ◌++◌, IfOk, OnOk, map, option_map};
+ghost use Rattle.std.specs.Prelude.{◌≡◌, ◌++◌, IfOk, OnOk, map};
 ghost use Rattle.flt_commands.specs.Drifts as spec;
+ghost use Rattle.flt_joined.specs.Texts.{given_of, givens};
 
-use crate::extract::name_of;
 use flt_drift::{Drift, DriftKind, drifts};
 use flt_drift_reports::{code, drift_lines, report_drifts};
 use flt_forms::{DriftedFile, drift_objects};
+use flt_joined::GivenFile;
 use flt_words::{Form, visible};
 use sqlite_items::Items;
 use std::alloc::{AllocError, Global};
@@ -61,40 +62,39 @@ fn shown_drifts(alloc: Global, allowed: &[&str], file: &[u8]) -> Result<Items<Dr
 
 // ---- the drifts of all files
 
-/// Adds the file of a name with its drifts that are shown, if it is a C file.
+/// Adds a file with its drifts that are shown, if it is a C file.
 fn add_file<'s>(
     alloc: Global,
     drifted: &mut Vec<DriftedFile<'s>>,
     allowed: &[&str],
-    name: &'s str,
-    file: &'s Option<Vec<u8>>,
+    file: &'s GivenFile<'s>,
 ) -> Result<(), AllocError>
     ensures { OnOk result (map spec.drifts_in drifted.new.items ≡ map spec.drifts_in drifted.old.items
-        ++ spec.drifts_by (map (λ name. name.now) allowed.now) name.now (option_map (λ code. code.items) file.now)) }
+        ++ spec.drifts_of (map (λ name. name.now) allowed.now) (given_of file.now)) }
 {
-    match file {
-        Some(code) => {
-            let file = code.as_slice();
-            let drifts = shown_drifts(alloc, allowed, file)?;
-            drifted.push(DriftedFile { name, file, drifts })
-        }
-        None => Ok(()),
+    if let Some(code) = &file.code {
+        let code = code.as_slice();
+        let drifts = shown_drifts(alloc, allowed, code)?;
+        drifted.push(DriftedFile {
+            name: file.name,
+            file: code,
+            drifts,
+        })?;
     }
+    Ok(())
 }
 
-/// The C files among some files with these names, with their drifts, except for kinds of the names `allowed`.
+/// The C files among some files, with their drifts, except for kinds of the names `allowed`.
 pub(crate) fn drifted_files<'s>(
     alloc: Global,
     allowed: &[&str],
-    names: &[&'s str],
-    files: &'s [Option<Vec<u8>>],
+    files: &'s [GivenFile<'s>],
 ) -> Result<Vec<DriftedFile<'s>>, AllocError>
-    ensures { IfOk result (λ drifted. spec.AreDrifted (map (λ name. name.now) allowed.now) (map (λ name. name.now) names.now)
-        (map (option_map (λ code. code.items)) files.now) drifted.items) }
+    ensures { IfOk result (λ drifted. spec.AreDrifted (map (λ name. name.now) allowed.now) (givens files.now) drifted.items) }
 {
     let mut drifted = Vec::new(alloc);
-    for (number, file) in files.iter().enumerate() {
-        add_file(alloc, &mut drifted, allowed, name_of(names, number), file)?;
+    for file in files {
+        add_file(alloc, &mut drifted, allowed, file)?;
     }
     Ok(drifted)
 }

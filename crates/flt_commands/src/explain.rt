@@ -2,14 +2,12 @@
 
 ghost use Rattle.std.specs.Io.KnownBytes.{Appends};
 ghost use Rattle.std.specs.Prelude.{◌≡◌, ◌≢◌, [], None, IfErr, IfOk, OnErr, OnOk, get_or, length, map, option_map, string_bytes, take};
-ghost use Rattle.flt_commands.specs.Annotated.{codes_in, names_in, texts_in};
 ghost use Rattle.flt_commands.specs.Drifts.{drifts_told};
 ghost use Rattle.flt_commands.specs.Explain as spec;
 ghost use Rattle.flt_commands.specs.Html.{IsPageOn, IsPaged};
-ghost use Rattle.flt_commands.specs.Inputs.{unread_names};
-ghost use Rattle.flt_commands.specs.Joining.{AreJoined, bytes_in};
-ghost use Rattle.flt_commands.specs.declared.annotated.FoundFiles.{FoundFiles as FoundOf};
-ghost use Rattle.flt_forms.specs.declared.unread.UnreadFile.{UnreadFile as UnreadOf};
+ghost use Rattle.flt_commands.specs.Sources.{bytes_in};
+ghost use Rattle.flt_joined.specs.Made.{AreJoined, name_at};
+ghost use Rattle.flt_joined.specs.Texts.{givens};
 ghost use Rattle.flt_commands.specs.Remarks.{unread_in};
 ghost use Rattle.flt_forms.specs.Lines.{AreLines};
 ghost use Rattle.flt_forms.specs.Sarif.{IsSarif};
@@ -26,13 +24,14 @@ use crate::finding_runs::runs_of;
 use crate::html::page_on;
 use crate::in_turn::lines_in_turn;
 use crate::inputs::{Inputs, Pictures};
-use crate::joined::{Joined, bytes_in, files_of, join, sources_of};
 use crate::remarks::unread_lines;
 use crate::report::Contents;
+use crate::sources::{add_refused, bytes_in, codes_in, sources_of};
 use crate::unwritten::Unwritten;
 use flt_details::{Explained, Source};
 use flt_driven::journal_bytes;
 use flt_forms::{DriftedFile, Style, UnreadFile, lines, sarif};
+use flt_joined::{GivenFile, Joined, join, source_files};
 use flt_model::Sink;
 use flt_notes::{Asking, Noted, SearchWatch, Told, explain, first_journal};
 use flt_pages::page;
@@ -52,12 +51,16 @@ fn told_name(alloc: Global, form: Form, name: &str) -> Result<String, AllocError
 }
 
 /// The names of files, as a form prints them.
-fn told_names(alloc: Global, form: Form, names: &[&str]) -> Result<Vec<String>, AllocError>
-    ensures { IfOk result (λ told. map string_bytes told.items ≡ map (λ name. spec.told_name form name.now) names.now) }
+fn told_names(
+    alloc: Global,
+    form: Form,
+    files: &[GivenFile<'_>],
+) -> Result<Vec<String>, AllocError>
+    ensures { IfOk result (λ told. map string_bytes told.items ≡ map (λ file. spec.told_name form file.name.now) files.now) }
 {
     let mut told = Vec::new(alloc);
-    for name in names {
-        let name = told_name(alloc, form, name)?;
+    for file in files {
+        let name = told_name(alloc, form, file.name)?;
         told.push(name)?;
     }
     Ok(told)
@@ -334,42 +337,38 @@ pub(crate) fn told<O: Sink, W: SearchWatch>(
 }
 
 /// The output for the texts that files make, in a form, with the drifts of the C files among them.
-#[tactic(auto, using(crate::proofs::Explaining::joined_told, crate::proofs::Explaining::joined_cut))]
+#[tactic(auto, using(crate::proofs::Sources::within))]
 fn told_joined<O: Sink, W: SearchWatch>(
     alloc: Global,
     asked: Asked<'_>,
-    joined: &Joined<'_>,
+    files: &[GivenFile<'_>],
+    joined: &Joined,
+    unread: &[UnreadFile],
     out: &mut O,
     watch: &mut W,
 ) -> Result<Told, CommandFault>
-    ensures told { IfOk result (λ t. (found : FoundOf) → (unread : List UnreadOf) → AreJoined found unread joined.now →
-        spec.IsToldOfFiles asked.entry.form (spec.look_of asked.entry) (map (λ name. name.now) asked.entry.allowed.now)
-        (option_map (λ name. name.now) asked.entry.journal) (names_in found) (texts_in found) (codes_in found) (unread_names unread)
-        (bytes_in joined.now.texts.items) joined.now.unread.items t) }
+    requires { AreJoined files.now joined.now }
+    ensures told { IfOk result (spec.IsToldOfFiles asked.entry.form (spec.look_of asked.entry) (map (λ name. name.now) asked.entry.allowed.now)
+        (option_map (λ name. name.now) asked.entry.journal) (givens files.now) (map (name_at files.now) joined.now.refused.items)
+        (bytes_in joined.now.texts.items) unread.now) }
     ensures sent { IfOk result (λ t. Appends (O.taken out.old) (O.taken out.new) (take t.sent t.explained.output.items)) }
     ensures held { spec.HoldsBack asked.entry.form (option_map (λ name. name.now) asked.entry.journal) → out.new ≡ out.old }
     ensures fine { OnOk result (O.failures out.new ≡ O.failures out.old) }
     ensures write { IfErr result (λ e. e ≡ CommandFault.Write → O.failures out.new ≢ O.failures out.old) }
-    ensures memory { IfErr result (λ e. e ≡ CommandFault.OutOfMemory → (found : FoundOf) → (unread : List UnreadOf) →
-        AreJoined found unread joined.now → spec.IsCutOfFiles asked.entry.form asked.entry.options asked.entry.states
-        (map (λ name. name.now) asked.entry.allowed.now) (names_in found) (texts_in found) (codes_in found)
-        (O.taken out.old) (O.taken out.new)) }
+    ensures memory { IfErr result (λ e. e ≡ CommandFault.OutOfMemory →
+        spec.IsCutOfFiles asked.entry.form asked.entry.options asked.entry.states (map (λ name. name.now) asked.entry.allowed.now)
+        (givens files.now) (O.taken out.old) (O.taken out.new)) }
 {
-    let drifted = drifted_files(
-        alloc,
-        asked.allowed,
-        joined.found.names.as_slice(),
-        joined.found.codes.as_slice(),
-    )?;
-    let names = told_names(alloc, asked.form, joined.found.names.as_slice())?;
-    let files = files_of(alloc, &joined.found, names.as_slice())?;
-    let sources = sources_of(alloc, files.as_slice(), joined.texts.as_slice())?;
+    let drifted = drifted_files(alloc, asked.allowed, files)?;
+    let names = told_names(alloc, asked.form, files)?;
+    let own = source_files(alloc, files, names.as_slice())?;
+    let sources = sources_of(alloc, joined.texts.as_slice(), own.as_slice())?;
     explain_after(
         alloc,
         asked,
         drifted.as_slice(),
         sources.as_slice(),
-        joined.unread.as_slice(),
+        unread,
         out,
         watch,
     )
@@ -451,13 +450,27 @@ pub fn explain_files<'a, I: Inputs, P: Pictures, O: Sink, W: SearchWatch>(
         spec.IsCutShort (I.gives inputs.now) asked.entry.is_c asked.entry.form asked.entry.options asked.entry.states
         (map (λ name. name.now) asked.entry.allowed.now) (map (λ name. name.now) files.now) (O.taken out.old) (O.taken out.new)) }
 {
-    let NamedFiles { read, unread } = find_each(alloc, inputs, asked.is_c, files)?;
-    let joined = join(alloc, read, unread)?;
-    *remark = unread_lines(alloc, joined.unread.as_slice())?;
-    let told = told_joined(alloc, asked, &joined, out, watch)?;
+    let NamedFiles { read, mut unread } = find_each(alloc, inputs, asked.is_c, files)?;
+    let joined = join(alloc, read.as_slice())?;
+    add_refused(
+        alloc,
+        &mut unread,
+        read.as_slice(),
+        joined.refused.as_slice(),
+    )?;
+    *remark = unread_lines(alloc, unread.as_slice())?;
+    let told = told_joined(
+        alloc,
+        asked,
+        read.as_slice(),
+        &joined,
+        unread.as_slice(),
+        out,
+        watch,
+    )?;
     contents.texts = bytes_in(alloc, joined.texts)?;
-    *codes = joined.found.codes;
-    let said = keep(alloc, files, asked.journal, told, joined.unread, pictures)?;
+    *codes = codes_in(alloc, read)?;
+    let said = keep(alloc, files, asked.journal, told, unread, pictures)?;
     Ok(said)
 }
 

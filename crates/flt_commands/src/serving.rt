@@ -1,22 +1,22 @@
 //! The server of an editor, over a stream of any kind that is read and one that is written.
 
-ghost use Rattle.std.specs.Prelude.{◌≡◌, ◌≢◌, ◌∷◌, [], None, IfErr, IfOk, true};
-ghost use Rattle.flt_c.specs.Files.{extracted};
-ghost use Rattle.flt_commands.specs.Annotated.{AreAnnotations};
-ghost use Rattle.flt_commands.specs.Joined.{Given};
+ghost use Rattle.std.specs.Prelude.{◌≡◌, ◌≢◌, None, IfErr, IfOk, true};
+ghost use Rattle.flt_joined.specs.Made.{IsOwn};
+ghost use Rattle.flt_joined.specs.Texts.{given_of};
 ghost use Rattle.flt_commands.specs.Served as spec;
 ghost use Rattle.flt_notes.specs.Whole.{look_for};
 
-use crate::annotated::{Found, annotations};
+use crate::annotated::annotated;
 use crate::drifts::{drifted_files, tell_drifts};
 use crate::remarks::lines_on_file;
 use crate::unread::Unread;
 use flt_c_files::is_c_file;
 use flt_details::Source;
 use flt_frames::{Incoming, ServeFault, serve};
+use flt_joined::{GivenFile, source_file};
 use flt_model::{Sink, WriteFault};
 use flt_notes::{Asking, UnwatchedSearch, explain};
-use flt_places::{Files, Lines, SourceFile, Stand};
+use flt_places::Files;
 use flt_server::Server;
 use flt_session::Reporter;
 use flt_warning_details::WarningOptions;
@@ -24,6 +24,7 @@ use flt_warnings::AllowedKinds;
 use flt_words::{DEFAULT_STATES, Form};
 use json::{Value, to_vec};
 use std::alloc::{AllocError, Global};
+use std::slice::from_ref;
 
 /// Takes no bytes: a report that is held back isn't put out.
 #[derive(Drop)]
@@ -58,23 +59,19 @@ fn asking() -> Asking
     }
 }
 
-/// The output of `explain` for a text in a file of a name, whose lines it shows. Where lines of a C file's annotations are, `stands` says.
-fn printed(
-    alloc: Global,
-    name: &str,
-    file: &[u8],
-    text: &[u8],
-    stands: &[Stand],
-) -> Result<Vec<u8>, AllocError>
-    ensures { IfOk result (λ out. (g : Given) → spec.IsGiven name.now file.now text.now stands.now g → spec.IsExplained g out.items) }
+/// The output of `explain` for the text of a file.
+fn printed(alloc: Global, file: &GivenFile<'_>) -> Result<Vec<u8>, AllocError>
+    requires { IsOwn file.now }
+    ensures { IfOk result (λ out. spec.IsExplained (given_of file.now) out.items) }
 {
-    let lines = Lines::of(alloc, file)?;
-    let files = [SourceFile { name, lines }];
-    let files = Files {
-        all: &files,
-        stands,
-    };
-    let sources = [Source { text, files }];
+    let files = [source_file(alloc, file, file.name)?];
+    let sources = [Source {
+        text: file.text.as_slice(),
+        files: Files {
+            all: &files,
+            stands: file.stands.as_slice(),
+        },
+    }];
     let mut out = Nowhere { failures: 0 };
     let mut watch = UnwatchedSearch;
     match explain(alloc, asking(), &sources, &mut out, &mut watch) {
@@ -83,33 +80,14 @@ fn printed(
     }
 }
 
-/// The drifts of a C file of a name, as they are printed for people.
-fn printed_drifts(alloc: Global, name: &str, file: &[u8]) -> Result<Vec<u8>, AllocError>
-    ensures { IfOk result (spec.AreDriftsOf name.now file.now) }
+/// The output of `explain` for a C file: its drifts, and then that for its annotations.
+fn printed_with_drifts(alloc: Global, file: &GivenFile<'_>) -> Result<Vec<u8>, AllocError>
+    requires { IsOwn file.now }
+    ensures { IfOk result (λ out. spec.IsExplainedWithDrifts (given_of file.now) out.items) }
 {
-    let files = [Some(Vec::from_slice(alloc, file)?)];
-    let drifted = drifted_files(alloc, &[], &[name], &files)?;
-    tell_drifts(alloc, Form::Human, drifted.as_slice())
-}
-
-/// The output of `explain` for the annotations of a C file under a name, after the drifts of the file.
-fn printed_after(
-    alloc: Global,
-    name: &str,
-    file: &[u8],
-    found: &Found,
-) -> Result<Vec<u8>, AllocError>
-    requires { AreAnnotations file.now found.now.text.items found.now.stands.items }
-    ensures { IfOk result (λ out. spec.IsExplainedInC name.now file.now out.items) }
-{
-    let mut out = printed_drifts(alloc, name, file)?;
-    let own = printed(
-        alloc,
-        name,
-        file,
-        found.text.as_slice(),
-        found.stands.as_slice(),
-    )?;
+    let drifted = drifted_files(alloc, &[], from_ref(file))?;
+    let mut out = tell_drifts(alloc, Form::Human, drifted.as_slice())?;
+    let own = printed(alloc, file)?;
     out.extend_from_slice(own.as_slice())?;
     Ok(out)
 }
@@ -124,25 +102,27 @@ fn printed_of_unread(alloc: Global, name: &str, why: Unread) -> Result<Vec<u8>, 
 }
 
 /// The output of `explain` for a C file under a name.
-fn printed_in_c(alloc: Global, name: &str, file: &[u8]) -> Result<Vec<u8>, AllocError>
-    ensures { IfOk result (λ out. spec.IsSaidInC name.now file.now (extracted (file.now ∷ [])) out.items) }
+#[tactic(auto, using(crate::proofs::ServedFile::in_c, crate::proofs::ServedFile::unread_in_c))]
+fn printed_in_c(alloc: Global, name: &str, file: Vec<u8>) -> Result<Vec<u8>, AllocError>
+    ensures { IfOk result (λ out. spec.IsSaidInC name.now file.items out.items) }
 {
-    let own = Vec::from_slice(alloc, file)?;
-    match annotations(alloc, own)? {
-        Ok(found) => printed_after(alloc, name, file, &found),
+    match annotated(alloc, name, file)? {
+        Ok(file) => printed_with_drifts(alloc, &file),
         Err(why) => printed_of_unread(alloc, name, why),
     }
 }
 
 /// The output of `explain` for a file under a name, which says whether it is C.
+#[tactic(auto, using(crate::proofs::ServedFile::in_no_c))]
 fn printed_for(alloc: Global, name: &str, file: &[u8]) -> Result<Vec<u8>, AllocError>
     ensures { IfOk result (λ out. spec.IsSaid name.now file.now out.items) }
 {
+    let own = Vec::from_slice(alloc, file)?;
     if is_c_file(name) {
-        printed_in_c(alloc, name, file)
-    } else {
-        printed(alloc, name, file, file, &[])
+        return printed_in_c(alloc, name, own);
     }
+    let file = GivenFile::plain(alloc, name, own);
+    printed(alloc, &file)
 }
 
 /// Bytes as a JSON string; bytes that aren't UTF-8 become U+FFFD.

@@ -121,6 +121,23 @@ fn name_of(names: &[String], number: usize) -> &str
     }
 }
 
+/// A file under a name.
+///
+/// # Errors
+///
+/// `AllocError` if a growth is refused.
+pub fn source_file<'s>(
+    alloc: Global,
+    file: &'s GivenFile<'_>,
+    name: &'s str,
+) -> Result<SourceFile<'s>, AllocError>
+    ensures { IfOk result (λ f. (told : spec.Text → spec.Text) → name.now ≡ told file.now.name.now →
+        spec.file_in f ≡ spec.file_of told (spec.given_of file.now)) }
+{
+    let lines = Lines::of(alloc, bytes_of(file))?;
+    Ok(SourceFile { name, lines })
+}
+
 /// Files under these names.
 ///
 /// # Errors
@@ -136,11 +153,8 @@ pub fn source_files<'s>(
 {
     let mut all = Vec::new(alloc);
     for (number, file) in files.iter().enumerate() {
-        let lines = Lines::of(alloc, bytes_of(file))?;
-        all.push(SourceFile {
-            name: name_of(names, number),
-            lines,
-        })?;
+        let own = source_file(alloc, file, name_of(names, number))?;
+        all.push(own)?;
     }
     Ok(all)
 }
