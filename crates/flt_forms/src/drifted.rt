@@ -179,8 +179,8 @@ fn is_drifted(drifted: &[DriftedFile<'_>]) -> bool
         .any(|file| has_difference(file.drifts.as_slice()))
 }
 
-/// 1 if warnings count and code and annotations differ in one of some files; else 0.
-pub(crate) fn drift_status(is_strict: bool, drifted: &[DriftedFile<'_>]) -> u8
+/// The exit status that results from the drifts of C files: 1 if warnings count and code and annotations differ in one of the files; else 0.
+pub fn drift_status(is_strict: bool, drifted: &[DriftedFile<'_>]) -> u8
     ensures { result ≡ spec.drift_status is_strict drifted.now }
 {
     if is_strict && is_drifted(drifted) {
