@@ -18,8 +18,9 @@ use Rattle.flt_notes.specs.Whole.{IsPrint, Look}
 use Rattle.flt_notes.specs.declared.noted.Noted.{Noted}
 use Rattle.flt_notes.specs.declared.explaining.Told.{Told}
 use Rattle.flt_details.specs.Reports.{texts_of}
+use Rattle.flt_places.specs.declared.files.Stand.{Stand}
 use Rattle.flt_details.specs.declared.sources.Source.{Source}
-use Rattle.flt_commands.specs.Joined.{files_in, files_of, joined}
+use Rattle.flt_commands.specs.Joined.{AreSources}
 use Rattle.flt_words.specs.declared.request.Colour.{Colour}
 use Rattle.flt_words.specs.declared.request.Colour.TheVariants.{Auto, Always, Never}
 use Rattle.flt_words.specs.declared.request.Form.{Form}
@@ -28,13 +29,14 @@ use Rattle.flt_words.specs.declared.request.Form.TheVariants.{Html, Human, Lines
 use Rattle.flt_warning_details.specs.declared.options.WarningOptions.{WarningOptions}
 use Rattle.flt_words.specs.Request.{Choice}
 use Rattle.flt_commands.specs.Allowed.{options_of}
-use Rattle.flt_commands.specs.Annotated.{AreFound, gives_annotations}
+use Rattle.flt_commands.specs.Annotated.{AreFound, codes_in, gives_annotations, names_in, texts_in}
 use Rattle.flt_commands.specs.Drifts.{drifts_status, drifts_told}
 use Rattle.flt_commands.specs.FindingRuns.{AreRuns}
 use Rattle.flt_commands.specs.InTurn.{AreFirstLines}
 use Rattle.flt_commands.specs.Inputs.{AreRead, Giving, Text, unread_names}
 use Rattle.flt_commands.specs.Answer.{output, sent_of}
 use Rattle.flt_commands.specs.Html.{IsPageOn, IsPaged}
+use Rattle.flt_commands.specs.declared.annotated.FoundFiles.{FoundFiles}
 use Rattle.flt_commands.specs.declared.answer.Answer.{Answer}
 use Rattle.flt_commands.specs.declared.answer.Answer.TheVariants.{Explained, Pages}
 use Rattle.flt_commands.specs.declared.explain.Asked.{Asked}
@@ -51,19 +53,19 @@ told_name form name = name
 -- JSON objects with the runs of the noted findings
 pub record AreToldWithRuns (options : WarningOptions) (sources : List Source) (t : Told) : Type 0 where
   pub runs : Bor (List FindingRun)
-  pub found : AreRuns (texts_of sources) t.noted runs.now
+  pub found : AreRuns sources t.noted runs.now
   pub lines : AreLines Object options sources (Some runs) t.explained.output.items t.explained.status
 
 -- a SARIF document with them
 pub record IsToldWithRuns (options : WarningOptions) (sources : List Source) (unread : List UnreadFile) (t : Told) : Type 0 where
   pub runs : List FindingRun
-  pub found : AreRuns (texts_of sources) t.noted runs
+  pub found : AreRuns sources t.noted runs
   pub document : IsSarif options sources unread runs t.explained.output.items t.explained.status
 
 -- what is told in a form: reports, a sentence or a JSON object for each finding, a SARIF document, which tells of these files that they
 -- aren't read, or a page on reports, in which these drifts come before them
 abbrev pub IsTold : Form → WarningOptions → Text → List Source → List UnreadFile → Told → Type 0
-IsTold Human options drifts sources unread t = AreReports options (texts_of sources) t.explained.output.items t.explained.status
+IsTold Human options drifts sources unread t = AreReports options sources t.explained.output.items t.explained.status
 IsTold Short options drifts sources unread t = AreLines Sentence options sources None t.explained.output.items t.explained.status
 IsTold Lines options drifts sources unread t = AreLines Object options sources None t.explained.output.items t.explained.status
 IsTold Sarif options drifts sources unread t = IsSarif options sources unread [] t.explained.output.items t.explained.status
@@ -105,16 +107,12 @@ IsPrintTold LinesWithRuns look drifts sources e = HasReport look sources e.noted
 IsPrintTold SarifWithRuns look drifts sources e = HasReport look sources e.noted
 IsPrintTold _ look drifts sources e = Unit {0}
 
--- the same of names and what they give, where these C files have the annotations of some of the texts, beside the files that aren't read,
--- with what came of the findings of these texts
-pub record IsToldUnder (form : Form) (look : Look) (journal : Option Text) (drifts : Text) (names texts : List Text)
-    (codes : List (Option Text)) (unread : List UnreadFile) (e : Told) : Type 0 where
-  pub sources : List Source
-  pub given : texts_of sources ≡ joined codes texts
-  pub files : files_in sources ≡ files_of codes (map (told_name form) names) texts
+-- all that is known of what is told of texts, beside the files that aren't read
+pub record IsToldUnder (form : Form) (look : Look) (journal : Option Text) (drifts : Text) (sources : List Source)
+    (unread : List UnreadFile) (e : Told) : Type 0 where
   pub told : IsTold form look.options drifts sources unread e
-  pub noted : AreNotedFor form journal texts e.noted
-  pub notes : IsNoteTold form texts look.states e
+  pub noted : AreNotedFor form journal (texts_of sources) e.noted
+  pub notes : IsNoteTold form (texts_of sources) look.states e
   pub print : IsPrintTold form look drifts sources e
 
 -- this is what is told of texts, after drifts that are worth this status
@@ -123,11 +121,11 @@ pub record IsAfter (drifts : Text) (worth : ℕ) (own e : Told) : Type 0 where
   pub status : e.explained.status ≡ max own.explained.status worth
   pub noted : e.noted ≡ own.noted
 
--- the same of names and what they give, after these first drifts, and with these within a page
-pub record IsToldAfter (first within : Text) (worth : ℕ) (form : Form) (look : Look) (journal : Option Text) (names texts : List Text)
-    (codes : List (Option Text)) (unread : List UnreadFile) (e : Told) : Type 0 where
+-- the same after these first drifts, and with these within a page
+pub record IsToldAfter (first within : Text) (worth : ℕ) (form : Form) (look : Look) (journal : Option Text) (sources : List Source)
+    (unread : List UnreadFile) (e : Told) : Type 0 where
   pub own : Told
-  pub told : IsToldUnder form look journal within names texts codes unread own
+  pub told : IsToldUnder form look journal within sources unread own
   pub after : IsAfter first worth own e
 
 -- the drifts that come before what a form prints of texts: a page has them within it
@@ -140,27 +138,43 @@ within_in Html drifts = drifts
 within_in form drifts = []
 
 -- the same, where these are all drifts
-abbrev pub IsToldWith : Text → ℕ → Form → Look → Option Text → List Text → List Text → List (Option Text) → List UnreadFile → Told →
-    Type 0
-IsToldWith drifts worth form look journal names texts codes unread e =
-    IsToldAfter (first_in form drifts) (within_in form drifts) worth form look journal names texts codes unread e
+abbrev pub IsToldWith : Text → ℕ → Form → Look → Option Text → List Source → List UnreadFile → Told → Type 0
+IsToldWith drifts worth form look journal sources unread e =
+    IsToldAfter (first_in form drifts) (within_in form drifts) worth form look journal sources unread e
 
--- the same of those of these files that are read: they give these texts, of which these C files have the annotations, with the drifts of
--- these but for kinds of these names, and these others aren't read
+-- the same of those of these files that are read, and of the texts that they make: they give these texts, of which these C files have the
+-- annotations, with the drifts of these but for kinds of these names; and these files aren't read, the last of them since with them a text
+-- would be too long
 pub record IsToldOf (gives : Giving) (is_c : Bool) (form : Form) (look : Look) (allowed : List Text) (journal : Option Text)
     (files : List Text) (codes : List (Option Text)) (texts : List Text) (unread : List UnreadFile) (e : Told) : Type 0 where
   pub names : List Text
-  pub read : AreRead (gives_annotations is_c gives) files names texts (unread_names unread)
-  pub found : AreFound is_c gives names texts codes
+  pub missing : List Text
+  pub read : AreRead (gives_annotations is_c gives) files names texts missing
+  pub places : List (List Stand)
+  pub found : AreFound is_c gives names texts places codes
+  pub sources : List Source
+  pub flawed : List Text
+  pub are : AreSources (told_name form) names texts codes sources flawed
+  pub unread : unread_names unread ≡ missing ++ flawed
   pub told : IsToldWith (drifts_told form allowed names codes) (drifts_status look.options.is_strict allowed codes) form look journal
-      names texts codes unread e
+      sources unread e
+
+-- the same of these files that are read, and of the texts that they make, beside these that aren't read
+pub record IsToldJoined (first within : Text) (worth : ℕ) (form : Form) (look : Look) (journal : Option Text) (found : FoundFiles)
+    (missing unread : List UnreadFile) (e : Told) : Type 0 where
+  pub sources : List Source
+  pub flawed : List Text
+  pub are : AreSources (told_name form) (names_in found) (texts_in found) (codes_in found) sources flawed
+  pub unread : unread_names unread ≡ unread_names missing ++ flawed
+  pub told : IsToldAfter first within worth form look journal sources unread e
 
 -- those of these files that are read give these texts, of which these C files have the annotations
 pub record GiveTexts (gives : Giving) (is_c : Bool) (files : List Text) (codes : List (Option Text)) (texts : List Text) : Type 0 where
   pub names : List Text
   pub unread : List Text
   pub read : AreRead (gives_annotations is_c gives) files names texts unread
-  pub found : AreFound is_c gives names texts codes
+  pub places : List (List Stand)
+  pub found : AreFound is_c gives names texts places codes
 
 -- what is said of the bytes of each FILE that is read, of a C file by its annotations, after the drifts of all C files but for kinds of
 -- these names; a journal may not be written
@@ -218,14 +232,14 @@ HoldsBack SarifWithRuns None = Unit {0}
 HoldsBack form None = ⊥
 
 -- what goes out before the end where nothing is held back: for people the reports of all texts but the last, else all lines
-abbrev pub GoesOutEarly : Form → WarningOptions → List Text → ℕ → Told → Type 0
-GoesOutEarly Human options texts states e = IsAllButLast options texts states (take e.sent e.explained.output.items)
-GoesOutEarly Short options texts states e = e.sent ≡ length e.explained.output.items
-GoesOutEarly Lines options texts states e = e.sent ≡ length e.explained.output.items
-GoesOutEarly Sarif options texts states e = Unit {0}
-GoesOutEarly Html options texts states e = Unit {0}
-GoesOutEarly LinesWithRuns options texts states e = Unit {0}
-GoesOutEarly SarifWithRuns options texts states e = Unit {0}
+abbrev pub GoesOutEarly : Form → WarningOptions → List Source → ℕ → Told → Type 0
+GoesOutEarly Human options sources states e = IsAllButLast options sources states (take e.sent e.explained.output.items)
+GoesOutEarly Short options sources states e = e.sent ≡ length e.explained.output.items
+GoesOutEarly Lines options sources states e = e.sent ≡ length e.explained.output.items
+GoesOutEarly Sarif options sources states e = Unit {0}
+GoesOutEarly Html options sources states e = Unit {0}
+GoesOutEarly LinesWithRuns options sources states e = Unit {0}
+GoesOutEarly SarifWithRuns options sources states e = Unit {0}
 
 -- what went out of an answer; where there is none, nothing did
 abbrev pub IsSent : Option Text → Option Text → Result Answer Failure → Type 0
@@ -234,7 +248,7 @@ IsSent old new (Err f) = Appends old new []
 
 -- where memory runs out, what went out is told of the first texts: whole reports, or whole lines of each
 abbrev pub IsCutIn : Form → WarningOptions → ℕ → List Source → Option Text → Option Text → Type 0
-IsCutIn Human options states sources old new = IsCut options (texts_of sources) states old new
+IsCutIn Human options states sources old new = IsCut options sources states old new
 IsCutIn Short options states sources old new = AreFirstLines Sentence options sources old new
 IsCutIn Lines options states sources old new = AreFirstLines Object options sources old new
 IsCutIn Sarif options states sources old new = Appends old new []
@@ -242,29 +256,30 @@ IsCutIn Html options states sources old new = Appends old new []
 IsCutIn LinesWithRuns options states sources old new = Appends old new []
 IsCutIn SarifWithRuns options states sources old new = Appends old new []
 
--- the same of names and what they give; or nothing went out
-pub data IsCutUnder (form : Form) (options : WarningOptions) (states : ℕ) (names texts : List Text) (old new : Option Text) : Type 0 where
-  none_out : Appends old new [] → IsCutUnder form options states names texts old new
-  some_out : (sources : List Source) → texts_of sources ≡ joined codes texts →
-      IsCutIn form options states sources old new → IsCutUnder form options states names texts old new
-
 -- the same after these drifts; or nothing went out
-pub data IsCutAfter (drifts : Text) (form : Form) (options : WarningOptions) (states : ℕ) (names texts : List Text)
-    (old new : Option Text) :
+pub data IsCutAfter (drifts : Text) (form : Form) (options : WarningOptions) (states : ℕ) (sources : List Source) (old new : Option Text) :
     Type 0 where
-  nothing_out : Appends old new [] → IsCutAfter drifts form options states names texts old new
-  drifts_out : (between : Option Text) → Appends old between drifts → IsCutUnder form options states names texts between new →
-      IsCutAfter drifts form options states names texts old new
+  nothing_out : Appends old new [] → IsCutAfter drifts form options states sources old new
+  drifts_out : (between : Option Text) → Appends old between drifts → IsCutIn form options states sources between new →
+      IsCutAfter drifts form options states sources old new
 
--- the same of those of these files that are read
+-- the same of the texts that these files make that are read; or nothing went out
+pub data IsCutJoined (drifts : Text) (form : Form) (options : WarningOptions) (states : ℕ) (found : FoundFiles) (old new : Option Text) :
+    Type 0 where
+  none_joined : Appends old new [] → IsCutJoined drifts form options states found old new
+  some_joined : (sources : List Source) (flawed : List Text) →
+      AreSources (told_name form) (names_in found) (texts_in found) (codes_in found) sources flawed →
+      IsCutAfter drifts form options states sources old new → IsCutJoined drifts form options states found old new
+
+-- the same of the texts that those of these files make that are read; or nothing went out
 pub data IsCutShort (gives : Giving) (is_c : Bool) (form : Form) (options : WarningOptions) (states : ℕ) (allowed files : List Text)
     (old new : Option Text) :
     Type 0 where
   none_read : Appends old new [] → IsCutShort gives is_c form options states allowed files old new
-  some_read : (names texts missing : List Text) (codes : List (Option Text)) →
-      AreRead (gives_annotations is_c gives) files names texts missing →
-      AreFound is_c gives names texts codes →
-      IsCutAfter (first_in form (drifts_told form allowed names codes)) form options states names texts old new →
+  some_read : (names texts missing : List Text) (places : List (List Stand)) (codes : List (Option Text)) (sources : List Source)
+      (flawed : List Text) → AreRead (gives_annotations is_c gives) files names texts missing →
+      AreFound is_c gives names texts places codes → AreSources (told_name form) names texts codes sources flawed →
+      IsCutAfter (first_in form (drifts_told form allowed names codes)) form options states sources old new →
       IsCutShort gives is_c form options states allowed files old new
 
 -- ---- pages

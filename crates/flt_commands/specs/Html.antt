@@ -12,7 +12,7 @@ use Rattle.flt_warning_details.specs.declared.options.WarningOptions.{WarningOpt
 use Rattle.flt_picture.specs.Pictures.{IsPicture}
 use Rattle.flt_picture.specs.Titles.{title_of}
 use Rattle.flt_details.specs.Reports.{texts_of}
-use Rattle.flt_details.specs.declared.sources.FilePart.{FilePart}
+use Rattle.flt_places.specs.declared.files.SourceFile.{SourceFile}
 use Rattle.flt_details.specs.declared.sources.Source.{Source}
 use Rattle.flt_notes.specs.Noted.{own_of, schedule_of}
 use Rattle.flt_notes.specs.Parsed.{AreParsed}
@@ -26,12 +26,12 @@ use Rattle.flt_commands.specs.Inputs.{Text}
 -- ---- texts
 
 -- a file in which a text is, as reports show it: its name, and its lines without their ends
-abbrev pub shown_file : FilePart → ShownText
-shown_file f = record { name = shown f.name.now; lines = map shown (slice_split (λ b. b == 10) f.bytes.now) }
+abbrev pub shown_file : SourceFile → ShownText
+shown_file f = record { name = shown f.name.now; lines = map shown (slice_split (λ b. b == 10) f.lines) }
 
 -- the files of some texts
 abbrev pub shown_files : List Source → List ShownText
-shown_files sources = flat_map (λ (s : Source). map shown_file s.files.now) sources
+shown_files sources = flat_map (λ (s : Source). map shown_file s.files.all.now) sources
 
 -- ---- pictures
 
@@ -75,7 +75,7 @@ pub record HasPage (sources : List Source) (notes : List Noted) (printed written
 pub record IsPageOn (options : WarningOptions) (drifts : Text) (sources : List Source) (written : Text) (status : ℕ) : Type 0 where
   pub printed : Text
   pub notes : List Noted
-  pub reports : AreReports options (texts_of sources) printed status
+  pub reports : AreReports options sources printed status
   pub page : HasPage sources notes (drifts ++ printed) written
 
 -- without colours

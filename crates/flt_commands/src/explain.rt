@@ -4,14 +4,17 @@ ghost use Rattle.std.specs.Io.KnownBytes.{Appends};
 ghost use Rattle.std.specs.Prelude.{◌≡◌, ◌≢◌, [], None, IfErr, IfOk, OnErr, OnOk, get_or, length, map, option_map, string_bytes, take};
 ghost use Rattle.flt_commands.specs.Explain as spec;
 ghost use Rattle.flt_commands.specs.Html.{IsPageOn, IsPaged};
+ghost use Rattle.flt_commands.specs.Joining.{AreJoined};
+ghost use Rattle.flt_commands.specs.declared.annotated.FoundFiles.{FoundFiles as FoundOf};
+ghost use Rattle.flt_forms.specs.declared.unread.UnreadFile.{UnreadFile as UnreadOf};
 ghost use Rattle.flt_commands.specs.Remarks.{unread_in};
 ghost use Rattle.flt_forms.specs.Lines.{AreLines};
 ghost use Rattle.flt_forms.specs.Sarif.{IsSarif};
 ghost use Rattle.flt_notes.specs.Noted.{AreNotes, first_journal};
-ghost use Rattle.flt_reports.specs.Source.{plain, texts_of};
+ghost use Rattle.flt_details.specs.Reports.{texts_of};
 
 use crate::after::explain_after;
-use crate::annotated::find_each;
+use crate::annotated::{NamedFiles, find_each};
 use crate::answer::Answer;
 use crate::drifts::tell_drifts;
 use crate::failure::Failure;
@@ -20,7 +23,7 @@ use crate::finding_runs::runs_of;
 use crate::html::page_on;
 use crate::in_turn::lines_in_turn;
 use crate::inputs::{Inputs, Pictures};
-use crate::joined::{beginnings, joined, parts, sources};
+use crate::joined::{Joined, files_of, join};
 use crate::remarks::unread_lines;
 use crate::report::Contents;
 use crate::unwritten::Unwritten;
@@ -223,7 +226,7 @@ fn told_in_turn<O: Sink, W: SearchWatch>(
     ensures notes { IfOk result (spec.IsNoteTold asked.entry.form (texts_of sources.now) asked.entry.states) }
     ensures print { IfOk result (spec.IsPrintTold asked.entry.form (spec.look_of asked.entry) drifts.now sources.now) }
     ensures sent { IfOk result (λ t. Appends (O.taken out.old) (O.taken out.new) (take t.sent t.explained.output.items)) }
-    ensures early { IfOk result (spec.GoesOutEarly asked.entry.form asked.entry.options (texts_of sources.now) asked.entry.states) }
+    ensures early { IfOk result (spec.GoesOutEarly asked.entry.form asked.entry.options sources.now asked.entry.states) }
     ensures cut { IfOk result (λ t.
         spec.IsCutIn asked.entry.form asked.entry.options asked.entry.states sources.now (O.taken out.old) (O.taken out.new)) }
     ensures held { spec.HoldsBack asked.entry.form None → out.new ≡ out.old }
@@ -289,7 +292,7 @@ fn told_whole<O: Sink, W: SearchWatch>(
 /// The output for some texts, in a form, with files that aren't read; a page has these drifts before all else. If a file is named for a
 /// journal, nothing is written before all is known.
 #[tactic(auto, using(crate::proofs::Sent::cut_nowhere))]
-fn told<O: Sink, W: SearchWatch>(
+pub(crate) fn told<O: Sink, W: SearchWatch>(
     alloc: Global,
     asked: Asked<'_>,
     drifts: &[u8],
@@ -318,40 +321,42 @@ fn told<O: Sink, W: SearchWatch>(
     }
 }
 
-/// The output for the texts of some files, in a form, with files that aren't read; a page has these drifts before all else.
-#[tactic(auto, using(crate::proofs::Sent::cut_under))]
-pub(crate) fn explain_read<O: Sink, W: SearchWatch>(
+/// The output for the texts of some files, in a form, after some drifts, or with some within a page.
+fn told_joined<O: Sink, W: SearchWatch>(
     alloc: Global,
     asked: Asked<'_>,
-    drifts: &[u8],
-    names: &[&str],
-    texts: &[Vec<u8>],
-    codes: &[Option<Vec<u8>>],
-    beginnings: &[usize],
-    whole: &[Vec<u8>],
-    unread: &[UnreadFile],
+    joined: &Joined<'_>,
+    first: Vec<u8>,
+    within: &[u8],
+    worth: u8,
     out: &mut O,
     watch: &mut W,
 ) -> Result<Told, CommandFault>
-    requires { length texts.now ≡ length names.now }
-    ensures told { IfOk result (spec.IsToldUnder asked.entry.form (spec.look_of asked.entry)
-        (option_map (λ name. name.now) asked.entry.journal) drifts.now (map (λ name. name.now) names.now)
-        (map (λ text. text.items) texts.now) (map (option_map (λ code. code.items)) codes.now) unread.now) }
+    ensures told { IfOk result (λ t. (found : FoundOf) → (unread : List UnreadOf) → AreJoined found unread joined.now →
+        spec.IsToldJoined first.items within.now worth asked.entry.form (spec.look_of asked.entry)
+        (option_map (λ name. name.now) asked.entry.journal) found unread joined.now.unread.items t) }
     ensures sent { IfOk result (λ t. Appends (O.taken out.old) (O.taken out.new) (take t.sent t.explained.output.items)) }
-    ensures cut { IfOk result (λ t. spec.IsCutUnder asked.entry.form asked.entry.options asked.entry.states
-        (map (λ name. name.now) names.now) (map (λ text. text.items) texts.now) (O.taken out.old) (O.taken out.new)) }
     ensures held { spec.HoldsBack asked.entry.form (option_map (λ name. name.now) asked.entry.journal) → out.new ≡ out.old }
     ensures fine { OnOk result (O.failures out.new ≡ O.failures out.old) }
     ensures write { IfErr result (λ e. e ≡ CommandFault.Write → O.failures out.new ≢ O.failures out.old) }
-    ensures memory { IfErr result (λ e. e ≡ CommandFault.OutOfMemory →
-        spec.IsCutUnder asked.entry.form asked.entry.options asked.entry.states (map (λ name. name.now) names.now)
-        (map (λ text. text.items) texts.now)
+    ensures memory { IfErr result (λ e. e ≡ CommandFault.OutOfMemory → (found : FoundOf) → (unread : List UnreadOf) →
+        AreJoined found unread joined.now → spec.IsCutJoined first.items asked.entry.form asked.entry.options asked.entry.states found
         (O.taken out.old) (O.taken out.new)) }
 {
-    let names = told_names(alloc, asked.form, names)?;
-    let parts = parts(alloc, names.as_slice(), texts, codes)?;
-    let sources = sources(alloc, whole, beginnings, parts.as_slice())?;
-    told(alloc, asked, drifts, sources.as_slice(), unread, out, watch)
+    let names = told_names(alloc, asked.form, joined.found.names.as_slice())?;
+    let files = files_of(alloc, &joined.found, names.as_slice())?;
+    let sources = joined.sources(alloc, files.as_slice())?;
+    explain_after(
+        alloc,
+        asked,
+        first,
+        within,
+        worth,
+        sources.as_slice(),
+        joined.unread.as_slice(),
+        out,
+        watch,
+    )
 }
 
 /// Writes the journal of the first finding that has one, if there is one, into a file that is none of the inputs. Returns why that failed,
@@ -410,8 +415,8 @@ fn placed(alloc: Global, form: Form, drifts: Vec<u8>) -> (Vec<u8>, Vec<u8>)
 }
 
 /// The outcome of `explain`, in a form, for those of its names that can be read, of C files for their annotations, after the drifts of
-/// these; `contents` becomes the texts that the names give, `codes` the C files of which texts are the annotations, and `remark` whole
-/// lines on the names that give none. The journal of the first finding that has one is written into a file, if one is named; else the
+/// these; `contents` becomes what the names give, `codes` the C files of which texts are the annotations, and `remark` whole lines on the
+/// names that give none, or with which a text would be too long. The journal of the first finding that has one is written into a file, if one is named; else the
 /// drifts are written first and the output for each text as soon as it is made, unless the form is one document.
 #[tactic(auto, using(crate::proofs::Sent::cut_short))]
 pub fn explain_files<'a, I: Inputs, P: Pictures, O: Sink, W: SearchWatch>(
@@ -441,39 +446,31 @@ pub fn explain_files<'a, I: Inputs, P: Pictures, O: Sink, W: SearchWatch>(
         spec.IsCutShort (I.gives inputs.now) asked.entry.is_c asked.entry.form asked.entry.options asked.entry.states
         (map (λ name. name.now) asked.entry.allowed.now) (map (λ name. name.now) files.now) (O.taken out.old) (O.taken out.new)) }
 {
-    let found = find_each(alloc, inputs, asked.is_c, files)?;
-    let names = found.names;
-    let unread = found.unread;
-    let texts = found.texts;
-    *codes = found.codes;
-    let beginnings = beginnings(alloc, texts.as_slice(), codes.as_slice())?;
-    contents.texts = joined(alloc, texts.as_slice(), beginnings.as_slice())?;
-    *remark = unread_lines(alloc, unread.as_slice())?;
+    let NamedFiles { read, unread } = find_each(alloc, inputs, asked.is_c, files)?;
+    let joined = join(alloc, read, unread)?;
+    *remark = unread_lines(alloc, joined.unread.as_slice())?;
     let drifts = tell_drifts(
         alloc,
         asked.form,
         asked.allowed,
-        names.as_slice(),
-        codes.as_slice(),
+        joined.found.names.as_slice(),
+        joined.found.codes.as_slice(),
     )?;
     let worth = drifts.worth(asked.options.is_strict);
     let (first, within) = placed(alloc, asked.form, drifts.printed);
-    let told = explain_after(
+    let told = told_joined(
         alloc,
         asked,
+        &joined,
         first,
         within.as_slice(),
         worth,
-        names.as_slice(),
-        texts.as_slice(),
-        codes.as_slice(),
-        beginnings.as_slice(),
-        contents.texts.as_slice(),
-        unread.as_slice(),
         out,
         watch,
     )?;
-    let said = keep(alloc, files, asked.journal, told, unread, pictures)?;
+    contents.texts = joined.found.texts;
+    *codes = joined.found.codes;
+    let said = keep(alloc, files, asked.journal, told, joined.unread, pictures)?;
     Ok(said)
 }
 

@@ -1,44 +1,41 @@
 //! The runs that break something because of findings, for the forms that have them.
 
 ghost use Rattle.std.specs.Prelude.{◌≡◌, IfOk, get_or};
-ghost use Rattle.flt_reports.specs.Source.{texts_of};
 ghost use Rattle.flt_commands.specs.FindingRuns as spec;
 
 use flt_details::Source;
 use flt_flows::Flow;
 use flt_forms::FindingRun;
-use flt_notes::{Noted, own_files, own_trees, schedule_of, slices_of, starts_of};
+use flt_notes::{Noted, own_files, own_trees, schedule_of};
+use flt_places::Files;
 use flt_schedules::{Schedule, Scheduled};
 use flt_search::Broken;
 use flt_syntax::{ParseError, parse};
-use flt_timeline::FileStart;
 use flt_tree::Tree;
 use sqlite_items::Items;
 use std::alloc::{AllocError, Global};
 
-/// The trees of texts that parse, and the numbers of these texts among all, from 0.
+/// The trees of texts that parse, their files, and the numbers of these texts among all, from 0.
 #[derive(Drop)]
 struct Parsed<'a> {
     trees: Vec<Tree>,
-    /// The files of each.
-    starts: Vec<Vec<FileStart<'a>>>,
+    files: Vec<Files<'a>>,
     numbers: Items<usize>,
 }
 
-/// Adds the tree of a text, if it parses, with the text's number.
+/// Adds the tree of a text, if it parses, with its files and the text's number.
 fn add_parsed<'a>(
     alloc: Global,
     parsed: &mut Parsed<'a>,
     number: usize,
     source: Source<'a>,
 ) -> Result<(), AllocError>
-    ensures { IfOk result (λ _. spec.IsOneMore number text.now parsed.old.trees.items parsed.old.numbers parsed.new.trees.items
-        parsed.new.numbers) }
+    ensures { IfOk result (λ _. spec.IsOneMore number source.entry parsed.old.trees.items parsed.old.files.items parsed.old.numbers
+        parsed.new.trees.items parsed.new.files.items parsed.new.numbers) }
 {
     match parse(alloc, source.text) {
         Ok(tree) => {
-            let starts = starts_of(alloc, source.files)?;
-            parsed.starts.push(starts)?;
+            parsed.files.push(source.files)?;
             parsed.numbers.push(number)?;
             parsed.trees.push(tree)?;
             Ok(())
@@ -50,11 +47,11 @@ fn add_parsed<'a>(
 
 /// The trees of some texts.
 fn parsed_of<'a>(alloc: Global, sources: &[Source<'a>]) -> Result<Parsed<'a>, AllocError>
-    ensures { IfOk result (λ p. spec.AreTrees (texts_of sources.now) p.trees.items p.numbers) }
+    ensures { IfOk result (λ p. spec.AreTrees sources.now p.trees.items p.files.items p.numbers) }
 {
     let mut parsed = Parsed {
         trees: Vec::new(alloc),
-        starts: Vec::new(alloc),
+        files: Vec::new(alloc),
         numbers: Items::new(alloc),
     };
     for (number, source) in sources.iter().enumerate() {
@@ -111,11 +108,11 @@ fn add_broken(
     noted: &Noted,
     broken: &Broken,
 ) -> Result<(), AllocError>
-    ensures { IfOk result (λ _. spec.IsAdded parsed.now.trees.items parsed.now.numbers noted.now broken.now runs.old.items runs.new.items) }
+    ensures { IfOk result (λ _. spec.IsAdded parsed.now.trees.items parsed.now.files.items parsed.now.numbers noted.now broken.now
+        runs.old.items runs.new.items) }
 {
     let own = own_trees(parsed.trees.as_slice(), noted.filter, &noted.scheduled);
-    let files = slices_of(alloc, parsed.starts.as_slice())?;
-    let files = own_files(files.as_slice(), noted.filter, &noted.scheduled);
+    let files = own_files(parsed.files.as_slice(), noted.filter, &noted.scheduled);
     let found = Flow::of(alloc, own, files, &broken.journal)?;
     match found {
         Some(flow) => {
@@ -134,7 +131,7 @@ fn add_run(
     parsed: &Parsed<'_>,
     noted: &Noted,
 ) -> Result<(), AllocError>
-    ensures { IfOk result (λ _. spec.IsNext parsed.now.trees.items parsed.now.numbers noted.now runs.old.items runs.new.items) }
+    ensures { IfOk result (λ _. spec.IsNext parsed.now.trees.items parsed.now.files.items parsed.now.numbers noted.now runs.old.items runs.new.items) }
 {
     match schedule_of(&noted.scheduled) {
         Schedule::Breaks(broken) => add_broken(alloc, runs, parsed, noted, broken),
@@ -152,7 +149,7 @@ pub(crate) fn runs_of(
     sources: &[Source<'_>],
     noted: &[Noted],
 ) -> Result<Vec<FindingRun>, AllocError>
-    ensures { IfOk result (λ runs. spec.AreRuns (texts_of sources.now) noted.now runs.items) }
+    ensures { IfOk result (λ runs. spec.AreRuns sources.now noted.now runs.items) }
 {
     let parsed = parsed_of(alloc, sources)?;
     let mut runs = Vec::new(alloc);

@@ -4,7 +4,7 @@ ghost use Rattle.std.specs.Prelude.{◌≡◌, ◌++◌, ◌∷◌, [], IfOk, Li
 ghost use Rattle.std.specs.Option.{option_copied};
 ghost use Rattle.std.specs.List.{slice_split};
 ghost use Rattle.flt_details.specs.Page.{shown as shown_as};
-ghost use Rattle.flt_reports.specs.Source.{texts_of};
+ghost use Rattle.flt_details.specs.Reports.{texts_of};
 ghost use Rattle.flt_model.specs.Program.{filters_of};
 ghost use Rattle.flt_model.specs.declared.verdict.Verdict.TheVariants as verdicts;
 ghost use Rattle.flt_notes.specs.Noted.{schedule_of as schedule_in};
@@ -14,16 +14,16 @@ ghost use Rattle.flt_picture.specs.Titles.{title_of};
 ghost use Rattle.flt_commands.specs.Inputs.{Text};
 ghost use Rattle.flt_commands.specs.Html as spec;
 
-use flt_details::{FilePart, Page, Source};
+use flt_details::{Page, Source};
 use flt_html::{ShownText, html_page};
 use flt_model::Verdict;
-use flt_notes::{Noted, own_files, slices_of, starts_of};
+use flt_notes::{Noted, own_files};
 use flt_picture::picture;
-use flt_places::lines_of;
+use flt_places::{Files, SourceFile, lines_of};
 use flt_schedules::{Schedule, Scheduled, only};
 use flt_search::Broken;
 use flt_syntax::{ParseError, Tree, parse};
-use flt_timeline::{FileStart, Timeline};
+use flt_timeline::Timeline;
 use sqlite_items::Items;
 use std::alloc::{AllocError, Global};
 
@@ -50,14 +50,29 @@ fn shown_lines(alloc: Global, lines: &[&[u8]]) -> Result<Items<Items<u8>>, Alloc
     Ok(all)
 }
 
-/// The file in which a text is, as reports show it.
-fn shown_file(alloc: Global, file: FilePart<'_>) -> Result<ShownText, AllocError>
-    ensures { IfOk result (λ text. text ≡ spec.shown_file file.entry) }
+/// A file in which a text is, as reports show it.
+fn shown_file(alloc: Global, file: &SourceFile<'_>) -> Result<ShownText, AllocError>
+    ensures { IfOk result (λ text. text ≡ spec.shown_file file.now) }
 {
-    let lines = lines_of(alloc, file.bytes)?;
+    let lines = lines_of(alloc, file.lines.text())?;
     let name = shown(alloc, file.name.as_bytes())?;
     let lines = shown_lines(alloc, lines.as_slice())?;
     Ok(ShownText { name, lines })
+}
+
+/// Adds files, as reports show them.
+fn add_files(
+    alloc: Global,
+    all: &mut Items<ShownText>,
+    files: &[SourceFile<'_>],
+) -> Result<(), AllocError>
+    ensures { OnOk result (all.new ≡ all.old ++ map spec.shown_file files.now) }
+{
+    for file in files {
+        let text = shown_file(alloc, file)?;
+        all.push(text)?;
+    }
+    Ok(())
 }
 
 /// The files in which texts are, as reports show them.
@@ -66,10 +81,7 @@ fn shown_texts(alloc: Global, sources: &[Source<'_>]) -> Result<Items<ShownText>
 {
     let mut all = Items::new(alloc);
     for source in sources {
-        for file in source.files {
-            let text = shown_file(alloc, *file)?;
-            all.push(text)?;
-        }
+        add_files(alloc, &mut all, source.files.all)?;
     }
     Ok(all)
 }
@@ -81,7 +93,7 @@ fn shown_texts(alloc: Global, sources: &[Source<'_>]) -> Result<Items<ShownText>
 struct Parsed<'a> {
     texts: Vec<Vec<u8>>,
     /// The files of each.
-    starts: Vec<Vec<FileStart<'a>>>,
+    files: Vec<Files<'a>>,
     trees: Items<Tree>,
 }
 
@@ -92,7 +104,7 @@ impl<'a> Parsed<'a> {
     {
         let mut parsed = Parsed {
             texts: Vec::new(alloc),
-            starts: Vec::new(alloc),
+            files: Vec::new(alloc),
             trees: Items::new(alloc),
         };
         for source in sources {
@@ -112,8 +124,7 @@ impl<'a> Parsed<'a> {
                 let mut text = Vec::new(alloc);
                 text.extend_from_slice(source.text)?;
                 self.texts.push(text)?;
-                let starts = starts_of(alloc, source.files)?;
-                self.starts.push(starts)?;
+                self.files.push(source.files)?;
                 self.trees.push(tree)
             }
             Err(ParseError::Syntax(_)) => Ok(()),
@@ -159,14 +170,13 @@ fn drawn(
     alloc: Global,
     trees: &[Tree],
     texts: &[Vec<u8>],
-    files: &[&[FileStart<'_>]],
+    files: &[Files<'_>],
     run: &Broken,
 ) -> Result<Items<u8>, AllocError>
     ensures { IfOk result (IsPicture (title_of (filters_of trees.now) (verdicts.Breaks run.now.violation run.now.entry))) }
 {
     let verdict = Verdict::Breaks(run.violation, run.entry);
-    let timeline = Timeline::of(alloc, trees, &run.journal, verdict)?;
-    let timeline = timeline.in_files(alloc, trees, files)?;
+    let timeline = Timeline::of(alloc, trees, files, &run.journal, verdict)?;
     let drawn = picture(alloc, trees, texts, &run.journal, verdict, &timeline)?;
     Ok(Items::from_vec(drawn.into_bytes()))
 }
@@ -182,8 +192,7 @@ fn picture_of(
 {
     let trees = parsed.trees.as_slice();
     let texts = parsed.texts.as_slice();
-    let files = slices_of(alloc, parsed.starts.as_slice())?;
-    let files = own_files(files.as_slice(), noted.filter, &noted.scheduled);
+    let files = own_files(parsed.files.as_slice(), noted.filter, &noted.scheduled);
     match noted.scheduled {
         Scheduled::Together(_) => drawn(alloc, trees, texts, files, run),
         Scheduled::Alone(_) => {

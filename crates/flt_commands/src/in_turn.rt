@@ -1,10 +1,9 @@
 //! Output line by line: the lines of each text are written as soon as they are made.
 
 ghost use Rattle.std.specs.Io.KnownBytes.{Appends};
-ghost use Rattle.std.specs.Prelude.{◌≡◌, ◌≢◌, IfErr, IfOk, None, OnOk, map};
+ghost use Rattle.std.specs.Prelude.{◌≡◌, ◌≢◌, IfErr, IfOk, None, OnOk};
 ghost use Rattle.flt_commands.specs.InTurn as spec;
 ghost use Rattle.flt_forms.specs.Lines.{AreLines};
-ghost use Rattle.flt_reports.specs.Source.{plain};
 
 use crate::fault::CommandFault;
 use flt_details::{Explained, Source};
