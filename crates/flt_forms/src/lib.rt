@@ -1,6 +1,6 @@
 //! The findings of `explain` for other programs: line by line, or as SARIF. It exports `lines` and `sarif`, `UnreadFile`, by which SARIF
-//! reports a file that isn't read, `FindingRun`, a run that breaks something because of a finding, and `DriftedFile`, `drift_objects` and
-//! `drift_status`, by which both forms report where C files and their annotations differ.
+//! reports a file that isn't read, `FindingRun`, a run that breaks something because of a finding, and `DriftedFile`,
+//! `drift_objects` and `drift_status`, by which both forms report where C files and their annotations differ.
 #![tactic(auto)]
 
 mod artifacts;
