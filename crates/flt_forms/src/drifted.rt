@@ -179,11 +179,7 @@ fn is_drifted(drifted: &[DriftedFile<'_>]) -> bool
         .any(|file| has_difference(file.drifts.as_slice()))
 }
 
-<<<<<<< HEAD
-/// What the drifts of some C files are worth as a status: 1 if warnings count and code and annotations differ in one of the files, else 0.
-=======
 /// The exit status that results from the drifts of C files: 1 if warnings count and code and annotations differ in one of the files; else 0.
->>>>>>> 8b037f21dfa6f4af840611fc6b93acc4b1d5d063
 pub fn drift_status(is_strict: bool, drifted: &[DriftedFile<'_>]) -> u8
     ensures { result ≡ spec.drift_status is_strict drifted.now }
 {
