@@ -90,9 +90,9 @@ pub(crate) fn add_refused(
 ) -> Result<(), AllocError>
     ensures { OnOk result (unread_names unread.new.items ≡ unread_names unread.old.items ++ map (name_at files.now) refused.now) }
 {
-    for FileFlaw { file, flaw } in refused {
-        let name = name_of(files, *file);
-        let file = Unread::Flawed(*flaw).file(alloc, name)?;
+    for flaw in refused {
+        let name = name_of(files, flaw.file);
+        let file = Unread::Flawed(flaw.flaw).file(alloc, name)?;
         unread.push(file)?;
     }
     Ok(())
