@@ -7,9 +7,9 @@ use Rattle.std.specs.List.{list_any}
 use Rattle.std.specs.declared.alloc.AllocError.{AllocError}
 use Rattle.flt_forms.specs.declared.unread.UnreadFile.{UnreadFile}
 use Rattle.flt_joined.specs.Made.{IsOwn}
-use Rattle.flt_joined.specs.Texts.{AreAnnotations, AreFlawed, Given, given_of, givens}
+use Rattle.flt_joined.specs.Texts.{AreAnnotations, Given, given_of, givens}
 use Rattle.flt_joined.specs.declared.given.GivenFile.{GivenFile}
-use Rattle.flt_commands.specs.Annotated.{AreFoundIn, GivesBy, GivesFound, gives_annotations, gives_if_c, is_taken_for_c}
+use Rattle.flt_commands.specs.Annotated.{AreFlawed, AreFoundIn, GivesBy, GivesFound, gives_annotations, gives_if_c, is_taken_for_c}
 use Rattle.flt_commands.specs.Inputs.{Giving, IsMissing, Text, is_standard, missing, read, unread_names}
 use Rattle.flt_commands.specs.declared.annotated.NamedFiles.{NamedFiles}
 use Rattle.flt_commands.specs.declared.unread.Unread.{Unread}

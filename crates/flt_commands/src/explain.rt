@@ -5,8 +5,8 @@ ghost use Rattle.std.specs.Prelude.{◌≡◌, ◌≢◌, [], None, IfErr, IfOk,
 ghost use Rattle.flt_commands.specs.Drifts.{drifts_told};
 ghost use Rattle.flt_commands.specs.Explain as spec;
 ghost use Rattle.flt_commands.specs.Html.{IsPageOn, IsPaged};
-ghost use Rattle.flt_commands.specs.Sources.{bytes_in};
-ghost use Rattle.flt_joined.specs.Made.{AreJoined, name_at};
+ghost use Rattle.flt_commands.specs.Sources.{bytes_in, refused_names};
+ghost use Rattle.flt_joined.specs.Made.{AreJoined};
 ghost use Rattle.flt_joined.specs.Texts.{givens};
 ghost use Rattle.flt_commands.specs.Remarks.{unread_in};
 ghost use Rattle.flt_forms.specs.Lines.{AreLines};
@@ -349,7 +349,7 @@ fn told_joined<O: Sink, W: SearchWatch>(
 ) -> Result<Told, CommandFault>
     requires { AreJoined files.now joined.now }
     ensures told { IfOk result (spec.IsToldOfFiles asked.entry.form (spec.look_of asked.entry) (map (λ name. name.now) asked.entry.allowed.now)
-        (option_map (λ name. name.now) asked.entry.journal) (givens files.now) (map (name_at files.now) joined.now.refused.items)
+        (option_map (λ name. name.now) asked.entry.journal) (givens files.now) (refused_names files.now joined.now.refused.items)
         (bytes_in joined.now.texts.items) unread.now) }
     ensures sent { IfOk result (λ t. Appends (O.taken out.old) (O.taken out.new) (take t.sent t.explained.output.items)) }
     ensures held { spec.HoldsBack asked.entry.form (option_map (λ name. name.now) asked.entry.journal) → out.new ≡ out.old }

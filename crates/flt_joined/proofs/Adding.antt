@@ -5,12 +5,12 @@ use Rattle.std.proofs.lemmas.Grind.{flat_map-append}
 use Rattle.std.proofs.lemmas.List.{map_push}
 use Rattle.std.proofs.lemmas.List.Elements.{filter-append}
 use Rattle.std.specs.List.{AllZip}
-use Rattle.std.specs.Prelude.{filter, slice_get, slice_range}
+use Rattle.std.specs.Prelude.{filter, slice_range}
 use Rattle.flt_c.specs.declared.files.FileFlaw.{FileFlaw}
 use Rattle.flt_joined.proofs.Grouping.{drop_all}
 use Rattle.flt_joined.proofs.Parts.{in_part, zipped_on}
-use Rattle.flt_joined.specs.Made.{AreFirstJoined, AreJoined, AreJoinedOf, IsAdded, IsJoined, name_at}
-use Rattle.flt_joined.specs.Texts.{Given, given_of, givens, groups_of, make_text, name_by, refused_in, text_of}
+use Rattle.flt_joined.specs.Made.{AreFirstJoined, AreJoined, AreJoinedOf, IsAdded, IsJoined}
+use Rattle.flt_joined.specs.Texts.{Given, given_of, givens, groups_of, make_text, name_by, refused_at, refused_in, text_of}
 use Rattle.flt_joined.specs.declared.given.GivenFile.{GivenFile}
 use Rattle.flt_joined.specs.declared.joined.Joined.{Joined}
 
@@ -24,10 +24,11 @@ none_added files first end old new flaw is within texts refused = record {
   each = rw is tt;
   texts = texts ∙ sym (append-nil old.texts.items);
   refused =
-      let here : name_at files (record { file = first + flaw.file; flaw = flaw.flaw })
-      ≡ name_by (slice_get (givens (slice_range files first end)) flaw.file) =
-      ap name_by (sym (in_part given_of files first end flaw.file within)) in
-      rw (refused, is, map_push (name_at files) old.refused.items (record { file = first + flaw.file; flaw = flaw.flaw }), here) refl;
+      let here : refused_at (givens files) (record { file = first + flaw.file; flaw = flaw.flaw })
+      ≡ refused_at (givens (slice_range files first end)) flaw =
+      ap (λ g. record { name = name_by g; flaw = flaw.flaw }) (sym (in_part given_of files first end flaw.file within)) in
+      rw (refused, is, map_push (refused_at (givens files)) old.refused.items (record { file = first + flaw.file; flaw = flaw.flaw }), here)
+      refl;
 }
 
 -- a group more

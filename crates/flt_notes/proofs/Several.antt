@@ -65,14 +65,14 @@ pub printed_more : (look : Look) (trees : List Tree) (files : List Files) (each 
     ArePrinted look trees files each old →
     IsStudied trees s → IsPlaced (known_in each) s.reading → IsMore look trees files s old new → ArePrinted look trees files (each ++ s ∷ []) new
 printed_more look trees files each s old new are is placed more = record {
-  parts = rw (sources_push each s, more.bytes, more.status, more.findings, more.files) (parts_more are.parts more.is.report);
+  parts = rw (sources_push each s, more.bytes, more.status, more.findings, more.counted) (parts_more are.parts more.is.report);
   notes = rw (texts_push each s, known_push each s, more.noted)
       (notes_more trees (known_in each) (texts_read each) old.output.noted s.source.text.now s.reading
       more.part.output.noted are.notes is placed more.is.notes);
   said = rw (more.noted, more.bytes)
       (others (old.output.noted ++ more.part.output.noted) (old.output.bytes.items ++ more.part.output.bytes.items) (10 ∷ [])
       (said_both trees look.states old.output.noted old.output.bytes.items are.said more.is.said) refl);
-  prints = rw (sources_push each s, known_push each s, more.noted, more.bytes, more.status, more.findings, more.files)
+  prints = rw (sources_push each s, known_push each s, more.noted, more.bytes, more.status, more.findings, more.counted)
       (prints_more look trees files (known_in each) (sources_read each) old.output.noted old.output.bytes.items
       old.total.status old.total.findings old.total.files s.source s.reading more.part are.prints placed
       (unnoted trees s.source.text.now s.reading more.part.output.noted more.is.notes) more.is.print);
@@ -297,7 +297,7 @@ more_same look trees files s old mid new more output total = record {
   noted = ap (λ (o : Output). o.noted) output ∙ more.noted;
   status = ap (λ (t : Total). t.status) total ∙ more.status;
   findings = ap (λ (t : Total). t.findings) total ∙ more.findings;
-  files = ap (λ (t : Total). t.files) total ∙ more.files;
+  counted = ap (λ (t : Total). t.files) total ∙ more.counted;
 }
 
 -- of no text there are no notes

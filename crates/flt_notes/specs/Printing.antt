@@ -197,7 +197,7 @@ pub record IsMore (look : Look) (trees : List Tree) (files : List Files) (s : St
   pub noted : new.output.noted ≡ old.output.noted ++ part.output.noted
   pub status : new.total.status ≡ max old.total.status part.tally.status
   pub findings : new.total.findings ≡ old.total.findings + part.tally.findings
-  pub files : new.total.files ≡ old.total.files + some part.tally.findings
+  pub counted : new.total.files ≡ old.total.files + some part.tally.findings
 
 -- all or nothing is put out
 pub record HoldsBack (is_held : Bool) (p : Printed) : Type 0 where
