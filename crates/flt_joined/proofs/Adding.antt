@@ -38,18 +38,18 @@ pub one_more_joined : (files : List GivenFile) (first end : ℕ) (old new : Join
 one_more_joined files first end old new before group added =
     let one : List (List Given) = givens (slice_range files first end) ∷ [] in
     record {
-  groups = before.groups ++ one;
-  are = append_assoc before.groups one (groups_of (givens (drop end files)))
-      ∙ ap (λ rest. before.groups ++ rest) (sym group) ∙ before.are;
-  joined = record {
-    each =
-        subst₂ (AllZip (IsJoined files)) (sym (filter-append make_text before.groups one)) (sym added.texts)
-        (zipped_on (IsJoined files) (filter make_text before.groups) old.texts.items (filter make_text one) added.added before.joined.each
-        added.each);
-    refused = added.refused ∙ ap₂ (λ xs ys. xs ++ ys) before.joined.refused (sym (append-nil (refused_in (givens (slice_range files first end)))))
-        ∙ sym (flat_map-append refused_in before.groups one);
-  };
-}
+      groups = before.groups ++ one;
+      are = append_assoc before.groups one (groups_of (givens (drop end files)))
+          ∙ ap (λ rest. before.groups ++ rest) (sym group) ∙ before.are;
+      joined = record {
+        each =
+            subst₂ (AllZip (IsJoined files)) (sym (filter-append make_text before.groups one)) (sym added.texts)
+            (zipped_on (IsJoined files) (filter make_text before.groups) old.texts.items (filter make_text one) added.added before.joined.each
+            added.each);
+        refused = added.refused ∙ ap₂ (λ xs ys. xs ++ ys) before.joined.refused (sym (append-nil (refused_in (givens (slice_range files first end)))))
+            ∙ sym (flat_map-append refused_in before.groups one);
+      };
+    }
 
 -- all of them
 pub all_joined : (files : List GivenFile) (first : ℕ) (j : Joined) → first ≡ length files → AreFirstJoined files first j → AreJoined files j

@@ -119,7 +119,7 @@ module _ (files : List GivenFile) (d : GivenFile) (next : ℕ) (within : next �
       ap (λ all. groups_of (givens all)) (drop_more files first d long)
       ∙ ap (λ rest. with_file (given_of (get_or files first d)) (groups_of (givens rest))) (ap (λ n. drop n files) last ∙ rest)
       ∙ alone (given_of (get_or files first d)) (given_of (get_or files next d)) (givens (drop (next + 1) files))
-        (subst (λ k. goes_on (given_of (get_or files k d)) (given_of (get_or files next d)) ≡ false) before (off d))
+      (subst (λ k. goes_on (given_of (get_or files k d)) (given_of (get_or files next d)) ≡ false) before (off d))
       ∙ ap (λ behind. (given_of (get_or files first d) ∷ []) ∷ groups_of (givens behind)) (sym rest)
 
   group_from : (n first : ℕ) → first + suc n ≡ next → ((k : ℕ) → first < k → k < next → goes_on_at files d k ≡ true) →
@@ -130,7 +130,7 @@ module _ (files : List GivenFile) (d : GivenFile) (next : ℕ) (within : next �
       let none : take (next - (first + 1)) (drop (first + 1) files) ≡ [] = ap (λ n. take n (drop (first + 1) files)) zero_more in
       last_group first (omega (arith, last)) stops
       ∙ ap (λ part. givens part ∷ groups_of (givens (drop next files)))
-        (sym (part_more files first next d some within ∙ ap (λ rest. get_or files first d ∷ rest) none))
+      (sym (part_more files first next d some within ∙ ap (λ rest. get_or files first d ∷ rest) none))
   group_from (suc n) first last on =
       let some : first < next = omega (arith, last) in
       let more : first + 1 < next = omega (arith, last) in
@@ -147,9 +147,9 @@ module _ (files : List GivenFile) (d : GivenFile) (next : ℕ) (within : next �
       ap (λ all. groups_of (givens all)) (drop_more files first d long)
       ∙ ap (with_file (given_of (get_or files first d))) (behind ∙ ap (λ part. givens part ∷ groups_of (givens (drop next files))) rest)
       ∙ goes_before (given_of (get_or files first d)) (given_of (get_or files (first + 1) d)) (givens (slice_range files (first + 1 + 1) next))
-        (groups_of (givens (drop next files))) on_next
+      (groups_of (givens (drop next files))) on_next
       ∙ ap (λ part. givens part ∷ groups_of (givens (drop next files)))
-        (sym (part_more files first next d some within ∙ ap (λ part. get_or files first d ∷ part) rest))
+      (sym (part_more files first next d some within ∙ ap (λ part. get_or files first d ∷ part) rest))
 
 -- a run is a group
 pub group_of : (files : List GivenFile) (first next : ℕ) (d : GivenFile) → IsRun files first next → Stops files next →
