@@ -145,7 +145,8 @@ fn told_page<O: Sink, W: SearchWatch>(
     ensures page { IfOk result (λ t. IsPageOn asked.entry.options (drifts_told Form.Html drifted.now) sources.now
         t.explained.output.items t.explained.status) }
     ensures paged { IfOk result (λ t.
-        IsPaged (spec.look_of asked.entry) (drifts_told Form.Html drifted.now) sources.now t.noted t.explained.output.items t.explained.status) }
+        IsPaged (spec.look_of asked.entry) (drifts_told Form.Html drifted.now) sources.now t.noted t.explained.output.items
+            t.explained.status) }
     ensures noted { IfOk result (λ t. AreNotes (texts_of sources.now) t.noted) }
     ensures sent { IfOk result (λ t. t.sent ≡ 0) }
     ensures held { out.new ≡ out.old }
@@ -348,7 +349,8 @@ fn told_joined<O: Sink, W: SearchWatch>(
     watch: &mut W,
 ) -> Result<Told, CommandFault>
     requires { AreJoined files.now joined.now }
-    ensures told { IfOk result (spec.IsToldOfFiles asked.entry.form (spec.look_of asked.entry) (map (λ name. name.now) asked.entry.allowed.now)
+    ensures told { IfOk result (spec.IsToldOfFiles asked.entry.form (spec.look_of asked.entry)
+        (map (λ name. name.now) asked.entry.allowed.now)
         (option_map (λ name. name.now) asked.entry.journal) (givens files.now) (refused_names files.now joined.now.refused.items)
         (bytes_in joined.now.texts.items) unread.now) }
     ensures sent { IfOk result (λ t. Appends (O.taken out.old) (O.taken out.new) (take t.sent t.explained.output.items)) }

@@ -44,9 +44,11 @@ one_more_joined files first end old new before group added =
       joined = record {
         each =
             subst₂ (AllZip (IsJoined files)) (sym (filter-append make_text before.groups one)) (sym added.texts)
-            (zipped_on (IsJoined files) (filter make_text before.groups) old.texts.items (filter make_text one) added.added before.joined.each
+            (zipped_on (IsJoined files) (filter make_text before.groups) old.texts.items (filter make_text one) added.added
+                before.joined.each
             added.each);
-        refused = added.refused ∙ ap₂ (λ xs ys. xs ++ ys) before.joined.refused (sym (append-nil (refused_in (givens (slice_range files first end)))))
+        refused = added.refused ∙ ap₂ (λ xs ys. xs ++ ys) before.joined.refused
+            (sym (append-nil (refused_in (givens (slice_range files first end)))))
             ∙ sym (flat_map-append refused_in before.groups one);
       };
     }
