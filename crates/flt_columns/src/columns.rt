@@ -1,9 +1,9 @@
 //! Columns in UTF-16 units.
 
-ghost use Rattle.std.specs.Prelude.{◌≡◌, ◌<◌, ◌≤◌, ◌+◌, ◌-◌, ◌^◌, length, min, take};
+ghost use Rattle.std.specs.Prelude.{◌≡◌, ◌<◌, ◌≤◌, ◌+◌, ◌-◌, ◌^◌, length, take};
 ghost use Rattle.flt_columns.specs.Columns as spec;
 
-use flt_places::Lines;
+use flt_places::{Files, Lines};
 use flt_tree::Position;
 
 /// The number of units that a byte of UTF-8 adds.
@@ -36,7 +36,7 @@ fn units(bytes: &[u8]) -> usize
 
 /// The number of bytes before the one that is `count` bytes after a column; all of them if the line has no more.
 fn count_before(line: &[u8], column: usize, count: usize) -> usize
-    ensures { result ≡ min (column - 1 + count) (length line.now) }
+    ensures { result ≡ spec.last_in line.now column count }
 {
     column
         .saturating_sub(1)
@@ -52,25 +52,43 @@ fn front(line: &[u8], column: usize, count: usize) -> &[u8]
     &line[..count_before(line, column, count)]
 }
 
-/// The column, from 1, that is `count` bytes after a place in its line: the end of the line if it has no more.
-pub fn column_behind(lines: &Lines<'_>, place: Position, count: usize) -> usize
-    ensures { result ≡ spec.column_behind lines.now place count }
+/// The column, from 1, that is `count` bytes after a column of a line, which counts in bytes: the end of the line if it has no more.
+fn column_in(line: &[u8], column: usize, count: usize) -> usize
+    ensures { result ≡ spec.column_in line.now column count }
 {
-    units(front(lines.line(place.line), place.column, count)) + 1
-}
-
-/// The column, from 1, of the last of `count` bytes from a column of a line on. It counts in bytes.
-pub fn column_up_to(lines: &Lines<'_>, line: usize, column: usize, count: usize) -> usize
-    ensures { result ≡ spec.column_up_to lines.now line column count }
-{
-    count_before(lines.line(line), column, count)
+    units(front(line, column, count)) + 1
 }
 
 /// The column, from 1, of a place whose column counts in bytes.
 pub fn column_of(lines: &Lines<'_>, place: Position) -> usize
     ensures { result ≡ spec.column_of lines.now place }
 {
-    column_behind(lines, place, 0)
+    column_in(lines.line(place.line), place.column, 0)
+}
+
+/// The column, from 1, that is `count` bytes after a place of a text, in the line of its file in which that is: the end of this line if it
+/// has no more. The place is that in the text, and counts in bytes.
+pub fn file_column_behind(files: &Files<'_>, place: Position, count: usize) -> usize
+    ensures { result ≡ spec.file_column_behind files.now place count }
+{
+    let line = files.line_in_file(place.line);
+    column_in(line, files.file_place(place).column, count)
+}
+
+/// The column, from 1, of a place of a text, in the line of its file in which that is. The place is that in the text, and counts in bytes.
+pub fn file_column_of(files: &Files<'_>, place: Position) -> usize
+    ensures { result ≡ spec.file_column_of files.now place }
+{
+    file_column_behind(files, place, 0)
+}
+
+/// The column, from 1, of the last of `count` bytes from a place of a text on, in the line of its file in which that is. It counts in
+/// bytes, and the place is that in the text.
+pub fn file_column_up_to(files: &Files<'_>, place: Position, count: usize) -> usize
+    ensures { result ≡ spec.file_column_up_to files.now place count }
+{
+    let line = files.line_in_file(place.line);
+    count_before(line, files.file_place(place).column, count)
 }
 
 /// The number of bytes at the front of a line that have at most so many units: whole characters, and as many of them as there are.

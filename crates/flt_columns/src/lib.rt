@@ -3,4 +3,4 @@
 
 mod columns;
 
-pub use columns::{bytes_before, column_behind, column_of, column_up_to};
+pub use columns::{bytes_before, column_of, file_column_behind, file_column_of, file_column_up_to};

@@ -13,12 +13,10 @@ use Rattle.flt_forms.specs.Lines.{AreLines}
 use Rattle.flt_notes.specs.Reported.{AreWhole, IsAllButLast}
 use Rattle.flt_notes.specs.Whole.{Look}
 use Rattle.flt_notes.specs.declared.explaining.Told.{Told}
-use Rattle.flt_reports.specs.FileText.{plain, texts_of}
-use Rattle.flt_reports.specs.declared.file_text.FileText.{FileText}
 use Rattle.flt_warning_details.specs.declared.options.WarningOptions.{WarningOptions}
 use Rattle.flt_words.specs.declared.request.Form.{Form}
 use Rattle.flt_words.specs.declared.request.Form.TheVariants.{Html, Human, Lines, LinesWithRuns, Sarif, SarifWithRuns, Short}
-use Rattle.flt_commands.specs.Explain.{GoesOutEarly, HoldsBack, IsAfter, IsCutAfter, IsCutIn, IsCutUnder, IsTold, IsToldAfter, IsToldUnder, names_in, told_name}
+use Rattle.flt_commands.specs.Explain.{IsCutAfter}
 use Rattle.flt_commands.specs.Explain as explain
 use Rattle.flt_commands.specs.Inputs.{Text}
 use Rattle.flt_commands.specs.InTurn.{AreFirstLines}
@@ -38,13 +36,6 @@ whole_lines style options sources printed status old new told sent = record {
   sent = sent;
 }
 
--- of names and what they give
-pub cut_anyway : (form : Form) (options : WarningOptions) (states : ℕ) (names texts : List Text) (sources : List FileText)
-    (result : Result Told CommandFault) (old new : Option Text) → names_in sources ≡ map (told_name form) names → texts_of sources ≡ texts →
-    IfOk result (λ t. IsCutIn form options states sources old new) → IfOk result (λ t. IsCutUnder form options states names texts old new)
-cut_anyway form options states names texts sources (Ok t) old new named given cut = explain.some_out sources named given cut
-cut_anyway form options states names texts sources (Err e) old new named given cut = tt
-
 -- ---- after drifts
 
 -- where nothing goes out, memory ran out
@@ -59,9 +50,9 @@ cut_always (Ok t) is = tt
 cut_always (Err e) is = λ short. is
 
 -- nothing went out
-pub nothing_after : (drifts : Text) (form : Form) (options : WarningOptions) (states : ℕ) (names texts : List Text) (old : Option Text) →
-    IsCutAfter drifts form options states names texts old old
-nothing_after drifts form options states names texts old = explain.nothing_out (Appends-nil old)
+pub nothing_after : (drifts : Text) (form : Form) (options : WarningOptions) (states : ℕ) (sources : List Source) (old : Option Text) →
+    IsCutAfter drifts form options states sources old old
+nothing_after drifts form options states sources old = explain.nothing_out (Appends-nil old)
 
 -- the drifts went out, and some of what is told of the texts
 pub early_sent : (old between new : Option Text) (drifts : Text) (own e : Told) → Appends old between drifts →

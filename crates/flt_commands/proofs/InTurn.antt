@@ -1,17 +1,14 @@
 -- Lines of several texts, one text's behind the other's.
-use Rattle.std.proofs.Common.{◌≡◌, ◌∙◌, ℕ, ◌+◌, ◌<◌, List, [], ◌∷◌, ◌++◌, Option, None, length, map, take, get_or, max, refl, ap, sym, arith}
+use Rattle.std.proofs.Common.{◌≡◌, ◌∙◌, ℕ, suc, ◌+◌, ◌<◌, List, [], ◌∷◌, ◌++◌, Option, None, length, take, get_or, max, refl, ap, arith}
+use Rattle.std.proofs.Math.Seq.{take-suc}
 use Rattle.std.proofs.KnownBytes.{Appends-nil, Appends-trans}
-use Rattle.std.proofs.Math.Path.{subst}
 use Rattle.std.specs.Io.KnownBytes.{Appends}
 use Rattle.flt_details.specs.declared.sources.Explained.{Explained}
 use Rattle.flt_details.specs.declared.sources.Source.{Source}
 use Rattle.flt_forms.specs.Lines.{AreLines, AreLinesFrom, IsPart}
 use Rattle.flt_forms.specs.RunMember.{no_member, no_run}
 use Rattle.flt_forms.specs.declared.as_lines.Style.{Style}
-use Rattle.flt_reports.specs.FileText.{plain}
-use Rattle.flt_reports.specs.declared.file_text.FileText.{FileText}
 use Rattle.flt_warning_details.specs.declared.options.WarningOptions.{WarningOptions}
-use Rattle.flt_commands.proofs.Plain.{first_plain, one_plain_more}
 use Rattle.flt_commands.specs.Inputs.{Text}
 use Rattle.flt_commands.specs.InTurn.{AreFirstLines, IsTextMore}
 
@@ -51,16 +48,20 @@ lines_push style options number (t ∷ ss) s before printed part status own (fir
   ap (λ n. max n own) greatest ∙ max_assoc one others own,
 )
 
+source_more : (all : List Source) (i : ℕ) (d : Source) → i < length all → take (i + 1) all ≡ take i all ++ get_or all i d ∷ []
+source_more all i d within =
+    let next : take (suc i) all ≡ take i all ++ get_or all i d ∷ [] = take-suc all i d within in
+    let same : i + 1 ≡ suc i = omega arith in rw (same, next) refl
+
 -- the lines of the texts so far and of the next one
-pub one_more_told : (all : List FileText) (i : ℕ) (d : FileText) → i < length all →
+pub one_more_told : (all : List Source) (i : ℕ) (d : Source) → i < length all →
     (style : Style) (options : WarningOptions) (before after : Explained) (old new : Option Text) →
-    AreLines style options (map plain (take i all)) None before.output.items before.status →
-    IsTextMore style options (plain (get_or all i d)) before after old new →
-    AreLines style options (map plain (take (i + 1) all)) None after.output.items after.status
+    AreLines style options (take i all) None before.output.items before.status →
+    IsTextMore style options (get_or all i d) before after old new →
+    AreLines style options (take (i + 1) all) None after.output.items after.status
 one_more_told all i d within style options before after old new are more =
-    rw (one_plain_more all i d within, more.output, more.status)
-    (lines_push style options 0 (map plain (take i all)) (plain (get_or all i d)) [] before.output.items more.part before.status more.own are
-    more.is)
+    rw (source_more all i d within, more.output, more.status)
+    (lines_push style options 0 (take i all) (get_or all i d) [] before.output.items more.part before.status more.own are more.is)
 
 -- all that is told so far went out
 pub more_sent : (style : Style) (options : WarningOptions) (s : Source) (before after : Explained) (old between new : Option Text) →
@@ -69,24 +70,19 @@ more_sent style options s before after old between new first more =
     rw more.output (Appends-trans old between new before.output.items more.part first more.sent)
 
 -- what went out is what is told of the first texts
-pub first_lines : (style : Style) (options : WarningOptions) (sources : List FileText) (count : ℕ) (told : Explained)
+pub first_lines : (style : Style) (options : WarningOptions) (sources : List Source) (count : ℕ) (told : Explained)
     (old new : Option Text) →
-    AreLines style options (map plain (take count sources)) None told.output.items told.status → Appends old new told.output.items →
-    AreFirstLines style options (map plain sources) old new
-first_lines style options sources count told old new are sent = record {
-  count = count;
-  printed = told.output.items;
-  status = told.status;
-  are = subst (λ ss. AreLines style options ss None told.output.items told.status) (sym (first_plain count sources)) are;
-  sent = sent;
-}
+    AreLines style options (take count sources) None told.output.items told.status → Appends old new told.output.items →
+    AreFirstLines style options sources old new
+first_lines style options sources count told old new are sent =
+    record { count = count; printed = told.output.items; status = told.status; are = are; sent = sent }
 
 -- the same where nothing went out since
-pub lines_cut : {O : Type 0} (taken : O → Option Text) (style : Style) (options : WarningOptions) (sources : List FileText)
+pub lines_cut : {O : Type 0} (taken : O → Option Text) (style : Style) (options : WarningOptions) (sources : List Source)
     (count : ℕ) (told : Explained)
-    (old between new : O) → AreLines style options (map plain (take count sources)) None told.output.items told.status →
+    (old between new : O) → AreLines style options (take count sources) None told.output.items told.status →
     Appends (taken old) (taken between) told.output.items → new ≡ between →
-    AreFirstLines style options (map plain sources) (taken old) (taken new)
+    AreFirstLines style options sources (taken old) (taken new)
 lines_cut taken style options sources count told old between new are sent same =
     rw same (first_lines style options sources count told (taken old) (taken between) are sent)
 

@@ -1,17 +1,16 @@
 -- What went out of what is said, and when.
-use Rattle.std.proofs.Common.{◌≡◌, ℕ, Bool, List, [], Option, Some, None, map, take, take-append-drop, drop, inl, refl}
+use Rattle.std.proofs.Common.{◌≡◌, ℕ, Bool, List, [], Option, Some, None, take, take-append-drop, drop, inl, refl}
 use Rattle.std.proofs.Math.Path.{subst}
 use Rattle.std.proofs.KnownBytes.{Appends-nil, Appends-trans}
 use Rattle.std.specs.Io.KnownBytes.{Appends}
 use Rattle.flt_commands.proofs.InTurn.{no_lines}
 use Rattle.flt_commands.specs.Allowed.{options_of}
-use Rattle.flt_commands.specs.Explain.{IsCutIn, IsCutShort, IsCutUnder}
+use Rattle.flt_commands.specs.Explain.{IsCutIn, IsCutShort}
 use Rattle.flt_commands.specs.Commands.{IsCutShort as IsCutShortFor}
 use Rattle.flt_commands.specs.Explain as explain
 use Rattle.flt_commands.specs.Inputs.{Giving, Text}
 use Rattle.flt_forms.specs.declared.as_lines.Style.TheVariants.{Object, Sentence}
-use Rattle.flt_reports.specs.FileText.{plain}
-use Rattle.flt_reports.specs.declared.file_text.FileText.{FileText}
+use Rattle.flt_details.specs.declared.sources.Source.{Source}
 use Rattle.flt_warning_details.specs.declared.options.WarningOptions.{WarningOptions}
 use Rattle.flt_words.specs.Request.{Asked, Check, Analyse, Thin, Run, Replay, Show, Explain, Extract, Format, Pages, Emit, EmitInto, Compare, Serve}
 use Rattle.flt_words.specs.declared.request.Form.{Form}
@@ -29,21 +28,17 @@ rest_sent old between new sent bytes first rest =
     (Appends-trans old between new (take sent bytes) (drop sent bytes) first rest)
 
 -- where nothing went out, no text is told of
-pub cut_nowhere : (form : Form) (options : WarningOptions) (states : ℕ) (sources : List FileText) (old : Option Text) →
+pub cut_nowhere : (form : Form) (options : WarningOptions) (states : ℕ) (sources : List Source) (old : Option Text) →
     IsCutIn form options states sources old old
 cut_nowhere Human options states sources old = record { printed = []; added = Appends-nil old; are = inl refl }
-cut_nowhere Short options states sources old = no_lines Sentence options (map plain sources) old
-cut_nowhere Lines options states sources old = no_lines Object options (map plain sources) old
+cut_nowhere Short options states sources old = no_lines Sentence options sources old
+cut_nowhere Lines options states sources old = no_lines Object options sources old
 cut_nowhere Sarif options states sources old = Appends-nil old
 cut_nowhere Html options states sources old = Appends-nil old
 cut_nowhere LinesWithRuns options states sources old = Appends-nil old
 cut_nowhere SarifWithRuns options states sources old = Appends-nil old
 
 -- where nothing went out, nothing is cut short
-pub cut_under : (form : Form) (options : WarningOptions) (states : ℕ) (names texts : List Text) (old : Option Text) →
-    IsCutUnder form options states names texts old old
-cut_under form options states names texts old = explain.none_out (Appends-nil old)
-
 pub cut_short : (gives : Giving) (is_c : Bool) (form : Form) (options : WarningOptions) (states : ℕ) (allowed files : List Text)
     (old : Option Text) →
     IsCutShort gives is_c form options states allowed files old old

@@ -5,11 +5,14 @@ use Rattle.std.specs.Io.KnownBytes.{Appends}
 use Rattle.std.specs.List.{AllZip, list_all}
 use Rattle.std.specs.Prelude.{◌≡◌, ℕ, ◌+◌, List, [], ◌∷◌, ◌++◌, Bool, map, true, false, Option, Some, None, Result, Ok, Err, get_or, length, max, take}
 use Rattle.flt_pages.specs.Pages.{has_page, title}
+use Rattle.flt_forms.specs.Drifted.{drift_status}
 use Rattle.flt_forms.specs.Lines.{AreLines}
 use Rattle.flt_forms.specs.Sarif.{IsSarif}
+use Rattle.flt_forms.specs.declared.drifted.DriftedFile.{DriftedFile}
 use Rattle.flt_forms.specs.declared.run.FindingRun.{FindingRun}
 use Rattle.flt_forms.specs.declared.unread.UnreadFile.{UnreadFile}
 use Rattle.flt_forms.specs.declared.as_lines.Style.TheVariants.{Object, Sentence}
+use Rattle.flt_joined.specs.Texts.{Given}
 use Rattle.flt_model.specs.JournalText.{Entries, spelling}
 use Rattle.flt_notes.specs.Noted.{AreNotes, first_journal}
 use Rattle.flt_notes.specs.Reported.{AreReports, IsAllButLast, IsCut}
@@ -17,8 +20,9 @@ use Rattle.flt_notes.specs.Told.{Tells}
 use Rattle.flt_notes.specs.Whole.{IsPrint, Look}
 use Rattle.flt_notes.specs.declared.noted.Noted.{Noted}
 use Rattle.flt_notes.specs.declared.explaining.Told.{Told}
-use Rattle.flt_reports.specs.FileText.{plain, texts_of}
-use Rattle.flt_reports.specs.declared.file_text.FileText.{FileText}
+use Rattle.flt_details.specs.Reports.{texts_of}
+use Rattle.flt_details.specs.declared.sources.Source.{Source}
+use Rattle.flt_commands.specs.Sources.{AreSources}
 use Rattle.flt_words.specs.declared.request.Colour.{Colour}
 use Rattle.flt_words.specs.declared.request.Colour.TheVariants.{Auto, Always, Never}
 use Rattle.flt_words.specs.declared.request.Form.{Form}
@@ -27,11 +31,11 @@ use Rattle.flt_words.specs.declared.request.Form.TheVariants.{Html, Human, Lines
 use Rattle.flt_warning_details.specs.declared.options.WarningOptions.{WarningOptions}
 use Rattle.flt_words.specs.Request.{Choice}
 use Rattle.flt_commands.specs.Allowed.{options_of}
-use Rattle.flt_commands.specs.Annotated.{AreFound, gives_annotations}
-use Rattle.flt_commands.specs.Drifts.{drifts_status, drifts_told}
+use Rattle.flt_commands.specs.Annotated.{AreFound}
+use Rattle.flt_commands.specs.Drifts.{AreDrifted, drifts_told}
 use Rattle.flt_commands.specs.FindingRuns.{AreRuns}
 use Rattle.flt_commands.specs.InTurn.{AreFirstLines}
-use Rattle.flt_commands.specs.Inputs.{AreRead, Giving, Text, unread_names}
+use Rattle.flt_commands.specs.Inputs.{Giving, Text, unread_names}
 use Rattle.flt_commands.specs.Answer.{output, sent_of}
 use Rattle.flt_commands.specs.Html.{IsPageOn, IsPaged}
 use Rattle.flt_commands.specs.declared.answer.Answer.{Answer}
@@ -42,53 +46,35 @@ use Rattle.flt_commands.specs.declared.explain.Explanation.TheVariants.{Told as 
 use Rattle.flt_commands.specs.declared.failure.Failure.{Failure}
 use Rattle.flt_commands.specs.declared.failure.Failure.TheVariants.{CannotRead, CannotWrite, OutOfMemory}
 
--- the names of the files in which texts are, and these files
-abbrev pub names_in : List FileText → List Text
-names_in sources = map (λ (s : FileText). s.name.now) sources
-
-abbrev pub files_in : List FileText → List Text
-files_in sources = map (λ (s : FileText). s.file.now) sources
-
--- the file in which a text is: the C file whose annotations it is, or the text itself
-abbrev pub file_of : Option Text → Text → Text
-file_of None text = text
-file_of (Some code) text = code
-
--- the same of texts, of which the first has this number among all
-abbrev pub files_from : List (Option Text) → ℕ → List Text → List Text
-files_from codes number [] = []
-files_from codes number (text ∷ texts) = file_of (get_or codes number None) text ∷ files_from codes (number + 1) texts
-
-abbrev pub files_of : List (Option Text) → List Text → List Text
-files_of codes texts = files_from codes 0 texts
-
 -- a file's name, as a form tells it
 abbrev pub told_name : Form → Text → Text
 told_name Short name = visible name
 told_name form name = name
 
 -- JSON objects with the runs of the noted findings
-pub record AreToldWithRuns (options : WarningOptions) (sources : List FileText) (t : Told) : Type 0 where
+pub record AreToldWithRuns (options : WarningOptions) (sources : List Source) (t : Told) : Type 0 where
   pub runs : Bor (List FindingRun)
-  pub found : AreRuns (texts_of sources) t.noted runs.now
-  pub lines : AreLines Object options (map plain sources) (Some runs) t.explained.output.items t.explained.status
+  pub found : AreRuns sources t.noted runs.now
+  pub lines : AreLines Object options sources (Some runs) t.explained.output.items t.explained.status
 
 -- a SARIF document with them
-pub record IsToldWithRuns (options : WarningOptions) (sources : List FileText) (unread : List UnreadFile) (t : Told) : Type 0 where
+pub record IsToldWithRuns (options : WarningOptions) (drifted : List DriftedFile) (sources : List Source) (unread : List UnreadFile)
+    (t : Told) : Type 0 where
   pub runs : List FindingRun
-  pub found : AreRuns (texts_of sources) t.noted runs
-  pub document : IsSarif options (map plain sources) unread runs t.explained.output.items t.explained.status
+  pub found : AreRuns sources t.noted runs
+  pub document : IsSarif options sources unread runs drifted t.explained.output.items t.explained.status
 
--- what is told in a form: reports, a sentence or a JSON object for each finding, a SARIF document, which tells of these files that they
--- aren't read, or a page on reports, in which these drifts come before them
-abbrev pub IsTold : Form → WarningOptions → Text → List FileText → List UnreadFile → Told → Type 0
-IsTold Human options drifts sources unread t = AreReports options (texts_of sources) t.explained.output.items t.explained.status
-IsTold Short options drifts sources unread t = AreLines Sentence options (map plain sources) None t.explained.output.items t.explained.status
-IsTold Lines options drifts sources unread t = AreLines Object options (map plain sources) None t.explained.output.items t.explained.status
-IsTold Sarif options drifts sources unread t = IsSarif options (map plain sources) unread [] t.explained.output.items t.explained.status
-IsTold LinesWithRuns options drifts sources unread t = AreToldWithRuns options sources t
-IsTold SarifWithRuns options drifts sources unread t = IsToldWithRuns options sources unread t
-IsTold Html options drifts sources unread t = IsPageOn options drifts sources t.explained.output.items t.explained.status
+-- what is told in a form: reports, a sentence or a JSON object for each finding, a SARIF document, which has these drifts and tells of
+-- these files that they aren't read, or a page on reports, in which the drifts come before them
+abbrev pub IsTold : Form → WarningOptions → List DriftedFile → List Source → List UnreadFile → Told → Type 0
+IsTold Human options drifted sources unread t = AreReports options sources t.explained.output.items t.explained.status
+IsTold Short options drifted sources unread t = AreLines Sentence options sources None t.explained.output.items t.explained.status
+IsTold Lines options drifted sources unread t = AreLines Object options sources None t.explained.output.items t.explained.status
+IsTold Sarif options drifted sources unread t = IsSarif options sources unread [] drifted t.explained.output.items t.explained.status
+IsTold LinesWithRuns options drifted sources unread t = AreToldWithRuns options sources t
+IsTold SarifWithRuns options drifted sources unread t = IsToldWithRuns options drifted sources unread t
+IsTold Html options drifted sources unread t =
+    IsPageOn options (drifts_told Html drifted) sources t.explained.output.items t.explained.status
 
 -- what came of the findings of these texts in runs, of each that is reported by itself; nothing is looked for where that is neither told
 -- nor written into a file
@@ -110,32 +96,28 @@ abbrev pub look_of : Asked → Look
 look_of asked = record { coloured = asked.coloured; states = asked.states; options = asked.options }
 
 -- a report on these texts has exactly these notes: one for each finding that it reports by itself
-pub record HasReport (look : Look) (sources : List FileText) (notes : List Noted) : Type 0 where
+pub record HasReport (look : Look) (sources : List Source) (notes : List Noted) : Type 0 where
   pub printed : Text
   pub status : ℕ
   pub print : IsPrint look sources notes printed status
 
 -- for people all of what is printed is the reports with the notes, to the letter; a page has these without colours, after these drifts,
 -- with pictures. The runs in other forms are those that a report has
-abbrev pub IsPrintTold : Form → Look → Text → List FileText → Told → Type 0
-IsPrintTold Human look drifts sources e = IsPrint look sources e.noted e.explained.output.items e.explained.status
-IsPrintTold Html look drifts sources e = IsPaged look drifts sources e.noted e.explained.output.items e.explained.status
-IsPrintTold LinesWithRuns look drifts sources e = HasReport look sources e.noted
-IsPrintTold SarifWithRuns look drifts sources e = HasReport look sources e.noted
-IsPrintTold _ look drifts sources e = Unit {0}
+abbrev pub IsPrintTold : Form → Look → List DriftedFile → List Source → Told → Type 0
+IsPrintTold Human look drifted sources e = IsPrint look sources e.noted e.explained.output.items e.explained.status
+IsPrintTold Html look drifted sources e =
+    IsPaged look (drifts_told Html drifted) sources e.noted e.explained.output.items e.explained.status
+IsPrintTold LinesWithRuns look drifted sources e = HasReport look sources e.noted
+IsPrintTold SarifWithRuns look drifted sources e = HasReport look sources e.noted
+IsPrintTold _ look drifted sources e = Unit {0}
 
--- the same of names and what they give, where these C files have the annotations of some of the texts, beside the files that aren't read,
--- with what came of the findings of these texts
-pub record IsToldUnder (form : Form) (look : Look) (journal : Option Text) (drifts : Text) (names texts : List Text)
-    (codes : List (Option Text)) (unread : List UnreadFile) (e : Told) : Type 0 where
-  pub sources : List FileText
-  pub named : names_in sources ≡ map (told_name form) names
-  pub given : texts_of sources ≡ texts
-  pub shown : files_in sources ≡ files_of codes texts
-  pub told : IsTold form look.options drifts sources unread e
-  pub noted : AreNotedFor form journal texts e.noted
-  pub notes : IsNoteTold form texts look.states e
-  pub print : IsPrintTold form look drifts sources e
+-- all that is known of what is told of texts, with these drifts within a page or a document, and beside the files that aren't read
+pub record IsToldUnder (form : Form) (look : Look) (journal : Option Text) (drifted : List DriftedFile) (sources : List Source)
+    (unread : List UnreadFile) (e : Told) : Type 0 where
+  pub told : IsTold form look.options drifted sources unread e
+  pub noted : AreNotedFor form journal (texts_of sources) e.noted
+  pub notes : IsNoteTold form (texts_of sources) look.states e
+  pub print : IsPrintTold form look drifted sources e
 
 -- this is what is told of texts, after drifts that are worth this status
 pub record IsAfter (drifts : Text) (worth : ℕ) (own e : Told) : Type 0 where
@@ -143,47 +125,58 @@ pub record IsAfter (drifts : Text) (worth : ℕ) (own e : Told) : Type 0 where
   pub status : e.explained.status ≡ max own.explained.status worth
   pub noted : e.noted ≡ own.noted
 
--- the same of names and what they give, after these first drifts, and with these within a page
-pub record IsToldAfter (first within : Text) (worth : ℕ) (form : Form) (look : Look) (journal : Option Text) (names texts : List Text)
-    (codes : List (Option Text)) (unread : List UnreadFile) (e : Told) : Type 0 where
-  pub own : Told
-  pub told : IsToldUnder form look journal within names texts codes unread own
-  pub after : IsAfter first worth own e
-
 -- the drifts that come before what a form prints of texts: a page has them within it
-abbrev pub first_in : Form → Text → Text
-first_in Html drifts = []
-first_in form drifts = drifts
+abbrev pub first_in : Form → List DriftedFile → Text
+first_in Html drifted = []
+first_in form drifted = drifts_told form drifted
 
-abbrev pub within_in : Form → Text → Text
-within_in Html drifts = drifts
-within_in form drifts = []
+-- the same after these drifts, or with them within it
+pub record IsToldWith (form : Form) (look : Look) (journal : Option Text) (drifted : List DriftedFile) (sources : List Source)
+    (unread : List UnreadFile) (e : Told) : Type 0 where
+  pub own : Told
+  pub told : IsToldUnder form look journal drifted sources unread own
+  pub after : IsAfter (first_in form drifted) (drift_status look.options.is_strict drifted) own e
 
--- the same, where these are all drifts
-abbrev pub IsToldWith : Text → ℕ → Form → Look → Option Text → List Text → List Text → List (Option Text) → List UnreadFile → Told →
-    Type 0
-IsToldWith drifts worth form look journal names texts codes unread e =
-    IsToldAfter (first_in form drifts) (within_in form drifts) worth form look journal names texts codes unread e
+-- the same of files that are read, of the texts that they make, and of the drifts of the C files among them but for kinds of these names;
+-- of the files these aren't read after all, and others aren't, either
+pub record IsToldOfFiles (form : Form) (look : Look) (allowed : List Text) (journal : Option Text) (files : List Given)
+    (refused texts : List Text) (unread : List UnreadFile) (e : Told) : Type 0 where
+  pub drifted : List DriftedFile
+  pub compared : AreDrifted allowed files drifted
+  pub sources : List Source
+  pub are : AreSources (told_name form) files sources refused
+  pub given : texts ≡ texts_of sources
+  pub told : IsToldWith form look journal drifted sources unread e
 
--- the same of those of these files that are read: they give these texts, of which these C files have the annotations, with the drifts of
--- these but for kinds of these names, and these others aren't read
+-- the C files among some files, each in the place of its file
+abbrev pub codes_in : List Given → List (Option Text)
+codes_in files = map (λ (g : Given). g.code) files
+
+-- the same of those of the files of these names that are read, of which these are C files
 pub record IsToldOf (gives : Giving) (is_c : Bool) (form : Form) (look : Look) (allowed : List Text) (journal : Option Text)
-    (files : List Text) (codes : List (Option Text)) (texts : List Text) (unread : List UnreadFile) (e : Told) : Type 0 where
-  pub names : List Text
-  pub read : AreRead (gives_annotations is_c gives) files names texts (unread_names unread)
-  pub found : AreFound is_c gives names texts codes
-  pub told : IsToldWith (drifts_told form allowed names codes) (drifts_status look.options.is_strict allowed codes) form look journal
-      names texts codes unread e
+    (names : List Text) (codes : List (Option Text)) (texts : List Text) (unread : List UnreadFile) (e : Told) : Type 0 where
+  pub files : List Given
+  pub missing : List Text
+  pub found : AreFound is_c gives names files missing
+  pub coded : codes ≡ codes_in files
+  pub refused : List Text
+  pub others : unread_names unread ≡ missing ++ refused
+  pub told : IsToldOfFiles form look allowed journal files refused texts unread e
 
--- those of these files that are read give these texts, of which these C files have the annotations
-pub record GiveTexts (gives : Giving) (is_c : Bool) (files : List Text) (codes : List (Option Text)) (texts : List Text) : Type 0 where
-  pub names : List Text
-  pub unread : List Text
-  pub read : AreRead (gives_annotations is_c gives) files names texts unread
-  pub found : AreFound is_c gives names texts codes
+-- those of the files of these names that are read, of which these are C files, make these texts
+pub record GiveTexts (gives : Giving) (is_c : Bool) (names : List Text) (codes : List (Option Text)) (texts : List Text) : Type 0 where
+  pub files : List Given
+  pub missing : List Text
+  pub found : AreFound is_c gives names files missing
+  pub coded : codes ≡ codes_in files
+  pub told : Text → Text
+  pub sources : List Source
+  pub refused : List Text
+  pub are : AreSources told files sources refused
+  pub given : texts ≡ texts_of sources
 
--- what is said of the bytes of each FILE that is read, of a C file by its annotations, after the drifts of all C files but for kinds of
--- these names; a journal may not be written
+-- what is said of the texts that the FILEs that are read make, C files by their annotations, after the drifts of all C files but for
+-- kinds of these names; a journal may not be written
 abbrev pub IsExplained : Giving → Bool → Form → Look → List Text → Option Text → List Text → List (Option Text) → List Text →
     Result Answer Failure → Type 0
 IsExplained gives is_c form look allowed journal files codes texts (Ok (Explained e unread)) =
@@ -238,14 +231,14 @@ HoldsBack SarifWithRuns None = Unit {0}
 HoldsBack form None = ⊥
 
 -- what goes out before the end where nothing is held back: for people the reports of all texts but the last, else all lines
-abbrev pub GoesOutEarly : Form → WarningOptions → List Text → ℕ → Told → Type 0
-GoesOutEarly Human options texts states e = IsAllButLast options texts states (take e.sent e.explained.output.items)
-GoesOutEarly Short options texts states e = e.sent ≡ length e.explained.output.items
-GoesOutEarly Lines options texts states e = e.sent ≡ length e.explained.output.items
-GoesOutEarly Sarif options texts states e = Unit {0}
-GoesOutEarly Html options texts states e = Unit {0}
-GoesOutEarly LinesWithRuns options texts states e = Unit {0}
-GoesOutEarly SarifWithRuns options texts states e = Unit {0}
+abbrev pub GoesOutEarly : Form → WarningOptions → List Source → ℕ → Told → Type 0
+GoesOutEarly Human options sources states e = IsAllButLast options sources states (take e.sent e.explained.output.items)
+GoesOutEarly Short options sources states e = e.sent ≡ length e.explained.output.items
+GoesOutEarly Lines options sources states e = e.sent ≡ length e.explained.output.items
+GoesOutEarly Sarif options sources states e = Unit {0}
+GoesOutEarly Html options sources states e = Unit {0}
+GoesOutEarly LinesWithRuns options sources states e = Unit {0}
+GoesOutEarly SarifWithRuns options sources states e = Unit {0}
 
 -- what went out of an answer; where there is none, nothing did
 abbrev pub IsSent : Option Text → Option Text → Result Answer Failure → Type 0
@@ -253,39 +246,38 @@ IsSent old new (Ok answer) = Appends old new (take (sent_of answer) (output answ
 IsSent old new (Err f) = Appends old new []
 
 -- where memory runs out, what went out is told of the first texts: whole reports, or whole lines of each
-abbrev pub IsCutIn : Form → WarningOptions → ℕ → List FileText → Option Text → Option Text → Type 0
-IsCutIn Human options states sources old new = IsCut options (texts_of sources) states old new
-IsCutIn Short options states sources old new = AreFirstLines Sentence options (map plain sources) old new
-IsCutIn Lines options states sources old new = AreFirstLines Object options (map plain sources) old new
+abbrev pub IsCutIn : Form → WarningOptions → ℕ → List Source → Option Text → Option Text → Type 0
+IsCutIn Human options states sources old new = IsCut options sources states old new
+IsCutIn Short options states sources old new = AreFirstLines Sentence options sources old new
+IsCutIn Lines options states sources old new = AreFirstLines Object options sources old new
 IsCutIn Sarif options states sources old new = Appends old new []
 IsCutIn Html options states sources old new = Appends old new []
 IsCutIn LinesWithRuns options states sources old new = Appends old new []
 IsCutIn SarifWithRuns options states sources old new = Appends old new []
 
--- the same of names and what they give; or nothing went out
-pub data IsCutUnder (form : Form) (options : WarningOptions) (states : ℕ) (names texts : List Text) (old new : Option Text) : Type 0 where
-  none_out : Appends old new [] → IsCutUnder form options states names texts old new
-  some_out : (sources : List FileText) → names_in sources ≡ map (told_name form) names → texts_of sources ≡ texts →
-      IsCutIn form options states sources old new → IsCutUnder form options states names texts old new
-
 -- the same after these drifts; or nothing went out
-pub data IsCutAfter (drifts : Text) (form : Form) (options : WarningOptions) (states : ℕ) (names texts : List Text)
-    (old new : Option Text) :
+pub data IsCutAfter (drifts : Text) (form : Form) (options : WarningOptions) (states : ℕ) (sources : List Source) (old new : Option Text) :
     Type 0 where
-  nothing_out : Appends old new [] → IsCutAfter drifts form options states names texts old new
-  drifts_out : (between : Option Text) → Appends old between drifts → IsCutUnder form options states names texts between new →
-      IsCutAfter drifts form options states names texts old new
+  nothing_out : Appends old new [] → IsCutAfter drifts form options states sources old new
+  drifts_out : (between : Option Text) → Appends old between drifts → IsCutIn form options states sources between new →
+      IsCutAfter drifts form options states sources old new
 
--- the same of those of these files that are read
-pub data IsCutShort (gives : Giving) (is_c : Bool) (form : Form) (options : WarningOptions) (states : ℕ) (allowed files : List Text)
+-- the same of the texts that files make that are read, after the drifts of the C files among them but for kinds of these names; or
+-- nothing went out
+pub data IsCutOfFiles (form : Form) (options : WarningOptions) (states : ℕ) (allowed : List Text) (files : List Given)
+    (old new : Option Text) : Type 0 where
+  none_told : Appends old new [] → IsCutOfFiles form options states allowed files old new
+  some_told : (drifted : List DriftedFile) (sources : List Source) (refused : List Text) → AreDrifted allowed files drifted →
+      AreSources (told_name form) files sources refused → IsCutAfter (first_in form drifted) form options states sources old new →
+      IsCutOfFiles form options states allowed files old new
+
+-- the same of those of the files of these names that are read; or nothing went out
+pub data IsCutShort (gives : Giving) (is_c : Bool) (form : Form) (options : WarningOptions) (states : ℕ) (allowed names : List Text)
     (old new : Option Text) :
     Type 0 where
-  none_read : Appends old new [] → IsCutShort gives is_c form options states allowed files old new
-  some_read : (names texts missing : List Text) (codes : List (Option Text)) →
-      AreRead (gives_annotations is_c gives) files names texts missing →
-      AreFound is_c gives names texts codes →
-      IsCutAfter (first_in form (drifts_told form allowed names codes)) form options states names texts old new →
-      IsCutShort gives is_c form options states allowed files old new
+  none_read : Appends old new [] → IsCutShort gives is_c form options states allowed names old new
+  some_read : (files : List Given) (missing : List Text) → AreFound is_c gives names files missing →
+      IsCutOfFiles form options states allowed files old new → IsCutShort gives is_c form options states allowed names old new
 
 -- ---- pages
 

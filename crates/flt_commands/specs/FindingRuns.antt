@@ -3,33 +3,38 @@ use Rattle.std.specs.Prelude.{◌≡◌, ℕ, List, [], ◌∷◌, ◌++◌, Non
 use Rattle.flt_syntax.specs.Spelling.{Spells}
 use Rattle.flt_syntax.specs.TextFails.{Fails}
 use Rattle.flt_syntax.specs.declared.fault.SyntaxFault.{SyntaxFault}
+use Rattle.flt_places.specs.declared.files.Files.{Files}
 use Rattle.flt_tree.specs.declared.tree.Tree.{Tree}
 use Rattle.flt_flows.specs.Flows.{IsFlow}
 use Rattle.flt_flows.specs.Running.{run_of}
 use Rattle.flt_flows.specs.declared.flows.Flow.{Flow}
+use Rattle.flt_details.specs.declared.sources.Source.{Source}
 use Rattle.flt_forms.specs.declared.run.FindingRun.{FindingRun}
 use Rattle.flt_model.specs.Program.{by_altitude, filters_of}
 use Rattle.flt_notes.specs.Noted.{own_of, schedule_of}
+use Rattle.flt_notes.specs.Rows.{own_files}
 use Rattle.flt_notes.specs.declared.noted.Noted.{Noted}
 use Rattle.flt_schedules.specs.declared.schedules.Schedule.{Schedule}
 use Rattle.flt_schedules.specs.declared.schedules.Schedule.TheVariants.{Breaks}
 use Rattle.flt_schedules.specs.declared.schedules.Scheduled.{Scheduled}
 use Rattle.flt_schedules.specs.declared.schedules.Scheduled.TheVariants.{Together, Alone}
 use Rattle.flt_search.specs.declared.judging.Broken.{Broken}
-use Rattle.flt_commands.specs.Inputs.{Text}
 
 -- ---- trees
 
--- the tree of one more text, of this number, if it parses
-pub data IsOneMore (number : ℕ) (text : Text) (trees : List Tree) (numbers : List ℕ) : List Tree → List ℕ → Type 0 where
-  fails : {e : SyntaxFault} → Fails text e → IsOneMore number text trees numbers trees numbers
-  parses : (tree : Tree) → Spells text tree.filter → IsOneMore number text trees numbers (trees ++ tree ∷ []) (numbers ++ number ∷ [])
+-- the tree of one more text, of this number, and its files, if it parses
+pub data IsOneMore (number : ℕ) (s : Source) (trees : List Tree) (files : List Files) (numbers : List ℕ)
+    : List Tree → List Files → List ℕ → Type 0 where
+  fails : {e : SyntaxFault} → Fails s.text.now e → IsOneMore number s trees files numbers trees files numbers
+  parses : (tree : Tree) → Spells s.text.now tree.filter →
+      IsOneMore number s trees files numbers (trees ++ tree ∷ []) (files ++ s.files ∷ []) (numbers ++ number ∷ [])
 
--- the trees of the texts that parse, and the numbers of these texts
-pub data AreTrees : List Text → List Tree → List ℕ → Type 0 where
-  no_text : AreTrees [] [] []
-  one_more : {ts : List Text} {t : Text} {trees more : List Tree} {numbers others : List ℕ} → AreTrees ts trees numbers →
-      IsOneMore (length ts) t trees numbers more others → AreTrees (ts ++ t ∷ []) more others
+-- the trees of the texts that parse, their files, and the numbers of these texts
+pub data AreTrees : List Source → List Tree → List Files → List ℕ → Type 0 where
+  no_text : AreTrees [] [] [] []
+  one_more : {ss : List Source} {s : Source} {trees more : List Tree} {files further : List Files} {numbers others : List ℕ} →
+      AreTrees ss trees files numbers → IsOneMore (length ss) s trees files numbers more further others →
+      AreTrees (ss ++ s ∷ []) more further others
 
 -- ---- runs
 
@@ -50,28 +55,31 @@ run_by numbers n b flow = record {
 }
 
 -- the run of a finding that breaks something is added; none is where its journal is no run of its filters
-pub data IsAdded (trees : List Tree) (numbers : List ℕ) (n : Noted) (b : Broken) (runs : List FindingRun) : List FindingRun → Type 0 where
-  no_flow : run_of (by_altitude (filters_of (own_of trees n.filter n.scheduled))) b.journal ≡ None → IsAdded trees numbers n b runs runs
-  flow : {f : Flow} → IsFlow (own_of trees n.filter n.scheduled) b.journal f →
-      IsAdded trees numbers n b runs (runs ++ run_by numbers n b f ∷ [])
+pub data IsAdded (trees : List Tree) (files : List Files) (numbers : List ℕ) (n : Noted) (b : Broken) (runs : List FindingRun) :
+    List FindingRun → Type 0 where
+  no_flow : run_of (by_altitude (filters_of (own_of trees n.filter n.scheduled))) b.journal ≡ None →
+      IsAdded trees files numbers n b runs runs
+  flow : {f : Flow} → IsFlow (own_of trees n.filter n.scheduled) (own_files files n.filter n.scheduled) b.journal f →
+      IsAdded trees files numbers n b runs (runs ++ run_by numbers n b f ∷ [])
 
 -- the same by what came of it
-abbrev pub IsNextBy : List Tree → List ℕ → Noted → List FindingRun → List FindingRun → Schedule → Type 0
-IsNextBy trees numbers n runs after (Breaks b) = IsAdded trees numbers n b runs after
-IsNextBy trees numbers n runs after _ = after ≡ runs
+abbrev pub IsNextBy : List Tree → List Files → List ℕ → Noted → List FindingRun → List FindingRun → Schedule → Type 0
+IsNextBy trees files numbers n runs after (Breaks b) = IsAdded trees files numbers n b runs after
+IsNextBy trees files numbers n runs after _ = after ≡ runs
 
-abbrev pub IsNext : List Tree → List ℕ → Noted → List FindingRun → List FindingRun → Type 0
-IsNext trees numbers n runs after = IsNextBy trees numbers n runs after (schedule_of n.scheduled)
+abbrev pub IsNext : List Tree → List Files → List ℕ → Noted → List FindingRun → List FindingRun → Type 0
+IsNext trees files numbers n runs after = IsNextBy trees files numbers n runs after (schedule_of n.scheduled)
 
 -- the runs of all noted findings, in their order
-pub data AreRunsOf (trees : List Tree) (numbers : List ℕ) : List Noted → List FindingRun → Type 0 where
-  no_note : AreRunsOf trees numbers [] []
-  one_note_more : {ns : List Noted} {runs after : List FindingRun} (n : Noted) → AreRunsOf trees numbers ns runs →
-      IsNext trees numbers n runs after → AreRunsOf trees numbers (ns ++ n ∷ []) after
+pub data AreRunsOf (trees : List Tree) (files : List Files) (numbers : List ℕ) : List Noted → List FindingRun → Type 0 where
+  no_note : AreRunsOf trees files numbers [] []
+  one_note_more : {ns : List Noted} {runs after : List FindingRun} (n : Noted) → AreRunsOf trees files numbers ns runs →
+      IsNext trees files numbers n runs after → AreRunsOf trees files numbers (ns ++ n ∷ []) after
 
 -- the same of findings of these texts
-pub record AreRuns (texts : List Text) (notes : List Noted) (runs : List FindingRun) : Type 0 where
+pub record AreRuns (sources : List Source) (notes : List Noted) (runs : List FindingRun) : Type 0 where
   pub trees : List Tree
+  pub files : List Files
   pub numbers : List ℕ
-  pub parsed : AreTrees texts trees numbers
-  pub each : AreRunsOf trees numbers notes runs
+  pub parsed : AreTrees sources trees files numbers
+  pub each : AreRunsOf trees files numbers notes runs

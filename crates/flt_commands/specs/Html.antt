@@ -1,5 +1,5 @@
 -- The page on texts that `explain` makes. This project's own program.
-use Rattle.std.specs.Prelude.{◌≡◌, ℕ, ◌==◌, false, List, [], ◌∷◌, ◌++◌, Option, Some, None, map}
+use Rattle.std.specs.Prelude.{◌≡◌, ℕ, ◌==◌, false, List, [], ◌∷◌, ◌++◌, Option, Some, None, flat_map, map}
 use Rattle.std.specs.List.{slice_split}
 use Rattle.flt_tree.specs.declared.tree.Tree.{Tree}
 use Rattle.flt_model.specs.Program.{filters_of}
@@ -11,8 +11,9 @@ use Rattle.flt_details.specs.Page.{shown}
 use Rattle.flt_warning_details.specs.declared.options.WarningOptions.{WarningOptions}
 use Rattle.flt_picture.specs.Pictures.{IsPicture}
 use Rattle.flt_picture.specs.Titles.{title_of}
-use Rattle.flt_reports.specs.FileText.{texts_of}
-use Rattle.flt_reports.specs.declared.file_text.FileText.{FileText}
+use Rattle.flt_details.specs.Reports.{texts_of}
+use Rattle.flt_places.specs.declared.files.SourceFile.{SourceFile}
+use Rattle.flt_details.specs.declared.sources.Source.{Source}
 use Rattle.flt_notes.specs.Noted.{own_of, schedule_of}
 use Rattle.flt_notes.specs.Parsed.{AreParsed}
 use Rattle.flt_notes.specs.Reported.{AreReports}
@@ -24,9 +25,13 @@ use Rattle.flt_commands.specs.Inputs.{Text}
 
 -- ---- texts
 
--- the file in which a text is, as reports show it: its name, and its lines without their ends
-abbrev pub shown_text : FileText → ShownText
-shown_text s = record { name = shown s.name.now; lines = map shown (slice_split (λ b. b == 10) s.file.now) }
+-- a file in which a text is, as reports show it: its name, and its lines without their ends
+abbrev pub shown_file : SourceFile → ShownText
+shown_file f = record { name = shown f.name.now; lines = map shown (slice_split (λ b. b == 10) f.lines) }
+
+-- the files of some texts
+abbrev pub shown_files : List Source → List ShownText
+shown_files sources = flat_map (λ (s : Source). map shown_file s.files.all.now) sources
 
 -- ---- pictures
 
@@ -53,7 +58,7 @@ pub data AreDrawn (trees : List Tree) : List Noted → List Text → Type 0 wher
       AreDrawn trees (notes ++ n ∷ []) pictures
 
 -- the same, where the trees are those of the texts that parse
-pub record HasPictures (sources : List FileText) (notes : List Noted) (pictures : List Text) : Type 0 where
+pub record HasPictures (sources : List Source) (notes : List Noted) (pictures : List Text) : Type 0 where
   pub trees : List Tree
   pub parsed : AreParsed (texts_of sources) (filters_of trees)
   pub drawn : AreDrawn trees notes pictures
@@ -61,16 +66,16 @@ pub record HasPictures (sources : List FileText) (notes : List Noted) (pictures 
 -- ---- the page
 
 -- a page on what is printed of texts, with the pictures of the runs of these findings
-pub record HasPage (sources : List FileText) (notes : List Noted) (printed written : Text) : Type 0 where
+pub record HasPage (sources : List Source) (notes : List Noted) (printed written : Text) : Type 0 where
   pub pictures : List Text
   pub drawn : HasPictures sources notes pictures
-  pub page : IsPage (map shown_text sources) printed pictures written
+  pub page : IsPage (shown_files sources) printed pictures written
 
 -- a page on what is reported of texts, after these drifts
-pub record IsPageOn (options : WarningOptions) (drifts : Text) (sources : List FileText) (written : Text) (status : ℕ) : Type 0 where
+pub record IsPageOn (options : WarningOptions) (drifts : Text) (sources : List Source) (written : Text) (status : ℕ) : Type 0 where
   pub printed : Text
   pub notes : List Noted
-  pub reports : AreReports options (texts_of sources) printed status
+  pub reports : AreReports options sources printed status
   pub page : HasPage sources notes (drifts ++ printed) written
 
 -- without colours
@@ -78,7 +83,7 @@ abbrev pub plain : Look → Look
 plain look = record { coloured = false; states = look.states; options = look.options }
 
 -- a page on what is printed of texts without colours, after these drifts
-pub record IsPaged (look : Look) (drifts : Text) (sources : List FileText) (notes : List Noted) (written : Text) (status : ℕ) : Type 0 where
+pub record IsPaged (look : Look) (drifts : Text) (sources : List Source) (notes : List Noted) (written : Text) (status : ℕ) : Type 0 where
   pub printed : Text
   pub print : IsPrint (plain look) sources notes printed status
   pub page : HasPage sources notes (drifts ++ printed) written

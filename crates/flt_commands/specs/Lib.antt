@@ -29,6 +29,7 @@ pub mod Replay
 pub mod Running
 pub mod Served
 pub mod Single
+pub mod Sources
 pub mod Split
 pub mod System
 pub mod Thin

@@ -1,15 +1,17 @@
-//! The texts that files give: of a C file the annotations at their places, with the file itself beside them.
+//! The files that names give: of a C file its annotations, with the file itself and the places of their lines beside them.
 
 ghost use Rattle.std.specs.Prelude.{◌≡◌, ◌&&◌, ◌⊎◌, ◌++◌, ◌∷◌, ℕ, [], List, None, Some, IfOk, OnErr, OnOk, false, map, option_map, true};
 ghost use Rattle.std.specs.List.{list_any};
 ghost use Rattle.flt_commands.specs.Annotated as spec;
 ghost use Rattle.flt_commands.specs.Inputs.{is_standard as is_standard_name};
+ghost use Rattle.flt_joined.specs.Made.{IsOwn};
+ghost use Rattle.flt_joined.specs.Texts.{AreAnnotations, given_of};
 
 use crate::inputs::{Inputs, is_standard};
 use crate::unread::Unread;
-use flt_c::in_place;
 use flt_c_files::is_c_file;
 use flt_forms::UnreadFile;
+use flt_joined::GivenFile;
 use std::alloc::{AllocError, Global};
 
 /// Whether a file is taken for C: by the ending of its name, or since all are.
@@ -19,62 +21,58 @@ fn is_taken_for_c(all: bool, name: &str) -> bool
     all || is_c_file(name)
 }
 
-/// The text of a file, and the C file in which it is, if it is one's annotations.
-#[derive(Drop)]
-struct Found {
-    text: Vec<u8>,
-    code: Option<Vec<u8>>,
-}
-
-/// The annotations of a C file at their places, or why they make no text.
-fn laid(alloc: Global, file: Vec<u8>) -> Result<Result<Found, Unread>, AllocError>
-    ensures found { IfOk result (λ done. IfOk done (λ f. spec.AreLaid file.items (Some f.text.items))) }
-    ensures code { IfOk result (λ done. IfOk done (λ f. option_map (λ code. code.items) f.code ≡ Some file.items)) }
-    ensures flawed { IfOk result (λ done. OnErr done (spec.AreLaid file.items None)) }
+/// A C file of a name by its annotations, or why these make no text.
+pub(crate) fn annotated<'a>(
+    alloc: Global,
+    name: &'a str,
+    file: Vec<u8>,
+) -> Result<Result<GivenFile<'a>, Unread>, AllocError>
+    ensures name { IfOk result (λ done. IfOk done (λ g. g.name.now ≡ name.now)) }
+    ensures text { IfOk result (λ done. IfOk done (λ g. AreAnnotations file.items g.text.items)) }
+    ensures code { IfOk result (λ done. IfOk done (λ g. option_map (λ code. code.items) g.code ≡ Some file.items)) }
+    ensures own { IfOk result (λ done. IfOk done IsOwn) }
+    ensures flawed { IfOk result (λ done. OnErr done (spec.AreFlawed file.items)) }
 {
-    let code = Vec::from_slice(alloc, file.as_slice())?;
-    match in_place(alloc, file)? {
-        Ok(text) => {
-            let code = Some(code);
-            Ok(Ok(Found { text, code }))
-        }
+    match GivenFile::annotated(alloc, name, file)? {
+        Ok(file) => Ok(Ok(file)),
         Err(flaw) => Ok(Err(Unread::Flawed(flaw))),
     }
 }
 
-/// The text that a name gives, of a file that is taken for C its annotations at their places, or why it gives none.
-#[tactic(auto, using(crate::proofs::FoundFiles::found_in_c, crate::proofs::FoundFiles::unlaid))]
-fn found_in<I: Inputs>(
+/// The file that a name gives, one that is taken for C by its annotations, or why it gives none.
+#[tactic(auto, using(crate::proofs::FoundFiles::found_in_c, crate::proofs::FoundFiles::flawed))]
+fn found_in<'a, I: Inputs>(
     alloc: Global,
     inputs: &I,
     all: bool,
-    name: &str,
-) -> Result<Result<Found, Unread>, AllocError>
-    ensures found { IfOk result (λ done. IfOk done (λ f.
-        spec.GivesFound all (I.gives inputs.now) name.now f.text.items (option_map (λ code. code.items) f.code))) }
+    name: &'a str,
+) -> Result<Result<GivenFile<'a>, Unread>, AllocError>
+    ensures name { IfOk result (λ done. IfOk done (λ g. g.name.now ≡ name.now)) }
+    ensures found { IfOk result (λ done. IfOk done (λ g. spec.GivesFound all (I.gives inputs.now) (given_of g))) }
+    ensures own { IfOk result (λ done. IfOk done IsOwn) }
     ensures missing { IfOk result (λ done. OnErr done (spec.gives_annotations all (I.gives inputs.now) name.now None)) }
 {
     let Some(file) = inputs.read(alloc, name)? else {
         return Ok(Err(inputs.why(name)));
     };
     if is_taken_for_c(all, name) {
-        return laid(alloc, file);
+        return annotated(alloc, name, file);
     }
-    let code = None;
-    Ok(Ok(Found { text: file, code }))
+    Ok(Ok(GivenFile::plain(alloc, name, file)))
 }
 
-/// The text that one name gives after others, or why it gives none. The standard input gives its bytes once, and `is_used` says whether it
+/// The file that one name gives after others, or why it gives none. The standard input gives its bytes once, and `is_used` says whether it
 /// is among the others.
-fn find_one<I: Inputs>(
+fn find_one<'a, I: Inputs>(
     alloc: Global,
     inputs: &I,
     all: bool,
     is_used: bool,
-    name: &str,
-) -> Result<Result<Found, Unread>, AllocError>
-    ensures found { IfOk result (λ done. IfOk done (λ f.
-        spec.GivesFound all (I.gives inputs.now) name.now f.text.items (option_map (λ code. code.items) f.code))) }
+    name: &'a str,
+) -> Result<Result<GivenFile<'a>, Unread>, AllocError>
+    ensures name { IfOk result (λ done. IfOk done (λ g. g.name.now ≡ name.now)) }
+    ensures found { IfOk result (λ done. IfOk done (λ g. spec.GivesFound all (I.gives inputs.now) (given_of g))) }
+    ensures own { IfOk result (λ done. IfOk done IsOwn) }
     ensures once { IfOk result (λ done. OnOk done (is_standard_name name.now && is_used ≡ false)) }
     ensures missing { IfOk result (λ done. OnErr done
         ((is_standard_name name.now && is_used ≡ true) ⊎ spec.gives_annotations all (I.gives inputs.now) name.now None)) }
@@ -85,18 +83,15 @@ fn find_one<I: Inputs>(
     found_in(alloc, inputs, all, name)
 }
 
-/// The names of some files that are read, their texts, the C files in which these are, and the files that aren't read.
+/// Files that are read, and those that aren't.
 #[derive(Drop)]
-pub(crate) struct FoundFiles<'a> {
-    pub(crate) names: Vec<&'a str>,
-    pub(crate) texts: Vec<Vec<u8>>,
-    /// Of each text the C file whose annotations it is, if it is a C file's.
-    pub(crate) codes: Vec<Option<Vec<u8>>>,
+pub(crate) struct NamedFiles<'a> {
+    pub(crate) read: Vec<GivenFile<'a>>,
     pub(crate) unread: Vec<UnreadFile>,
 }
 
-impl<'a> FoundFiles<'a> {
-    /// Adds one name, with the text that it gives or why it gives none. `is_used` says whether the standard input is among those before it.
+impl<'a> NamedFiles<'a> {
+    /// Adds one name, with the file that it gives or why it gives none. `is_used` says whether the standard input is among those before it.
     fn add<I: Inputs>(
         &mut self,
         alloc: Global,
@@ -110,11 +105,7 @@ impl<'a> FoundFiles<'a> {
             OnOk result (spec.AreFoundIn all (I.gives inputs.now) (before ++ name.entry.now ∷ []) self.new) }
     {
         match find_one(alloc, inputs, all, is_used, name)? {
-            Ok(found) => {
-                self.names.push(name)?;
-                self.texts.push(found.text)?;
-                self.codes.push(found.code)?;
-            }
+            Ok(file) => self.read.push(file)?,
             Err(why) => {
                 let file = why.file(alloc, name)?;
                 self.unread.push(file)?;
@@ -124,19 +115,17 @@ impl<'a> FoundFiles<'a> {
     }
 }
 
-/// The text that each name gives, in order, or why it gives none. The standard input gives its bytes once.
+/// The file that each name gives, in order, or why it gives none. The standard input gives its bytes once.
 pub(crate) fn find_each<'a, I: Inputs>(
     alloc: Global,
     inputs: &I,
     all: bool,
     names: &[&'a str],
-) -> Result<FoundFiles<'a>, AllocError>
+) -> Result<NamedFiles<'a>, AllocError>
     ensures { IfOk result (spec.AreFoundIn all (I.gives inputs.now) (map (λ name. name.now) names.now)) }
 {
-    let mut found = FoundFiles {
-        names: Vec::new(alloc),
-        texts: Vec::new(alloc),
-        codes: Vec::new(alloc),
+    let mut found = NamedFiles {
+        read: Vec::new(alloc),
         unread: Vec::new(alloc),
     };
     let mut is_used = false;

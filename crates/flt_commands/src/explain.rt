@@ -2,18 +2,22 @@
 
 ghost use Rattle.std.specs.Io.KnownBytes.{Appends};
 ghost use Rattle.std.specs.Prelude.{◌≡◌, ◌≢◌, [], None, IfErr, IfOk, OnErr, OnOk, get_or, length, map, option_map, string_bytes, take};
+ghost use Rattle.flt_commands.specs.Drifts.{drifts_told};
 ghost use Rattle.flt_commands.specs.Explain as spec;
 ghost use Rattle.flt_commands.specs.Html.{IsPageOn, IsPaged};
+ghost use Rattle.flt_commands.specs.Sources.{bytes_in, refused_names};
+ghost use Rattle.flt_joined.specs.Made.{AreJoined};
+ghost use Rattle.flt_joined.specs.Texts.{givens};
 ghost use Rattle.flt_commands.specs.Remarks.{unread_in};
 ghost use Rattle.flt_forms.specs.Lines.{AreLines};
 ghost use Rattle.flt_forms.specs.Sarif.{IsSarif};
 ghost use Rattle.flt_notes.specs.Noted.{AreNotes, first_journal};
-ghost use Rattle.flt_reports.specs.FileText.{plain, texts_of};
+ghost use Rattle.flt_details.specs.Reports.{texts_of};
 
 use crate::after::explain_after;
-use crate::annotated::find_each;
+use crate::annotated::{NamedFiles, find_each};
 use crate::answer::Answer;
-use crate::drifts::tell_drifts;
+use crate::drifts::{drifted_files, tell_drifts};
 use crate::failure::Failure;
 use crate::fault::CommandFault;
 use crate::finding_runs::runs_of;
@@ -22,14 +26,15 @@ use crate::in_turn::lines_in_turn;
 use crate::inputs::{Inputs, Pictures};
 use crate::remarks::unread_lines;
 use crate::report::Contents;
+use crate::sources::{add_refused, bytes_in, codes_in, sources_of};
 use crate::unwritten::Unwritten;
 use flt_details::{Explained, Source};
 use flt_driven::journal_bytes;
-use flt_forms::{FindingRun, Style, UnreadFile, lines, sarif};
+use flt_forms::{DriftedFile, Style, UnreadFile, lines, sarif};
+use flt_joined::{GivenFile, Joined, join, source_files};
 use flt_model::Sink;
 use flt_notes::{Asking, Noted, SearchWatch, Told, explain, first_journal};
 use flt_pages::page;
-use flt_reports::FileText;
 use flt_warning_details::WarningOptions;
 use flt_words::{Form, visible};
 use sqlite_items::Items;
@@ -46,89 +51,19 @@ fn told_name(alloc: Global, form: Form, name: &str) -> Result<String, AllocError
 }
 
 /// The names of files, as a form prints them.
-fn told_names(alloc: Global, form: Form, names: &[&str]) -> Result<Vec<String>, AllocError>
-    ensures { IfOk result (λ told. map string_bytes told.items ≡ map (λ name. spec.told_name form name.now) names.now) }
+fn told_names(
+    alloc: Global,
+    form: Form,
+    files: &[GivenFile<'_>],
+) -> Result<Vec<String>, AllocError>
+    ensures { IfOk result (λ told. map string_bytes told.items ≡ map (λ file. spec.told_name form file.name.now) files.now) }
 {
     let mut told = Vec::new(alloc);
-    for name in names {
-        let name = told_name(alloc, form, name)?;
+    for file in files {
+        let name = told_name(alloc, form, file.name)?;
         told.push(name)?;
     }
     Ok(told)
-}
-
-/// The file in which a text is: the C file of its number among all, if the text is the annotations of one, or the text itself.
-fn file_of<'s>(codes: &'s [Option<Vec<u8>>], number: usize, text: &'s [u8]) -> &'s [u8]
-    ensures { result.now ≡ spec.file_of (get_or (map (option_map (λ code. code.items)) codes.now) number None) text.now }
-{
-    match codes.get(number) {
-        Some(Some(code)) => code.as_slice(),
-        _ => text,
-    }
-}
-
-/// The texts, each under the name of its file, and with that file.
-fn sources<'s>(
-    alloc: Global,
-    names: &'s [String],
-    texts: &'s [Vec<u8>],
-    codes: &'s [Option<Vec<u8>>],
-) -> Result<Vec<FileText<'s>>, AllocError>
-    requires { length texts.now ≡ length names.now }
-    ensures texts { IfOk result (λ found. texts_of found.items ≡ map (λ text. text.items) texts.now) }
-    ensures names { IfOk result (λ found. spec.names_in found.items ≡ map string_bytes names.now) }
-    ensures files { IfOk result (λ found. spec.files_in found.items
-        ≡ spec.files_of (map (option_map (λ code. code.items)) codes.now) (map (λ text. text.items) texts.now)) }
-{
-    let mut found = Vec::new(alloc);
-    for (number, text) in texts.iter().enumerate() {
-        let text = text.as_slice();
-        found.push(FileText {
-            name: names[number].as_str(),
-            text,
-            file: file_of(codes, number, text),
-        })?;
-    }
-    Ok(found)
-}
-
-/// The texts by themselves.
-fn plain_of<'s>(alloc: Global, sources: &[FileText<'s>]) -> Result<Vec<Source<'s>>, AllocError>
-    ensures { IfOk result (λ found. found.items ≡ map plain sources.now) }
-{
-    let mut found = Vec::new(alloc);
-    for source in sources {
-        found.push(source.plain())?;
-    }
-    Ok(found)
-}
-
-/// The lines of some texts, with the runs of their findings if these are given.
-fn lines_of(
-    alloc: Global,
-    style: Style,
-    options: WarningOptions,
-    sources: &[FileText<'_>],
-    runs: Option<&[FindingRun]>,
-) -> Result<Explained, AllocError>
-    ensures { IfOk result (λ e. AreLines style options (map plain sources.now) runs.entry e.output.items e.status) }
-{
-    let plain = plain_of(alloc, sources)?;
-    lines(alloc, style, options, plain.as_slice(), runs)
-}
-
-/// The same as a document, with files that aren't read.
-fn sarif_of(
-    alloc: Global,
-    options: WarningOptions,
-    sources: &[FileText<'_>],
-    unread: &[UnreadFile],
-    runs: &[FindingRun],
-) -> Result<Explained, AllocError>
-    ensures { IfOk result (λ e. IsSarif options (map plain sources.now) unread.now runs.now e.output.items e.status) }
-{
-    let plain = plain_of(alloc, sources)?;
-    sarif(alloc, options, plain.as_slice(), unread, runs)
 }
 
 /// The outcome of `explain` for files.
@@ -202,14 +137,16 @@ fn unsent(explained: Explained, noted: Items<Noted>) -> Told
 fn told_page<O: Sink, W: SearchWatch>(
     alloc: Global,
     asked: Asked<'_>,
-    drifts: &[u8],
-    sources: &[FileText<'_>],
+    drifted: &[DriftedFile<'_>],
+    sources: &[Source<'_>],
     out: &mut O,
     watch: &mut W,
 ) -> Result<Told, CommandFault>
-    ensures page { IfOk result (λ t. IsPageOn asked.entry.options drifts.now sources.now t.explained.output.items t.explained.status) }
+    ensures page { IfOk result (λ t. IsPageOn asked.entry.options (drifts_told Form.Html drifted.now) sources.now
+        t.explained.output.items t.explained.status) }
     ensures paged { IfOk result (λ t.
-        IsPaged (spec.look_of asked.entry) drifts.now sources.now t.noted t.explained.output.items t.explained.status) }
+        IsPaged (spec.look_of asked.entry) (drifts_told Form.Html drifted.now) sources.now t.noted t.explained.output.items
+            t.explained.status) }
     ensures noted { IfOk result (λ t. AreNotes (texts_of sources.now) t.noted) }
     ensures sent { IfOk result (λ t. t.sent ≡ 0) }
     ensures held { out.new ≡ out.old }
@@ -222,7 +159,7 @@ fn told_page<O: Sink, W: SearchWatch>(
         options: asked.options,
     };
     let told = explain(alloc, plain, sources, out, watch)?;
-    let mut printed = Vec::from_slice(alloc, drifts)?;
+    let mut printed = tell_drifts(alloc, Form::Html, drifted)?;
     printed.extend_from_slice(told.explained.output.as_slice())?;
     let output = page_on(alloc, sources, printed.as_slice(), told.noted.as_slice())?;
     let status = told.explained.status;
@@ -233,7 +170,7 @@ fn told_page<O: Sink, W: SearchWatch>(
 fn lines_with_runs<O: Sink, W: SearchWatch>(
     alloc: Global,
     asked: Asked<'_>,
-    sources: &[FileText<'_>],
+    sources: &[Source<'_>],
     out: &mut O,
     watch: &mut W,
 ) -> Result<Told, CommandFault>
@@ -246,7 +183,7 @@ fn lines_with_runs<O: Sink, W: SearchWatch>(
 {
     let told = explain(alloc, asking(asked, true), sources, out, watch)?;
     let runs = runs_of(alloc, sources, told.noted.as_slice())?;
-    let explained = lines_of(
+    let explained = lines(
         alloc,
         Style::Object,
         asked.options,
@@ -257,16 +194,17 @@ fn lines_with_runs<O: Sink, W: SearchWatch>(
     Ok(unsent(explained, noted))
 }
 
-/// The same as a document, with files that aren't read.
+/// The same as a document, with drifts, and files that aren't read.
 fn sarif_with_runs<O: Sink, W: SearchWatch>(
     alloc: Global,
     asked: Asked<'_>,
-    sources: &[FileText<'_>],
+    drifted: &[DriftedFile<'_>],
+    sources: &[Source<'_>],
     unread: &[UnreadFile],
     out: &mut O,
     watch: &mut W,
 ) -> Result<Told, CommandFault>
-    ensures told { IfOk result (spec.IsToldWithRuns asked.entry.options sources.now unread.now) }
+    ensures told { IfOk result (spec.IsToldWithRuns asked.entry.options drifted.now sources.now unread.now) }
     ensures print { IfOk result (λ t. spec.HasReport (spec.look_of asked.entry) sources.now t.noted) }
     ensures noted { IfOk result (λ t. AreNotes (texts_of sources.now) t.noted) }
     ensures sent { IfOk result (λ t. t.sent ≡ 0) }
@@ -275,29 +213,36 @@ fn sarif_with_runs<O: Sink, W: SearchWatch>(
 {
     let told = explain(alloc, asking(asked, true), sources, out, watch)?;
     let runs = runs_of(alloc, sources, told.noted.as_slice())?;
-    let explained = sarif_of(alloc, asked.options, sources, unread, runs.as_slice())?;
+    let explained = sarif(
+        alloc,
+        asked.options,
+        sources,
+        unread,
+        runs.as_slice(),
+        drifted,
+    )?;
     let noted = told.noted;
     Ok(unsent(explained, noted))
 }
 
-/// The output for some texts, in a form, with files that aren't read; a page has these drifts before all else. Each text's part is written
+/// The output for some texts, in a form, with files that aren't read; a page and a document have drifts within them. Each text's part is written
 /// as soon as it is made, unless the form is one document.
 #[tactic(auto, using(crate::proofs::Sent::none_sent, crate::proofs::Faults::write_of, crate::proofs::Faults::memory_of))]
 fn told_in_turn<O: Sink, W: SearchWatch>(
     alloc: Global,
     asked: Asked<'_>,
-    drifts: &[u8],
-    sources: &[FileText<'_>],
+    drifted: &[DriftedFile<'_>],
+    sources: &[Source<'_>],
     unread: &[UnreadFile],
     out: &mut O,
     watch: &mut W,
 ) -> Result<Told, CommandFault>
-    ensures told { IfOk result (spec.IsTold asked.entry.form asked.entry.options drifts.now sources.now unread.now) }
+    ensures told { IfOk result (spec.IsTold asked.entry.form asked.entry.options drifted.now sources.now unread.now) }
     ensures noted { IfOk result (λ t. spec.AreNotedFor asked.entry.form None (texts_of sources.now) t.noted) }
     ensures notes { IfOk result (spec.IsNoteTold asked.entry.form (texts_of sources.now) asked.entry.states) }
-    ensures print { IfOk result (spec.IsPrintTold asked.entry.form (spec.look_of asked.entry) drifts.now sources.now) }
+    ensures print { IfOk result (spec.IsPrintTold asked.entry.form (spec.look_of asked.entry) drifted.now sources.now) }
     ensures sent { IfOk result (λ t. Appends (O.taken out.old) (O.taken out.new) (take t.sent t.explained.output.items)) }
-    ensures early { IfOk result (spec.GoesOutEarly asked.entry.form asked.entry.options (texts_of sources.now) asked.entry.states) }
+    ensures early { IfOk result (spec.GoesOutEarly asked.entry.form asked.entry.options sources.now asked.entry.states) }
     ensures cut { IfOk result (λ t.
         spec.IsCutIn asked.entry.form asked.entry.options asked.entry.states sources.now (O.taken out.old) (O.taken out.new)) }
     ensures held { spec.HoldsBack asked.entry.form None → out.new ≡ out.old }
@@ -318,12 +263,12 @@ fn told_in_turn<O: Sink, W: SearchWatch>(
             lines_in_turn(alloc, Style::Object, options, sources, out)?,
         )),
         Form::Sarif => Ok(unsent(
-            sarif_of(alloc, options, sources, unread, &[])?,
+            sarif(alloc, options, sources, unread, &[], drifted)?,
             Items::new(alloc),
         )),
         Form::LinesWithRuns => lines_with_runs(alloc, asked, sources, out, watch),
-        Form::SarifWithRuns => sarif_with_runs(alloc, asked, sources, unread, out, watch),
-        Form::Html => told_page(alloc, asked, drifts, sources, out, watch),
+        Form::SarifWithRuns => sarif_with_runs(alloc, asked, drifted, sources, unread, out, watch),
+        Form::Html => told_page(alloc, asked, drifted, sources, out, watch),
     }
 }
 
@@ -332,16 +277,16 @@ fn told_in_turn<O: Sink, W: SearchWatch>(
 fn told_whole<O: Sink, W: SearchWatch>(
     alloc: Global,
     asked: Asked<'_>,
-    drifts: &[u8],
-    sources: &[FileText<'_>],
+    drifted: &[DriftedFile<'_>],
+    sources: &[Source<'_>],
     unread: &[UnreadFile],
     out: &mut O,
     watch: &mut W,
 ) -> Result<Told, CommandFault>
-    ensures told { IfOk result (spec.IsTold asked.entry.form asked.entry.options drifts.now sources.now unread.now) }
+    ensures told { IfOk result (spec.IsTold asked.entry.form asked.entry.options drifted.now sources.now unread.now) }
     ensures noted { IfOk result (λ t. AreNotes (texts_of sources.now) t.noted) }
     ensures notes { IfOk result (spec.IsNoteTold asked.entry.form (texts_of sources.now) asked.entry.states) }
-    ensures print { IfOk result (spec.IsPrintTold asked.entry.form (spec.look_of asked.entry) drifts.now sources.now) }
+    ensures print { IfOk result (spec.IsPrintTold asked.entry.form (spec.look_of asked.entry) drifted.now sources.now) }
     ensures sent { IfOk result (λ t. Appends (O.taken out.old) (O.taken out.new) (take t.sent t.explained.output.items)) }
     ensures held { out.new ≡ out.old }
     ensures err { IfErr result (λ e. e ≡ CommandFault.OutOfMemory) }
@@ -349,34 +294,34 @@ fn told_whole<O: Sink, W: SearchWatch>(
     let held = asking(asked, true);
     let explained = match asked.form {
         Form::Human => return Ok(explain(alloc, held, sources, out, watch)?),
-        Form::Short => lines_of(alloc, Style::Sentence, asked.options, sources, None)?,
-        Form::Lines => lines_of(alloc, Style::Object, asked.options, sources, None)?,
-        Form::Sarif => sarif_of(alloc, asked.options, sources, unread, &[])?,
+        Form::Short => lines(alloc, Style::Sentence, asked.options, sources, None)?,
+        Form::Lines => lines(alloc, Style::Object, asked.options, sources, None)?,
+        Form::Sarif => sarif(alloc, asked.options, sources, unread, &[], drifted)?,
         Form::LinesWithRuns => return lines_with_runs(alloc, asked, sources, out, watch),
-        Form::SarifWithRuns => return sarif_with_runs(alloc, asked, sources, unread, out, watch),
-        Form::Html => return told_page(alloc, asked, drifts, sources, out, watch),
+        Form::SarifWithRuns => return sarif_with_runs(alloc, asked, drifted, sources, unread, out, watch),
+        Form::Html => return told_page(alloc, asked, drifted, sources, out, watch),
     };
     let told = explain(alloc, held, sources, out, watch)?;
     Ok(unsent(explained, told.noted))
 }
 
-/// The output for some texts, in a form, with files that aren't read; a page has these drifts before all else. If a file is named for a
+/// The output for some texts, in a form, with files that aren't read; a page and a document have drifts within them. If a file is named for a
 /// journal, nothing is written before all is known.
 #[tactic(auto, using(crate::proofs::Sent::cut_nowhere))]
-fn told<O: Sink, W: SearchWatch>(
+pub(crate) fn told<O: Sink, W: SearchWatch>(
     alloc: Global,
     asked: Asked<'_>,
-    drifts: &[u8],
-    sources: &[FileText<'_>],
+    drifted: &[DriftedFile<'_>],
+    sources: &[Source<'_>],
     unread: &[UnreadFile],
     out: &mut O,
     watch: &mut W,
 ) -> Result<Told, CommandFault>
-    ensures told { IfOk result (spec.IsTold asked.entry.form asked.entry.options drifts.now sources.now unread.now) }
+    ensures told { IfOk result (spec.IsTold asked.entry.form asked.entry.options drifted.now sources.now unread.now) }
     ensures noted { IfOk result (λ t. spec.AreNotedFor asked.entry.form (option_map (λ name. name.now) asked.entry.journal)
         (texts_of sources.now) t.noted) }
     ensures notes { IfOk result (spec.IsNoteTold asked.entry.form (texts_of sources.now) asked.entry.states) }
-    ensures print { IfOk result (spec.IsPrintTold asked.entry.form (spec.look_of asked.entry) drifts.now sources.now) }
+    ensures print { IfOk result (spec.IsPrintTold asked.entry.form (spec.look_of asked.entry) drifted.now sources.now) }
     ensures sent { IfOk result (λ t. Appends (O.taken out.old) (O.taken out.new) (take t.sent t.explained.output.items)) }
     ensures cut { IfOk result (λ t.
         spec.IsCutIn asked.entry.form asked.entry.options asked.entry.states sources.now (O.taken out.old) (O.taken out.new)) }
@@ -387,43 +332,48 @@ fn told<O: Sink, W: SearchWatch>(
         spec.IsCutIn asked.entry.form asked.entry.options asked.entry.states sources.now (O.taken out.old) (O.taken out.new)) }
 {
     match asked.journal {
-        Some(_) => told_whole(alloc, asked, drifts, sources, unread, out, watch),
-        None => told_in_turn(alloc, asked, drifts, sources, unread, out, watch),
+        Some(_) => told_whole(alloc, asked, drifted, sources, unread, out, watch),
+        None => told_in_turn(alloc, asked, drifted, sources, unread, out, watch),
     }
 }
 
-/// The output for the texts of some files, in a form, with files that aren't read; a page has these drifts before all else.
-#[tactic(auto, using(crate::proofs::Sent::cut_under))]
-pub(crate) fn explain_read<O: Sink, W: SearchWatch>(
+/// The output for the texts that files make, in a form, with the drifts of the C files among them.
+#[tactic(auto, using(crate::proofs::Sources::within))]
+fn told_joined<O: Sink, W: SearchWatch>(
     alloc: Global,
     asked: Asked<'_>,
-    drifts: &[u8],
-    names: &[&str],
-    texts: &[Vec<u8>],
-    codes: &[Option<Vec<u8>>],
+    files: &[GivenFile<'_>],
+    joined: &Joined,
     unread: &[UnreadFile],
     out: &mut O,
     watch: &mut W,
 ) -> Result<Told, CommandFault>
-    requires { length texts.now ≡ length names.now }
-    ensures told { IfOk result (spec.IsToldUnder asked.entry.form (spec.look_of asked.entry)
-        (option_map (λ name. name.now) asked.entry.journal) drifts.now (map (λ name. name.now) names.now)
-        (map (λ text. text.items) texts.now) (map (option_map (λ code. code.items)) codes.now) unread.now) }
+    requires { AreJoined files.now joined.now }
+    ensures told { IfOk result (spec.IsToldOfFiles asked.entry.form (spec.look_of asked.entry)
+        (map (λ name. name.now) asked.entry.allowed.now)
+        (option_map (λ name. name.now) asked.entry.journal) (givens files.now) (refused_names files.now joined.now.refused.items)
+        (bytes_in joined.now.texts.items) unread.now) }
     ensures sent { IfOk result (λ t. Appends (O.taken out.old) (O.taken out.new) (take t.sent t.explained.output.items)) }
-    ensures cut { IfOk result (λ t. spec.IsCutUnder asked.entry.form asked.entry.options asked.entry.states
-        (map (λ name. name.now) names.now) (map (λ text. text.items) texts.now) (O.taken out.old) (O.taken out.new)) }
     ensures held { spec.HoldsBack asked.entry.form (option_map (λ name. name.now) asked.entry.journal) → out.new ≡ out.old }
     ensures fine { OnOk result (O.failures out.new ≡ O.failures out.old) }
     ensures write { IfErr result (λ e. e ≡ CommandFault.Write → O.failures out.new ≢ O.failures out.old) }
     ensures memory { IfErr result (λ e. e ≡ CommandFault.OutOfMemory →
-        spec.IsCutUnder asked.entry.form asked.entry.options asked.entry.states (map (λ name. name.now) names.now)
-        (map (λ text. text.items) texts.now)
-        (O.taken out.old) (O.taken out.new)) }
+        spec.IsCutOfFiles asked.entry.form asked.entry.options asked.entry.states (map (λ name. name.now) asked.entry.allowed.now)
+        (givens files.now) (O.taken out.old) (O.taken out.new)) }
 {
-    let names = told_names(alloc, asked.form, names)?;
-    let sources = sources(alloc, names.as_slice(), texts, codes)?;
-    let sources = sources.as_slice();
-    told(alloc, asked, drifts, sources, unread, out, watch)
+    let drifted = drifted_files(alloc, asked.allowed, files)?;
+    let names = told_names(alloc, asked.form, files)?;
+    let own = source_files(alloc, files, names.as_slice())?;
+    let sources = sources_of(alloc, joined.texts.as_slice(), own.as_slice())?;
+    explain_after(
+        alloc,
+        asked,
+        drifted.as_slice(),
+        sources.as_slice(),
+        unread,
+        out,
+        watch,
+    )
 }
 
 /// Writes the journal of the first finding that has one, if there is one, into a file that is none of the inputs. Returns why that failed,
@@ -470,21 +420,10 @@ fn keep<'a, P: Pictures>(
     }
 }
 
-/// The drifts that come before what a form prints of texts, and those that it has within a page.
-fn placed(alloc: Global, form: Form, drifts: Vec<u8>) -> (Vec<u8>, Vec<u8>)
-    ensures first { result.0.items ≡ spec.first_in form drifts.items }
-    ensures within { result.1.items ≡ spec.within_in form drifts.items }
-{
-    match form {
-        Form::Html => (Vec::new(alloc), drifts),
-        _ => (drifts, Vec::new(alloc)),
-    }
-}
-
-/// The outcome of `explain`, in a form, for those of its names that can be read, of C files for their annotations, after the drifts of
-/// these; `contents` becomes the texts that the names give, `codes` the C files of which texts are the annotations, and `remark` whole
-/// lines on the names that give none. The journal of the first finding that has one is written into a file, if one is named; else the
-/// drifts are written first and the output for each text as soon as it is made, unless the form is one document.
+/// The outcome of `explain`, in a form, for those of its names that can be read, and the texts that these files make, of C files by their
+/// annotations, after the drifts of these; `contents` becomes the texts, `codes` the C files, and `remark` whole lines on the names that
+/// give no text, or with which one would be too long. The journal of the first finding that has one is written into a file, if one is
+/// named; else the drifts are written first and the output for each text as soon as it is made, unless the form is one document.
 #[tactic(auto, using(crate::proofs::Sent::cut_short))]
 pub fn explain_files<'a, I: Inputs, P: Pictures, O: Sink, W: SearchWatch>(
     alloc: Global,
@@ -513,34 +452,26 @@ pub fn explain_files<'a, I: Inputs, P: Pictures, O: Sink, W: SearchWatch>(
         spec.IsCutShort (I.gives inputs.now) asked.entry.is_c asked.entry.form asked.entry.options asked.entry.states
         (map (λ name. name.now) asked.entry.allowed.now) (map (λ name. name.now) files.now) (O.taken out.old) (O.taken out.new)) }
 {
-    let found = find_each(alloc, inputs, asked.is_c, files)?;
-    let names = found.names;
-    let unread = found.unread;
-    contents.texts = found.texts;
-    *codes = found.codes;
-    *remark = unread_lines(alloc, unread.as_slice())?;
-    let drifts = tell_drifts(
+    let NamedFiles { read, mut unread } = find_each(alloc, inputs, asked.is_c, files)?;
+    let joined = join(alloc, read.as_slice())?;
+    add_refused(
         alloc,
-        asked.form,
-        asked.allowed,
-        names.as_slice(),
-        codes.as_slice(),
+        &mut unread,
+        read.as_slice(),
+        joined.refused.as_slice(),
     )?;
-    let worth = drifts.worth(asked.options.is_strict);
-    let (first, within) = placed(alloc, asked.form, drifts.printed);
-    let told = explain_after(
+    *remark = unread_lines(alloc, unread.as_slice())?;
+    let told = told_joined(
         alloc,
         asked,
-        first,
-        within.as_slice(),
-        worth,
-        names.as_slice(),
-        contents.texts.as_slice(),
-        codes.as_slice(),
+        read.as_slice(),
+        &joined,
         unread.as_slice(),
         out,
         watch,
     )?;
+    contents.texts = bytes_in(alloc, joined.texts)?;
+    *codes = codes_in(alloc, read)?;
     let said = keep(alloc, files, asked.journal, told, unread, pictures)?;
     Ok(said)
 }

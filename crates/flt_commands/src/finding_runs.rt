@@ -1,13 +1,13 @@
 //! The runs that break something because of findings, for the forms that have them.
 
 ghost use Rattle.std.specs.Prelude.{◌≡◌, IfOk, get_or};
-ghost use Rattle.flt_reports.specs.FileText.{texts_of};
 ghost use Rattle.flt_commands.specs.FindingRuns as spec;
 
+use flt_details::Source;
 use flt_flows::Flow;
 use flt_forms::FindingRun;
-use flt_notes::{Noted, own_trees, schedule_of};
-use flt_reports::FileText;
+use flt_notes::{Noted, own_files, own_trees, schedule_of};
+use flt_places::Files;
 use flt_schedules::{Schedule, Scheduled};
 use flt_search::Broken;
 use flt_syntax::{ParseError, parse};
@@ -15,25 +15,27 @@ use flt_tree::Tree;
 use sqlite_items::Items;
 use std::alloc::{AllocError, Global};
 
-/// The trees of texts that parse, and the numbers of these texts among all, from 0.
+/// The trees of texts that parse, their files, and the numbers of these texts among all, from 0.
 #[derive(Drop)]
-struct Parsed {
+struct Parsed<'a> {
     trees: Vec<Tree>,
+    files: Vec<Files<'a>>,
     numbers: Items<usize>,
 }
 
-/// Adds the tree of a text, if it parses, with the text's number.
-fn add_parsed(
+/// Adds the tree of a text, if it parses, with its files and the text's number.
+fn add_parsed<'a>(
     alloc: Global,
-    parsed: &mut Parsed,
+    parsed: &mut Parsed<'a>,
     number: usize,
-    text: &[u8],
+    source: Source<'a>,
 ) -> Result<(), AllocError>
-    ensures { IfOk result (λ _. spec.IsOneMore number text.now parsed.old.trees.items parsed.old.numbers parsed.new.trees.items
-        parsed.new.numbers) }
+    ensures { IfOk result (λ _. spec.IsOneMore number source.entry parsed.old.trees.items parsed.old.files.items parsed.old.numbers
+        parsed.new.trees.items parsed.new.files.items parsed.new.numbers) }
 {
-    match parse(alloc, text) {
+    match parse(alloc, source.text) {
         Ok(tree) => {
+            parsed.files.push(source.files)?;
             parsed.numbers.push(number)?;
             parsed.trees.push(tree)?;
             Ok(())
@@ -44,15 +46,16 @@ fn add_parsed(
 }
 
 /// The trees of some texts.
-fn parsed_of(alloc: Global, sources: &[FileText<'_>]) -> Result<Parsed, AllocError>
-    ensures { IfOk result (λ p. spec.AreTrees (texts_of sources.now) p.trees.items p.numbers) }
+fn parsed_of<'a>(alloc: Global, sources: &[Source<'a>]) -> Result<Parsed<'a>, AllocError>
+    ensures { IfOk result (λ p. spec.AreTrees sources.now p.trees.items p.files.items p.numbers) }
 {
     let mut parsed = Parsed {
         trees: Vec::new(alloc),
+        files: Vec::new(alloc),
         numbers: Items::new(alloc),
     };
     for (number, source) in sources.iter().enumerate() {
-        add_parsed(alloc, &mut parsed, number, source.text)?;
+        add_parsed(alloc, &mut parsed, number, *source)?;
     }
     Ok(parsed)
 }
@@ -80,7 +83,7 @@ fn own_numbers(alloc: Global, numbers: &[usize], noted: &Noted) -> Result<Items<
 /// The run of a finding that has this outcome.
 fn run_by(
     alloc: Global,
-    parsed: &Parsed,
+    parsed: &Parsed<'_>,
     noted: &Noted,
     broken: &Broken,
     flow: Flow,
@@ -101,14 +104,16 @@ fn run_by(
 fn add_broken(
     alloc: Global,
     runs: &mut Vec<FindingRun>,
-    parsed: &Parsed,
+    parsed: &Parsed<'_>,
     noted: &Noted,
     broken: &Broken,
 ) -> Result<(), AllocError>
-    ensures { IfOk result (λ _. spec.IsAdded parsed.now.trees.items parsed.now.numbers noted.now broken.now runs.old.items runs.new.items) }
+    ensures { IfOk result (λ _. spec.IsAdded parsed.now.trees.items parsed.now.files.items parsed.now.numbers noted.now broken.now
+        runs.old.items runs.new.items) }
 {
     let own = own_trees(parsed.trees.as_slice(), noted.filter, &noted.scheduled);
-    let found = Flow::of(alloc, own, &broken.journal)?;
+    let files = own_files(parsed.files.as_slice(), noted.filter, &noted.scheduled);
+    let found = Flow::of(alloc, own, files, &broken.journal)?;
     match found {
         Some(flow) => {
             let run = run_by(alloc, parsed, noted, broken, flow)?;
@@ -123,10 +128,11 @@ fn add_broken(
 fn add_run(
     alloc: Global,
     runs: &mut Vec<FindingRun>,
-    parsed: &Parsed,
+    parsed: &Parsed<'_>,
     noted: &Noted,
 ) -> Result<(), AllocError>
-    ensures { IfOk result (λ _. spec.IsNext parsed.now.trees.items parsed.now.numbers noted.now runs.old.items runs.new.items) }
+    ensures { IfOk result (λ _. spec.IsNext parsed.now.trees.items parsed.now.files.items parsed.now.numbers noted.now runs.old.items
+        runs.new.items) }
 {
     match schedule_of(&noted.scheduled) {
         Schedule::Breaks(broken) => add_broken(alloc, runs, parsed, noted, broken),
@@ -141,10 +147,10 @@ fn add_run(
 /// The runs of the findings in some texts, by the notes on these.
 pub(crate) fn runs_of(
     alloc: Global,
-    sources: &[FileText<'_>],
+    sources: &[Source<'_>],
     noted: &[Noted],
 ) -> Result<Vec<FindingRun>, AllocError>
-    ensures { IfOk result (λ runs. spec.AreRuns (texts_of sources.now) noted.now runs.items) }
+    ensures { IfOk result (λ runs. spec.AreRuns sources.now noted.now runs.items) }
 {
     let parsed = parsed_of(alloc, sources)?;
     let mut runs = Vec::new(alloc);

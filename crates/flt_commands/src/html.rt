@@ -4,7 +4,7 @@ ghost use Rattle.std.specs.Prelude.{◌≡◌, ◌++◌, ◌∷◌, [], IfOk, Li
 ghost use Rattle.std.specs.Option.{option_copied};
 ghost use Rattle.std.specs.List.{slice_split};
 ghost use Rattle.flt_details.specs.Page.{shown as shown_as};
-ghost use Rattle.flt_reports.specs.FileText.{texts_of};
+ghost use Rattle.flt_details.specs.Reports.{texts_of};
 ghost use Rattle.flt_model.specs.Program.{filters_of};
 ghost use Rattle.flt_model.specs.declared.verdict.Verdict.TheVariants as verdicts;
 ghost use Rattle.flt_notes.specs.Noted.{schedule_of as schedule_in};
@@ -14,13 +14,12 @@ ghost use Rattle.flt_picture.specs.Titles.{title_of};
 ghost use Rattle.flt_commands.specs.Inputs.{Text};
 ghost use Rattle.flt_commands.specs.Html as spec;
 
-use flt_details::Page;
+use flt_details::{Page, Source};
 use flt_html::{ShownText, html_page};
 use flt_model::Verdict;
-use flt_notes::Noted;
+use flt_notes::{Noted, own_files};
 use flt_picture::picture;
-use flt_places::lines_of;
-use flt_reports::FileText;
+use flt_places::{Files, SourceFile, lines_of};
 use flt_schedules::{Schedule, Scheduled, only};
 use flt_search::Broken;
 use flt_syntax::{ParseError, Tree, parse};
@@ -51,24 +50,38 @@ fn shown_lines(alloc: Global, lines: &[&[u8]]) -> Result<Items<Items<u8>>, Alloc
     Ok(all)
 }
 
-/// The file in which a text is, as reports show it.
-fn shown_text(alloc: Global, source: FileText<'_>) -> Result<ShownText, AllocError>
-    ensures { IfOk result (λ text. text ≡ spec.shown_text source.entry) }
+/// A file in which a text is, as reports show it.
+fn shown_file(alloc: Global, file: &SourceFile<'_>) -> Result<ShownText, AllocError>
+    ensures { IfOk result (λ text. text ≡ spec.shown_file file.now) }
 {
-    let lines = lines_of(alloc, source.file)?;
-    let name = shown(alloc, source.name.as_bytes())?;
+    let lines = lines_of(alloc, file.lines.text())?;
+    let name = shown(alloc, file.name.as_bytes())?;
     let lines = shown_lines(alloc, lines.as_slice())?;
     Ok(ShownText { name, lines })
 }
 
+/// Adds files, as reports show them.
+fn add_files(
+    alloc: Global,
+    all: &mut Items<ShownText>,
+    files: &[SourceFile<'_>],
+) -> Result<(), AllocError>
+    ensures { OnOk result (all.new ≡ all.old ++ map spec.shown_file files.now) }
+{
+    for file in files {
+        let text = shown_file(alloc, file)?;
+        all.push(text)?;
+    }
+    Ok(())
+}
+
 /// The files in which texts are, as reports show them.
-fn shown_texts(alloc: Global, sources: &[FileText<'_>]) -> Result<Items<ShownText>, AllocError>
-    ensures { IfOk result (λ all. all ≡ map spec.shown_text sources.now) }
+fn shown_texts(alloc: Global, sources: &[Source<'_>]) -> Result<Items<ShownText>, AllocError>
+    ensures { IfOk result (λ all. all ≡ spec.shown_files sources.now) }
 {
     let mut all = Items::new(alloc);
     for source in sources {
-        let text = shown_text(alloc, *source)?;
-        all.push(text)?;
+        add_files(alloc, &mut all, source.files.all)?;
     }
     Ok(all)
 }
@@ -77,18 +90,21 @@ fn shown_texts(alloc: Global, sources: &[FileText<'_>]) -> Result<Items<ShownTex
 
 /// The texts that parse, and their trees.
 #[derive(Drop)]
-struct Parsed {
+struct Parsed<'a> {
     texts: Vec<Vec<u8>>,
+    /// The files of each.
+    files: Vec<Files<'a>>,
     trees: Items<Tree>,
 }
 
-impl Parsed {
+impl<'a> Parsed<'a> {
     /// Those of some texts that parse.
-    fn of(alloc: Global, sources: &[FileText<'_>]) -> Result<Parsed, AllocError>
+    fn of(alloc: Global, sources: &[Source<'a>]) -> Result<Parsed<'a>, AllocError>
         ensures { IfOk result (λ parsed. AreParsed (texts_of sources.now) (filters_of parsed.trees)) }
     {
         let mut parsed = Parsed {
             texts: Vec::new(alloc),
+            files: Vec::new(alloc),
             trees: Items::new(alloc),
         };
         for source in sources {
@@ -99,7 +115,7 @@ impl Parsed {
 
     /// Adds a text if it parses.
     #[tactic(auto, using(crate::proofs::MoreParsed::tree_parsed, crate::proofs::MoreParsed::one_failed))]
-    fn add(&mut self, alloc: Global, source: FileText<'_>) -> Result<(), AllocError>
+    fn add(&mut self, alloc: Global, source: Source<'a>) -> Result<(), AllocError>
         ensures { OnOk result ((texts : List Text) → AreParsed texts (filters_of self.old.trees) →
             AreParsed (texts ++ source.entry.text.now ∷ []) (filters_of self.new.trees)) }
     {
@@ -108,6 +124,7 @@ impl Parsed {
                 let mut text = Vec::new(alloc);
                 text.extend_from_slice(source.text)?;
                 self.texts.push(text)?;
+                self.files.push(source.files)?;
                 self.trees.push(tree)
             }
             Err(ParseError::Syntax(_)) => Ok(()),
@@ -153,12 +170,13 @@ fn drawn(
     alloc: Global,
     trees: &[Tree],
     texts: &[Vec<u8>],
+    files: &[Files<'_>],
     run: &Broken,
 ) -> Result<Items<u8>, AllocError>
     ensures { IfOk result (IsPicture (title_of (filters_of trees.now) (verdicts.Breaks run.now.violation run.now.entry))) }
 {
     let verdict = Verdict::Breaks(run.violation, run.entry);
-    let timeline = Timeline::of(alloc, trees, &run.journal, verdict)?;
+    let timeline = Timeline::of(alloc, trees, files, &run.journal, verdict)?;
     let drawn = picture(alloc, trees, texts, &run.journal, verdict, &timeline)?;
     Ok(Items::from_vec(drawn.into_bytes()))
 }
@@ -166,7 +184,7 @@ fn drawn(
 /// The picture of the run of a finding.
 fn picture_of(
     alloc: Global,
-    parsed: &Parsed,
+    parsed: &Parsed<'_>,
     noted: &Noted,
     run: &Broken,
 ) -> Result<Items<u8>, AllocError>
@@ -174,11 +192,12 @@ fn picture_of(
 {
     let trees = parsed.trees.as_slice();
     let texts = parsed.texts.as_slice();
+    let files = own_files(parsed.files.as_slice(), noted.filter, &noted.scheduled);
     match noted.scheduled {
-        Scheduled::Together(_) => drawn(alloc, trees, texts, run),
+        Scheduled::Together(_) => drawn(alloc, trees, texts, files, run),
         Scheduled::Alone(_) => {
             let own = only(trees, noted.filter);
-            drawn(alloc, own, only_text(texts, noted.filter), run)
+            drawn(alloc, own, only_text(texts, noted.filter), files, run)
         }
     }
 }
@@ -186,7 +205,7 @@ fn picture_of(
 /// Adds the picture of the run of a finding, if it has one.
 fn add_picture(
     alloc: Global,
-    parsed: &Parsed,
+    parsed: &Parsed<'_>,
     noted: &Noted,
     pictures: &mut Items<Items<u8>>,
 ) -> Result<(), AllocError>
@@ -205,7 +224,7 @@ fn add_picture(
 /// The pictures of the runs of findings of texts, in the order of the findings.
 fn pictures_of(
     alloc: Global,
-    sources: &[FileText<'_>],
+    sources: &[Source<'_>],
     noted: &[Noted],
 ) -> Result<Items<Items<u8>>, AllocError>
     ensures { IfOk result (spec.HasPictures sources.now noted.now) }
@@ -223,7 +242,7 @@ fn pictures_of(
 /// The page on texts and on the print about them, with the pictures of the runs of their findings.
 pub(crate) fn page_on(
     alloc: Global,
-    sources: &[FileText<'_>],
+    sources: &[Source<'_>],
     printed: &[u8],
     noted: &[Noted],
 ) -> Result<Vec<u8>, AllocError>

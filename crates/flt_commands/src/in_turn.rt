@@ -1,16 +1,14 @@
 //! Output line by line: the lines of each text are written as soon as they are made.
 
 ghost use Rattle.std.specs.Io.KnownBytes.{Appends};
-ghost use Rattle.std.specs.Prelude.{◌≡◌, ◌≢◌, IfErr, IfOk, None, OnOk, map};
+ghost use Rattle.std.specs.Prelude.{◌≡◌, ◌≢◌, IfErr, IfOk, None, OnOk};
 ghost use Rattle.flt_commands.specs.InTurn as spec;
 ghost use Rattle.flt_forms.specs.Lines.{AreLines};
-ghost use Rattle.flt_reports.specs.FileText.{plain};
 
 use crate::fault::CommandFault;
-use flt_details::Explained;
+use flt_details::{Explained, Source};
 use flt_forms::{Style, lines};
 use flt_model::{Sink, put_all};
-use flt_reports::FileText;
 use flt_warning_details::WarningOptions;
 use std::alloc::Global;
 use std::cmp::max;
@@ -21,16 +19,16 @@ fn put_text<O: Sink>(
     alloc: Global,
     style: Style,
     options: WarningOptions,
-    source: FileText<'_>,
+    source: Source<'_>,
     told: &mut Explained,
     out: &mut O,
 ) -> Result<(), CommandFault>
-    ensures text { OnOk result (spec.IsTextMore style options (plain source.entry) told.old told.new (O.taken out.old) (O.taken out.new)) }
+    ensures text { OnOk result (spec.IsTextMore style options source.entry told.old told.new (O.taken out.old) (O.taken out.new)) }
     ensures fine { OnOk result (O.failures out.new ≡ O.failures out.old) }
     ensures write { IfErr result (λ e. e ≡ CommandFault.Write → O.failures out.new ≢ O.failures out.old) }
     ensures memory { IfErr result (λ e. e ≡ CommandFault.OutOfMemory → out.new ≡ out.old) }
 {
-    let one = lines(alloc, style, options, &[source.plain()], None)?;
+    let one = lines(alloc, style, options, &[source], None)?;
     told.output.extend_from_slice(one.output.as_slice())?;
     told.status = max(told.status, one.status);
     put_all(out, one.output.as_slice())?;
@@ -43,15 +41,15 @@ pub(crate) fn lines_in_turn<O: Sink>(
     alloc: Global,
     style: Style,
     options: WarningOptions,
-    sources: &[FileText<'_>],
+    sources: &[Source<'_>],
     out: &mut O,
 ) -> Result<Explained, CommandFault>
-    ensures told { IfOk result (λ e. AreLines style options (map plain sources.now) None e.output.items e.status) }
+    ensures told { IfOk result (λ e. AreLines style options sources.now None e.output.items e.status) }
     ensures sent { IfOk result (λ e. Appends (O.taken out.old) (O.taken out.new) e.output.items) }
     ensures fine { OnOk result (O.failures out.new ≡ O.failures out.old) }
     ensures write { IfErr result (λ e. e ≡ CommandFault.Write → O.failures out.new ≢ O.failures out.old) }
     ensures memory { IfErr result (λ e. e ≡ CommandFault.OutOfMemory →
-        spec.AreFirstLines style options (map plain sources.now) (O.taken out.old) (O.taken out.new)) }
+        spec.AreFirstLines style options sources.now (O.taken out.old) (O.taken out.new)) }
 {
     let mut told = Explained {
         output: Vec::new(alloc),

@@ -39,6 +39,7 @@ mod search;
 mod serving;
 mod showing;
 mod single;
+mod sources;
 mod split;
 mod system;
 mod texts;

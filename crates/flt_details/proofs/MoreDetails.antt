@@ -6,6 +6,7 @@ use Rattle.std.proofs.lemmas.Option.{slice_get_read}
 use Rattle.std.proofs.lemmas.Slice.Zip.{AllZip-long}
 use Rattle.flt_explain.specs.declared.finding.Finding.{Finding}
 use Rattle.flt_graph.specs.declared.graph.Graph.{Graph}
+use Rattle.flt_places.specs.declared.files.Files.{Files}
 use Rattle.flt_tree.specs.Names.{Text}
 use Rattle.flt_tree.specs.declared.filter.Filter.{Filter}
 use Rattle.flt_details.specs.Alike.{AreLike, IsLike}
@@ -45,21 +46,23 @@ the_same : {A : Type 0} (xs : List A) (n k : ℕ) (x y : A) → slice_get xs n �
 the_same xs n k x y is at there = let here = subst (λ m. slice_get xs m ≡ Some y) at there in cc
 
 -- the next finding, by what shows it
-pub one_detail_more : (lines text : Text) (f : Filter) (g : Graph) (found : List Finding) (shown : List Shown) (n : ℕ) (e : Finding)
+pub one_detail_more : (files : Files) (lines text : Text) (f : Filter) (g : Graph) (found : List Finding) (shown : List Shown) (n : ℕ)
+    (e : Finding)
     (s : Shown) (d : Detail) (all more : List Detail) →
     lines ≡ text → n ≡ length all → slice_get found n ≡ Some e → slice_get shown n ≡ Some s →
-    AreDetailsBy text f g found shown all → IsDetail lines f g e s d → more ≡ all ++ d ∷ [] → AreDetailsBy text f g found shown more
-one_detail_more lines text f g found shown n e s d all more same long is_one is_shown kept new after k e' s' d' finding_is shown_is
+    AreDetailsBy files text f g found shown all → IsDetail files lines f g e s d → more ≡ all ++ d ∷ [] → AreDetailsBy files text f g found
+        shown more
+one_detail_more files lines text f g found shown n e s d all more same long is_one is_shown kept new after k e' s' d' finding_is shown_is
     detail_is =
     choose (at_push all d d' k (subst (λ ds. slice_get ds k ≡ Some d') after detail_is)) where
-      choose : (slice_get all k ≡ Some d') ⊎ ((k ≡ length all) × (d ≡ d')) → IsDetail text f g e' s' d'
+      choose : (slice_get all k ≡ Some d') ⊎ ((k ≡ length all) × (d ≡ d')) → IsDetail files text f g e' s' d'
       choose (inl there) = kept k e' s' d' finding_is shown_is there
       choose (inr (last, here)) =
           let at : k ≡ n = last ∙ sym long in
-          subst (λ (t : Text). IsDetail t f g e' s' d') same
-          (subst (λ (x : Detail). IsDetail lines f g e' s' x) here
-          (subst (λ (x : Shown). IsDetail lines f g e' x d) (the_same shown n k s s' is_shown at shown_is)
-          (subst (λ (x : Finding). IsDetail lines f g x s d) (the_same found n k e e' is_one at finding_is) new)))
+          subst (λ (t : Text). IsDetail files t f g e' s' d') same
+          (subst (λ (x : Detail). IsDetail files lines f g e' s' x) here
+          (subst (λ (x : Shown). IsDetail files lines f g e' x d) (the_same shown n k s s' is_shown at shown_is)
+          (subst (λ (x : Finding). IsDetail files lines f g x s d) (the_same found n k e e' is_one at finding_is) new)))
 
 -- one more detail is like an earlier one, or like none
 pub one_like_more : (found : List Finding) (all more : List Detail) (d : Detail) (n : ℕ) → n ≡ length all → more ≡ all ++ d ∷ [] →
@@ -103,9 +106,9 @@ one_longer found i all more d less long after =
     let one : length (d ∷ []) ≡ 1 = refl in omega (arith, short, next, longer, parts, one, long)
 
 -- where all findings have been told, their details are
-pub all_details : (text : Text) (f : Filter) (g : Graph) (found : List Finding) (t : Traces) (i : ℕ) (all : List Detail) →
+pub all_details : (files : Files) (text : Text) (f : Filter) (g : Graph) (found : List Finding) (t : Traces) (i : ℕ) (all : List Detail) →
     AreTraces g found t → length found ≤ i → length all ≡ length (take i found) →
-    AreDetailsBy text f g found t.shown all → AreLike found all →
-    AreDetails text f g found all
-all_details text f g found t i all traced end long each like =
+    AreDetailsBy files text f g found t.shown all → AreLike found all →
+    AreDetails files text f g found all
+all_details files text f g found t i all traced end long each like =
     record { traces = t; shown = traced; long = long ∙ ap length (take_all i found end); each = each; like = like }

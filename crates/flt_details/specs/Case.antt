@@ -6,6 +6,8 @@ use Rattle.flt_rules.specs.declared.call.LockNumber.{LockNumber}
 use Rattle.flt_rules.specs.declared.place.Operation.{Operation}
 use Rattle.flt_rules.specs.declared.place.Place.{Place}
 use Rattle.flt_rules.specs.declared.place.Place.TheVariants.{Pre, Post}
+use Rattle.flt_places.specs.Files.{file_at}
+use Rattle.flt_places.specs.declared.files.Files.{Files}
 use Rattle.flt_tree.specs.Declarations as declared
 use Rattle.flt_tree.specs.Names.{Text}
 use Rattle.flt_tree.specs.Variable.{context_place, operation_place}
@@ -28,13 +30,15 @@ use Rattle.flt_origins.specs.declared.origin.Cause.TheVariants.{Entry, Made}
 use Rattle.flt_ways.specs.Alone.{alone}
 use Rattle.flt_ways.specs.declared.answer.Step.{Step}
 use Rattle.flt_ways.specs.declared.answer.Way.{Way}
+use Rattle.flt_details.specs.Page.{line_told}
 use Rattle.flt_details.specs.Subjects.{head_of, subject_told}
 use Rattle.flt_details.specs.Tracing.{cause_of, way_of}
 use Rattle.flt_details.specs.declared.case.Case.{Case}
 use Rattle.flt_details.specs.declared.tracing.Shown.{Shown}
 
--- a finding of a text, and what shows it
+-- a finding of a text whose lines are in files, and what shows it
 pub record Circumstances : Type 0 where
+  pub files : Files
   pub text : Text
   pub filter : Filter
   pub graph : Graph
@@ -44,6 +48,7 @@ pub record Circumstances : Type 0 where
 -- those of a case of the program
 abbrev pub of_case : Case → Circumstances
 of_case c = record {
+  files = c.scene.files;
   text = c.scene.lines.now;
   filter = c.scene.tree.now.filter;
   graph = c.scene.graph.now;
@@ -142,3 +147,7 @@ call_at x s = call_in (done_at x s)
 -- the line of a step of the callback
 unfoldable pub line_of : Circumstances → Step → ℕ
 line_of x s = line_at x.graph x.finding.callback s.point
+
+-- a line of the text, by its number in its file: the file is named where it isn't that of the finding
+unfoldable pub line_named : Circumstances → ℕ → Text
+line_named x line = line_told x.files (file_at x.files x.finding.line) line

@@ -3,6 +3,8 @@ use Rattle.std.specs.Prelude.{◌≡◌, ℕ, zero, suc, ◌==◌, Bool, true, f
 use Rattle.std.specs.Borrow.{Bor}
 use Rattle.std.specs.Fmt.{decimal}
 use Rattle.std.specs.Int.{is_in_range}
+use Rattle.flt_places.specs.Files.{file_at, file_line, file_name}
+use Rattle.flt_places.specs.declared.files.Files.{Files}
 use Rattle.flt_tree.specs.Names.{Text}
 use Rattle.flt_details.specs.declared.page.Page.{Page}
 use Rattle.flt_details.specs.declared.page.Part.{Part}
@@ -145,6 +147,14 @@ quoted z = codes "`" ++ (shown z ++ codes "`")
 abbrev pub marked : Text → Text
 marked z = codes "`" ++ (z ++ codes "`")
 
+-- the name of a file before a line of it; nothing where it is the file of this number
+abbrev pub file_told : Files → ℕ → ℕ → Text
+file_told files home file = if file == home then [] else shown (file_name files file) ++ codes ":"
+
+-- a line of a text by its number in its file
+abbrev pub line_told : Files → ℕ → ℕ → Text
+line_told files home line = file_told files home (file_at files line) ++ decimal (file_line files line)
+
 -- a part of a sentence
 abbrev pub said : Part → Text
 said (part.Text t) = t.now
@@ -152,4 +162,5 @@ said (part.Quoted name) = quoted name.now
 said (part.Word w) = marked w.now
 said (part.Marked m) = shown m.0.now ++ (shown m.1.now ++ shown m.0.now)
 said (part.Number n) = decimal n
+said (part.Line files home line) = line_told files home line
 said (part.Value n) = decimal n

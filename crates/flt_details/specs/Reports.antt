@@ -2,6 +2,7 @@
 use Rattle.std.specs.Prelude.{◌≡◌, ℕ, List, [], ◌∷◌, ◌++◌, map}
 use Rattle.flt_syntax.specs.Spelling.{Spells}
 use Rattle.flt_syntax.specs.TextFails.{Fails}
+use Rattle.flt_places.specs.Files.{file_name}
 use Rattle.flt_tree.specs.Names.{Text}
 use Rattle.flt_tree.specs.declared.tree.Tree.{Tree}
 use Rattle.flt_graph.specs.Lowering.{IsLowered}
@@ -37,6 +38,10 @@ status_of (Known tree graph found) = findings_status found
 -- the last bytes are these
 abbrev pub EndsWith : List ℕ → List ℕ → Type 0
 EndsWith whole last = (front : List ℕ) × (whole ≡ front ++ last)
+
+-- the name of a source: that of its first file
+abbrev pub name_of : Source → Text
+name_of s = file_name s.files 0
 
 -- the texts of sources
 abbrev pub texts_of : List Source → List Text

@@ -8,6 +8,7 @@ use Rattle.flt_graph.specs.declared.graph.Graph.{Graph}
 use Rattle.flt_origins.specs.declared.origin.Cause.{Cause}
 use Rattle.flt_origins.specs.declared.origin.Cause.TheVariants as cause
 use Rattle.flt_places.specs.Places.{place_in}
+use Rattle.flt_places.specs.declared.files.Files.{Files}
 use Rattle.flt_tree.specs.Names.{Text}
 use Rattle.flt_tree.specs.declared.filter.Filter.{Filter}
 use Rattle.flt_tree.specs.declared.filter.Position.{Position}
@@ -94,22 +95,22 @@ pub record IsRoute (text : Text) (f : Filter) (g : Graph) (found : Finding) (sho
   pub state : option_copied r.state ≡ state_at_end found.subject (way_of shown.answer)
 
 -- what is said of a finding, by what shows it, with each place in it
-pub record IsDetail (text : Text) (f : Filter) (g : Graph) (found : Finding) (shown : Shown) (d : Detail) : Type 0 where
+pub record IsDetail (files : Files) (text : Text) (f : Filter) (g : Graph) (found : Finding) (shown : Shown) (d : Detail) : Type 0 where
   pub finding : d.finding ≡ found
   pub marks : AreMarks text f g found.callback found.point found.subject d.marks
-  pub words : AreWords text f g found (Some shown) d.words
+  pub words : AreWords files text f g found (Some shown) d.words
   pub route : IsRoute text f g found shown d.route
 
 -- what is said of each of some findings, by what shows it
-abbrev pub AreDetailsBy : Text → Filter → Graph → List Finding → List Shown → List Detail → Type 0
-AreDetailsBy text f g found shown details =
+abbrev pub AreDetailsBy : Files → Text → Filter → Graph → List Finding → List Shown → List Detail → Type 0
+AreDetailsBy files text f g found shown details =
     (k : ℕ) (e : Finding) (s : Shown) (d : Detail) → slice_get found k ≡ Some e → slice_get shown k ≡ Some s →
-    slice_get details k ≡ Some d → IsDetail text f g e s d
+    slice_get details k ≡ Some d → IsDetail files text f g e s d
 
 -- what is said of some findings, in their order: as many as there are, each by what shows it
-pub record AreDetails (text : Text) (f : Filter) (g : Graph) (found : List Finding) (details : List Detail) : Type 0 where
+pub record AreDetails (files : Files) (text : Text) (f : Filter) (g : Graph) (found : List Finding) (details : List Detail) : Type 0 where
   pub traces : Traces
   pub shown : AreTraces g found traces
   pub long : length details ≡ length found
-  pub each : AreDetailsBy text f g found traces.shown details
+  pub each : AreDetailsBy files text f g found traces.shown details
   pub like : AreLike found details

@@ -2,9 +2,10 @@
 
 ghost use Rattle.std.specs.Prelude.{◌≡◌, ◌++◌, option_copied};
 ghost use Rattle.flt_details.specs.Case as spec;
-ghost use Rattle.flt_details.specs.Page.{shown};
+ghost use Rattle.flt_details.specs.Page.{said, shown};
 
 use crate::operands::lock_word;
+use crate::page::Part;
 use crate::scene::Scene;
 use crate::subjects::subject_words;
 use crate::tracing::Shown;
@@ -168,6 +169,15 @@ impl<'a> Case<'a> {
         ensures { result ≡ spec.line_of (spec.of_case self.now) step }
     {
         self.scene.line(self.finding.callback, step.point)
+    }
+
+    /// A line of the text, by its number in its file.
+    #[tactic(auto, unfolding(crate::specs::Case::line_named))]
+    pub(crate) fn line(&self, line: usize) -> Part<'a>
+        ensures { said result ≡ spec.line_named (spec.of_case self.now) line }
+    {
+        let files = self.scene.files;
+        Part::Line(files, files.file_at(self.finding.line), line)
     }
 
     /// The kind of a lock.

@@ -1,11 +1,13 @@
 //! The lines that end reports.
 
-ghost use Rattle.std.specs.Prelude.{◌≡◌, ◌++◌, ◌∷◌, [], Some, IfOk, string_bytes};
+ghost use Rattle.std.specs.Prelude.{◌≡◌, Some, IfOk, string_bytes};
 ghost use Rattle.flt_details.specs.Closing as spec;
 
 use flt_explain::Finding;
+use flt_places::Files;
 use flt_rules::{Rule, number, text};
 use flt_syntax::{FaultKind, SyntaxFault};
+use flt_tree::Position;
 use std::alloc::{AllocError, Global};
 use std::fmt;
 
@@ -23,17 +25,17 @@ impl fmt::Display for RuleName {
     }
 }
 
-/// The line that says where a text is refused, and why, as `analyse` prints it.
+/// The line that says where a text is refused, and why, as `analyse` prints it, with this number of a line.
 #[derive(Drop)]
-struct RefusalLine(Finding);
+struct RefusalLine(Finding, usize);
 
 impl fmt::Display for RefusalLine {
-    ghost output = { λ r. Some (spec.refusal_line r.0) };
+    ghost output = { λ r. Some (spec.refusal_line r.0 r.1) };
 
     fn fmt<W: fmt::Write>(&self, f: &mut fmt::Formatter<W>) -> fmt::Result {
         let callback = self.0.callback;
         let point = self.0.point;
-        let line = self.0.line;
+        let line = self.1;
         let rule = RuleName(self.0.rule);
         let words = text(self.0.rule);
         write!(
@@ -74,31 +76,55 @@ impl fmt::Display for SyntaxLine {
     }
 }
 
-/// The last line of a report with these findings: the place of the first one and its rule, or that nothing is found.
+/// The last line of a report with these findings: the place of the first one, by its line in its file, and its rule, or that nothing is
+/// found.
 ///
 /// # Errors
 ///
 /// `AllocError` if a growth is refused.
-pub fn findings_line(alloc: Global, found: &[Finding]) -> Result<String, AllocError>
-    ensures { IfOk result (λ line. string_bytes line ≡ spec.findings_closing found.now) }
+pub fn findings_line(
+    alloc: Global,
+    files: &Files<'_>,
+    found: &[Finding],
+) -> Result<String, AllocError>
+    ensures { IfOk result (λ line. string_bytes line ≡ spec.findings_closing files.now found.now) }
 {
     match found {
         [first, ..] => {
-            let line = RefusalLine(*first);
+            let line = RefusalLine(*first, files.file_line(first.line));
             format!(in alloc; "{line}\n")
         }
         [] => String::from_str(alloc, "nothing found\n"),
     }
 }
 
-/// The last line of a report of a text that doesn't parse: its first fault.
+/// A fault by its place in its file.
+fn fault_in(files: &Files<'_>, fault: SyntaxFault) -> SyntaxFault
+    ensures { result ≡ spec.fault_in files.now fault }
+{
+    let place = files.file_place(Position {
+        line: fault.line,
+        column: fault.column,
+    });
+    SyntaxFault {
+        line: place.line,
+        column: place.column,
+        kind: fault.kind,
+    }
+}
+
+/// The last line of a report of a text that doesn't parse: its first fault, by its place in its file.
 ///
 /// # Errors
 ///
 /// `AllocError` if a growth is refused.
-pub fn fault_line(alloc: Global, fault: SyntaxFault) -> Result<String, AllocError>
-    ensures { IfOk result (λ line. string_bytes line ≡ spec.syntax_line fault ++ 10 ∷ []) }
+pub fn fault_line(
+    alloc: Global,
+    files: &Files<'_>,
+    fault: SyntaxFault,
+) -> Result<String, AllocError>
+    ensures { IfOk result (λ line. string_bytes line ≡ spec.fault_closing files.now fault) }
 {
-    let line = SyntaxLine(fault);
+    let line = SyntaxLine(fault_in(files, fault));
     format!(in alloc; "{line}\n")
 }

@@ -23,7 +23,7 @@ pub use closing::{RuleName, SyntaxLine, fault_line, fault_name, findings_line};
 pub use judged::{Judged, judge};
 pub use names::call_name;
 pub use operands::{Marks, tokens_of, word_of};
-pub use page::{Page, Part};
+pub use page::{Page, Part, line_words};
 pub use scene::Scene;
 pub use sources::{Explained, Source};
 pub use study::{Detail, Maker, Route, Stage, WayKind, Words, details, state_at_end, words_of};

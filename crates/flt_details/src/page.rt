@@ -5,6 +5,7 @@ ghost use Rattle.std.specs.Fmt.{decimal};
 ghost use Rattle.std.specs.Int.{is_in_range};
 ghost use Rattle.flt_details.specs.Page as spec;
 
+use flt_places::Files;
 use std::alloc::{AllocError, Global};
 
 /// A part of a sentence.
@@ -19,6 +20,8 @@ pub enum Part<'a> {
     /// A finding's subject, with its marks.
     Marked((&'a [u8], &'a [u8])),
     Number(usize),
+    /// A line of a text by its number in its file, after the file's name if that isn't the file of this number.
+    Line(Files<'a>, usize, usize),
     Value(u64),
 }
 
@@ -132,9 +135,22 @@ impl Page {
             Part::Quoted(name) => self.words(&[b"`", name, b"`"]),
             Part::Word(word) => self.texts(&["`", word, "`"]),
             Part::Marked((mark, name)) => self.words(&[mark, name, mark]),
+            Part::Line(files, home, line) => self.file_line(&files, home, line),
             Part::Number(number) => digits(&mut self.out, number as u64),
             Part::Value(value) => digits(&mut self.out, value),
         }
+    }
+
+    /// Writes the number of a line of a text in its file, after the file's name if that isn't the file of the number `home`.
+    fn file_line(&mut self, files: &Files<'_>, home: usize, line: usize) -> Result<(), AllocError>
+        ensures { spec.Writes result self.old self.new (spec.line_told files.now home line) }
+    {
+        let file = files.file_at(line);
+        if file != home {
+            self.words(&[files.file_name(file).as_bytes()])?;
+            self.bytes(b":")?;
+        }
+        digits(&mut self.out, files.file_line(line) as u64)
     }
 
     /// Writes a line of words, as `words` does.
@@ -156,6 +172,24 @@ impl Page {
         self.bytes(text.as_bytes())?;
         Ok(())
     }
+}
+
+/// A line of a text by its number in its file, after the file's name if that isn't the file of the number `home`.
+///
+/// # Errors
+///
+/// `AllocError` if a growth is refused.
+pub fn line_words(
+    alloc: Global,
+    files: &Files<'_>,
+    home: usize,
+    line: usize,
+) -> Result<Vec<u8>, AllocError>
+    ensures { IfOk result (λ words. words.items ≡ spec.line_told files.now home line) }
+{
+    let mut page = Page::new(alloc);
+    page.file_line(files, home, line)?;
+    Ok(page.out)
 }
 
 /// The sign that is printed for each byte of a character that isn't shown, by its first one.

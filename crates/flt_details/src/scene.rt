@@ -7,7 +7,7 @@ ghost use Rattle.flt_details.specs.Subjects.{head_of};
 ghost use Rattle.flt_places.specs.Places.{bytes_of, site_of};
 
 use flt_graph::{Graph, Instruction};
-use flt_places::{Lines, Site};
+use flt_places::{Files, Lines, Site};
 use flt_syntax::Tree;
 use flt_tree::Position;
 
@@ -15,6 +15,8 @@ use flt_tree::Position;
 #[derive(Clone, Copy)]
 pub struct Scene<'a> {
     pub lines: &'a Lines<'a>,
+    /// The files in which its lines are.
+    pub files: Files<'a>,
     pub tree: &'a Tree,
     pub graph: &'a Graph,
 }

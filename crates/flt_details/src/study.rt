@@ -14,6 +14,7 @@ use crate::case::Case;
 use crate::operands::Marks;
 use crate::page::Page;
 use crate::scene::Scene;
+use crate::sources::Source;
 use crate::subjects::state_word;
 use crate::tracing::{Shown, Traces};
 use flt_explain::{Finding, Subject};
@@ -231,7 +232,8 @@ fn origin_of(
 
 #[tactic(auto, unfolding(crate::specs::Words::title_of))]
 fn title_of(alloc: Global, case: &Case<'_>) -> Result<Vec<u8>, AllocError>
-    ensures { IfOk result (λ v. v.items ≡ words.title_of case.now.scene.lines.now case.now.scene.tree.now.filter case.now.scene.graph.now
+    ensures { IfOk result (λ v. v.items ≡ words.title_of case.now.scene.files case.now.scene.lines.now case.now.scene.tree.now.filter
+        case.now.scene.graph.now
         case.now.finding (option_copied case.now.shown)) }
 {
     let mut page = Page::new(alloc);
@@ -241,7 +243,8 @@ fn title_of(alloc: Global, case: &Case<'_>) -> Result<Vec<u8>, AllocError>
 
 #[tactic(auto, unfolding(crate::specs::Words::help_of))]
 fn help_of(alloc: Global, case: &Case<'_>) -> Result<Vec<u8>, AllocError>
-    ensures { IfOk result (λ v. v.items ≡ words.help_of case.now.scene.lines.now case.now.scene.tree.now.filter case.now.scene.graph.now
+    ensures { IfOk result (λ v. v.items ≡ words.help_of case.now.scene.files case.now.scene.lines.now case.now.scene.tree.now.filter
+        case.now.scene.graph.now
         case.now.finding (option_copied case.now.shown)) }
 {
     let mut page = Page::new(alloc);
@@ -251,7 +254,8 @@ fn help_of(alloc: Global, case: &Case<'_>) -> Result<Vec<u8>, AllocError>
 
 #[tactic(auto, unfolding(crate::specs::Words::note_of))]
 fn note_of(alloc: Global, case: &Case<'_>) -> Result<Vec<u8>, AllocError>
-    ensures { IfOk result (λ v. v.items ≡ words.note_of case.now.scene.lines.now case.now.scene.tree.now.filter case.now.scene.graph.now
+    ensures { IfOk result (λ v. v.items ≡ words.note_of case.now.scene.files case.now.scene.lines.now case.now.scene.tree.now.filter
+        case.now.scene.graph.now
         case.now.finding (option_copied case.now.shown)) }
 {
     let mut page = Page::new(alloc);
@@ -270,7 +274,8 @@ fn subject_of(alloc: Global, case: &Case<'_>) -> Result<Vec<u8>, AllocError>
 
 /// The words of a case.
 fn words_in(alloc: Global, case: &Case<'_>) -> Result<Words, AllocError>
-    ensures { IfOk result (words.AreWords case.now.scene.lines.now case.now.scene.tree.now.filter case.now.scene.graph.now case.now.finding
+    ensures { IfOk result (words.AreWords case.now.scene.files case.now.scene.lines.now case.now.scene.tree.now.filter
+        case.now.scene.graph.now case.now.finding
         (option_copied case.now.shown)) }
 {
     let title = title_of(alloc, case)?;
@@ -295,7 +300,8 @@ pub fn words_of(
     shown: Option<&Shown>,
 ) -> Result<Words, AllocError>
     ensures { IfOk result
-        (words.AreWords scene.now.lines.now scene.now.tree.now.filter scene.now.graph.now finding.now (option_copied shown.entry)) }
+        (words.AreWords scene.now.files scene.now.lines.now scene.now.tree.now.filter scene.now.graph.now finding.now
+            (option_copied shown.entry)) }
 {
     words_in(alloc, &Case::of(scene, finding, shown))
 }
@@ -365,7 +371,8 @@ fn detail_by(
     shown: &Shown,
     like: Option<usize>,
 ) -> Result<Detail, AllocError>
-    ensures detail { IfOk result (spec.IsDetail scene.now.lines.now scene.now.tree.now.filter scene.now.graph.now finding.now shown.now) }
+    ensures detail { IfOk result (spec.IsDetail scene.now.files scene.now.lines.now scene.now.tree.now.filter scene.now.graph.now
+        finding.now shown.now) }
     ensures like { IfOk result (λ d. d.route.like ≡ like) }
 {
     let words = words_of(alloc, scene, finding, Some(shown))?;
@@ -386,16 +393,17 @@ fn detail_by(
 /// `AllocError` if a growth is refused.
 pub fn details(
     alloc: Global,
-    text: &[u8],
+    source: Source<'_>,
     tree: &Tree,
     graph: &Graph,
     found: &[Finding],
 ) -> Result<Items<Detail>, AllocError>
-    ensures { IfOk result (spec.AreDetails text.now tree.now.filter graph.now found.now) }
+    ensures { IfOk result (spec.AreDetails source.entry.files source.entry.text.now tree.now.filter graph.now found.now) }
 {
-    let lines = Lines::of(alloc, text)?;
+    let lines = Lines::of(alloc, source.text)?;
     let scene = Scene {
         lines: &lines,
+        files: source.files,
         tree,
         graph,
     };

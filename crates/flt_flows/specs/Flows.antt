@@ -1,6 +1,7 @@
 -- The flow of a run. This project's own definitions.
 use Rattle.std.specs.Prelude.{◌≡◌, ℕ, ◌+◌, List, [], ◌∷◌, Some, map}
 use Rattle.std.specs.Borrow.{Bor}
+use Rattle.flt_places.specs.declared.files.Files.{Files}
 use Rattle.flt_tree.specs.declared.filter.Filter.{Filter}
 use Rattle.flt_tree.specs.declared.tree.Tree.{Tree}
 use Rattle.flt_model.specs.Program.{by_altitude, filter_at, filter_of, filters_of}
@@ -46,18 +47,19 @@ activation_of trees filters active = record {
   name = name_of filters active;
 }
 
--- the flow of a run of which this is kept, on these filters
-pub record IsFlowBy (trees : List Tree) (journal : List JournalEntry) (filters : List (Bor Filter)) (run : Run) (f : Flow) : Type 0 where
+-- the flow of a run of which this is kept, on these filters, whose texts are in these files
+pub record IsFlowBy (trees : List Tree) (files : List Files) (journal : List JournalEntry) (filters : List (Bor Filter)) (run : Run)
+    (f : Flow) : Type 0 where
   pub timeline : Timeline
-  pub shown : IsTimeline (filters_of trees) journal Legal timeline
+  pub shown : IsTimeline (filters_of trees) files journal Legal timeline
   pub steps : f.steps ≡ steps_of timeline run.taken
   pub activations : f.activations ≡ map (activation_of trees filters) run.actives
 
 -- the flow of a journal's run: a step for each entry, with its activation and place by the machine and its words by the journal's
--- timeline, and each activation
-pub record IsFlow (trees : List Tree) (journal : List JournalEntry) (f : Flow) : Type 0 where
+-- timeline, in which these files name the lines, and each activation
+pub record IsFlow (trees : List Tree) (files : List Files) (journal : List JournalEntry) (f : Flow) : Type 0 where
   pub run : Run
   pub ran : run_of (by_altitude (filters_of trees)) journal ≡ Some run
   pub filters : List (Bor Filter)
   pub ordered : filters_behind filters ≡ by_altitude (filters_of trees)
-  pub whole : IsFlowBy trees journal filters run f
+  pub whole : IsFlowBy trees files journal filters run f

@@ -1,6 +1,6 @@
 //! The steps of a run, and its activations.
 
-ghost use Rattle.std.specs.Prelude.{◌≡◌, ◌≤◌, IfOk, MatchOption, None, length, map};
+ghost use Rattle.std.specs.Prelude.{◌≡◌, IfOk, MatchOption, None, map};
 ghost use Rattle.flt_model.specs.Program as program;
 ghost use Rattle.flt_world.specs.Filters.{filters_behind};
 ghost use Rattle.flt_flows.specs.Flows as spec;
@@ -9,7 +9,8 @@ ghost use Rattle.flt_flows.specs.Running as running;
 use crate::naming::name_of;
 use crate::running::{Active, Run, Stage, Taken, run_of};
 use flt_model::{Journal, Verdict};
-use flt_timeline::{Row, Timeline, filters_of};
+use flt_places::Files;
+use flt_timeline::{Row, Timeline, filters_of, tree_at};
 use flt_tree::{Filter, Span, Tree};
 use flt_world::Stack;
 use sqlite_items::Items;
@@ -93,18 +94,6 @@ fn steps_of(
 
 // ---- activations
 
-/// The number of the first tree whose filter has this altitude; past all trees if there is none.
-fn tree_at(trees: &[Tree], altitude: u64) -> usize
-    ensures number { result ≡ program.filter_of (program.filters_of trees.now) altitude }
-    ensures within { result ≤ length trees.now }
-{
-    match trees {
-        [] => 0,
-        [first, ..] if first.filter.altitude == altitude => 0,
-        [_, others @ ..] => tree_at(others, altitude) + 1,
-    }
-}
-
 /// The altitude of the filter of a number; 0 if there is no such filter.
 fn altitude_of(filters: &[&Filter], filter: usize) -> u64
     ensures { result ≡ (program.filter_at (filters_behind filters.now) filter).altitude }
@@ -157,12 +146,13 @@ impl Flow {
     fn by(
         stage: &Stage<'_, '_>,
         trees: &[Tree],
+        files: &[Files<'_>],
         journal: &Journal,
         run: &Run,
     ) -> Result<Flow, AllocError>
-        ensures { IfOk result (spec.IsFlowBy trees.now journal.now stage.now.filters.now run.now) }
+        ensures { IfOk result (spec.IsFlowBy trees.now files.now journal.now stage.now.filters.now run.now) }
     {
-        let timeline = Timeline::of(stage.alloc, trees, journal, Verdict::Legal)?;
+        let timeline = Timeline::of(stage.alloc, trees, files, journal, Verdict::Legal)?;
         let steps = steps_of(stage.alloc, &timeline, run.taken.as_slice())?;
         let activations = activations_of(
             stage.alloc,
@@ -173,15 +163,21 @@ impl Flow {
         Ok(Flow { steps, activations })
     }
 
-    /// The run of a journal on some filters, in any order, whatever it breaks; none if the journal isn't a run on them.
+    /// The run of a journal on some filters, in any order, whatever it breaks; none if the journal isn't a run on them. The files of the
+    /// filters' texts, in the order of the filters, name the lines; without them these have their numbers in the texts.
     ///
     /// # Errors
     ///
     /// If memory is refused, or a number or a count would reach 2^32.
-    pub fn of(alloc: Global, trees: &[Tree], journal: &Journal) -> Result<Option<Flow>, AllocError>
+    pub fn of(
+        alloc: Global,
+        trees: &[Tree],
+        files: &[Files<'_>],
+        journal: &Journal,
+    ) -> Result<Option<Flow>, AllocError>
         ensures { IfOk result (λ found. MatchOption found
             (running.run_of (program.by_altitude (program.filters_of trees.now)) journal.now ≡ None)
-            (spec.IsFlow trees.now journal.now)) }
+            (spec.IsFlow trees.now files.now journal.now)) }
     {
         let stack = Stack::of(alloc, trees)?;
         let filters = filters_of(alloc, trees)?;
@@ -191,7 +187,7 @@ impl Flow {
             filters: filters.as_slice(),
         };
         match run_of(&stage, journal)? {
-            Some(run) => Ok(Some(Flow::by(&stage, trees, journal, &run)?)),
+            Some(run) => Ok(Some(Flow::by(&stage, trees, files, journal, &run)?)),
             None => Ok(None),
         }
     }

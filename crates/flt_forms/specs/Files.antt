@@ -1,10 +1,13 @@
 -- The files of a document. This project's own program.
-use Rattle.std.specs.Prelude.{ℕ, List, [], ◌∷◌, ◌++◌, ◌==◌, Bool, if◌then◌else◌, length, map, position}
+use Rattle.std.specs.Prelude.{ℕ, List, [], ◌∷◌, ◌++◌, ◌==◌, Bool, flat_map, if◌then◌else◌, length, map, position}
 use Rattle.std.specs.Borrow.{Bor}
 use Rattle.std.specs.Option.{unwrap_or}
 use Rattle.std.specs.Str.{bytes_eq}
 use Rattle.flt_details.specs.declared.sources.Source.{Source}
+use Rattle.flt_places.specs.declared.files.SourceFile.{SourceFile}
 use Rattle.flt_forms.specs.Uri.{reference_of}
+use Rattle.flt_forms.specs.declared.drifted.DriftedFile.{DriftedFile}
+use Rattle.flt_forms.specs.declared.file.Artifact.{Artifact}
 use Rattle.flt_forms.specs.declared.file.File.{File}
 
 abbrev pub is_same : List ℕ → List ℕ → Bool
@@ -23,13 +26,29 @@ abbrev pub with_names : List (Bor (List ℕ)) → List (Bor (List ℕ)) → List
 with_names names [] = names
 with_names names (name ∷ others) = with_names (with_name names name) others
 
--- the names of texts, each once, in their order
-abbrev pub names_of : List Source → List (Bor (List ℕ))
-names_of sources = with_names [] (map (λ s. s.name) sources)
+-- the names of the files of a text
+abbrev pub own_names : Source → List (Bor (List ℕ))
+own_names s = map (λ (f : SourceFile). f.name) s.files.all.now
 
--- the file of a text, in a document of files of these names
+-- the names of the files of texts, and of C files that are compared with their annotations
+abbrev pub all_names : List Source → List DriftedFile → List (Bor (List ℕ))
+all_names sources drifted = flat_map own_names sources ++ map (λ (f : DriftedFile). f.name) drifted
+
+-- the same, each once, in their order
+abbrev pub names_of : List Source → List DriftedFile → List (Bor (List ℕ))
+names_of sources drifted = with_names [] (all_names sources drifted)
+
+-- a file of this name, in a document of files of these names
+abbrev pub artifact_of : List (Bor (List ℕ)) → List ℕ → Artifact
+artifact_of names name = record { reference = reference_of name; number = number_of names name }
+
+-- those of a text
+abbrev pub artifacts_of : List (Bor (List ℕ)) → List SourceFile → List Artifact
+artifacts_of names files = map (λ (f : SourceFile). artifact_of names f.name.now) files
+
+-- a text with its files
 abbrev pub file_of : List (Bor (List ℕ)) → Source → File
-file_of names s = record { reference = reference_of s.name.now; number = number_of names s.name.now; lines = s.text.now }
+file_of names s = record { artifacts = artifacts_of names s.files.all.now; files = s.files; lines = s.text.now }
 
 -- the same of several texts
 abbrev pub files_of : List (Bor (List ℕ)) → List Source → List File

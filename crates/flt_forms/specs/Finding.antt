@@ -9,6 +9,8 @@ use Rattle.flt_details.specs.declared.study.Route.{Route}
 use Rattle.flt_details.specs.declared.study.Words.{Words}
 use Rattle.flt_explain.specs.declared.finding.Finding.{Finding}
 use Rattle.flt_graph.specs.declared.graph.Graph.{Graph}
+use Rattle.flt_places.specs.Files.{file_at, file_name}
+use Rattle.flt_places.specs.declared.files.Files.{Files}
 use Rattle.flt_places.specs.declared.places.Region.{Region}
 use Rattle.flt_tree.specs.Names.{Text}
 use Rattle.flt_forms.specs.Counted.{counted}
@@ -17,10 +19,15 @@ use Rattle.flt_forms.specs.Points.{region_at}
 use Rattle.flt_forms.specs.Preface.{preface}
 use Rattle.flt_forms.specs.Steps.{kind_name, like_member, maker_member, steps, steps_member}
 
--- where a finding is
-abbrev pub place : Detail → List Token
-place d =
-    number_member (codes "callback") d.finding.callback ++ (number_member (codes "point") d.finding.point ++ marks_members d.marks)
+-- the number of the file in which a finding is
+abbrev pub home_of : Files → Detail → ℕ
+home_of files d = file_at files d.marks.statement.first.line
+
+-- where it is
+abbrev pub place : Files → ℕ → Detail → List Token
+place files home d =
+    number_member (codes "callback") d.finding.callback
+    ++ (number_member (codes "point") d.finding.point ++ marks_members files home d.marks)
 
 -- the rule that is broken
 abbrev pub rule : Finding → List Token
@@ -39,30 +46,31 @@ state None = null_member (codes "state")
 state (Some word) = string_member (codes "state") word.now
 
 -- how it is reached
-abbrev pub path : (ℕ → Region) → Route → List Token
-path region r =
+abbrev pub path : Files → ℕ → (ℕ → Region) → Route → List Token
+path files home region r =
     key (codes "path") ∷ begin_object ∷ string_member (codes "kind") (kind_name r.kind)
     ++ (like_member r.like ++
-    (key (codes "steps") ∷ (steps region r.stages ++ (steps_member region (codes "other") r.other ++ end_object ∷ []))))
+    (key (codes "steps") ∷ (steps files home region r.stages
+    ++ (steps_member files home region (codes "other") r.other ++ end_object ∷ []))))
 
 -- where it comes from, and how it is reached
-abbrev pub route : (ℕ → Region) → Route → List Token
-route region r = state r.state ++ (maker_member (codes "origin") r.origin ++ path region r)
+abbrev pub route : Files → ℕ → (ℕ → Region) → Route → List Token
+route files home region r = state r.state ++ (maker_member files home (codes "origin") r.origin ++ path files home region r)
 
--- a finding of a file, where the points of its callback are there, with its run
-abbrev pub finding : List ℕ → (ℕ → Region) → List Token → Detail → List Token
-finding name region run d =
-    begin_object ∷ preface (codes "finding") name ++ (place d ++ (rule d.finding ++ (words d.words
-    ++ (route region d.route ++ (run ++ end_object ∷ [])))))
+-- a finding of the file of a number, where the points of its callback are there, with its run
+abbrev pub finding : Files → ℕ → (ℕ → Region) → List Token → Detail → List Token
+finding files home region run d =
+    begin_object ∷ preface (codes "finding") (file_name files home) ++ (place files home d
+    ++ (rule d.finding ++ (words d.words ++ (route files home region d.route ++ (run ++ end_object ∷ [])))))
 
 -- the line of a finding
-abbrev pub finding_line : List ℕ → Text → Graph → List Token → Detail → List ℕ
-finding_line name text graph run d = line_of (finding name (region_at text graph d.finding.callback) run d)
+abbrev pub finding_line : Files → Text → Graph → List Token → Detail → List ℕ
+finding_line files text graph run d = line_of (finding files (home_of files d) (region_at text graph d.finding.callback) run d)
 
 -- the line of the finding of a number, with the run of that number
-abbrev pub numbered_line : List ℕ → Text → Graph → (ℕ → List Token) → ℕ → Detail → List ℕ
-numbered_line name text graph run number d = finding_line name text graph (run number) d
+abbrev pub numbered_line : Files → Text → Graph → (ℕ → List Token) → ℕ → Detail → List ℕ
+numbered_line files text graph run number d = finding_line files text graph (run number) d
 
 -- a line for each finding, in their order
-abbrev pub finding_lines : List ℕ → Text → Graph → (ℕ → List Token) → List Detail → List ℕ
-finding_lines name text graph run details = counted (numbered_line name text graph run) 0 details
+abbrev pub finding_lines : Files → Text → Graph → (ℕ → List Token) → List Detail → List ℕ
+finding_lines files text graph run details = counted (numbered_line files text graph run) 0 details

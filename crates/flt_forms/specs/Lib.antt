@@ -1,5 +1,7 @@
 pub mod Clean
 pub mod Counted
+pub mod DriftResults
+pub mod Drifted
 pub mod Fault
 pub mod Files
 pub mod Finding

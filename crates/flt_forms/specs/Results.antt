@@ -1,25 +1,28 @@
 -- Results of SARIF 2.1.0 (OASIS): findings and faults of texts.
-use Rattle.std.specs.Prelude.{ℕ, List, [], ◌∷◌, ◌++◌, Bool, Option, Some, None, codes, flat_map, if◌then◌else◌, length}
+use Rattle.std.specs.Prelude.{ℕ, List, [], ◌∷◌, ◌++◌, Bool, Option, Some, None, codes, flat_map, if◌then◌else◌, length, slice_get}
 use Rattle.flt_details.specs.declared.operands.Marks.{Marks}
 use Rattle.flt_details.specs.declared.study.Detail.{Detail}
 use Rattle.flt_details.specs.declared.study.Maker.{Maker}
 use Rattle.flt_details.specs.declared.study.Stage.{Stage}
 use Rattle.flt_details.specs.declared.study.WayKind.{WayKind}
 use Rattle.flt_details.specs.declared.study.WayKind.TheVariants.{Clean, Behind, Unreached, Unknown}
+use Rattle.flt_graph.specs.declared.graph.Graph.{Graph}
+use Rattle.flt_places.specs.Files.{file_at, file_line}
+use Rattle.flt_places.specs.declared.files.Files.{Files}
 use Rattle.flt_places.specs.declared.places.Region.{Region}
 use Rattle.flt_syntax.specs.declared.fault.SyntaxFault.{SyntaxFault}
-use Rattle.flt_tree.specs.Names.{Text}
 use Rattle.flt_tree.specs.declared.filter.Position.{Position}
 use Rattle.json.specs.Token.{Token, begin_object, end_object, key}
-use Rattle.flt_columns.specs.Columns.{column_behind, column_of}
+use Rattle.flt_columns.specs.Columns.{file_column_behind}
 use Rattle.flt_forms.specs.Fingerprints.{finding_key, fingerprint, numbered}
 use Rattle.flt_forms.specs.Members.{array_member, filled_member, number_member, object_member, string_member, text_member}
+use Rattle.flt_forms.specs.Points.{region_at}
 use Rattle.flt_forms.specs.Rules.{of_rule}
+use Rattle.flt_forms.specs.Short.{place_of}
+use Rattle.flt_forms.specs.declared.file.Artifact.{Artifact}
 use Rattle.flt_forms.specs.declared.file.File.{File}
 use Rattle.flt_forms.specs.declared.rules.Reported.TheVariants.{Broken, Unread}
 use Rattle.flt_forms.specs.declared.uri.Reference.{Reference}
-use Rattle.flt_graph.specs.declared.graph.Graph.{Graph}
-use Rattle.flt_forms.specs.Points.{region_at}
 
 -- an object with these members, in an array
 abbrev pub item : List Token → List Token
@@ -40,37 +43,53 @@ abbrev pub reference : Reference → List Token
 reference r = text_member (codes "uri") r.uri ++ base r.is_absolute
 
 -- a file, by its name and its number
-abbrev pub artifact_location : File → List Token
-artifact_location file =
-    key (codes "artifactLocation") ∷ begin_object ∷
-    (reference file.reference ++ (number_member (codes "index") file.number ++ end_object ∷ []))
+abbrev pub artifact_by : Option Artifact → List Token
+artifact_by None = []
+artifact_by (Some a) =
+    key (codes "artifactLocation") ∷ begin_object ∷ (reference a.reference ++ (number_member (codes "index") a.number ++ end_object ∷ []))
 
--- where something in a text begins and ends, from 1; the last column is one behind its last byte
-abbrev pub whole_region : List ℕ → Text → Region → List Token
-whole_region name text r =
-    object_member name (number_member (codes "startLine") r.first.line ++ (number_member (codes "startColumn") (column_of text r.first)
-    ++ (number_member (codes "endLine") r.end.line ++ number_member (codes "endColumn") (column_of text r.end))))
+-- the file in which a line of a text is
+abbrev pub artifact_location : File → ℕ → List Token
+artifact_location file line = artifact_by (slice_get file.artifacts (file_at file.files line))
+
+-- where something begins and ends, from 1; the last column is one behind its last one
+abbrev pub region_member : List ℕ → Position → Position → List Token
+region_member name first end =
+    object_member name (number_member (codes "startLine") first.line ++ (number_member (codes "startColumn") first.column
+    ++ (number_member (codes "endLine") end.line ++ number_member (codes "endColumn") end.column)))
+
+-- so many bytes behind a place of a text, in the line of its file; the column counts in UTF-16 units
+abbrev pub units_behind : Files → Position → ℕ → Position
+units_behind files at count = record { line = file_line files at.line; column = file_column_behind files at count }
+
+-- the place itself
+abbrev pub units_at : Files → Position → Position
+units_at files at = units_behind files at 0
+
+-- where something of a text begins and ends in its file
+abbrev pub whole_region : List ℕ → File → Region → List Token
+whole_region name file r = region_member name (units_at file.files r.first) (units_at file.files r.end)
 
 -- where a region of a file is
 abbrev pub physical : File → Region → List Token
 physical file r =
     key (codes "physicalLocation") ∷ begin_object
-    ∷ (artifact_location file ++ (whole_region (codes "region") file.lines r ++ end_object ∷ []))
+    ∷ (artifact_location file r.first.line ++ (whole_region (codes "region") file r ++ end_object ∷ []))
 
 -- the same with words
 abbrev pub location : File → Region → List ℕ → List Token
 location file r words = begin_object ∷ (physical file r ++ (message words ++ end_object ∷ []))
 
 -- what is marked: what a finding names, with the statement round it, or else the statement
-abbrev pub marked_regions : Text → Region → Option Region → List Token
-marked_regions text statement None = whole_region (codes "region") text statement
-marked_regions text statement (Some operand) =
-    whole_region (codes "region") text operand ++ whole_region (codes "contextRegion") text statement
+abbrev pub marked_regions : File → Region → Option Region → List Token
+marked_regions file statement None = whole_region (codes "region") file statement
+marked_regions file statement (Some operand) =
+    whole_region (codes "region") file operand ++ whole_region (codes "contextRegion") file statement
 
 abbrev pub marked_physical : File → Marks → List Token
 marked_physical file m =
     key (codes "physicalLocation") ∷ begin_object ∷
-    (artifact_location file ++ (marked_regions file.lines m.statement m.operand ++ end_object ∷ []))
+    (artifact_location file m.statement.first.line ++ (marked_regions file m.statement m.operand ++ end_object ∷ []))
 
 -- the same with words
 abbrev pub marked_location : File → Marks → List ℕ → List Token
@@ -183,23 +202,18 @@ next_result file graph run before d =
 abbrev pub results_of : File → Graph → (ℕ → List Token) → List Detail → List Token
 results_of file graph run details = numbered (finding_key file.lines) (next_result file graph run) [] details
 
--- how to mend a fault of a text
+-- how to fix a fault of a text
 abbrev pub fault_properties : List ℕ → List Token
 fault_properties help = object_member (codes "properties") (filled_member (codes "help") help)
 
-abbrev pub place_of : SyntaxFault → Position
-place_of f = record { line = f.line; column = f.column }
-
 -- where a text is refused, up to behind what stands there
-abbrev pub fault_region : Text → Position → List ℕ → List Token
-fault_region text at found =
-    object_member (codes "region") (number_member (codes "startLine") at.line ++ (number_member (codes "startColumn") (column_of text at)
-    ++ (number_member (codes "endLine") at.line ++ number_member (codes "endColumn") (column_behind text at (length found)))))
+abbrev pub fault_region : File → Position → List ℕ → List Token
+fault_region file at found = region_member (codes "region") (units_at file.files at) (units_behind file.files at (length found))
 
 abbrev pub fault_physical : File → SyntaxFault → List ℕ → List Token
 fault_physical file f found =
     key (codes "physicalLocation") ∷ begin_object ∷
-    (artifact_location file ++ (fault_region file.lines (place_of f) found ++ end_object ∷ []))
+    (artifact_location file f.line ++ (fault_region file (place_of f) found ++ end_object ∷ []))
 
 abbrev pub fault_location : File → SyntaxFault → List ℕ → List ℕ → List Token
 fault_location file f found words = begin_object ∷ (fault_physical file f found ++ (message words ++ end_object ∷ []))

@@ -1,8 +1,11 @@
 -- The rules of a document of SARIF 2.1.0 (OASIS).
-use Rattle.std.specs.Prelude.{◌≡◌, ℕ, List, [], ◌∷◌, ◌++◌, IfSome, Option, Some, None, codes, is_some}
+use Rattle.std.specs.Prelude.{◌≡◌, ℕ, List, [], ◌∷◌, ◌++◌, IfSome, Option, Some, None, codes, flat_map, is_some}
 use Rattle.std.specs.Borrow.{Bor}
 use Rattle.std.specs.Io.{StartsWith}
 use Rattle.flt_details.specs.Closing.{fault_name, rule_name}
+use Rattle.flt_drift.specs.declared.drift.DriftKind.{DriftKind}
+use Rattle.flt_drift.specs.declared.drift.DriftKind.TheVariants as drift
+use Rattle.flt_drift_reports.specs.Words as drifts
 use Rattle.flt_pages.specs.Pages.{has_page, title}
 use Rattle.flt_rules.specs.Rule.{text}
 use Rattle.flt_rules.specs.declared.rule.Rule.{Rule}
@@ -16,7 +19,8 @@ use Rattle.json.specs.Token.{Token, begin_object, end_object, string}
 use Rattle.flt_forms.specs.Members.{array_member, number_member, object_member, string_member, text_member}
 use Rattle.flt_forms.specs.Paragraphs.{first_paragraph}
 use Rattle.flt_forms.specs.declared.rules.Reported.{Reported}
-use Rattle.flt_forms.specs.declared.rules.Reported.TheVariants.{Broken, Unread, Warned}
+use Rattle.flt_forms.specs.declared.drifted.DriftedFile.{DriftedFile}
+use Rattle.flt_forms.specs.declared.rules.Reported.TheVariants.{Broken, Drifted, Unread, Warned}
 
 -- all rules, all kinds of faults of a text, and all kinds of warnings, in their order
 unfoldable pub all : List Reported
@@ -27,6 +31,11 @@ all =
     ∷ Warned W00 ∷ Warned W01 ∷ Warned W02 ∷ Warned W03 ∷ Warned W04 ∷ Warned W05 ∷ Warned W06 ∷ Warned W07
     ∷ []
 
+-- one kind of drift for each of their codes, in the order of these
+abbrev pub drift_kinds : List DriftKind
+drift_kinds =
+    drift.Malformed ∷ drift.NotCalled ∷ drift.NotNamed ∷ drift.OtherStatus ∷ drift.NotAnnotated ∷ drift.OtherLock ∷ []
+
 -- ---- what is said of a rule
 
 -- its number, as `R02`
@@ -34,6 +43,7 @@ abbrev pub id_of : Reported → List ℕ
 id_of (Broken r) = rule_name r
 id_of (Unread k) = fault_name k
 id_of (Warned k) = kind_name k
+id_of (Drifted k) = drifts.code k
 
 -- the words of a kind of fault
 abbrev pub fault_words : FaultKind → List ℕ
@@ -57,29 +67,44 @@ kind_words W05 = codes "context used that isn't the linked one"
 kind_words W06 = codes "something that is never used or reached"
 kind_words W07 = codes "instance needed where no operation keeps it"
 
+-- the words of a kind of drift
+abbrev pub drift_words : DriftKind → List ℕ
+drift_words drift.Malformed = codes "comment that declares no call"
+drift_words drift.NotCalled = codes "annotated call that the code doesn't make"
+drift_words drift.NotNamed = codes "call that no annotation names"
+drift_words drift.OtherStatus = codes "status that no annotation returns"
+drift_words drift.NotAnnotated = codes "callback that is only registered or only annotated"
+drift_words drift.NotRegistered = codes "callback that is only registered or only annotated"
+drift_words drift.OtherOperation = codes "callback that is only registered or only annotated"
+drift_words drift.OtherLock = codes "lock that no annotation names"
+
 -- its words
 abbrev pub words_of : Reported → List ℕ
 words_of (Broken r) = text r
 words_of (Unread k) = fault_words k
 words_of (Warned k) = kind_words k
+words_of (Drifted k) = drift_words k
 
 -- what a result of it is where nobody says anything else
 abbrev pub level_of : Reported → List ℕ
 level_of (Broken r) = codes "error"
 level_of (Unread k) = codes "error"
 level_of (Warned k) = codes "warning"
+level_of (Drifted k) = codes "warning"
 
--- how often it is right: a fault always; a rule forgets what goes together, and a warning guesses what is meant
+-- how often it is right: a fault always; a rule forgets what goes together, and a warning and a drift guess what is meant
 abbrev pub precision_of : Reported → List ℕ
 precision_of (Broken r) = codes "high"
 precision_of (Unread k) = codes "very-high"
 precision_of (Warned k) = codes "medium"
+precision_of (Drifted k) = codes "medium"
 
 -- what hosts sort it under
 abbrev pub tag_of : Reported → List ℕ
 tag_of (Broken r) = codes "correctness"
 tag_of (Unread k) = codes "syntax"
 tag_of (Warned k) = codes "maintainability"
+tag_of (Drifted k) = codes "correctness"
 
 -- its place among all, from 0
 abbrev pub index_of_rule : Rule → ℕ
@@ -119,10 +144,21 @@ index_of_fault E06 = 20
 index_of_fault E07 = 21
 index_of_fault E08 = 22
 
+abbrev pub index_of_drift : DriftKind → ℕ
+index_of_drift drift.Malformed = 31
+index_of_drift drift.NotCalled = 32
+index_of_drift drift.NotNamed = 33
+index_of_drift drift.OtherStatus = 34
+index_of_drift drift.NotAnnotated = 35
+index_of_drift drift.NotRegistered = 35
+index_of_drift drift.OtherOperation = 35
+index_of_drift drift.OtherLock = 36
+
 abbrev pub index_of : Reported → ℕ
 index_of (Broken r) = index_of_rule r
 index_of (Unread k) = index_of_fault k
 index_of (Warned k) = index_of_kind k
+index_of (Drifted k) = index_of_drift k
 
 -- ---- the members
 
@@ -177,6 +213,36 @@ pub record IsRule (reported : Reported) (tokens : List Token) : Type 0 where
 abbrev pub AreRules : List Reported → List Token → Type 0
 AreRules [] tokens = tokens ≡ []
 AreRules (r ∷ rs) tokens = (first : List Token) × (others : List Token) × IsRule r first × AreRules rs others × (tokens ≡ first ++ others)
+
+-- ---- the rules of drifts, which have no pages
+
+-- what a drift of a kind is
+abbrev pub meaning : DriftKind → List ℕ
+meaning drift.Malformed = codes "A comment `@flt-call` is malformed: it ends too early, or its second word is no call."
+meaning drift.NotCalled = codes "An annotation names a call, and no word of the code beside it is that call's name."
+meaning drift.NotNamed =
+    codes "A word of the code is the name of a call, and no annotation beside it names that call, though there is one."
+meaning drift.OtherStatus = codes "The code returns a status, and the annotations beside it return another one."
+meaning drift.OtherLock =
+    codes "The code takes or releases a lock, and the annotations beside it name only locks of other expressions."
+meaning _ = codes "A table registers a callback that no annotation begins, or none registers one that an annotation begins."
+
+abbrev pub meaning_member : DriftKind → List Token
+meaning_member kind = object_member (codes "fullDescription") (string_member (codes "text") (meaning kind))
+
+abbrev pub help_member : DriftKind → List Token
+help_member kind = object_member (codes "help") (page_members (drifts.help kind))
+
+-- a rule with what it means and how code and annotations are made to agree
+abbrev pub drift_rule : DriftKind → List Token
+drift_rule kind =
+    begin_object ∷ (string_member (codes "id") (drifts.code kind) ++ (names (Drifted kind) ++ (meaning_member kind ++ (help_member kind
+    ++ (configuration (Drifted kind) ++ (properties (Drifted kind) ++ end_object ∷ []))))))
+
+-- those of a document: none without a C file
+abbrev pub drift_rules : List DriftedFile → List Token
+drift_rules [] = []
+drift_rules (f ∷ fs) = flat_map drift_rule drift_kinds
 
 -- ---- the tool
 

@@ -20,8 +20,8 @@ use Rattle.flt_forms.specs.declared.run_flow.OwnFlow.{OwnFlow}
 -- a region of a file
 abbrev pub whole_place : File → Region → List Token
 whole_place file region =
-    key (codes "physicalLocation") ∷ begin_object ∷ (artifact_location file
-    ++ (whole_region (codes "region") file.lines region ++ end_object ∷ []))
+    key (codes "physicalLocation") ∷ begin_object ∷ (artifact_location file region.first.line
+    ++ (whole_region (codes "region") file region ++ end_object ∷ []))
 
 -- where something is in a file, if it is anywhere
 abbrev pub region_in : File → Option Span → List Token

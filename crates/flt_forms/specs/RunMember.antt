@@ -1,18 +1,18 @@
 -- Runs that break something because of findings, as JSON. This project's own format.
-use Rattle.std.specs.Prelude.{ℕ, List, [], ◌∷◌, ◌++◌, Option, Some, None, codes, flat_map, slice_get}
+use Rattle.std.specs.Prelude.{ℕ, List, [], ◌∷◌, ◌++◌, Option, Some, None, codes, flat_map, map, slice_get}
 use Rattle.std.specs.Borrow.{Bor}
 use Rattle.json.specs.Token.{Token, begin_object, end_object, key}
-use Rattle.flt_details.specs.Reports.{texts_of}
+use Rattle.flt_details.specs.Reports.{name_of}
 use Rattle.flt_details.specs.declared.sources.Source.{Source}
 use Rattle.flt_flows.specs.declared.flows.FlowActivation.{FlowActivation}
 use Rattle.flt_flows.specs.declared.flows.FlowStep.{FlowStep}
 use Rattle.flt_places.specs.Places.{region_of}
-use Rattle.flt_tree.specs.Names.{Text}
 use Rattle.flt_tree.specs.declared.filter.Span.{Span}
 use Rattle.flt_forms.specs.Members.{array_member, null_member, number_member, object_member, region_members, string_member, text_member}
 use Rattle.flt_forms.specs.Run.{at, run_of, source_of, violation_name}
 use Rattle.flt_forms.specs.declared.run.FindingRun.{FindingRun}
 use Rattle.flt_forms.specs.declared.run_member.OwnRun.{OwnRun}
+use Rattle.flt_forms.specs.declared.run_member.TextLines.{TextLines}
 use Rattle.flt_forms.specs.declared.run_member.TextRuns.{TextRuns}
 
 -- the violation in a run, and the number of the entry that makes it
@@ -28,7 +28,7 @@ number_or_null name (Some n) = number_member name n
 -- the name of the file of an activation, or null
 abbrev pub file_member : Option Source → List Token
 file_member None = null_member (codes "file")
-file_member (Some s) = string_member (codes "file") s.name.now
+file_member (Some s) = string_member (codes "file") (name_of s)
 
 -- an activation: its file, its callback, its operation, if it is about one, and its name
 abbrev pub activation : List Source → FindingRun → FlowActivation → List Token
@@ -36,17 +36,24 @@ activation sources r a =
     begin_object ∷ (file_member (at sources (slice_get r.sources a.tree)) ++ (number_member (codes "callback") a.callback
     ++ (number_or_null (codes "operation") a.operation ++ (text_member (codes "name") a.name ++ end_object ∷ []))))
 
--- where something is in a text, or null
-abbrev pub region_in : Text → Option Span → List Token
-region_in text None = null_member (codes "place")
-region_in text (Some span) = object_member (codes "place") (region_members (region_of text span))
+-- a text with its files
+abbrev pub lines_of : Source → TextLines
+lines_of s = record { lines = s.text.now; files = s.files }
 
-abbrev pub place_member : Option Text → Option Span → List Token
+abbrev pub texts_of : List Source → List TextLines
+texts_of sources = map lines_of sources
+
+-- where something is in a text, whose object has the name of its first file; or null
+abbrev pub region_in : TextLines → Option Span → List Token
+region_in t None = null_member (codes "place")
+region_in t (Some span) = object_member (codes "place") (region_members t.files 0 (region_of t.lines span))
+
+abbrev pub place_member : Option TextLines → Option Span → List Token
 place_member None span = null_member (codes "place")
-place_member (Some text) span = region_in text span
+place_member (Some t) span = region_in t span
 
 -- an entry: its number, the number of its activation, where that is, and what happens
-abbrev pub entry : List Text → FindingRun → FlowStep → List Token
+abbrev pub entry : List TextLines → FindingRun → FlowStep → List Token
 entry texts r s =
     begin_object ∷ (number_member (codes "entry") s.entry ++ (number_or_null (codes "activation") s.activation
     ++ (place_member (at texts (source_of r s.activation)) s.span ++ (text_member (codes "words") s.words ++ end_object ∷ []))))
@@ -55,17 +62,17 @@ entry texts r s =
 abbrev pub activations : List Source → FindingRun → List Token
 activations sources r = array_member (codes "activations") (flat_map (activation sources r) r.flow.activations)
 
-abbrev pub entries : List Text → FindingRun → List Token
+abbrev pub entries : List TextLines → FindingRun → List Token
 entries texts r = array_member (codes "entries") (flat_map (entry texts r) r.flow.steps)
 
 -- a run of filters of these texts; null where there is none
-abbrev pub run_member : List Source → List Text → Option FindingRun → List Token
+abbrev pub run_member : List Source → List TextLines → Option FindingRun → List Token
 run_member sources texts None = null_member (codes "run")
 run_member sources texts (Some r) =
     key (codes "run") ∷ begin_object ∷ (breaks r ++ (activations sources r ++ (entries texts r ++ end_object ∷ [])))
 
 -- that of each finding, by the number of its text and by its own
-abbrev pub member_among : List Source → List Text → List FindingRun → ℕ → ℕ → List Token
+abbrev pub member_among : List Source → List TextLines → List FindingRun → ℕ → ℕ → List Token
 member_among sources texts runs source finding = run_member sources texts (run_of runs source finding)
 
 abbrev pub own_member : List Source → List FindingRun → ℕ → ℕ → List Token
@@ -85,7 +92,7 @@ run_members sources None = no_member
 run_members sources (Some runs) = own_member sources runs.now
 
 -- the same as the code has them
-abbrev pub members_by : List Source → List Text → Option (Bor (List FindingRun)) → ℕ → ℕ → List Token
+abbrev pub members_by : List Source → List TextLines → Option (Bor (List FindingRun)) → ℕ → ℕ → List Token
 members_by sources texts None = no_member
 members_by sources texts (Some runs) = member_among sources texts runs.now
 

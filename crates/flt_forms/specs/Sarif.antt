@@ -12,42 +12,44 @@ use Rattle.flt_details.specs.declared.judged.Judged.TheVariants.{Unread, Known}
 use Rattle.flt_details.specs.declared.sources.Source.{Source}
 use Rattle.flt_details.specs.declared.study.Detail.{Detail}
 use Rattle.flt_graph.specs.declared.graph.Graph.{Graph}
-use Rattle.flt_tree.specs.Names.{Text}
 use Rattle.flt_tree.specs.declared.filter.Filter.{Filter}
 use Rattle.flt_warning_details.specs.declared.detail.WarningDetail.{WarningDetail}
 use Rattle.flt_warning_details.specs.declared.options.WarningOptions.{WarningOptions}
 use Rattle.json.specs.Token.{Token, begin_object, boolean, end_object, key, string}
+use Rattle.flt_forms.specs.DriftResults.{drift_results}
+use Rattle.flt_forms.specs.Drifted.{drift_status}
 use Rattle.flt_forms.specs.Fault.{help_of}
 use Rattle.flt_forms.specs.Files.{file_of, files_of, names_of}
 use Rattle.flt_forms.specs.Members.{array_member, line_of, number_member, object_member, string_member}
 use Rattle.flt_forms.specs.Results.{fault_result, item, level, reference, results_of}
-use Rattle.flt_forms.specs.Rules.{AreRules, all, tool}
+use Rattle.flt_forms.specs.Rules.{AreRules, all, drift_rules, tool}
 use Rattle.flt_forms.specs.RunFlow.{run_flows}
 use Rattle.flt_forms.specs.Uri.{reference_of}
 use Rattle.flt_forms.specs.Warned.{AreWarned, status_of}
 use Rattle.flt_forms.specs.WarningResults as warning
+use Rattle.flt_forms.specs.declared.drifted.DriftedFile.{DriftedFile}
 use Rattle.flt_forms.specs.declared.file.File.{File}
 use Rattle.flt_forms.specs.declared.run.FindingRun.{FindingRun}
 use Rattle.flt_forms.specs.declared.unread.UnreadFile.{UnreadFile}
 use Rattle.flt_forms.specs.declared.uri.Reference.{Reference}
 
 -- the result of a text that doesn't parse: its first fault, what is said of it, and how to fix it
-pub record IsFaultResult (file : File) (text : Text) (tokens : List Token) : Type 0 where
+pub record IsFaultResult (file : File) (s : Source) (tokens : List Token) : Type 0 where
   pub trouble : Trouble
-  pub described : IsDescribed text (Some trouble)
-  pub result : tokens ≡ fault_result file trouble.spot.fault trouble.spot.bytes.now (title_of trouble) (help_of trouble)
+  pub described : IsDescribed s.text.now (Some trouble)
+  pub result : tokens ≡ fault_result file trouble.spot.fault trouble.spot.bytes.now (title_of trouble) (help_of s.files trouble)
 
 -- one result for each of these findings, in their order, with its run
-pub record AreFindingResults (file : File) (run : ℕ → List Token) (text : Text) (filter : Filter) (graph : Graph) (found : List Finding)
+pub record AreFindingResults (file : File) (run : ℕ → List Token) (s : Source) (filter : Filter) (graph : Graph) (found : List Finding)
     (tokens : List Token) : Type 0 where
   pub details : List Detail
-  pub each : AreDetails text filter graph found details
+  pub each : AreDetails s.files s.text.now filter graph found details
   pub results : tokens ≡ results_of file graph run details
 
 -- the results of a text: one where it doesn't parse, else one for each finding
-unfoldable pub HasResults : File → (ℕ → List Token) → Text → Judged → List Token → Type 0
-HasResults file run text (Unread f) tokens = IsFaultResult file text tokens
-HasResults file run text (Known tree graph found) tokens = AreFindingResults file run text tree.filter graph found tokens
+unfoldable pub HasResults : File → (ℕ → List Token) → Source → Judged → List Token → Type 0
+HasResults file run s (Unread f) tokens = IsFaultResult file s tokens
+HasResults file run s (Known tree graph found) tokens = AreFindingResults file run s tree.filter graph found tokens
 
 -- the same with those of its warnings last, and its status, which comes of the same findings and warnings, in a document of files of
 -- these names; its findings have these runs, by their numbers
@@ -61,7 +63,7 @@ pub record IsPart (options : WarningOptions) (names : List (Bor (List ℕ))) (ru
   pub are : AreWarned s options.allowed judged warned
   pub own : status ≡ status_of options.is_strict judged warned
   pub first : List Token
-  pub results : HasResults file run s.text.now judged first
+  pub results : HasResults file run s judged first
   pub all : tokens ≡ first ++ warning.results_of file warned
 
 -- the results of several texts, of which the first has this number, in the order of the texts; the status is the greatest of theirs. Their
@@ -146,14 +148,17 @@ abbrev pub run_members : List Token → List (Bor (List ℕ)) → List UnreadFil
 run_members rules names unread results status =
     tool rules ++ (setting names ++ (array_member (codes "results") results ++ invocations unread status))
 
--- the rules with their pages, and the results of several texts with their status
+-- the rules with their pages, and the results of several texts, and after them those of the drifts of C files; the status is the greatest
+-- of theirs
 pub record IsRun (options : WarningOptions) (names : List (Bor (List ℕ))) (runs : ℕ → ℕ → List Token) (sources : List Source)
-    (unread : List UnreadFile) (tokens : List Token) (status : ℕ) : Type 0 where
+    (unread : List UnreadFile) (drifted : List DriftedFile) (tokens : List Token) (status : ℕ) : Type 0 where
   pub rules : List Token
   pub described : AreRules all rules
   pub results : List Token
-  pub found : AreResults options names runs 0 sources results status
-  pub members : tokens ≡ run_members rules names unread results status
+  pub own : ℕ
+  pub found : AreResults options names runs 0 sources results own
+  pub greatest : status ≡ max own (drift_status options.is_strict drifted)
+  pub members : tokens ≡ run_members (rules ++ drift_rules drifted) names unread (results ++ drift_results names drifted) status
 
 -- the whole document, of this run
 abbrev pub document : List Token → List Token
@@ -161,12 +166,18 @@ document run =
     begin_object ∷ (string_member (codes "$schema") (codes "https://json.schemastore.org/sarif-2.1.0.json")
     ++ (string_member (codes "version") (codes "2.1.0") ++ (array_member (codes "runs") (item run) ++ end_object ∷ [])))
 
--- the code flows of runs of findings, in a document of these texts
-abbrev pub flows_of : List Source → List FindingRun → ℕ → ℕ → List Token
-flows_of sources runs = run_flows (files_of (names_of sources) sources) runs
+-- the code flows of runs of findings, in a document of these texts, of files of these names
+abbrev pub flows_of : List (Bor (List ℕ)) → List Source → List FindingRun → ℕ → ℕ → List Token
+flows_of names sources runs = run_flows (files_of names sources) runs
 
--- one document for several texts, beside which these files aren't read, with these runs of their findings
-unfoldable pub IsSarif : WarningOptions → List Source → List UnreadFile → List FindingRun → List ℕ → ℕ → Type 0
-IsSarif options sources unread runs printed status =
-    (run : List Token) × IsRun options (names_of sources) (flows_of sources runs) sources unread run status
+-- one document of this program, of files of these names
+abbrev pub IsSarifIn : List (Bor (List ℕ)) → WarningOptions → List Source → List UnreadFile → List FindingRun → List DriftedFile → List ℕ →
+    ℕ → Type 0
+IsSarifIn names options sources unread runs drifted printed status =
+    (run : List Token) × IsRun options names (flows_of names sources runs) sources unread drifted run status
     × (printed ≡ line_of (document run))
+
+-- one document for several texts, beside which these files aren't read, with these runs of their findings, and for the drifts of C files
+unfoldable pub IsSarif : WarningOptions → List Source → List UnreadFile → List FindingRun → List DriftedFile → List ℕ → ℕ → Type 0
+IsSarif options sources unread runs drifted printed status =
+    IsSarifIn (names_of sources drifted) options sources unread runs drifted printed status

@@ -1,12 +1,12 @@
 -- Steps of paths, as JSON.
-use Rattle.std.specs.Prelude.{ℕ, List, [], ◌∷◌, ◌++◌, Bool, codes, flat_map, if◌then◌else◌}
+use Rattle.std.specs.Prelude.{ℕ, List, [], ◌∷◌, ◌++◌, Bool, Option, Some, None, codes, flat_map, if◌then◌else◌}
 use Rattle.json.specs.Token.{Token, begin_object, end_object, begin_array, end_array, key}
-use Rattle.std.specs.Prelude.{Option, Some, None}
 use Rattle.flt_forms.specs.Members.{filled_member, marks_members, region_members, string_member, number_member, null_member}
 use Rattle.flt_details.specs.declared.study.Maker.{Maker}
 use Rattle.flt_details.specs.declared.study.Stage.{Stage}
 use Rattle.flt_details.specs.declared.study.WayKind.{WayKind}
 use Rattle.flt_details.specs.declared.study.WayKind.TheVariants.{Clean, Behind, Unreached, Unknown}
+use Rattle.flt_places.specs.declared.files.Files.{Files}
 use Rattle.flt_places.specs.declared.places.Region.{Region}
 
 -- how a step comes out
@@ -14,30 +14,30 @@ abbrev pub side : Bool → List ℕ
 side granted = if granted then codes "yes" else codes "no"
 
 -- a step: its point, where that is, and how it comes out
-abbrev pub step : (ℕ → Region) → Stage → List Token
-step region s =
-    begin_object ∷ number_member (codes "point") s.point ++ (region_members (region s.point)
+abbrev pub step : Files → ℕ → (ℕ → Region) → Stage → List Token
+step files home region s =
+    begin_object ∷ number_member (codes "point") s.point ++ (region_members files home (region s.point)
     ++ (string_member (codes "side") (side s.granted) ++ (filled_member (codes "words") s.words.items ++ end_object ∷ [])))
 
 -- several, in order
-abbrev pub steps : (ℕ → Region) → List Stage → List Token
-steps region stages = begin_array ∷ flat_map (step region) stages ++ end_array ∷ []
+abbrev pub steps : Files → ℕ → (ℕ → Region) → List Stage → List Token
+steps files home region stages = begin_array ∷ flat_map (step files home region) stages ++ end_array ∷ []
 
 -- the step that made a finding so, with where its statement stands, and in it what the finding names
-abbrev pub maker : Maker → List Token
-maker m =
-    begin_object ∷ number_member (codes "point") m.stage.point ++ (marks_members m.marks
+abbrev pub maker : Files → ℕ → Maker → List Token
+maker files home m =
+    begin_object ∷ number_member (codes "point") m.stage.point ++ (marks_members files home m.marks
     ++ (string_member (codes "side") (side m.stage.granted) ++ (filled_member (codes "words") m.stage.words.items ++ end_object ∷ [])))
 
 -- a member whose value is that, or null
-abbrev pub maker_member : List ℕ → Option Maker → List Token
-maker_member name None = null_member name
-maker_member name (Some m) = key name ∷ maker m
+abbrev pub maker_member : Files → ℕ → List ℕ → Option Maker → List Token
+maker_member files home name None = null_member name
+maker_member files home name (Some m) = key name ∷ maker files home m
 
 -- a member whose value is steps, or null
-abbrev pub steps_member : (ℕ → Region) → List ℕ → Option (List Stage) → List Token
-steps_member region name None = null_member name
-steps_member region name (Some stages) = key name ∷ steps region stages
+abbrev pub steps_member : Files → ℕ → (ℕ → Region) → List ℕ → Option (List Stage) → List Token
+steps_member files home region name None = null_member name
+steps_member files home region name (Some stages) = key name ∷ steps files home region stages
 
 -- which finding's path serves
 abbrev pub like_member : Option ℕ → List Token

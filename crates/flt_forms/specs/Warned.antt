@@ -11,7 +11,7 @@ use Rattle.flt_warning_details.specs.declared.detail.WarningDetail.{WarningDetai
 -- what is warned of a text; of one that doesn't parse nothing is
 abbrev pub AreWarned : Source → AllowedKinds → Judged → List WarningDetail → Type 0
 AreWarned s allowed (Unread f) warned = warned ≡ []
-AreWarned s allowed (Known tree graph found) warned = AreWarningDetails s.text.now tree.filter graph found allowed warned
+AreWarned s allowed (Known tree graph found) warned = AreWarningDetails s.files s.text.now tree.filter graph found allowed warned
 
 -- the status of a text: 2 where it doesn't parse, 1 where something is found, or where warnings count and one is shown; else 0
 abbrev pub status_of : Bool → Judged → List WarningDetail → ℕ

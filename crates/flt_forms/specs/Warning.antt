@@ -1,5 +1,7 @@
 -- Warnings, as JSON. This project's own format.
 use Rattle.std.specs.Prelude.{ℕ, List, [], ◌∷◌, ◌++◌, Option, Some, None, codes, flat_map}
+use Rattle.flt_places.specs.Files.{file_at, file_name}
+use Rattle.flt_places.specs.declared.files.Files.{Files}
 use Rattle.json.specs.Token.{Token, begin_object, end_object}
 use Rattle.flt_warnings.specs.Kinds.{kind_name}
 use Rattle.flt_warnings.specs.declared.warning.Site.{Site}
@@ -21,8 +23,8 @@ site_members None = no_site
 site_members (Some s) = numbers s
 
 -- that it is no finding, and where it is
-abbrev pub place : WarningDetail → List Token
-place d = string_member (codes "level") (codes "warning") ++ (site_members d.site ++ marks_members d.marks)
+abbrev pub place : Files → ℕ → WarningDetail → List Token
+place files home d = string_member (codes "level") (codes "warning") ++ (site_members d.site ++ marks_members files home d.marks)
 
 -- what is said of it
 abbrev pub words : WarningDetail → List Token
@@ -32,23 +34,28 @@ words d =
     ++ filled_member (codes "note") d.note)))
 
 -- another place, with what is there
-abbrev pub related_place : RelatedPlace → List Token
-related_place p = begin_object ∷ (marks_members p.marks ++ (text_member (codes "message") p.words ++ end_object ∷ []))
+abbrev pub related_place : Files → ℕ → RelatedPlace → List Token
+related_place files home p = begin_object ∷ (marks_members files home p.marks ++ (text_member (codes "message") p.words ++ end_object ∷ []))
 
 -- the other places, in order
-abbrev pub related : WarningDetail → List Token
-related d = array_member (codes "related") (flat_map related_place d.related)
+abbrev pub related : Files → ℕ → WarningDetail → List Token
+related files home d = array_member (codes "related") (flat_map (related_place files home) d.related)
 
 -- the reason of the comment that allows it, or null
 abbrev pub suppressed : Option (List ℕ) → List Token
 suppressed None = null_member (codes "suppressed")
 suppressed (Some reason) = text_member (codes "suppressed") reason
 
--- a warning of a file
-abbrev pub warning : List ℕ → WarningDetail → List Token
-warning name d =
-    begin_object ∷ preface (codes "warning") name ++ (place d ++ (words d ++ (related d ++ (suppressed d.reason ++ end_object ∷ []))))
+-- the number of the file in which a warning is
+abbrev pub home_of : Files → WarningDetail → ℕ
+home_of files d = file_at files d.marks.statement.first.line
+
+-- a warning of the file of a number
+abbrev pub warning : Files → ℕ → WarningDetail → List Token
+warning files home d =
+    begin_object ∷ preface (codes "warning") (file_name files home) ++ (place files home d
+    ++ (words d ++ (related files home d ++ (suppressed d.reason ++ end_object ∷ []))))
 
 -- a line for each warning, in order
-abbrev pub warning_line : List ℕ → WarningDetail → List ℕ
-warning_line name d = line_of (warning name d)
+abbrev pub warning_line : Files → WarningDetail → List ℕ
+warning_line files d = line_of (warning files (home_of files d) d)

@@ -9,7 +9,7 @@ ghost use Rattle.flt_details.specs.Reports.{IsJudged};
 ghost use Rattle.flt_syntax.specs.TextFails.{Fails};
 
 use crate::clean::put_clean_lines;
-use crate::fault::{help_of, put_fault_line};
+use crate::fault::{help_of, open_line, put_fault_line};
 use crate::finding::put_lines;
 use crate::run::FindingRun;
 use crate::run_member::{TextRuns, texts_in};
@@ -20,7 +20,7 @@ use flt_details::{Explained, Judged, Source, details, judge};
 use flt_explain::Finding;
 use flt_graph::Graph;
 use flt_hints::{describe, tell};
-use flt_places::Lines;
+use flt_places::{Files, Lines};
 use flt_syntax::{SyntaxFault, Tree, fails_exactly_where_nothing_is_spelled};
 use flt_warning_details::{WarningDetail, WarningOptions};
 use std::alloc::{AllocError, Global};
@@ -42,17 +42,17 @@ fn unread(
     fault: SyntaxFault,
 ) -> Result<Vec<u8>, AllocError>
     requires { Fails source.text.now fault }
-    ensures { IfOk result (λ v. (printed : List ℕ) × IsFaultLine source.entry.name.now source.entry.text.now printed
+    ensures { IfOk result (λ v. (printed : List ℕ) × IsFaultLine source.entry.files source.entry.text.now printed
         × (v.items ≡ out.items ++ printed)) }
 {
     fails_exactly_where_nothing_is_spelled();
     let Some(trouble) = describe(alloc, source.text)? else {
         return Ok(out);
     };
-    let told = tell(alloc, &trouble)?;
+    let line = open_line(alloc, &source.files, &trouble)?;
+    let told = tell(alloc, &trouble, line.as_slice())?;
     let help = help_of(alloc, &told)?;
-    let lines = Lines::of(alloc, source.text)?;
-    let written = put_fault_line(alloc, out, source.name, &lines, &trouble, &told, &help)?;
+    let written = put_fault_line(alloc, out, &source.files, &trouble, &told, &help)?;
     Ok(written)
 }
 
@@ -68,16 +68,16 @@ fn known(
     found: &[Finding],
 ) -> Result<Vec<u8>, AllocError>
     ensures { IfOk result (λ v. (printed : List ℕ) ×
-        spec.AreFindingLines source.entry.name.now (members_in runs.entry number) source.entry.text.now tree.now.filter graph.now
+        spec.AreFindingLines source.entry.files (members_in runs.entry number) source.entry.text.now tree.now.filter graph.now
         found.now printed
         × (v.items ≡ out.items ++ printed)) }
 {
-    let details = details(alloc, source.text, tree, graph, found)?;
+    let details = details(alloc, source, tree, graph, found)?;
     let lines = Lines::of(alloc, source.text)?;
     put_lines(
         alloc,
         out,
-        source.name,
+        &source.files,
         &lines,
         graph,
         runs,
@@ -125,14 +125,14 @@ fn put_warned(
     alloc: Global,
     out: Vec<u8>,
     style: Style,
-    name: &str,
+    files: &Files<'_>,
     warned: &[WarningDetail],
 ) -> Result<Vec<u8>, AllocError>
-    ensures { IfOk result (λ v. v.items ≡ out.items ++ spec.warning_lines style name.now warned.now) }
+    ensures { IfOk result (λ v. v.items ≡ out.items ++ spec.warning_lines style files.now warned.now) }
 {
     match style {
-        Style::Object => put_warnings(alloc, out, name, warned),
-        Style::Sentence => put_short_warnings(alloc, out, name, warned),
+        Style::Object => put_warnings(alloc, out, files, warned),
+        Style::Sentence => put_short_warnings(alloc, out, files, warned),
     }
 }
 
@@ -152,8 +152,8 @@ fn put_source(
     let judged = judge(alloc, source.text)?;
     let warned = warned_of(alloc, options.allowed, source, &judged)?;
     let first = put_judged(alloc, out, style, runs, number, source, &judged)?;
-    let shown = put_warned(alloc, first, style, source.name, warned.as_slice())?;
-    let output = put_clean_lines(shown, style, source.name, &judged, warned.as_slice())?;
+    let shown = put_warned(alloc, first, style, &source.files, warned.as_slice())?;
+    let output = put_clean_lines(shown, style, source.name(), &judged, warned.as_slice())?;
     Ok(Explained {
         output,
         status: status_of(options.is_strict, &judged, warned.as_slice()),

@@ -2,17 +2,19 @@
 
 ghost use Rattle.std.specs.Prelude.{◌≡◌, ◌++◌, IfOk, codes, map, option_copied};
 ghost use Rattle.flt_forms.specs.Fault as spec;
-ghost use Rattle.flt_forms.specs.Members.{Adds, array_member, line_of, number_member, text_items};
+ghost use Rattle.flt_forms.specs.Members.{Adds, array_member, line_of, text_items};
 
 use crate::members::{
     close_object, open_object, put_bytes, put_filled, put_number, put_string, put_text, put_texts,
 };
 use crate::preface::put_preface;
-use flt_columns::column_up_to;
-use flt_details::fault_name;
-use flt_hints::{Choices, Expected, Told, Trouble};
-use flt_places::{Lines, lines_of};
+use crate::short::place_of;
+use flt_columns::file_column_up_to;
+use flt_details::{fault_name, line_words};
+use flt_hints::{Choices, Expected, OpenCall, Told, Trouble};
+use flt_places::{Files, lines_of};
 use flt_syntax::SyntaxFault;
+use flt_tree::Position;
 use json::Writer;
 use sqlite_items::Items;
 use std::alloc::{AllocError, Global};
@@ -50,36 +52,69 @@ pub(crate) fn help_of(alloc: Global, told: &Told) -> Result<Vec<u8>, AllocError>
     Vec::from_slice(alloc, first_help(lines.as_slice()))
 }
 
-/// The column of the last byte of the text at which a text is refused.
-fn last_column(lines: &Lines<'_>, fault: SyntaxFault, found: &[u8]) -> usize
-    ensures { result ≡ spec.last_column lines.now fault found.now }
+/// The number of the file in which a text is refused.
+fn home_of(files: &Files<'_>, trouble: &Trouble<'_>) -> usize
+    ensures { result ≡ spec.home_of files.now trouble.now }
 {
-    column_up_to(lines, fault.line, fault.column, found.len())
+    files.file_at(trouble.spot.fault.line)
 }
 
-fn put_end_column(
-    writer: &mut Writer,
-    lines: &Lines<'_>,
-    fault: SyntaxFault,
-    found: &[u8],
-) -> Result<(), AllocError>
-    ensures { Adds result writer.old writer.new (number_member (codes "end_column") (spec.last_column lines.now fault found.now)) }
+/// The line of a call that lacks an operand, by its name in a file; empty if no call does.
+fn open_line_by(
+    alloc: Global,
+    files: &Files<'_>,
+    home: usize,
+    open_call: Option<OpenCall>,
+) -> Result<Vec<u8>, AllocError>
+    ensures { IfOk result (λ line. line.items ≡ spec.open_line_by files.now home open_call) }
 {
-    put_number(writer, "end_column", last_column(lines, fault, found))
+    match open_call {
+        None => Ok(Vec::new(alloc)),
+        Some(call) => line_words(alloc, files, home, call.line),
+    }
+}
+
+/// The same for the call that lacks an operand where a text is refused.
+pub(crate) fn open_line(
+    alloc: Global,
+    files: &Files<'_>,
+    trouble: &Trouble<'_>,
+) -> Result<Vec<u8>, AllocError>
+    ensures { IfOk result (λ line. line.items ≡ spec.open_line files.now trouble.now) }
+{
+    open_line_by(alloc, files, home_of(files, trouble), trouble.open_call)
+}
+
+/// The column of the last byte of the text at which a text is refused.
+fn last_column(files: &Files<'_>, fault: SyntaxFault, found: &[u8]) -> usize
+    ensures { result ≡ spec.last_column files.now fault found.now }
+{
+    file_column_up_to(files, place_of(fault), found.len())
+}
+
+/// Writes a place, and the last column of the bytes that are found there.
+fn put_fault_place(writer: &mut Writer, first: Position, last: usize) -> Result<(), AllocError>
+    ensures { Adds result writer.old writer.new (spec.fault_place first last) }
+{
+    put_number(writer, "line", first.line)?;
+    put_number(writer, "column", first.column)?;
+    put_number(writer, "end_line", first.line)?;
+    put_number(writer, "end_column", last)
 }
 
 fn put_place(
     writer: &mut Writer,
-    lines: &Lines<'_>,
+    files: &Files<'_>,
     fault: SyntaxFault,
     found: &[u8],
 ) -> Result<(), AllocError>
-    ensures { Adds result writer.old writer.new (spec.place lines.now fault found.now) }
+    ensures { Adds result writer.old writer.new (spec.place files.now fault found.now) }
 {
-    put_number(writer, "line", fault.line)?;
-    put_number(writer, "column", fault.column)?;
-    put_number(writer, "end_line", fault.line)?;
-    put_end_column(writer, lines, fault, found)?;
+    put_fault_place(
+        writer,
+        files.file_place(place_of(fault)),
+        last_column(files, fault, found),
+    )?;
     put_string(writer, "rule", fault_name(fault.kind))
 }
 
@@ -124,18 +159,17 @@ fn put_choices(alloc: Global, writer: &mut Writer, choices: &Choices<'_>) -> Res
 fn put_fault(
     alloc: Global,
     writer: &mut Writer,
-    name: &str,
-    lines: &Lines<'_>,
+    files: &Files<'_>,
     trouble: &Trouble<'_>,
     told: &Told,
     help: &Vec<u8>,
 ) -> Result<(), AllocError>
     ensures { Adds result writer.old writer.new
-        (spec.fault name.now lines.now trouble.now told.now.title.items help.now.items) }
+        (spec.fault files.now trouble.now told.now.title.items help.now.items) }
 {
     open_object(writer)?;
-    put_preface(writer, "fault", name)?;
-    put_place(writer, lines, trouble.spot.fault, trouble.spot.bytes)?;
+    put_preface(writer, "fault", files.file_name(home_of(files, trouble)))?;
+    put_place(writer, files, trouble.spot.fault, trouble.spot.bytes)?;
     put_bytes(alloc, writer, "found", Some(trouble.spot.bytes))?;
     put_choices(alloc, writer, &trouble.choices)?;
     put_bytes(alloc, writer, "meant", trouble.meant)?;
@@ -148,17 +182,16 @@ fn put_fault(
 pub(crate) fn put_fault_line(
     alloc: Global,
     out: Vec<u8>,
-    name: &str,
-    lines: &Lines<'_>,
+    files: &Files<'_>,
     trouble: &Trouble<'_>,
     told: &Told,
     help: &Vec<u8>,
 ) -> Result<Vec<u8>, AllocError>
     ensures { IfOk result (λ v. v.items ≡ out.items ++
-        line_of (spec.fault name.now lines.now trouble.now told.now.title.items help.now.items)) }
+        line_of (spec.fault files.now trouble.now told.now.title.items help.now.items)) }
 {
     let mut writer = Writer::new(out);
-    put_fault(alloc, &mut writer, name, lines, trouble, told, help)?;
+    put_fault(alloc, &mut writer, files, trouble, told, help)?;
     let mut out = writer.into_inner();
     out.push(b'\n')?;
     Ok(out)

@@ -19,17 +19,17 @@ use crate::steps::{put_kind, put_like, put_maker_member, put_steps, put_steps_me
 use flt_details::{Detail, Route, RuleName, Words};
 use flt_explain::Finding;
 use flt_graph::Graph;
-use flt_places::Lines;
+use flt_places::{Files, Lines};
 use flt_rules::{Rule, text};
 use json::Writer;
 use std::alloc::{AllocError, Global};
 
-fn put_place(writer: &mut Writer, detail: &Detail) -> Result<(), AllocError>
-    ensures { Adds result writer.old writer.new (spec.place detail.now) }
+fn put_place(writer: &mut Writer, points: &Points<'_>, detail: &Detail) -> Result<(), AllocError>
+    ensures { Adds result writer.old writer.new (spec.place points.now.files points.now.home detail.now) }
 {
     put_number(writer, "callback", detail.finding.callback)?;
     put_number(writer, "point", detail.finding.point)?;
-    put_marks(writer, detail.marks)
+    put_marks(writer, &points.files, points.home, detail.marks)
 }
 
 /// Writes a rule's number.
@@ -81,7 +81,7 @@ fn put_path(
     points: &Points<'_>,
     route: &Route,
 ) -> Result<(), AllocError>
-    ensures { Adds result writer.old writer.new (spec.path (regions points.now) route.now) }
+    ensures { Adds result writer.old writer.new (spec.path points.now.files points.now.home (regions points.now) route.now) }
 {
     put_key(writer, "path")?;
     open_object(writer)?;
@@ -99,10 +99,10 @@ fn put_route(
     points: &Points<'_>,
     route: &Route,
 ) -> Result<(), AllocError>
-    ensures { Adds result writer.old writer.new (spec.route (regions points.now) route.now) }
+    ensures { Adds result writer.old writer.new (spec.route points.now.files points.now.home (regions points.now) route.now) }
 {
     put_state(writer, route.state)?;
-    put_maker_member(alloc, writer, "origin", &route.origin)?;
+    put_maker_member(alloc, writer, points, "origin", &route.origin)?;
     put_path(alloc, writer, points, route)
 }
 
@@ -110,16 +110,16 @@ fn put_route(
 fn put_finding(
     alloc: Global,
     writer: &mut Writer,
-    name: &str,
     points: &Points<'_>,
     own: OwnRun<'_, '_>,
     detail: &Detail,
 ) -> Result<(), AllocError>
-    ensures { Adds result writer.old writer.new (spec.finding name.now (regions points.now) (member_of own.entry) detail.now) }
+    ensures { Adds result writer.old writer.new
+        (spec.finding points.now.files points.now.home (regions points.now) (member_of own.entry) detail.now) }
 {
     open_object(writer)?;
-    put_preface(writer, "finding", name)?;
-    put_place(writer, detail)?;
+    put_preface(writer, "finding", points.files.file_name(points.home))?;
+    put_place(writer, points, detail)?;
     put_rule(alloc, writer, &detail.finding)?;
     put_words(alloc, writer, &detail.words)?;
     put_route(alloc, writer, points, &detail.route)?;
@@ -131,21 +131,23 @@ fn put_finding(
 fn put_line(
     alloc: Global,
     out: Vec<u8>,
-    name: &str,
+    files: &Files<'_>,
     lines: &Lines<'_>,
     graph: &Graph,
     own: OwnRun<'_, '_>,
     detail: &Detail,
 ) -> Result<Vec<u8>, AllocError>
-    ensures { IfOk result (λ v. v.items ≡ out.items ++ spec.finding_line name.now lines.now graph.now (member_of own.entry) detail.now) }
+    ensures { IfOk result (λ v. v.items ≡ out.items ++ spec.finding_line files.now lines.now graph.now (member_of own.entry) detail.now) }
 {
     let points = Points {
         lines,
+        files: *files,
+        home: files.file_at(detail.marks.statement.first.line),
         graph,
         callback: detail.finding.callback,
     };
     let mut writer = Writer::new(out);
-    put_finding(alloc, &mut writer, name, &points, own, detail)?;
+    put_finding(alloc, &mut writer, &points, own, detail)?;
     let mut out = writer.into_inner();
     out.push(b'\n')?;
     Ok(out)
@@ -155,7 +157,7 @@ fn put_line(
 pub(crate) fn put_lines(
     alloc: Global,
     out: Vec<u8>,
-    name: &str,
+    files: &Files<'_>,
     lines: &Lines<'_>,
     graph: &Graph,
     runs: TextRuns<'_, '_>,
@@ -163,7 +165,7 @@ pub(crate) fn put_lines(
     details: &[Detail],
 ) -> Result<Vec<u8>, AllocError>
     ensures { IfOk result (λ v. v.items
-        ≡ out.items ++ spec.finding_lines name.now lines.now graph.now (members_in runs.entry source) details.now) }
+        ≡ out.items ++ spec.finding_lines files.now lines.now graph.now (members_in runs.entry source) details.now) }
 {
     let mut out = out;
     for (finding, detail) in details.iter().enumerate() {
@@ -172,7 +174,7 @@ pub(crate) fn put_lines(
             source,
             finding,
         };
-        out = put_line(alloc, out, name, lines, graph, own, detail)?;
+        out = put_line(alloc, out, files, lines, graph, own, detail)?;
     }
     Ok(out)
 }

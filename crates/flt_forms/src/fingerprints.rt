@@ -40,7 +40,7 @@ fn from_column(line: &[u8], column: usize) -> &[u8]
 }
 
 /// The text of a region in the line in which it begins.
-fn text_in<'a>(lines: &Lines<'a>, region: Region) -> &'a [u8]
+pub(crate) fn text_in<'a>(lines: &Lines<'a>, region: Region) -> &'a [u8]
     ensures { result.now ≡ spec.text_in lines.now region }
 {
     from_column(
@@ -49,8 +49,8 @@ fn text_in<'a>(lines: &Lines<'a>, region: Region) -> &'a [u8]
     )
 }
 
-/// The word that a warning names; empty if it names none.
-fn word_in<'a>(lines: &Lines<'a>, operand: Option<Region>) -> &'a [u8]
+/// The word that a warning names, or another one; empty if there is none.
+pub(crate) fn word_in<'a>(lines: &Lines<'a>, operand: Option<Region>) -> &'a [u8]
     ensures { result.now ≡ spec.word_in lines.now operand }
 {
     match operand {
@@ -91,7 +91,7 @@ fn parts(
     Ok(parts)
 }
 
-fn key_of(
+pub(crate) fn key_of(
     alloc: Global,
     rule: &str,
     head: &[u8],

@@ -1,11 +1,14 @@
 //! The findings of `explain` for other programs: line by line, or as SARIF. It exports `lines` and `sarif`, `UnreadFile`, by which SARIF
-//! reports a file that isn't read, and `FindingRun`, a run that breaks something because of a finding.
+//! reports a file that isn't read, `FindingRun`, a run that breaks something because of a finding, and `DriftedFile`,
+//! `drift_objects` and `drift_status`, by which both forms report where C files and their annotations differ.
 #![tactic(auto)]
 
 mod artifacts;
 mod as_lines;
 mod as_sarif;
 mod clean;
+mod drift_results;
+mod drifted;
 mod fault;
 mod file;
 mod finding;
@@ -29,5 +32,6 @@ mod warning_results;
 
 pub use as_lines::{Style, lines};
 pub use as_sarif::sarif;
+pub use drifted::{DriftedFile, drift_objects, drift_status};
 pub use run::FindingRun;
 pub use unread::UnreadFile;

@@ -6,7 +6,8 @@ ghost use Rattle.json.specs.Token.{begin_array, begin_object, end_array, end_obj
 ghost use Rattle.flt_forms.specs.Members as spec;
 
 use flt_details::Marks;
-use flt_places::Region;
+use flt_places::{Files, Region};
+use flt_tree::Position;
 use json::Writer;
 use sqlite_items::Items;
 use std::alloc::{AllocError, Global};
@@ -76,40 +77,91 @@ pub(crate) fn put_null(writer: &mut Writer, name: &str) -> Result<(), AllocError
     writer.null()
 }
 
-/// Writes the place of the first byte, and that of the last.
-pub(crate) fn put_region_members(writer: &mut Writer, region: Region) -> Result<(), AllocError>
-    ensures { spec.Adds result writer.old writer.new (spec.region_members region) }
+/// Writes the name of a file, unless it is that of the whole object.
+fn put_other_file(
+    writer: &mut Writer,
+    files: &Files<'_>,
+    home: usize,
+    file: usize,
+) -> Result<(), AllocError>
+    ensures { spec.Adds result writer.old writer.new (spec.other_file files.now home file) }
 {
-    put_number(writer, "line", region.first.line)?;
-    put_number(writer, "column", region.first.column)?;
-    put_number(writer, "end_line", region.end.line)?;
-    put_number(writer, "end_column", region.end.column.saturating_sub(1))
+    if file == home {
+        return Ok(());
+    }
+    put_string(writer, "file", files.file_name(file))
 }
 
-fn put_operand_object(writer: &mut Writer, region: Region) -> Result<(), AllocError>
-    ensures { spec.Adds result writer.old writer.new (spec.operand_member (Some region)) }
+/// Writes the place of the first byte, and that of the last, which is one column before `end`.
+pub(crate) fn put_place(
+    writer: &mut Writer,
+    first: Position,
+    end: Position,
+) -> Result<(), AllocError>
+    ensures { spec.Adds result writer.old writer.new (spec.place_members first end) }
+{
+    put_number(writer, "line", first.line)?;
+    put_number(writer, "column", first.column)?;
+    put_number(writer, "end_line", end.line)?;
+    put_number(writer, "end_column", end.column.saturating_sub(1))
+}
+
+/// Writes the place of a region of a text in its file, and before it the file's name if it isn't that of the whole object.
+pub(crate) fn put_region_members(
+    writer: &mut Writer,
+    files: &Files<'_>,
+    home: usize,
+    region: Region,
+) -> Result<(), AllocError>
+    ensures { spec.Adds result writer.old writer.new (spec.region_members files.now home region) }
+{
+    put_other_file(writer, files, home, files.file_at(region.first.line))?;
+    put_place(
+        writer,
+        files.file_place(region.first),
+        files.file_place(region.end),
+    )
+}
+
+fn put_operand_object(
+    writer: &mut Writer,
+    files: &Files<'_>,
+    home: usize,
+    region: Region,
+) -> Result<(), AllocError>
+    ensures { spec.Adds result writer.old writer.new (spec.operand_member files.now home (Some region)) }
 {
     put_key(writer, "operand")?;
     open_object(writer)?;
-    put_region_members(writer, region)?;
+    put_region_members(writer, files, home, region)?;
     close_object(writer)
 }
 
-fn put_operand(writer: &mut Writer, region: Option<Region>) -> Result<(), AllocError>
-    ensures { spec.Adds result writer.old writer.new (spec.operand_member region) }
+fn put_operand(
+    writer: &mut Writer,
+    files: &Files<'_>,
+    home: usize,
+    region: Option<Region>,
+) -> Result<(), AllocError>
+    ensures { spec.Adds result writer.old writer.new (spec.operand_member files.now home region) }
 {
     match region {
         None => put_null(writer, "operand"),
-        Some(region) => put_operand_object(writer, region),
+        Some(region) => put_operand_object(writer, files, home, region),
     }
 }
 
 /// Writes the place of a statement, and in it that of the word that a finding names.
-pub(crate) fn put_marks(writer: &mut Writer, marks: Marks) -> Result<(), AllocError>
-    ensures { spec.Adds result writer.old writer.new (spec.marks_members marks) }
+pub(crate) fn put_marks(
+    writer: &mut Writer,
+    files: &Files<'_>,
+    home: usize,
+    marks: Marks,
+) -> Result<(), AllocError>
+    ensures { spec.Adds result writer.old writer.new (spec.marks_members files.now home marks) }
 {
-    put_region_members(writer, marks.statement)?;
-    put_operand(writer, marks.operand)
+    put_region_members(writer, files, home, marks.statement)?;
+    put_operand(writer, files, home, marks.operand)
 }
 
 /// The same, with null for an empty text.

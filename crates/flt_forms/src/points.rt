@@ -4,12 +4,15 @@ ghost use Rattle.std.specs.Prelude.{◌≡◌};
 ghost use Rattle.flt_forms.specs.Points as spec;
 
 use flt_graph::Graph;
-use flt_places::{Lines, Region};
+use flt_places::{Files, Lines, Region};
 
 /// A callback of a text, whose points have places.
 #[derive(Drop)]
 pub struct Points<'a> {
     pub lines: &'a Lines<'a>,
+    pub files: Files<'a>,
+    /// The number of the file in which the finding is.
+    pub home: usize,
     pub graph: &'a Graph,
     /// Its number, from 0.
     pub callback: usize,

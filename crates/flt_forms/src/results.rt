@@ -1,14 +1,14 @@
 //! Results of SARIF: findings and faults of texts.
 
-ghost use Rattle.std.specs.Prelude.{◌≡◌, ◌∷◌, ◌++◌, [], IfOk, codes, flat_map, length};
-ghost use Rattle.flt_columns.specs.Columns.{column_behind, column_of};
+ghost use Rattle.std.specs.Prelude.{◌≡◌, ◌∷◌, ◌++◌, [], IfOk, codes, flat_map, option_copied, slice_get};
 ghost use Rattle.flt_forms.specs.Fingerprints.{finding_key};
-ghost use Rattle.flt_forms.specs.Members.{Added, Adds, array_member, number_member};
+ghost use Rattle.flt_forms.specs.Members.{Added, Adds, array_member};
 ghost use Rattle.flt_forms.specs.Points.{regions};
 ghost use Rattle.flt_forms.specs.Results as spec;
 ghost use Rattle.flt_forms.specs.RunFlow.{flow_of, flows_in};
+ghost use Rattle.flt_places.specs.Files.{file_at};
 
-use crate::file::File;
+use crate::file::{Artifact, File};
 use crate::fingerprints as keys;
 use crate::members::{
     close_array, close_object, open_array, open_object, put_filled, put_items, put_key, put_number,
@@ -17,11 +17,12 @@ use crate::members::{
 use crate::points::Points;
 use crate::rules::{Reported, put_of_rule};
 use crate::run_flow::{FileRuns, OwnFlow, put_run_flow};
+use crate::short::place_of;
 use crate::uri::Reference;
-use flt_columns::{column_behind, column_of};
+use flt_columns::file_column_behind;
 use flt_details::{Detail, Maker, Marks, Stage, WayKind};
 use flt_graph::Graph;
-use flt_places::{Lines, Region};
+use flt_places::{Files, Region};
 use flt_syntax::SyntaxFault;
 use flt_tree::Position;
 use json::Writer;
@@ -66,48 +67,82 @@ pub(crate) fn put_reference(
 }
 
 /// Writes a file, by its name and its number.
+pub(crate) fn put_whole_artifact(
+    alloc: Global,
+    writer: &mut Writer,
+    artifact: &Artifact,
+) -> Result<(), AllocError>
+    ensures { Adds result writer.old writer.new (spec.artifact_by (Some artifact.now)) }
+{
+    put_key(writer, "artifactLocation")?;
+    open_object(writer)?;
+    put_reference(alloc, writer, &artifact.reference)?;
+    put_number(writer, "index", artifact.number)?;
+    close_object(writer)
+}
+
+/// The file in which a line of a text is, if there is one.
+fn artifact_at<'f>(file: &'f File<'_>, line: usize) -> Option<&'f Artifact>
+    ensures { option_copied result ≡ slice_get file.now.artifacts (file_at file.now.files line) }
+{
+    file.artifacts.get(file.files.file_at(line))
+}
+
+/// Writes the file in which a line of a text is, by its name and its number.
 pub(crate) fn put_artifact(
     alloc: Global,
     writer: &mut Writer,
     file: &File<'_>,
+    line: usize,
 ) -> Result<(), AllocError>
-    ensures { Adds result writer.old writer.new (spec.artifact_location file.now) }
+    ensures { Adds result writer.old writer.new (spec.artifact_location file.now line) }
 {
-    put_key(writer, "artifactLocation")?;
-    open_object(writer)?;
-    put_reference(alloc, writer, &file.reference)?;
-    put_number(writer, "index", file.number)?;
-    close_object(writer)
+    match artifact_at(file, line) {
+        None => Ok(()),
+        Some(artifact) => put_whole_artifact(alloc, writer, artifact),
+    }
 }
 
-/// Writes the column of a place, in UTF-16 units.
-fn put_column(
+/// Writes a region: where it begins, and one column after its end.
+pub(crate) fn put_region(
     writer: &mut Writer,
     name: &str,
-    lines: &Lines<'_>,
-    place: Position,
+    first: Position,
+    end: Position,
 ) -> Result<(), AllocError>
-    ensures { Adds result writer.old writer.new (number_member name.now (column_of lines.now place)) }
-{
-    put_number(writer, name, column_of(lines, place))
-}
-
-/// Writes where a region begins and ends.
-pub(crate) fn put_whole_region(
-    writer: &mut Writer,
-    name: &str,
-    lines: &Lines<'_>,
-    region: Region,
-) -> Result<(), AllocError>
-    ensures { Adds result writer.old writer.new (spec.whole_region name.now lines.now region) }
+    ensures { Adds result writer.old writer.new (spec.region_member name.now first end) }
 {
     put_key(writer, name)?;
     open_object(writer)?;
-    put_number(writer, "startLine", region.first.line)?;
-    put_column(writer, "startColumn", lines, region.first)?;
-    put_number(writer, "endLine", region.end.line)?;
-    put_column(writer, "endColumn", lines, region.end)?;
+    put_number(writer, "startLine", first.line)?;
+    put_number(writer, "startColumn", first.column)?;
+    put_number(writer, "endLine", end.line)?;
+    put_number(writer, "endColumn", end.column)?;
     close_object(writer)
+}
+
+/// The place that is `count` bytes after a place of a text, in the line of its file; its column counts in UTF-16 units.
+fn units_behind(files: &Files<'_>, place: Position, count: usize) -> Position
+    ensures { result ≡ spec.units_behind files.now place count }
+{
+    Position {
+        line: files.file_line(place.line),
+        column: file_column_behind(files, place, count),
+    }
+}
+
+/// Writes where a region of a text begins and ends in its file.
+pub(crate) fn put_whole_region(
+    writer: &mut Writer,
+    name: &str,
+    file: &File<'_>,
+    region: Region,
+) -> Result<(), AllocError>
+    ensures { Adds result writer.old writer.new (spec.whole_region name.now file.now region) }
+{
+    let first = units_behind(&file.files, region.first, 0);
+    let end = units_behind(&file.files, region.end, 0);
+    put_region(writer, name, first, end)
 }
 
 /// Writes where a region of a file is.
@@ -121,8 +156,8 @@ fn put_physical(
 {
     put_key(writer, "physicalLocation")?;
     open_object(writer)?;
-    put_artifact(alloc, writer, file)?;
-    put_whole_region(writer, "region", &file.lines, region)?;
+    put_artifact(alloc, writer, file, region.first.line)?;
+    put_whole_region(writer, "region", file, region)?;
     close_object(writer)
 }
 
@@ -145,17 +180,17 @@ fn put_location(
 /// Writes the region of the operand and that of the statement round it, or that of the statement alone.
 fn put_marked_regions(
     writer: &mut Writer,
-    lines: &Lines<'_>,
+    file: &File<'_>,
     statement: Region,
     operand: Option<Region>,
 ) -> Result<(), AllocError>
-    ensures { Adds result writer.old writer.new (spec.marked_regions lines.now statement operand) }
+    ensures { Adds result writer.old writer.new (spec.marked_regions file.now statement operand) }
 {
     match operand {
-        None => put_whole_region(writer, "region", lines, statement),
+        None => put_whole_region(writer, "region", file, statement),
         Some(operand) => {
-            put_whole_region(writer, "region", lines, operand)?;
-            put_whole_region(writer, "contextRegion", lines, statement)
+            put_whole_region(writer, "region", file, operand)?;
+            put_whole_region(writer, "contextRegion", file, statement)
         }
     }
 }
@@ -170,8 +205,8 @@ fn put_marked_physical(
 {
     put_key(writer, "physicalLocation")?;
     open_object(writer)?;
-    put_artifact(alloc, writer, file)?;
-    put_marked_regions(writer, &file.lines, marks.statement, marks.operand)?;
+    put_artifact(alloc, writer, file, marks.statement.first.line)?;
+    put_marked_regions(writer, file, marks.statement, marks.operand)?;
     close_object(writer)
 }
 
@@ -610,6 +645,8 @@ fn put_next_result(
     };
     let points = Points {
         lines: &file.lines,
+        files: file.files,
+        home: file.files.file_at(detail.marks.statement.first.line),
         graph,
         callback: detail.finding.callback,
     };
@@ -649,48 +686,18 @@ pub(crate) fn put_results(
 
 // ---- faults
 
-/// Writes the column after the bytes at which a text is refused.
-fn put_fault_end(
-    writer: &mut Writer,
-    lines: &Lines<'_>,
-    place: Position,
-    found: &[u8],
-) -> Result<(), AllocError>
-    ensures { Adds result writer.old writer.new
-        (number_member (codes "endColumn") (column_behind lines.now place (length found.now))) }
-{
-    put_number(
-        writer,
-        "endColumn",
-        column_behind(lines, place, found.len()),
-    )
-}
-
 /// Writes the region of the bytes at which a text is refused.
 fn put_fault_region(
     writer: &mut Writer,
-    lines: &Lines<'_>,
+    file: &File<'_>,
     place: Position,
     found: &[u8],
 ) -> Result<(), AllocError>
-    ensures { Adds result writer.old writer.new (spec.fault_region lines.now place found.now) }
+    ensures { Adds result writer.old writer.new (spec.fault_region file.now place found.now) }
 {
-    put_key(writer, "region")?;
-    open_object(writer)?;
-    put_number(writer, "startLine", place.line)?;
-    put_column(writer, "startColumn", lines, place)?;
-    put_number(writer, "endLine", place.line)?;
-    put_fault_end(writer, lines, place, found)?;
-    close_object(writer)
-}
-
-fn place_of(fault: SyntaxFault) -> Position
-    ensures { result ≡ spec.place_of fault }
-{
-    Position {
-        line: fault.line,
-        column: fault.column,
-    }
+    let first = units_behind(&file.files, place, 0);
+    let end = units_behind(&file.files, place, found.len());
+    put_region(writer, "region", first, end)
 }
 
 fn put_fault_physical(
@@ -704,8 +711,8 @@ fn put_fault_physical(
 {
     put_key(writer, "physicalLocation")?;
     open_object(writer)?;
-    put_artifact(alloc, writer, file)?;
-    put_fault_region(writer, &file.lines, place_of(fault), found)?;
+    put_artifact(alloc, writer, file, fault.line)?;
+    put_fault_region(writer, file, place_of(fault), found)?;
     close_object(writer)
 }
 

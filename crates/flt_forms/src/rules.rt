@@ -1,16 +1,20 @@
 //! The rules of a document of SARIF, each with its page.
 
-ghost use Rattle.std.specs.Prelude.{◌≡◌, ◌∷◌, [], IfOk, List, codes, string_bytes};
+ghost use Rattle.std.specs.Prelude.{◌≡◌, ◌∷◌, ◌++◌, [], IfOk, List, codes, flat_map, string_bytes};
 ghost use Rattle.json.specs.Token.{Token, string};
+ghost use Rattle.flt_drift_reports.specs.Words.{code as drift_code};
 ghost use Rattle.flt_forms.specs.Members.{Added, Adds, array_member, number_member, object_member, string_member, text_member};
 ghost use Rattle.flt_forms.specs.Paragraphs as paragraphs;
 ghost use Rattle.flt_forms.specs.Rules as spec;
 
+use crate::drifted::DriftedFile;
 use crate::members::{
     close_array, close_object, open_array, open_object, put_key, put_number, put_string, put_text,
 };
 use crate::paragraphs::first_paragraph;
 use flt_details::{RuleName, fault_name};
+use flt_drift::DriftKind;
+use flt_drift_reports::{code, help};
 use flt_pages::page;
 use flt_rules::{Rule, text};
 use flt_syntax::FaultKind;
@@ -18,12 +22,13 @@ use flt_warnings::Kind;
 use json::Writer;
 use std::alloc::{AllocError, Global};
 
-/// The rule, the fault or the kind of warning of a result.
+/// The rule, the fault, the kind of warning or the kind of drift of a result.
 #[derive(Clone, Copy)]
 pub enum Reported {
     Broken(Rule),
     Unread(FaultKind),
     Warned(Kind),
+    Drifted(DriftKind),
 }
 
 const REPORTED: [Reported; 31] = [
@@ -66,6 +71,22 @@ fn all() -> &'static [Reported]
     &REPORTED
 }
 
+const DRIFTS: [DriftKind; 6] = [
+    DriftKind::Malformed,
+    DriftKind::NotCalled,
+    DriftKind::NotNamed,
+    DriftKind::OtherStatus,
+    DriftKind::NotAnnotated,
+    DriftKind::OtherLock,
+];
+
+/// One kind of drift for each of their codes, in the order of these.
+fn drift_kinds() -> &'static [DriftKind]
+    ensures { result.now ≡ spec.drift_kinds }
+{
+    &DRIFTS
+}
+
 // ---- what is said of a rule
 
 /// Its number, as `R02`.
@@ -79,6 +100,7 @@ fn id_of(alloc: Global, reported: Reported) -> Result<String, AllocError>
         }
         Reported::Unread(kind) => String::from_str(alloc, fault_name(kind)),
         Reported::Warned(kind) => String::from_str(alloc, kind.name()),
+        Reported::Drifted(kind) => String::from_str(alloc, code(kind)),
     }
 }
 
@@ -112,6 +134,21 @@ fn kind_words(kind: Kind) -> &'static str
     }
 }
 
+fn drift_words(kind: DriftKind) -> &'static str
+    ensures { result.now ≡ spec.drift_words kind }
+{
+    match kind {
+        DriftKind::Malformed => "comment that declares no call",
+        DriftKind::NotCalled => "annotated call that the code doesn't make",
+        DriftKind::NotNamed => "call that no annotation names",
+        DriftKind::OtherStatus => "status that no annotation returns",
+        DriftKind::NotAnnotated | DriftKind::NotRegistered | DriftKind::OtherOperation => {
+            "callback that is only registered or only annotated"
+        }
+        DriftKind::OtherLock => "lock that no annotation names",
+    }
+}
+
 /// Its words.
 fn words_of(reported: Reported) -> &'static str
     ensures { result.now ≡ spec.words_of reported }
@@ -120,6 +157,7 @@ fn words_of(reported: Reported) -> &'static str
         Reported::Broken(rule) => text(rule),
         Reported::Unread(kind) => fault_words(kind),
         Reported::Warned(kind) => kind_words(kind),
+        Reported::Drifted(kind) => drift_words(kind),
     }
 }
 
@@ -128,7 +166,7 @@ fn level_of(reported: Reported) -> &'static str
 {
     match reported {
         Reported::Broken(_) | Reported::Unread(_) => "error",
-        Reported::Warned(_) => "warning",
+        Reported::Warned(_) | Reported::Drifted(_) => "warning",
     }
 }
 
@@ -139,7 +177,7 @@ fn precision_of(reported: Reported) -> &'static str
     match reported {
         Reported::Broken(_) => "high",
         Reported::Unread(_) => "very-high",
-        Reported::Warned(_) => "medium",
+        Reported::Warned(_) | Reported::Drifted(_) => "medium",
     }
 }
 
@@ -150,6 +188,7 @@ fn tag_of(reported: Reported) -> &'static str
         Reported::Broken(_) => "correctness",
         Reported::Unread(_) => "syntax",
         Reported::Warned(_) => "maintainability",
+        Reported::Drifted(_) => "correctness",
     }
 }
 
@@ -205,6 +244,19 @@ fn index_of_rule(rule: Rule) -> usize
     }
 }
 
+fn index_of_drift(kind: DriftKind) -> usize
+    ensures { result ≡ spec.index_of_drift kind }
+{
+    match kind {
+        DriftKind::Malformed => 31,
+        DriftKind::NotCalled => 32,
+        DriftKind::NotNamed => 33,
+        DriftKind::OtherStatus => 34,
+        DriftKind::NotAnnotated | DriftKind::NotRegistered | DriftKind::OtherOperation => 35,
+        DriftKind::OtherLock => 36,
+    }
+}
+
 /// Its place among all, from 0.
 fn index_of(reported: Reported) -> usize
     ensures { result ≡ spec.index_of reported }
@@ -213,6 +265,7 @@ fn index_of(reported: Reported) -> usize
         Reported::Broken(rule) => index_of_rule(rule),
         Reported::Unread(kind) => index_of_fault(kind),
         Reported::Warned(kind) => index_of_kind(kind),
+        Reported::Drifted(kind) => index_of_drift(kind),
     }
 }
 
@@ -374,18 +427,126 @@ fn put_rules(alloc: Global, writer: &mut Writer, rules: &[Reported]) -> Result<(
     Ok(())
 }
 
-fn put_rules_member(alloc: Global, writer: &mut Writer) -> Result<(), AllocError>
-    ensures { IfOk result (λ _. (ts : List Token) × spec.AreRules spec.all ts
-        × Added writer.old writer.new (array_member (codes "rules") ts)) }
+// ---- the rules of drifts, which have no pages
+
+/// The meaning of a kind of drift.
+fn meaning(kind: DriftKind) -> &'static str
+    ensures { result.now ≡ spec.meaning kind }
 {
-    put_key(writer, "rules")?;
-    open_array(writer)?;
-    put_rules(alloc, writer, all())?;
-    close_array(writer)?;
+    match kind {
+        DriftKind::Malformed =>
+            "A comment `@flt-call` is malformed: it ends too early, or its second word is no call.",
+        DriftKind::NotCalled =>
+            "An annotation names a call, and no word of the code beside it is that call's name.",
+        DriftKind::NotNamed =>
+            "A word of the code is the name of a call, and no annotation beside it names that call, though there is one.",
+        DriftKind::OtherStatus =>
+            "The code returns a status, and the annotations beside it return another one.",
+        DriftKind::OtherLock =>
+            "The code takes or releases a lock, and the annotations beside it name only locks of other expressions.",
+        DriftKind::NotAnnotated | DriftKind::NotRegistered | DriftKind::OtherOperation =>
+            "A table registers a callback that no annotation begins, or none registers one that an annotation begins.",
+    }
+}
+
+fn put_meaning_text(writer: &mut Writer, kind: DriftKind) -> Result<(), AllocError>
+    ensures { Adds result writer.old writer.new (string_member (codes "text") (spec.meaning kind)) }
+{
+    put_string(writer, "text", meaning(kind))
+}
+
+fn put_meaning(writer: &mut Writer, kind: DriftKind) -> Result<(), AllocError>
+    ensures { Adds result writer.old writer.new (spec.meaning_member kind) }
+{
+    put_key(writer, "fullDescription")?;
+    open_object(writer)?;
+    put_meaning_text(writer, kind)?;
+    close_object(writer)
+}
+
+/// Writes how code and annotations are made to agree.
+fn put_drift_help(writer: &mut Writer, kind: DriftKind) -> Result<(), AllocError>
+    ensures { Adds result writer.old writer.new (spec.help_member kind) }
+{
+    put_page(writer, help(kind))
+}
+
+fn put_drift_id(writer: &mut Writer, kind: DriftKind) -> Result<(), AllocError>
+    ensures { Adds result writer.old writer.new (string_member (codes "id") (drift_code kind)) }
+{
+    put_string(writer, "id", code(kind))
+}
+
+/// Writes a rule of drifts.
+fn put_drift_rule(writer: &mut Writer, kind: DriftKind) -> Result<(), AllocError>
+    ensures { Adds result writer.old writer.new (spec.drift_rule kind) }
+{
+    open_object(writer)?;
+    put_drift_id(writer, kind)?;
+    put_names(writer, Reported::Drifted(kind))?;
+    put_meaning(writer, kind)?;
+    put_drift_help(writer, kind)?;
+    put_configuration(writer, Reported::Drifted(kind))?;
+    put_properties(writer, Reported::Drifted(kind))?;
+    close_object(writer)
+}
+
+/// Writes rules of drifts, in their order.
+fn put_each_drift_rule(writer: &mut Writer, kinds: &[DriftKind]) -> Result<(), AllocError>
+    ensures { Adds result writer.old writer.new (flat_map spec.drift_rule kinds.now) }
+{
+    for kind in kinds {
+        put_drift_rule(writer, *kind)?;
+    }
     Ok(())
 }
 
+fn put_all_drift_rules(writer: &mut Writer) -> Result<(), AllocError>
+    ensures { Adds result writer.old writer.new (flat_map spec.drift_rule spec.drift_kinds) }
+{
+    put_each_drift_rule(writer, drift_kinds())
+}
+
+/// Writes the rules of drifts, if there is a C file.
+fn put_drift_rules(writer: &mut Writer, drifted: &[DriftedFile<'_>]) -> Result<(), AllocError>
+    ensures { Adds result writer.old writer.new (spec.drift_rules drifted.now) }
+{
+    match drifted {
+        [] => Ok(()),
+        [_, ..] => put_all_drift_rules(writer),
+    }
+}
+
 // ---- the tool
+
+/// Writes all rules, and those of drifts if there is a C file.
+fn put_all(
+    alloc: Global,
+    writer: &mut Writer,
+    drifted: &[DriftedFile<'_>],
+) -> Result<(), AllocError>
+    ensures { IfOk result (λ _. (ts : List Token) × spec.AreRules spec.all ts
+        × Added writer.old writer.new (ts ++ spec.drift_rules drifted.now)) }
+{
+    put_rules(alloc, writer, all())?;
+    put_drift_rules(writer, drifted)?;
+    Ok(())
+}
+
+fn put_rules_member(
+    alloc: Global,
+    writer: &mut Writer,
+    drifted: &[DriftedFile<'_>],
+) -> Result<(), AllocError>
+    ensures { IfOk result (λ _. (ts : List Token) × spec.AreRules spec.all ts
+        × Added writer.old writer.new (array_member (codes "rules") (ts ++ spec.drift_rules drifted.now))) }
+{
+    put_key(writer, "rules")?;
+    open_array(writer)?;
+    put_all(alloc, writer, drifted)?;
+    close_array(writer)?;
+    Ok(())
+}
 
 /// The version that `fltstack --version` prints after the program's name, too.
 const VERSION: &str = "0.1.0";
@@ -398,24 +559,34 @@ fn put_versions(writer: &mut Writer) -> Result<(), AllocError>
     put_string(writer, "semanticVersion", VERSION)
 }
 
-fn put_driver(alloc: Global, writer: &mut Writer) -> Result<(), AllocError>
-    ensures { IfOk result (λ _. (ts : List Token) × spec.AreRules spec.all ts × Added writer.old writer.new (spec.driver ts)) }
+fn put_driver(
+    alloc: Global,
+    writer: &mut Writer,
+    drifted: &[DriftedFile<'_>],
+) -> Result<(), AllocError>
+    ensures { IfOk result (λ _. (ts : List Token) × spec.AreRules spec.all ts
+        × Added writer.old writer.new (spec.driver (ts ++ spec.drift_rules drifted.now))) }
 {
     put_key(writer, "driver")?;
     open_object(writer)?;
     put_versions(writer)?;
-    put_rules_member(alloc, writer)?;
+    put_rules_member(alloc, writer, drifted)?;
     close_object(writer)?;
     Ok(())
 }
 
-/// Writes the tool that made the results, with all rules.
-pub(crate) fn put_tool(alloc: Global, writer: &mut Writer) -> Result<(), AllocError>
-    ensures { IfOk result (λ _. (ts : List Token) × spec.AreRules spec.all ts × Added writer.old writer.new (spec.tool ts)) }
+/// Writes the tool that made the results, with all rules, and with those of drifts if there is a C file.
+pub(crate) fn put_tool(
+    alloc: Global,
+    writer: &mut Writer,
+    drifted: &[DriftedFile<'_>],
+) -> Result<(), AllocError>
+    ensures { IfOk result (λ _. (ts : List Token) × spec.AreRules spec.all ts
+        × Added writer.old writer.new (spec.tool (ts ++ spec.drift_rules drifted.now))) }
 {
     put_key(writer, "tool")?;
     open_object(writer)?;
-    put_driver(alloc, writer)?;
+    put_driver(alloc, writer, drifted)?;
     close_object(writer)?;
     Ok(())
 }

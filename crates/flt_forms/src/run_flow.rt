@@ -50,8 +50,8 @@ fn put_region(
 {
     put_key(writer, "physicalLocation")?;
     open_object(writer)?;
-    put_artifact(alloc, writer, file)?;
-    put_whole_region(writer, "region", &file.lines, region)?;
+    put_artifact(alloc, writer, file, region.first.line)?;
+    put_whole_region(writer, "region", file, region)?;
     close_object(writer)
 }
 

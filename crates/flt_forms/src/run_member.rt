@@ -1,7 +1,6 @@
 //! Runs that break something because of findings, as JSON.
 
 ghost use Rattle.std.specs.Prelude.{◌≡◌, IfOk, Some, codes, flat_map, slice_get};
-ghost use Rattle.flt_details.specs.Reports.{texts_of};
 ghost use Rattle.flt_forms.specs.Members.{Adds, object_member, region_members};
 ghost use Rattle.flt_forms.specs.Run.{at, source_of as run_source};
 ghost use Rattle.flt_forms.specs.RunMember as spec;
@@ -13,17 +12,24 @@ use crate::members::{
 use crate::run::{FindingRun, run_of, source_of as source_of_activation, violation_name};
 use flt_details::Source;
 use flt_flows::{FlowActivation, FlowStep};
-use flt_places::{Lines, Region};
+use flt_places::{Files, Lines, Region};
 use flt_tree::Span;
 use json::Writer;
 use std::alloc::{AllocError, Global};
+
+/// The lines of a text, and its files.
+#[derive(Drop)]
+pub(crate) struct TextLines<'s> {
+    lines: Lines<'s>,
+    files: Files<'s>,
+}
 
 /// Texts, and runs of their filters that break something, if they were looked for.
 #[derive(Clone, Copy)]
 pub(crate) struct TextRuns<'r, 's> {
     pub(crate) sources: &'r [Source<'s>],
-    /// The lines of each text, if there are runs.
-    pub(crate) texts: &'r [Lines<'s>],
+    /// The lines of each text, and its files, if there are runs.
+    pub(crate) texts: &'r [TextLines<'s>],
     pub(crate) runs: Option<&'r [FindingRun]>,
 }
 
@@ -78,7 +84,7 @@ fn put_file(writer: &mut Writer, source: Option<Source<'_>>) -> Result<(), Alloc
 {
     match source {
         None => put_null(writer, "file"),
-        Some(source) => put_string(writer, "file", source.name),
+        Some(source) => put_string(writer, "file", source.name()),
     }
 }
 
@@ -130,29 +136,29 @@ fn put_activations(
 
 // ---- entries
 
-fn put_region(writer: &mut Writer, region: Region) -> Result<(), AllocError>
-    ensures { Adds result writer.old writer.new (object_member (codes "place") (region_members region)) }
+fn put_region(writer: &mut Writer, files: &Files<'_>, region: Region) -> Result<(), AllocError>
+    ensures { Adds result writer.old writer.new (object_member (codes "place") (region_members files.now 0 region)) }
 {
     put_key(writer, "place")?;
     open_object(writer)?;
-    put_region_members(writer, region)?;
+    put_region_members(writer, files, 0, region)?;
     close_object(writer)
 }
 
 /// Writes where something is in a text, or null.
-fn put_span(writer: &mut Writer, lines: &Lines<'_>, span: Option<Span>) -> Result<(), AllocError>
-    ensures { Adds result writer.old writer.new (spec.region_in lines.now span) }
+fn put_span(writer: &mut Writer, text: &TextLines<'_>, span: Option<Span>) -> Result<(), AllocError>
+    ensures { Adds result writer.old writer.new (spec.region_in text.now span) }
 {
     match span {
         None => put_null(writer, "place"),
-        Some(span) => put_region(writer, lines.region(span)),
+        Some(span) => put_region(writer, &text.files, text.lines.region(span)),
     }
 }
 
 /// Writes where an entry is, in the text of its activation, or null.
 fn put_place(
     writer: &mut Writer,
-    texts: &[Lines<'_>],
+    texts: &[TextLines<'_>],
     run: &FindingRun,
     step: &FlowStep,
 ) -> Result<(), AllocError>
@@ -163,14 +169,14 @@ fn put_place(
     };
     match texts.get(number) {
         None => put_null(writer, "place"),
-        Some(lines) => put_span(writer, lines, step.span),
+        Some(text) => put_span(writer, text, step.span),
     }
 }
 
 fn put_entry(
     alloc: Global,
     writer: &mut Writer,
-    texts: &[Lines<'_>],
+    texts: &[TextLines<'_>],
     run: &FindingRun,
     step: &FlowStep,
 ) -> Result<(), AllocError>
@@ -187,7 +193,7 @@ fn put_entry(
 fn put_each_entry(
     alloc: Global,
     writer: &mut Writer,
-    texts: &[Lines<'_>],
+    texts: &[TextLines<'_>],
     run: &FindingRun,
 ) -> Result<(), AllocError>
     ensures { Adds result writer.old writer.new (flat_map (spec.entry texts.now run.now) run.now.flow.steps) }
@@ -202,7 +208,7 @@ fn put_each_entry(
 fn put_entries(
     alloc: Global,
     writer: &mut Writer,
-    texts: &[Lines<'_>],
+    texts: &[TextLines<'_>],
     run: &FindingRun,
 ) -> Result<(), AllocError>
     ensures { Adds result writer.old writer.new (spec.entries texts.now run.now) }
@@ -215,17 +221,26 @@ fn put_entries(
 
 // ---- the run
 
-/// The lines of each text.
+/// The lines of a text, and its files.
+fn lines_of<'s>(alloc: Global, source: Source<'s>) -> Result<TextLines<'s>, AllocError>
+    ensures { IfOk result (λ text. text ≡ spec.lines_of source.entry) }
+{
+    let lines = Lines::of(alloc, source.text)?;
+    let files = source.files;
+    Ok(TextLines { lines, files })
+}
+
+/// The lines of each text, and its files.
 pub(crate) fn texts_in<'s>(
     alloc: Global,
     sources: &[Source<'s>],
-) -> Result<Vec<Lines<'s>>, AllocError>
-    ensures { IfOk result (λ texts. texts.items ≡ texts_of sources.now) }
+) -> Result<Vec<TextLines<'s>>, AllocError>
+    ensures { IfOk result (λ texts. texts.items ≡ spec.texts_of sources.now) }
 {
     let mut texts = Vec::new(alloc);
     for source in sources {
-        let lines = Lines::of(alloc, source.text)?;
-        texts.push(lines)?;
+        let text = lines_of(alloc, *source)?;
+        texts.push(text)?;
     }
     Ok(texts)
 }
@@ -234,7 +249,7 @@ fn put_run(
     alloc: Global,
     writer: &mut Writer,
     sources: &[Source<'_>],
-    texts: &[Lines<'_>],
+    texts: &[TextLines<'_>],
     run: &FindingRun,
 ) -> Result<(), AllocError>
     ensures { Adds result writer.old writer.new (spec.run_member sources.now texts.now (Some run.now)) }

@@ -9,6 +9,7 @@ use flt_details::{Detail, RuleName, Source, details, fault_name};
 use flt_explain::Finding;
 use flt_graph::Graph;
 use flt_hints::{describe, tell};
+use flt_places::Files;
 use flt_syntax::{SyntaxFault, Tree, fails_exactly_where_nothing_is_spelled};
 use flt_tree::Position;
 use flt_warning_details::WarningDetail;
@@ -61,17 +62,17 @@ fn tag_of(alloc: Global, level: &str, rule: &str) -> Result<String, AllocError>
 
 fn head_of(
     alloc: Global,
-    name: &str,
+    files: &Files<'_>,
     place: Position,
     level: &str,
     rule: &str,
 ) -> Result<String, AllocError>
-    ensures { IfOk result (λ head. string_bytes head ≡ spec.head name.now place.line place.column level.now rule.now) }
+    ensures { IfOk result (λ head. string_bytes head ≡ spec.head files.now place level.now rule.now) }
 {
     let tag = tag_of(alloc, level, rule)?;
     let head = Head {
-        name,
-        place,
+        name: files.file_name(files.file_at(place.line)),
+        place: files.file_place(place),
         tag: tag.as_str(),
     };
     format!(in alloc; "{head}")
@@ -92,15 +93,15 @@ fn put_sentence(out: Vec<u8>, head: &str, words: &[u8]) -> Result<Vec<u8>, Alloc
 fn put_finding(
     alloc: Global,
     out: Vec<u8>,
-    name: &str,
+    files: &Files<'_>,
     detail: &Detail,
 ) -> Result<Vec<u8>, AllocError>
-    ensures { IfOk result (λ v. v.items ≡ out.items ++ spec.finding_line name.now detail.now) }
+    ensures { IfOk result (λ v. v.items ≡ out.items ++ spec.finding_line files.now detail.now) }
 {
     let rule = RuleName(detail.finding.rule);
     let rule = format!(in alloc; "{rule}")?;
     let place = detail.marks.statement.first;
-    let head = head_of(alloc, name, place, "error", rule.as_str())?;
+    let head = head_of(alloc, files, place, "error", rule.as_str())?;
     put_sentence(out, head.as_str(), detail.words.title.as_slice())
 }
 
@@ -108,14 +109,14 @@ fn put_finding(
 fn put_findings(
     alloc: Global,
     out: Vec<u8>,
-    name: &str,
+    files: &Files<'_>,
     details: &[Detail],
 ) -> Result<Vec<u8>, AllocError>
-    ensures { IfOk result (λ v. v.items ≡ out.items ++ flat_map (spec.finding_line name.now) details.now) }
+    ensures { IfOk result (λ v. v.items ≡ out.items ++ flat_map (spec.finding_line files.now) details.now) }
 {
     let mut out = out;
     for detail in details {
-        out = put_finding(alloc, out, name, detail)?;
+        out = put_finding(alloc, out, files, detail)?;
     }
     Ok(out)
 }
@@ -130,24 +131,24 @@ pub(crate) fn put_short_lines(
     found: &[Finding],
 ) -> Result<Vec<u8>, AllocError>
     ensures { IfOk result (λ v. (printed : List ℕ)
-        × AreShortLines source.entry.name.now source.entry.text.now tree.now.filter graph.now found.now printed ×
+        × AreShortLines source.entry.files source.entry.text.now tree.now.filter graph.now found.now printed ×
         (v.items ≡ out.items ++ printed)) }
 {
-    let details = details(alloc, source.text, tree, graph, found)?;
-    put_findings(alloc, out, source.name, details.as_slice())
+    let details = details(alloc, source, tree, graph, found)?;
+    put_findings(alloc, out, &source.files, details.as_slice())
 }
 
 /// Adds the line of a warning that is shown to the output.
 fn put_shown(
     alloc: Global,
     out: Vec<u8>,
-    name: &str,
+    files: &Files<'_>,
     detail: &WarningDetail,
 ) -> Result<Vec<u8>, AllocError>
-    ensures { IfOk result (λ v. v.items ≡ out.items ++ spec.shown_line name.now detail.now) }
+    ensures { IfOk result (λ v. v.items ≡ out.items ++ spec.shown_line files.now detail.now) }
 {
     let place = detail.marks.statement.first;
-    let head = head_of(alloc, name, place, "warning", detail.kind.name())?;
+    let head = head_of(alloc, files, place, "warning", detail.kind.name())?;
     put_sentence(out, head.as_str(), detail.title.as_slice())
 }
 
@@ -155,13 +156,13 @@ fn put_shown(
 fn put_warning(
     alloc: Global,
     out: Vec<u8>,
-    name: &str,
+    files: &Files<'_>,
     detail: &WarningDetail,
 ) -> Result<Vec<u8>, AllocError>
-    ensures { IfOk result (λ v. v.items ≡ out.items ++ spec.warning_line name.now detail.now) }
+    ensures { IfOk result (λ v. v.items ≡ out.items ++ spec.warning_line files.now detail.now) }
 {
     match &detail.reason {
-        None => put_shown(alloc, out, name, detail),
+        None => put_shown(alloc, out, files, detail),
         Some(_) => Ok(out),
     }
 }
@@ -170,33 +171,45 @@ fn put_warning(
 pub(crate) fn put_short_warnings(
     alloc: Global,
     out: Vec<u8>,
-    name: &str,
+    files: &Files<'_>,
     warned: &[WarningDetail],
 ) -> Result<Vec<u8>, AllocError>
-    ensures { IfOk result (λ v. v.items ≡ out.items ++ flat_map (spec.warning_line name.now) warned.now) }
+    ensures { IfOk result (λ v. v.items ≡ out.items ++ flat_map (spec.warning_line files.now) warned.now) }
 {
     let mut out = out;
     for detail in warned {
-        out = put_warning(alloc, out, name, detail)?;
+        out = put_warning(alloc, out, files, detail)?;
     }
     Ok(out)
+}
+
+/// The place at which a text is refused.
+pub(crate) fn place_of(fault: SyntaxFault) -> Position
+    ensures { result ≡ spec.place_of fault }
+{
+    Position {
+        line: fault.line,
+        column: fault.column,
+    }
 }
 
 /// Adds the line of a fault to the output.
 fn put_fault(
     alloc: Global,
     out: Vec<u8>,
-    name: &str,
+    files: &Files<'_>,
     fault: SyntaxFault,
     words: &[u8],
 ) -> Result<Vec<u8>, AllocError>
-    ensures { IfOk result (λ v. v.items ≡ out.items ++ spec.fault_line name.now fault words.now) }
+    ensures { IfOk result (λ v. v.items ≡ out.items ++ spec.fault_line files.now fault words.now) }
 {
-    let place = Position {
-        line: fault.line,
-        column: fault.column,
-    };
-    let head = head_of(alloc, name, place, "error", fault_name(fault.kind))?;
+    let head = head_of(
+        alloc,
+        files,
+        place_of(fault),
+        "error",
+        fault_name(fault.kind),
+    )?;
     put_sentence(out, head.as_str(), words)
 }
 
@@ -208,18 +221,18 @@ pub(crate) fn put_short_fault(
     fault: SyntaxFault,
 ) -> Result<Vec<u8>, AllocError>
     requires { Fails source.text.now fault }
-    ensures { IfOk result (λ v. (printed : List ℕ) × spec.IsFaultLine source.entry.name.now source.entry.text.now printed
+    ensures { IfOk result (λ v. (printed : List ℕ) × spec.IsFaultLine source.entry.files source.entry.text.now printed
         × (v.items ≡ out.items ++ printed)) }
 {
     fails_exactly_where_nothing_is_spelled();
     let Some(trouble) = describe(alloc, source.text)? else {
         return Ok(out);
     };
-    let told = tell(alloc, &trouble)?;
+    let told = tell(alloc, &trouble, b"")?;
     let written = put_fault(
         alloc,
         out,
-        source.name,
+        &source.files,
         trouble.spot.fault,
         told.title.as_slice(),
     )?;

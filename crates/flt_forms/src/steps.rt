@@ -11,6 +11,7 @@ use crate::members::{
 };
 use crate::points::Points;
 use flt_details::{Maker, Stage, WayKind};
+use flt_places::Files;
 use json::Writer;
 use sqlite_items::Items;
 use std::alloc::{AllocError, Global};
@@ -52,9 +53,9 @@ pub(crate) fn put_like(writer: &mut Writer, like: Option<usize>) -> Result<(), A
 
 /// Writes the place of a point.
 fn put_place(writer: &mut Writer, points: &Points<'_>, point: usize) -> Result<(), AllocError>
-    ensures { Adds result writer.old writer.new (region_members (regions points.now point)) }
+    ensures { Adds result writer.old writer.new (region_members points.now.files points.now.home (regions points.now point)) }
 {
-    put_region_members(writer, points.region(point))
+    put_region_members(writer, &points.files, points.home, points.region(point))
 }
 
 fn put_step(
@@ -63,7 +64,7 @@ fn put_step(
     points: &Points<'_>,
     stage: &Stage,
 ) -> Result<(), AllocError>
-    ensures { Adds result writer.old writer.new (spec.step (regions points.now) stage.now) }
+    ensures { Adds result writer.old writer.new (spec.step points.now.files points.now.home (regions points.now) stage.now) }
 {
     open_object(writer)?;
     put_number(writer, "point", stage.point)?;
@@ -79,7 +80,7 @@ pub(crate) fn put_steps(
     points: &Points<'_>,
     stages: &Items<Stage>,
 ) -> Result<(), AllocError>
-    ensures { Adds result writer.old writer.new (spec.steps (regions points.now) stages.now) }
+    ensures { Adds result writer.old writer.new (spec.steps points.now.files points.now.home (regions points.now) stages.now) }
 {
     open_array(writer)?;
     for stage in stages.as_slice() {
@@ -89,12 +90,18 @@ pub(crate) fn put_steps(
 }
 
 /// Writes the step that caused a finding, with its place.
-fn put_maker(alloc: Global, writer: &mut Writer, maker: &Maker) -> Result<(), AllocError>
-    ensures { Adds result writer.old writer.new (spec.maker maker.now) }
+fn put_maker(
+    alloc: Global,
+    writer: &mut Writer,
+    files: &Files<'_>,
+    home: usize,
+    maker: &Maker,
+) -> Result<(), AllocError>
+    ensures { Adds result writer.old writer.new (spec.maker files.now home maker.now) }
 {
     open_object(writer)?;
     put_number(writer, "point", maker.stage.point)?;
-    put_marks(writer, maker.marks)?;
+    put_marks(writer, files, home, maker.marks)?;
     put_side(writer, maker.stage.granted)?;
     put_filled(alloc, writer, "words", &maker.stage.words)?;
     close_object(writer)
@@ -103,16 +110,17 @@ fn put_maker(alloc: Global, writer: &mut Writer, maker: &Maker) -> Result<(), Al
 pub(crate) fn put_maker_member(
     alloc: Global,
     writer: &mut Writer,
+    points: &Points<'_>,
     name: &str,
     maker: &Option<Maker>,
 ) -> Result<(), AllocError>
-    ensures { Adds result writer.old writer.new (spec.maker_member name.now maker.now) }
+    ensures { Adds result writer.old writer.new (spec.maker_member points.now.files points.now.home name.now maker.now) }
 {
     match maker {
         None => put_null(writer, name),
         Some(maker) => {
             put_key(writer, name)?;
-            put_maker(alloc, writer, maker)
+            put_maker(alloc, writer, &points.files, points.home, maker)
         }
     }
 }
@@ -124,7 +132,8 @@ pub(crate) fn put_steps_member(
     name: &str,
     stages: &Option<Items<Stage>>,
 ) -> Result<(), AllocError>
-    ensures { Adds result writer.old writer.new (spec.steps_member (regions points.now) name.now stages.now) }
+    ensures { Adds result writer.old writer.new
+        (spec.steps_member points.now.files points.now.home (regions points.now) name.now stages.now) }
 {
     match stages {
         None => put_null(writer, name),

@@ -22,7 +22,7 @@ pub(crate) fn warned_of(
     match judged {
         Judged::Unread(_) => Ok(Items::new(alloc)),
         Judged::Known(tree, graph, found) => {
-            warning_details(alloc, source.text, tree, graph, found.as_slice(), allowed)
+            warning_details(alloc, source, tree, graph, found.as_slice(), allowed)
         }
     }
 }

@@ -10,6 +10,7 @@ use crate::members::{
     put_marks, put_null, put_number, put_string,
 };
 use crate::preface::put_preface;
+use flt_places::Files;
 use flt_warning_details::{RelatedPlace, WarningDetail};
 use flt_warnings::{Kind, Site};
 use json::Writer;
@@ -56,12 +57,17 @@ fn put_site(writer: &mut Writer, site: Option<Site>) -> Result<(), AllocError>
 }
 
 /// Writes the level and the place of a warning.
-fn put_place(writer: &mut Writer, detail: &WarningDetail) -> Result<(), AllocError>
-    ensures { Adds result writer.old writer.new (spec.place detail.now) }
+fn put_place(
+    writer: &mut Writer,
+    files: &Files<'_>,
+    home: usize,
+    detail: &WarningDetail,
+) -> Result<(), AllocError>
+    ensures { Adds result writer.old writer.new (spec.place files.now home detail.now) }
 {
     put_warning_level(writer)?;
     put_site(writer, detail.site)?;
-    put_marks(writer, detail.marks)
+    put_marks(writer, files, home, detail.marks)
 }
 
 fn put_words(alloc: Global, writer: &mut Writer, detail: &WarningDetail) -> Result<(), AllocError>
@@ -78,12 +84,14 @@ fn put_words(alloc: Global, writer: &mut Writer, detail: &WarningDetail) -> Resu
 fn put_related_place(
     alloc: Global,
     writer: &mut Writer,
+    files: &Files<'_>,
+    home: usize,
     place: &RelatedPlace,
 ) -> Result<(), AllocError>
-    ensures { Adds result writer.old writer.new (spec.related_place place.now) }
+    ensures { Adds result writer.old writer.new (spec.related_place files.now home place.now) }
 {
     open_object(writer)?;
-    put_marks(writer, place.marks)?;
+    put_marks(writer, files, home, place.marks)?;
     put_items(alloc, writer, "message", &place.words)?;
     close_object(writer)
 }
@@ -91,23 +99,31 @@ fn put_related_place(
 fn put_related_places(
     alloc: Global,
     writer: &mut Writer,
+    files: &Files<'_>,
+    home: usize,
     places: &Items<RelatedPlace>,
 ) -> Result<(), AllocError>
-    ensures { Adds result writer.old writer.new (flat_map spec.related_place places.now) }
+    ensures { Adds result writer.old writer.new (flat_map (spec.related_place files.now home) places.now) }
 {
     for place in places.as_slice() {
-        put_related_place(alloc, writer, place)?;
+        put_related_place(alloc, writer, files, home, place)?;
     }
     Ok(())
 }
 
 /// Writes the other places, in order.
-fn put_related(alloc: Global, writer: &mut Writer, detail: &WarningDetail) -> Result<(), AllocError>
-    ensures { Adds result writer.old writer.new (spec.related detail.now) }
+fn put_related(
+    alloc: Global,
+    writer: &mut Writer,
+    files: &Files<'_>,
+    home: usize,
+    detail: &WarningDetail,
+) -> Result<(), AllocError>
+    ensures { Adds result writer.old writer.new (spec.related files.now home detail.now) }
 {
     put_key(writer, "related")?;
     open_array(writer)?;
-    put_related_places(alloc, writer, &detail.related)?;
+    put_related_places(alloc, writer, files, home, &detail.related)?;
     close_array(writer)
 }
 
@@ -128,16 +144,17 @@ fn put_suppressed(
 fn put_warning(
     alloc: Global,
     writer: &mut Writer,
-    name: &str,
+    files: &Files<'_>,
+    home: usize,
     detail: &WarningDetail,
 ) -> Result<(), AllocError>
-    ensures { Adds result writer.old writer.new (spec.warning name.now detail.now) }
+    ensures { Adds result writer.old writer.new (spec.warning files.now home detail.now) }
 {
     open_object(writer)?;
-    put_preface(writer, "warning", name)?;
-    put_place(writer, detail)?;
+    put_preface(writer, "warning", files.file_name(home))?;
+    put_place(writer, files, home, detail)?;
     put_words(alloc, writer, detail)?;
-    put_related(alloc, writer, detail)?;
+    put_related(alloc, writer, files, home, detail)?;
     put_suppressed(alloc, writer, &detail.reason)?;
     close_object(writer)
 }
@@ -146,13 +163,14 @@ fn put_warning(
 fn put_line(
     alloc: Global,
     out: Vec<u8>,
-    name: &str,
+    files: &Files<'_>,
     detail: &WarningDetail,
 ) -> Result<Vec<u8>, AllocError>
-    ensures { IfOk result (λ v. v.items ≡ out.items ++ spec.warning_line name.now detail.now) }
+    ensures { IfOk result (λ v. v.items ≡ out.items ++ spec.warning_line files.now detail.now) }
 {
+    let home = files.file_at(detail.marks.statement.first.line);
     let mut writer = Writer::new(out);
-    put_warning(alloc, &mut writer, name, detail)?;
+    put_warning(alloc, &mut writer, files, home, detail)?;
     let mut out = writer.into_inner();
     out.push(b'\n')?;
     Ok(out)
@@ -162,14 +180,14 @@ fn put_line(
 pub(crate) fn put_warnings(
     alloc: Global,
     out: Vec<u8>,
-    name: &str,
+    files: &Files<'_>,
     warned: &[WarningDetail],
 ) -> Result<Vec<u8>, AllocError>
-    ensures { IfOk result (λ v. v.items ≡ out.items ++ flat_map (spec.warning_line name.now) warned.now) }
+    ensures { IfOk result (λ v. v.items ≡ out.items ++ flat_map (spec.warning_line files.now) warned.now) }
 {
     let mut out = out;
     for detail in warned {
-        out = put_line(alloc, out, name, detail)?;
+        out = put_line(alloc, out, files, detail)?;
     }
     Ok(out)
 }

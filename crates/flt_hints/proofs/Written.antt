@@ -2,13 +2,9 @@
 use Rattle.std.proofs.Common.{◌≡◌, ℕ, List, ◌++◌, Result, Ok, Err, ap, ◌∙◌, append_assoc, append-nil}
 use Rattle.std.specs.Prelude.{OnOk}
 use Rattle.std.specs.declared.alloc.AllocError.{AllocError}
-use Rattle.std.proofs.lemmas.Fmt.{decimal_digit, decimal_step}
 
 -- pieces that are written one behind the other
 pub ruleset joined = (append_assoc, append-nil)
-
--- the digits of a number, one behind the other
-pub ruleset digit_steps = (append_assoc, decimal_digit, decimal_step)
 
 -- two pieces, by what was written before them and after each
 pub two_pieces : (r : Result (Unit {0}) AllocError) (before one two a b : List ℕ) → one ≡ before ++ a → OnOk r (two ≡ one ++ b) →

@@ -2,7 +2,6 @@
 use Rattle.std.specs.Prelude.{ℕ, Bool, true, false, not, ◌&&◌, ◌||◌, List, [], ◌∷◌, ◌++◌, Option, Some, None, codes, if◌then◌else◌, is_none, length, map, min, nat_lt, take}
 use Rattle.std.specs.Borrow.{Bor}
 use Rattle.std.specs.Char.{is_ascii, is_ascii_control}
-use Rattle.std.specs.Fmt.{decimal}
 use Rattle.std.specs.List.{flat_map}
 use Rattle.std.specs.Option.{option_or}
 use Rattle.flt_syntax.specs.declared.fault.FaultKind.{FaultKind}
@@ -178,14 +177,14 @@ abbrev pub names_line : List (Bor Text) → Text
 names_line [] = []
 names_line (name ∷ names) = declared_here name.now names
 
--- that a call isn't complete: its word, and its line
-unfoldable pub incomplete : OpenCall → Text
-incomplete call =
-    codes "the call before this isn't complete: " ++ (quoted (word_of call.kind) ++ (codes " in line " ++ decimal call.line))
+-- that a call isn't complete: its word, and the name of its line
+unfoldable pub incomplete : OpenCall → Text → Text
+incomplete call line =
+    codes "the call before this isn't complete: " ++ (quoted (word_of call.kind) ++ (codes " in line " ++ line))
 
 -- the same with what it lacks
-unfoldable pub lacking : OpenCall → List Phrase → Text
-lacking call ps = incomplete call ++ (codes " lacks " ++ operand call ps)
+unfoldable pub lacking : OpenCall → Text → List Phrase → Text
+lacking call line ps = incomplete call line ++ (codes " lacks " ++ operand call ps)
 
 -- how a lock is declared, where a call takes one and the filter declares none
 abbrev pub declaration_by : Option (Text × Text) → Trouble → Text
@@ -197,12 +196,12 @@ unfoldable pub declaration : OpenCall → Trouble → Text
 declaration call t = declaration_by (lock_words call.kind) t
 
 -- what a call lacks, by what may stand there
-abbrev pub lacking_there : Trouble → OpenCall → Text
-lacking_there t call = lacking call (phrases t.choices)
+abbrev pub lacking_there : Trouble → OpenCall → Text → Text
+lacking_there t call line = lacking call line (phrases t.choices)
 
 -- how to complete a call
-abbrev pub call_help : Trouble → OpenCall → Text
-call_help t call = lacking_there t call ++ declaration call t
+abbrev pub call_help : Trouble → OpenCall → Text → Text
+call_help t call line = lacking_there t call line ++ declaration call t
 
 -- what to write in place of what the language leaves out, by the word that names it, be it misspelt
 abbrev pub absence_at : Trouble → Option Absence
@@ -221,17 +220,18 @@ abbrev pub sentence_of : Trouble → Hint → Text
 sentence_of t h = if is_left_out h then absence_sentence (absence_at t) else hints.sentence h
 
 -- how to mend what is wrong
-abbrev pub help_by : Option OpenCall → Option Hint → Trouble → Text
-help_by (Some call) h t = call_help t call
-help_by None (Some h) t = sentence_of t h
-help_by None None t = []
+abbrev pub help_by : Option OpenCall → Option Hint → Trouble → Text → Text
+help_by (Some call) h t line = call_help t call line
+help_by None (Some h) t line = sentence_of t h
+help_by None None t line = []
 
 -- the same in a line
-abbrev pub help_line : Trouble → Text
-help_line t =
+abbrev pub help_line : Trouble → Text → Text
+help_line t line =
     if is_none t.open_call && is_none t.hint then []
-    else codes "   = help: " ++ (help_by t.open_call t.hint t ++ 10 ∷ [])
+    else codes "   = help: " ++ (help_by t.open_call t.hint t line ++ 10 ∷ [])
 
--- which declared names may stand there, unless any name may, and how to mend what is wrong
-unfoldable pub notes_of : Trouble → Text
-notes_of t = (if t.choices.takes_name then [] else names_line t.choices.names) ++ help_line t
+-- which declared names may stand there, unless any name may, and how to mend what is wrong. The line of a call that isn't complete has this
+-- name
+unfoldable pub notes_of : Trouble → Text → Text
+notes_of t line = (if t.choices.takes_name then [] else names_line t.choices.names) ++ help_line t line

@@ -1,7 +1,6 @@
 //! Explains a text that doesn't parse, in words for people.
 
-ghost use Rattle.std.specs.Prelude.{◌≡◌, ◌<◌, ◌+◌, ◌∷◌, [], ◌++◌, map, IfOk, OnOk};
-ghost use Rattle.std.specs.Fmt.{decimal};
+ghost use Rattle.std.specs.Prelude.{◌≡◌, ◌++◌, map, IfOk, OnOk};
 ghost use Rattle.std.specs.Option.{option_map};
 ghost use Rattle.flt_hints.specs.Phrases.{phrase_of};
 ghost use Rattle.flt_hints.specs.Telling as spec;
@@ -30,10 +29,16 @@ pub struct Told {
 /// The greatest number of bytes of a token that are shown.
 const MAX_SHOWN: usize = 80;
 
+fn bytes(out: &mut Vec<u8>, bytes: &[u8]) -> Result<(), AllocError>
+    ensures { OnOk result (out.new.items ≡ out.old.items ++ bytes.now) }
+{
+    out.extend_from_slice(bytes)
+}
+
 fn text(out: &mut Vec<u8>, text: &str) -> Result<(), AllocError>
     ensures { OnOk result (out.new.items ≡ out.old.items ++ text.now) }
 {
-    out.extend_from_slice(text.as_bytes())
+    bytes(out, text.as_bytes())
 }
 
 /// A byte as it is shown: `?` if it isn't printable ASCII.
@@ -354,42 +359,27 @@ fn names(out: &mut Vec<u8>, names: &[&[u8]]) -> Result<(), AllocError>
     }
 }
 
-fn digit(out: &mut Vec<u8>, digit: u8) -> Result<(), AllocError>
-    requires { digit < 10 }
-    ensures { OnOk result (out.new.items ≡ out.old.items ++ (48 + digit) ∷ []) }
-{
-    out.push(b'0' + digit)?;
-    Ok(())
-}
-
-/// A number in decimal digits.
-#[tactic(auto, using(crate::proofs::Written::digit_steps))]
-fn number(out: &mut Vec<u8>, value: usize) -> Result<(), AllocError>
-    ensures { OnOk result (out.new.items ≡ out.old.items ++ decimal value) }
-{
-    if value < 10 {
-        return digit(out, value as u8);
-    }
-    number(out, value / 10)?;
-    digit(out, (value % 10) as u8)
-}
-
-/// A note that a call isn't complete, with its word and its line.
-fn incomplete(out: &mut Vec<u8>, call: OpenCall) -> Result<(), AllocError>
-    ensures { OnOk result (out.new.items ≡ out.old.items ++ spec.incomplete call) }
+/// A note that a call isn't complete, with its word and the name of its line.
+fn incomplete(out: &mut Vec<u8>, call: OpenCall, line: &[u8]) -> Result<(), AllocError>
+    ensures { OnOk result (out.new.items ≡ out.old.items ++ spec.incomplete call line.now) }
 {
     text(out, "the call before this isn't complete: ")?;
     quoted(out, call.word())?;
     text(out, " in line ")?;
-    number(out, call.line)
+    bytes(out, line)
 }
 
 /// The same with the operand that it lacks.
 #[tactic(auto, unfolding(crate::specs::Telling::lacking), using(crate::proofs::Written::joined))]
-fn lacking(out: &mut Vec<u8>, call: OpenCall, phrases: &[Phrase<'_>]) -> Result<(), AllocError>
-    ensures { OnOk result (out.new.items ≡ out.old.items ++ spec.lacking call (map phrase_of phrases.now)) }
+fn lacking(
+    out: &mut Vec<u8>,
+    call: OpenCall,
+    line: &[u8],
+    phrases: &[Phrase<'_>],
+) -> Result<(), AllocError>
+    ensures { OnOk result (out.new.items ≡ out.old.items ++ spec.lacking call line.now (map phrase_of phrases.now)) }
 {
-    incomplete(out, call)?;
+    incomplete(out, call, line)?;
     text(out, " lacks ")?;
     operand(out, call, phrases)
 }
@@ -411,11 +401,12 @@ fn lacking_there(
     out: &mut Vec<u8>,
     trouble: &Trouble<'_>,
     call: OpenCall,
+    line: &[u8],
 ) -> Result<(), AllocError>
-    ensures { OnOk result (out.new.items ≡ out.old.items ++ spec.lacking_there trouble.now call) }
+    ensures { OnOk result (out.new.items ≡ out.old.items ++ spec.lacking_there trouble.now call line.now) }
 {
     let phrases = phrases(alloc, &trouble.choices)?;
-    lacking(out, call, phrases.as_slice())
+    lacking(out, call, line, phrases.as_slice())
 }
 
 /// How to complete a call.
@@ -425,10 +416,11 @@ fn call_help(
     out: &mut Vec<u8>,
     trouble: &Trouble<'_>,
     call: OpenCall,
+    line: &[u8],
 ) -> Result<(), AllocError>
-    ensures { OnOk result (out.new.items ≡ out.old.items ++ spec.call_help trouble.now call) }
+    ensures { OnOk result (out.new.items ≡ out.old.items ++ spec.call_help trouble.now call line.now) }
 {
-    lacking_there(alloc, out, trouble, call)?;
+    lacking_there(alloc, out, trouble, call, line)?;
     text(out, declaration(call, trouble))
 }
 
@@ -471,11 +463,16 @@ fn sentence(alloc: Global, trouble: &Trouble<'_>, hint: Hint) -> Result<&'static
 }
 
 /// How to fix the mistake.
-fn help(alloc: Global, out: &mut Vec<u8>, trouble: &Trouble<'_>) -> Result<(), AllocError>
-    ensures { OnOk result (out.new.items ≡ out.old.items ++ spec.help_by trouble.now.open_call trouble.now.hint trouble.now) }
+fn help(
+    alloc: Global,
+    out: &mut Vec<u8>,
+    trouble: &Trouble<'_>,
+    line: &[u8],
+) -> Result<(), AllocError>
+    ensures { OnOk result (out.new.items ≡ out.old.items ++ spec.help_by trouble.now.open_call trouble.now.hint trouble.now line.now) }
 {
     match (trouble.open_call, trouble.hint) {
-        (Some(call), _) => call_help(alloc, out, trouble, call),
+        (Some(call), _) => call_help(alloc, out, trouble, call, line),
         (None, Some(hint)) => text(out, sentence(alloc, trouble, hint)?),
         (None, None) => Ok(()),
     }
@@ -483,37 +480,47 @@ fn help(alloc: Global, out: &mut Vec<u8>, trouble: &Trouble<'_>) -> Result<(), A
 
 /// How to fix the mistake, in a line.
 #[tactic(auto, using(crate::proofs::Written::joined))]
-fn help_line(alloc: Global, out: &mut Vec<u8>, trouble: &Trouble<'_>) -> Result<(), AllocError>
-    ensures { OnOk result (out.new.items ≡ out.old.items ++ spec.help_line trouble.now) }
+fn help_line(
+    alloc: Global,
+    out: &mut Vec<u8>,
+    trouble: &Trouble<'_>,
+    line: &[u8],
+) -> Result<(), AllocError>
+    ensures { OnOk result (out.new.items ≡ out.old.items ++ spec.help_line trouble.now line.now) }
 {
     if trouble.open_call.is_none() && trouble.hint.is_none() {
         return Ok(());
     }
     text(out, "   = help: ")?;
-    help(alloc, out, trouble)?;
+    help(alloc, out, trouble, line)?;
     text(out, "\n")
 }
 
 /// The declared names that are legal there, and how to fix the mistake.
 #[tactic(auto, unfolding(crate::specs::Telling::notes_of), using(crate::proofs::Written::joined))]
-fn notes(alloc: Global, out: &mut Vec<u8>, trouble: &Trouble<'_>) -> Result<(), AllocError>
-    ensures { OnOk result (out.new.items ≡ out.old.items ++ spec.notes_of trouble.now) }
+fn notes(
+    alloc: Global,
+    out: &mut Vec<u8>,
+    trouble: &Trouble<'_>,
+    line: &[u8],
+) -> Result<(), AllocError>
+    ensures { OnOk result (out.new.items ≡ out.old.items ++ spec.notes_of trouble.now line.now) }
 {
     if !trouble.choices.takes_name {
         names(out, trouble.choices.names.as_slice())?;
     }
-    help_line(alloc, out, trouble)
+    help_line(alloc, out, trouble, line)
 }
 
-/// Explains a text that doesn't parse, in words for people.
+/// Explains a text that doesn't parse, in words for people. The line of the call that lacks an operand, if one does, has this name.
 ///
 /// # Errors
 ///
 /// `AllocError` if a growth is refused.
-pub fn tell(alloc: Global, trouble: &Trouble<'_>) -> Result<Told, AllocError>
+pub fn tell(alloc: Global, trouble: &Trouble<'_>, line: &[u8]) -> Result<Told, AllocError>
     ensures title { IfOk result (λ told. told.title.items ≡ spec.title_of trouble.now) }
     ensures meant { IfOk result (λ told. told.meant.items ≡ spec.meant_of trouble.now) }
-    ensures notes { IfOk result (λ told. told.notes.items ≡ spec.notes_of trouble.now) }
+    ensures notes { IfOk result (λ told. told.notes.items ≡ spec.notes_of trouble.now line.now) }
 {
     let mut told = Told {
         title: Vec::new(alloc),
@@ -522,6 +529,6 @@ pub fn tell(alloc: Global, trouble: &Trouble<'_>) -> Result<Told, AllocError>
     };
     title(alloc, &mut told.title, trouble)?;
     meant(&mut told.meant, trouble)?;
-    notes(alloc, &mut told.notes, trouble)?;
+    notes(alloc, &mut told.notes, trouble, line)?;
     Ok(told)
 }

@@ -13,7 +13,9 @@ use Rattle.flt_reasons.specs.Notice as notices
 use Rattle.flt_reasons.specs.declared.notice.Kind.TheVariants.{Certificate, Journal, Script}
 use Rattle.flt_reasons.specs.declared.notice.Notice.{Notice}
 use Rattle.flt_reasons.specs.declared.notice.Notice.TheVariants.{Whole, Malformed}
-use Rattle.flt_details.specs.Closing.{fault_name, findings_closing, refusal_line, rule_name, syntax_line}
+use Rattle.flt_places.specs.Files.{file_line}
+use Rattle.flt_places.specs.declared.files.Files.{Files}
+use Rattle.flt_details.specs.Closing.{fault_closing, fault_in, fault_name, findings_closing, refusal_line, rule_name, syntax_line}
 use Rattle.flt_notes.specs.Quiet.{is_quiet}
 use Rattle.flt_notes.specs.Totals.{found_in, summary}
 use Rattle.flt_notes.proofs.QuietLines.{Plain, plain_both, plain_decimal, quiet_number}
@@ -45,18 +47,18 @@ plain_name r = plain_both (codes "R") ((if nat_lt (number r) 10 then codes "0" e
     (plain_both (if nat_lt (number r) 10 then codes "0" else []) (decimal (number r)) (plain_zero (nat_lt (number r) 10))
     (plain_decimal (number r)))
 
-plain_refusal : (f : Finding) → Plain (refusal_line f)
-plain_refusal f =
+plain_refusal : (f : Finding) (line : ℕ) → Plain (refusal_line f line)
+plain_refusal f line =
     plain_both _ (text f.rule) (plain_both _ (codes " ") (plain_both _ (rule_name f.rule) (plain_both _ (codes " ")
-    (plain_both _ (decimal f.line) (plain_both _ (codes " line ") (plain_both _ (decimal f.point) (plain_both _ (codes " point ")
+    (plain_both _ (decimal line) (plain_both _ (codes " line ") (plain_both _ (decimal f.point) (plain_both _ (codes " point ")
     (plain_both (codes "refused callback ") (decimal f.callback) (record { goes_on = λ rest. refl }) (plain_decimal f.callback))
-    (record { goes_on = λ rest. refl })) (plain_decimal f.point)) (record { goes_on = λ rest. refl })) (plain_decimal f.line))
+    (record { goes_on = λ rest. refl })) (plain_decimal f.point)) (record { goes_on = λ rest. refl })) (plain_decimal line))
     (record { goes_on = λ rest. refl })) (plain_name f.rule)) (record { goes_on = λ rest. refl })) (plain_rule f.rule)
 
 -- the line that ends the reports of findings is quiet
-pub quiet_findings : (found : List Finding) → is_quiet (findings_closing found) ≡ true
-quiet_findings [] = refl
-quiet_findings (f ∷ found) = (plain_refusal f).goes_on (10 ∷ [])
+pub quiet_findings : (files : Files) (found : List Finding) → is_quiet (findings_closing files found) ≡ true
+quiet_findings files [] = refl
+quiet_findings files (f ∷ found) = (plain_refusal f (file_line files f.line)).goes_on (10 ∷ [])
 
 plain_fault : (k : FaultKind) → Plain (fault_name k)
 plain_fault E01 = record { goes_on = λ rest. refl }
@@ -76,8 +78,8 @@ plain_syntax f =
     (plain_fault f.kind)
 
 -- the line that ends the report of a syntax fault is quiet
-pub quiet_fault : (f : SyntaxFault) → is_quiet (syntax_line f ++ 10 ∷ []) ≡ true
-quiet_fault f = (plain_syntax f).goes_on (10 ∷ [])
+pub quiet_fault : (files : Files) (f : SyntaxFault) → is_quiet (fault_closing files f) ≡ true
+quiet_fault files f = (plain_syntax (fault_in files f)).goes_on (10 ∷ [])
 
 plain_malformed : (name : List ℕ) (line : ℕ) → Plain name → Plain (name ++ codes " line " ++ decimal line)
 plain_malformed name line plain =

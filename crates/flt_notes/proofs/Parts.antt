@@ -2,15 +2,15 @@
 use Rattle.std.proofs.Common.{inl, inr, ◌≡◌, ℕ, List, [], ◌∷◌, ◌++◌, IfOk, Result, Ok, Err, refl, ap, length}
 use Rattle.std.specs.declared.alloc.AllocError.{AllocError}
 use Rattle.flt_syntax.specs.declared.fault.SyntaxFault.{SyntaxFault}
-use Rattle.flt_tree.specs.Names.{Text}
+use Rattle.flt_places.specs.declared.files.Files.{Files}
 use Rattle.flt_tree.specs.declared.filter.Filter.{Filter}
 use Rattle.flt_tree.specs.declared.tree.Tree.{Tree}
 use Rattle.flt_model.specs.Program.{filters_of}
 use Rattle.flt_reasons.specs.Notice as notices
 use Rattle.flt_reasons.specs.declared.notice.Kind.{Kind}
 use Rattle.flt_reasons.specs.declared.notice.Notice.{Notice}
-use Rattle.flt_details.specs.Closing.{findings_closing, syntax_line}
-use Rattle.flt_reports.specs.declared.file_text.FileText.{FileText}
+use Rattle.flt_details.specs.Closing.{fault_closing, findings_closing}
+use Rattle.flt_details.specs.declared.sources.Source.{Source}
 use Rattle.flt_details.specs.declared.judged.Judged.TheVariants.{Unread, Known as Found}
 use Rattle.flt_reports.specs.Covering.{AreFirsts}
 use Rattle.flt_warning_details.specs.Options.{warned_status}
@@ -29,16 +29,16 @@ use Rattle.flt_notes.proofs.Closing.{quiet_fault, quiet_findings, quiet_notice}
 use Rattle.flt_notes.proofs.Said.{ends_quiet, said_more}
 
 -- of a text that doesn't parse
-pub report_fault : (options : WarningOptions) (filters : List Filter) (text : Text) (f : SyntaxFault) (before : List ℕ) (p : Part) →
-    IsUnread text f → p.tally.status ≡ 2 → p.tally.findings ≡ 1 →
-    p.output.bytes.items ≡ before ++ quieted (syntax_line f ++ 10 ∷ []) → HasReport options filters text p
-report_fault options filters text f before p unread status count added = record {
+pub report_fault : (options : WarningOptions) (filters : List Filter) (s : Source) (f : SyntaxFault) (before : List ℕ) (p : Part) →
+    IsUnread s.text.now f → p.tally.status ≡ 2 → p.tally.findings ≡ 1 →
+    p.output.bytes.items ≡ before ++ quieted (fault_closing s.files f) → HasReport options filters s p
+report_fault options filters s f before p unread status count added = record {
   is = inl (record {
     judged = Unread f;
     is = unread;
     own = status;
     counted = count;
-    ends = ends_quiet before p.output.bytes.items (syntax_line f ++ 10 ∷ []) (quiet_fault f) added;
+    ends = ends_quiet before p.output.bytes.items (fault_closing s.files f) (quiet_fault s.files f) added;
   });
 }
 
@@ -48,9 +48,9 @@ pub closes_notice : (n : Notice) (before : List ℕ) (p : Part) → p.tally.stat
 closes_notice n before p status count added =
     record { status = status; count = count; ends = ends_quiet before p.output.bytes.items (notices.closing n) (quiet_notice n) added }
 
-pub report_notice : (options : WarningOptions) (filters : List Filter) (text : Text) (kind : Kind) (n : Notice) (p : Part) →
-    IsOther text kind → notices.IsNotice (stack_of filters) kind text n → ClosesNotice n p → HasReport options filters text p
-report_notice options filters text kind n p other is closes = record {
+pub report_notice : (options : WarningOptions) (filters : List Filter) (s : Source) (kind : Kind) (n : Notice) (p : Part) →
+    IsOther s.text.now kind → notices.IsNotice (stack_of filters) kind s.text.now n → ClosesNotice n p → HasReport options filters s p
+report_notice options filters s kind n p other is closes = record {
   is = inr (record {
     kind = kind;
     other = other;
@@ -62,7 +62,7 @@ report_notice options filters text kind n p other is closes = record {
   });
 }
 
-pub notice_part : (look : Look) (trees : List Tree) (s : FileText) (kind : Kind) (n : Notice) (p : Part) → IsOther s.text.now kind →
+pub notice_part : (look : Look) (trees : List Tree) (s : Source) (kind : Kind) (n : Notice) (p : Part) → IsOther s.text.now kind →
     notices.IsNotice (stack_of (filters_of trees)) kind s.text.now n → ClosesNotice n p → PrintsNotice look trees s n p →
     IsNoticePart look trees s p
 notice_part look trees s kind n p other is closes prints = record {
@@ -78,28 +78,29 @@ notice_part look trees s kind n p other is closes prints = record {
 }
 
 -- a notice of a text that is no filter is printed as the part of this text
-pub notice_parts : (look : Look) (trees : List Tree) (s : FileText) (kind : Kind) (n : Notice) (result : Result Part AllocError) →
+pub notice_parts : (look : Look) (trees : List Tree) (s : Source) (kind : Kind) (n : Notice) (result : Result Part AllocError) →
     IsOther s.text.now kind → notices.IsNotice (stack_of (filters_of trees)) kind s.text.now n → IfOk result (ClosesNotice n) →
     IfOk result (PrintsNotice look trees s n) → IfOk result (IsNoticePart look trees s)
 notice_parts look trees s kind n (Ok p) other is closes prints = notice_part look trees s kind n p other is closes prints
 notice_parts look trees s kind n (Err e) other is closes prints = tt
 
 -- of a text that parses
-pub known_is : (look : Look) (trees : List Tree) (k : Known) (before : Output) (p : Part) →
+pub known_is : (look : Look) (trees : List Tree) (files : List Files) (k : Known) (before : Output) (p : Part) →
     IsKnownIn look trees k → IsSaid trees look.states before →
     HasNotes trees k before.noted → AreFirsts k.found.now (numbers_in before.noted) →
-    p.output.bytes.items ≡ before.bytes.items ++ quieted (findings_closing k.found.now) → p.output.noted ≡ before.noted →
+    p.output.bytes.items ≡ before.bytes.items ++ quieted (findings_closing k.source.files k.found.now) → p.output.noted ≡ before.noted →
     p.tally.status ≡ warned_status look.options.is_strict k.found.now k.details.now → p.tally.findings ≡ length k.found.now →
-    IsKnownPrint look trees k.place k.source p.output.noted p.output.bytes.items p.tally.status p.tally.findings →
-    IsKnownPart look trees k p
-known_is look trees k before p known said notes firsts added same status count print = record {
+    IsKnownPrint look trees files k.place k.source p.output.noted p.output.bytes.items p.tally.status p.tally.findings →
+    IsKnownPart look trees files k p
+known_is look trees files k before p known said notes firsts added same status count print = record {
   report = record {
     is = inl (record {
       judged = Found k.tree.now k.graph.now k.found.now;
       is = known.known;
       own = record { details = k.details.now; are = known.warned; worth = status };
       counted = count;
-      ends = ends_quiet before.bytes.items p.output.bytes.items (findings_closing k.found.now) (quiet_findings k.found.now) added;
+      ends = ends_quiet before.bytes.items p.output.bytes.items (findings_closing k.source.files k.found.now)
+          (quiet_findings k.source.files k.found.now) added;
     });
   };
   notes = record {
@@ -111,7 +112,7 @@ known_is look trees k before p known said notes firsts added same status count p
     each = rw same notes;
     firsts = rw same firsts;
   };
-  said = said_more trees look.states before p.output (findings_closing k.found.now) said added same;
+  said = said_more trees look.states before p.output (findings_closing k.source.files k.found.now) said added same;
   print = print;
 }
 

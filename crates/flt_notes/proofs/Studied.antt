@@ -8,8 +8,10 @@ use Rattle.flt_syntax.specs.declared.fault.SyntaxFault.{SyntaxFault}
 use Rattle.flt_tree.specs.Names.{Text}
 use Rattle.flt_tree.specs.declared.filter.Filter.{Filter}
 use Rattle.flt_tree.specs.declared.tree.Tree.{Tree}
-use Rattle.flt_notes.specs.Parsed.{AreParsed, none, parses, fails}
-use Rattle.flt_notes.specs.Readings.{AreReadings, AreStudied, IsPlaced, IsReading, IsStudied, known, known_in, sources_read, texts_read}
+use Rattle.flt_places.specs.declared.files.Files.{Files}
+use Rattle.flt_details.specs.declared.sources.Source.{Source}
+use Rattle.flt_notes.specs.Parsed.{AreFilesOf, AreParsed, fails, no_source, none, parses, with_files, without}
+use Rattle.flt_notes.specs.Readings.{AreReadings, AreStudied, IsPlaced, IsReading, IsStudied, files_by, files_read, known, known_in, sources_read, texts_read}
 use Rattle.flt_notes.specs.declared.readings.Reading.{Reading}
 use Rattle.flt_notes.specs.declared.readings.Reading.TheVariants.{Unread, Other, Known}
 use Rattle.flt_notes.specs.declared.readings.Readings.{Readings}
@@ -114,6 +116,20 @@ module _ (r : Readings) (are : AreReadings r) (s : Studied) (new : Readings) whe
         (parsed_and_filter s.source.text.now tree.filter spelled are.filters);
   }
 
+files_one : (trees : List Tree) (s : Source) (r : Reading) (ss : List Source) (files : List Files) → IsReading trees s.text.now r →
+    AreFilesOf ss files → AreFilesOf (s ∷ ss) (files_by r s ++ files)
+files_one trees s (Unread f) ss files is are = without is.fault are
+files_one trees s (Other kind) ss files is are = without is.unread are
+files_one trees s (Known place) ss files is are = with_files is.spelled are
+
+-- the files that are read are those of the texts that parse
+pub files_placed : (trees : List Tree) (place : ℕ) (each : List Studied) → AreStudied trees place each →
+    AreFilesOf (sources_read each) (files_read each)
+files_placed trees place [] are = no_source
+files_placed trees place (s ∷ each) are =
+    files_one trees s.source s.reading (sources_read each) (files_read each) are.0
+    (files_placed trees (place + known s.reading) each are.2)
+
 -- each file is what it is said to be
 pub studied_at : (trees : List Tree) (place : ℕ) (each : List Studied) (i : ℕ) (d : Studied) →
     AreStudied trees place each → i < length each →
@@ -144,10 +160,10 @@ pub texts_taken : (each : List Studied) (i : ℕ) (s : Studied) → i < length e
     texts_read (take (i + 1) each) ≡ texts_read (take i each) ++ s.source.text.now ∷ []
 texts_taken each i s h is = ap texts_read (one_taken each i s h is) ∙ texts_push (take i each) s
 
--- the texts of both
-pub texts_both : (each more : List Studied) → texts_read (each ++ more) ≡ texts_read each ++ texts_read more
-texts_both [] more = refl
-texts_both (s ∷ each) more = ap (λ ts. s.source.text.now ∷ ts) (texts_both each more)
+-- the sources of both
+pub sources_both : (each more : List Studied) → sources_read (each ++ more) ≡ sources_read each ++ sources_read more
+sources_both [] more = refl
+sources_both (s ∷ each) more = ap (λ ss. s.source ∷ ss) (sources_both each more)
 
 -- texts that are studied are studied up to each place
 pub studied_taken : (trees : List Tree) (place : ℕ) (each : List Studied) (n : ℕ) → AreStudied trees place each →

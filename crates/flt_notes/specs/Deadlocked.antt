@@ -1,10 +1,11 @@
 -- What stands below the report of a circle of locks: a run to a deadlock, if one is found. This project's own program.
-use Rattle.std.specs.Prelude.{◌≡◌, ℕ, List, [], ◌∷◌, ◌++◌, Option, Some, None, codes, flat_map}
+use Rattle.std.specs.Prelude.{◌≡◌, ℕ, List, [], ◌∷◌, ◌++◌, Option, Some, None, codes, flat_map, if◌then◌else◌, length, nat_lt}
 use Rattle.std.specs.Fmt.{decimal}
 use Rattle.std.specs.List.{concat}
 use Rattle.flt_tree.specs.Declarations.{lock_name}
 use Rattle.flt_tree.specs.declared.filter.Filter.{Filter}
-use Rattle.flt_details.specs.Page.{quoted}
+use Rattle.flt_places.specs.declared.files.Files.{Files}
+use Rattle.flt_details.specs.Page.{line_told, quoted}
 use Rattle.flt_deadlocks.specs.Deadlocks.{IsAnswer}
 use Rattle.flt_deadlocks.specs.declared.judging.Deadlock.{Deadlock}
 use Rattle.flt_deadlocks.specs.declared.searching.Answer.{Answer}
@@ -21,10 +22,10 @@ use Rattle.flt_notes.specs.Warned.{Warned}
 -- ---- who waits
 
 -- for which lock an activation of a filter waits, and where
-unfoldable pub wait_words : Filter → Blocked → List ℕ
-wait_words f b =
+unfoldable pub wait_words : Files → ℕ → Filter → Blocked → List ℕ
+wait_words files home f b =
     concat (codes "    activation " ∷ decimal b.activation ∷ codes " waits for " ∷ quoted (lock_name f.locks b.lock) ∷ codes " on line "
-    ∷ decimal b.span.line ∷ [])
+    ∷ line_told files home b.span.line ∷ [])
 
 -- that an activation holds that lock
 unfoldable pub held_by : ℕ → List ℕ
@@ -36,12 +37,16 @@ holder_words (Some number) = held_by number
 holder_words None = []
 
 -- the line of an activation that waits
-abbrev pub wait_line : Filter → Blocked → List ℕ
-wait_line f b = wait_words f b ++ holder_words b.holder ++ 10 ∷ []
+abbrev pub wait_line : Files → ℕ → Filter → Blocked → List ℕ
+wait_line files home f b = wait_words files home f b ++ holder_words b.holder ++ 10 ∷ []
 
 -- the lines of some
-abbrev pub wait_lines : Filter → List Blocked → List ℕ
-wait_lines f bs = flat_map (wait_line f) bs
+abbrev pub wait_lines : Files → ℕ → Filter → List Blocked → List ℕ
+wait_lines files home f bs = flat_map (wait_line files home f) bs
+
+-- the file whose lines need no name before them: the only one; none of several
+abbrev pub named : Files → ℕ
+named files = if nat_lt 1 (length files.all.now) then length files.all.now else 0
 
 -- ---- a run
 
@@ -52,8 +57,8 @@ deadlock_line es = codes "   = deadlock: a run leads to one" ++ lengths es ++ 10
 -- a run to a deadlock: how long it is; the rows of its own journal, of which `replay` says that it is legal; and who waits at its end
 pub record AreDeadlockLines (x : Warned) (d : Deadlock) (lines : List ℕ) : Type 0 where
   pub rows : List ℕ
-  pub are : AreJournalRows x.own d.journal Legal rows
-  pub whole : lines ≡ deadlock_line d.journal ++ rows ++ wait_lines x.filter d.waits.items
+  pub are : AreJournalRows x.own (x.files ∷ []) d.journal Legal rows
+  pub whole : lines ≡ deadlock_line d.journal ++ rows ++ wait_lines x.files (named x.files) x.filter d.waits.items
 
 -- ---- none
 

@@ -3,8 +3,10 @@ use Rattle.std.specs.Prelude.{◌≡◌, List, [], ◌∷◌, Some, None}
 use Rattle.flt_syntax.specs.Spelling.{Spells}
 use Rattle.flt_syntax.specs.TextFails.{Fails}
 use Rattle.flt_syntax.specs.declared.fault.SyntaxFault.{SyntaxFault}
+use Rattle.flt_places.specs.declared.files.Files.{Files}
 use Rattle.flt_tree.specs.Names.{Text}
 use Rattle.flt_tree.specs.declared.filter.Filter.{Filter}
+use Rattle.flt_details.specs.declared.sources.Source.{Source}
 use Rattle.flt_reasons.specs.Notice.{kind_of}
 use Rattle.flt_reasons.specs.declared.notice.Kind.{Kind}
 
@@ -13,6 +15,14 @@ pub data AreParsed : List Text → List Filter → Type 0 where
   none : AreParsed [] []
   parses : {t : Text} {ts : List Text} {f : Filter} {fs : List Filter} → Spells t f → AreParsed ts fs → AreParsed (t ∷ ts) (f ∷ fs)
   fails : {t : Text} {ts : List Text} {e : SyntaxFault} {fs : List Filter} → Fails t e → AreParsed ts fs → AreParsed (t ∷ ts) fs
+
+-- the files are those of the texts that parse, in their order
+pub data AreFilesOf : List Source → List Files → Type 0 where
+  no_source : AreFilesOf [] []
+  with_files : {s : Source} {ss : List Source} {f : Filter} {files : List Files} → Spells s.text.now f → AreFilesOf ss files →
+      AreFilesOf (s ∷ ss) (s.files ∷ files)
+  without : {s : Source} {ss : List Source} {e : SyntaxFault} {files : List Files} → Fails s.text.now e → AreFilesOf ss files →
+      AreFilesOf (s ∷ ss) files
 
 -- a text doesn't parse and is taken for a certificate, a journal or a script
 pub record IsOther (text : Text) (kind : Kind) : Type 0 where

@@ -1,11 +1,12 @@
 -- What texts are found to be, beside the trees of those that parse. This project's own definitions.
-use Rattle.std.specs.Prelude.{◌≡◌, ℕ, ◌+◌, List, [], ◌∷◌, Some, length, map, slice_get}
+use Rattle.std.specs.Prelude.{◌≡◌, ℕ, ◌+◌, List, [], ◌∷◌, Some, flat_map, length, map, slice_get}
 use Rattle.flt_syntax.specs.Spelling.{Spells}
+use Rattle.flt_places.specs.declared.files.Files.{Files}
 use Rattle.flt_tree.specs.Names.{Text}
 use Rattle.flt_tree.specs.declared.tree.Tree.{Tree}
-use Rattle.flt_reports.specs.declared.file_text.FileText.{FileText}
+use Rattle.flt_details.specs.declared.sources.Source.{Source}
 use Rattle.flt_model.specs.Program.{filters_of}
-use Rattle.flt_reports.specs.FileText.{texts_of}
+use Rattle.flt_details.specs.Reports.{texts_of}
 use Rattle.flt_notes.specs.Parsed.{AreParsed, IsOther, IsUnread}
 use Rattle.flt_notes.specs.declared.readings.Reading.{Reading}
 use Rattle.flt_notes.specs.declared.readings.Reading.TheVariants.{Unread, Other, Known}
@@ -33,11 +34,19 @@ IsPlaced place (Known own) = own ≡ place
 IsPlaced place _ = Unit {0}
 
 -- the files, and their texts
-abbrev pub sources_read : List Studied → List FileText
+abbrev pub sources_read : List Studied → List Source
 sources_read each = map (λ (s : Studied). s.source) each
 
 abbrev pub texts_read : List Studied → List Text
 texts_read each = texts_of (sources_read each)
+
+-- the files of a text that parses; none of one that doesn't
+abbrev pub files_by : Reading → Source → List Files
+files_by (Known place) s = s.files ∷ []
+files_by _ s = []
+
+abbrev pub files_read : List Studied → List Files
+files_read each = flat_map (λ (s : Studied). files_by s.reading s.source) each
 
 -- 1 where a text parses, else 0
 abbrev pub known : Reading → ℕ

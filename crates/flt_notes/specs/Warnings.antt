@@ -13,7 +13,7 @@ use Rattle.flt_notes.specs.Warned.{Warned}
 pub record IsReportWithRun (x : Warned) (d : WarningDetail) (printed : List ℕ) : Type 0 where
   pub run : List ℕ
   pub are : AreRunLines x d.circle run
-  pub whole : printed ≡ warning_report x.coloured x.name x.file x.text d ++ run
+  pub whole : printed ≡ warning_report x.coloured x.files x.text d ++ run
 
 -- the same, if it is shown
 abbrev pub IsReportIf : Bool → Warned → WarningDetail → List ℕ → Type 0
@@ -42,4 +42,4 @@ warnings_line n = if n == 0 then [] else warning_count n ++ 10 ∷ []
 pub record ArePromised (x : Warned) (details : List WarningDetail) (printed : List ℕ) : Type 0 where
   pub reports : List ℕ
   pub are : AreShownReports x details reports
-  pub whole : printed ≡ nothing_report x.name ++ reports ++ warnings_line (shown_count details)
+  pub whole : printed ≡ nothing_report x.files ++ reports ++ warnings_line (shown_count details)

@@ -10,6 +10,7 @@ use crate::lines::run_rows;
 use crate::noted::{Again, schedule_of};
 use crate::setters::{Setter, is_same};
 use flt_explain::Finding;
+use flt_places::Files;
 use flt_schedules::{Outcome, Outlook, Schedule, Suspect, Suspects, outcomes_among};
 use flt_search::{Broken, SearchWatch};
 use std::alloc::{AllocError, Global};
@@ -47,12 +48,18 @@ fn numbered(alloc: Global, first: usize, lines: &[u8]) -> Result<Vec<u8>, AllocE
     Ok(out)
 }
 
-/// The lines of the added callback, by their numbers, and a run of the text with it as rows.
-fn setter_rows(alloc: Global, setter: &Setter, broken: &Broken) -> Result<Vec<u8>, AllocError>
-    ensures { IfOk result (λ out. rows.AreSetterRows setter.now broken.now out.items) }
+/// The lines of the added callback, by their numbers, and a run of the text with it as rows. The text is in these files.
+fn setter_rows(
+    alloc: Global,
+    files: &Files<'_>,
+    setter: &Setter,
+    broken: &Broken,
+) -> Result<Vec<u8>, AllocError>
+    ensures { IfOk result (λ out. rows.AreSetterRows setter.now files.now broken.now out.items) }
 {
-    let mut out = numbered(alloc, setter.line, setter.added.as_bytes())?;
-    let broken_rows = run_rows(alloc, setter.trees.as_slice(), broken)?;
+    let first = files.file_line(setter.line);
+    let mut out = numbered(alloc, first, setter.added.as_bytes())?;
+    let broken_rows = run_rows(alloc, setter.trees.as_slice(), &[*files], broken)?;
     out.extend_from_slice(broken_rows.as_bytes())?;
     Ok(out)
 }
@@ -181,16 +188,21 @@ impl Setting {
         }
     }
 
-    /// The lines after the one on a run: those of the callback, and the run as rows.
+    /// The lines after the one on a run: those of the callback, and the run as rows. The text is in these files.
     ///
     /// # Errors
     ///
     /// If memory is refused.
-    pub(crate) fn rows(&self, alloc: Global, again: &Again) -> Result<Vec<u8>, AllocError>
-        ensures { IfOk result (λ out. rows.AreRowsBy self.now.setter again.now out.items) }
+    pub(crate) fn rows(
+        &self,
+        alloc: Global,
+        files: &Files<'_>,
+        again: &Again,
+    ) -> Result<Vec<u8>, AllocError>
+        ensures { IfOk result (λ out. rows.AreRowsBy self.now.setter files.now again.now out.items) }
     {
         match again {
-            Again::Runs(broken) => setter_rows(alloc, &self.setter, broken),
+            Again::Runs(broken) => setter_rows(alloc, files, &self.setter, broken),
             Again::RunsNowhere => Ok(Vec::new(alloc)),
         }
     }

@@ -12,6 +12,7 @@ use flt_details::{Page, Part, word_of};
 use flt_explain::Subject;
 use flt_model::{Journal, Verdict};
 use flt_order::Acquisition;
+use flt_places::Files;
 use flt_search::{Bounds, SearchWatch};
 use flt_tree::Tree;
 use flt_waits::Blocked;
@@ -22,8 +23,14 @@ use std::fmt;
 
 /// Writes the lock for which an activation waits, and the line.
 #[tactic(auto, unfolding(crate::specs::Deadlocked::wait_words))]
-fn tell_wait(page: &mut Page, tree: &Tree, wait: &Blocked) -> Result<(), AllocError>
-    ensures { Writes result page.old page.new (spec.wait_words tree.now.filter wait.now) }
+fn tell_wait(
+    page: &mut Page,
+    files: &Files<'_>,
+    home: usize,
+    tree: &Tree,
+    wait: &Blocked,
+) -> Result<(), AllocError>
+    ensures { Writes result page.old page.new (spec.wait_words files.now home tree.now.filter wait.now) }
 {
     page.say(&[
         Part::Text("    activation "),
@@ -31,7 +38,7 @@ fn tell_wait(page: &mut Page, tree: &Tree, wait: &Blocked) -> Result<(), AllocEr
         Part::Text(" waits for "),
         Part::Quoted(word_of(tree, Subject::Lock(wait.lock))),
         Part::Text(" on line "),
-        Part::Number(wait.span.line),
+        Part::Line(*files, home, wait.span.line),
     ])
 }
 
@@ -54,24 +61,47 @@ fn tell_holder(page: &mut Page, holder: Option<usize>) -> Result<(), AllocError>
 }
 
 /// Writes the line of an activation that waits.
-fn tell_wait_line(page: &mut Page, tree: &Tree, wait: &Blocked) -> Result<(), AllocError>
-    ensures { Writes result page.old page.new (spec.wait_line tree.now.filter wait.now) }
+fn tell_wait_line(
+    page: &mut Page,
+    files: &Files<'_>,
+    home: usize,
+    tree: &Tree,
+    wait: &Blocked,
+) -> Result<(), AllocError>
+    ensures { Writes result page.old page.new (spec.wait_line files.now home tree.now.filter wait.now) }
 {
-    tell_wait(page, tree, wait)?;
+    tell_wait(page, files, home, tree, wait)?;
     tell_holder(page, wait.holder)?;
     page.bytes(b"\n")?;
     Ok(())
 }
 
 /// The lines of the activations that wait.
-fn wait_lines(alloc: Global, tree: &Tree, waits: &[Blocked]) -> Result<Vec<u8>, AllocError>
-    ensures { IfOk result (λ lines. lines.items ≡ spec.wait_lines tree.now.filter waits.now) }
+fn wait_lines(
+    alloc: Global,
+    files: &Files<'_>,
+    home: usize,
+    tree: &Tree,
+    waits: &[Blocked],
+) -> Result<Vec<u8>, AllocError>
+    ensures { IfOk result (λ lines. lines.items ≡ spec.wait_lines files.now home tree.now.filter waits.now) }
 {
     let mut page = Page::new(alloc);
     for wait in waits {
-        tell_wait_line(&mut page, tree, wait)?;
+        tell_wait_line(&mut page, files, home, tree, wait)?;
     }
     Ok(page.out)
+}
+
+/// The file whose lines need no name before them: the only one; none of several.
+fn named(files: &Files<'_>) -> usize
+    ensures { result ≡ spec.named files.now }
+{
+    if files.all.len() > 1 {
+        files.all.len()
+    } else {
+        0
+    }
 }
 
 // ---- a run
@@ -90,8 +120,20 @@ fn deadlock_lines(text: &WarnedText<'_>, deadlock: &Deadlock) -> Result<Vec<u8>,
     ensures { IfOk result (λ lines. spec.AreDeadlockLines (warned_of text.now) deadlock.now lines.items) }
 {
     let line = deadlock_line(text.alloc, &deadlock.journal)?;
-    let rows = journal_rows(text.alloc, text.own, &deadlock.journal, Verdict::Legal)?;
-    let waits = wait_lines(text.alloc, text.tree, deadlock.waits.as_slice())?;
+    let rows = journal_rows(
+        text.alloc,
+        text.own,
+        &[*text.files],
+        &deadlock.journal,
+        Verdict::Legal,
+    )?;
+    let waits = wait_lines(
+        text.alloc,
+        text.files,
+        named(text.files),
+        text.tree,
+        deadlock.waits.as_slice(),
+    )?;
     let mut lines = line.into_bytes();
     lines.extend_from_slice(rows.as_bytes())?;
     lines.extend_from_slice(waits.as_slice())?;

@@ -1,9 +1,10 @@
 //! Reports on some texts, with the outcomes of their findings in runs.
 
-ghost use Rattle.std.specs.Prelude.{◌≡◌, ◌≢◌, ◌≤◌, true, false, IfOk, IfErr, OnOk, length, take};
+ghost use Rattle.std.specs.Prelude.{◌≡◌, ◌≢◌, ◌≤◌, ◌++◌, true, false, IfOk, IfErr, OnOk, length, take};
 ghost use Rattle.std.specs.Io.KnownBytes.{Appends};
-ghost use Rattle.flt_reports.specs.FileText.{texts_of};
+ghost use Rattle.flt_details.specs.Reports.{texts_of};
 ghost use Rattle.flt_notes.specs.Noted.{AreNotes};
+ghost use Rattle.flt_notes.specs.Readings.{files_by, files_read};
 ghost use Rattle.flt_notes.specs.Reported as spec;
 ghost use Rattle.flt_notes.specs.Told.{Tells};
 ghost use Rattle.flt_notes.specs.Whole.{IsPrint, look_for};
@@ -12,15 +13,15 @@ use crate::fault::ExplainFault;
 use crate::noted::Noted;
 use crate::output::Output;
 use crate::printing::Stage;
-use crate::readings::read_all;
+use crate::readings::{Reading, Studied, read_all};
 use crate::together::Printed;
-use flt_details::Explained;
+use flt_details::{Explained, Source};
 use flt_model::Sink;
-use flt_reports::FileText;
+use flt_places::Files;
 use flt_search::SearchWatch;
 use flt_warning_details::WarningOptions;
 use sqlite_items::Items;
-use std::alloc::Global;
+use std::alloc::{AllocError, Global};
 
 /// The settings of reports on texts.
 #[derive(Clone, Copy)]
@@ -42,6 +43,27 @@ pub struct Told {
     pub noted: Items<Noted>,
     /// How many bytes of the output are put out already.
     pub sent: usize,
+}
+
+/// Adds the files of a text, if it parses.
+fn add_files<'a>(all: &mut Vec<Files<'a>>, studied: &Studied<'a>) -> Result<(), AllocError>
+    ensures { OnOk result (all.new.items ≡ all.old.items ++ files_by studied.now.reading studied.now.source) }
+{
+    if let Reading::Known(_) = studied.reading {
+        all.push(studied.source.files)?;
+    }
+    Ok(())
+}
+
+/// The files of each text that parses.
+fn files_in<'a>(alloc: Global, each: &[Studied<'a>]) -> Result<Vec<Files<'a>>, AllocError>
+    ensures { IfOk result (λ all. all.items ≡ files_read each.now) }
+{
+    let mut all = Vec::new(alloc);
+    for studied in each {
+        add_files(&mut all, studied)?;
+    }
+    Ok(all)
 }
 
 /// The output for texts, with its status.
@@ -80,33 +102,36 @@ fn finished(printed: Printed) -> Told
 pub fn explain<O: Sink, W: SearchWatch>(
     alloc: Global,
     asking: Asking,
-    sources: &[FileText<'_>],
+    sources: &[Source<'_>],
     out: &mut O,
     watch: &mut W,
 ) -> Result<Told, ExplainFault>
-    ensures reports { IfOk result (λ t. spec.AreReports asking.options (texts_of sources.now) t.explained.output.items t.explained.status) }
+    ensures reports { IfOk result (λ t. spec.AreReports asking.options sources.now t.explained.output.items t.explained.status) }
     ensures noted { IfOk result (λ t. AreNotes (texts_of sources.now) t.noted) }
     ensures said { IfOk result (λ t. Tells (texts_of sources.now) asking.states t.noted t.explained.output.items) }
     ensures print { IfOk result (λ t. IsPrint (look_for asking) sources.now t.noted t.explained.output.items t.explained.status) }
     ensures within { IfOk result (λ t. t.sent ≤ length t.explained.output.items) }
     ensures sent { IfOk result (λ t. Appends (O.taken out.old) (O.taken out.new) (take t.sent t.explained.output.items)) }
     ensures early { IfOk result (λ t. asking.is_held ≡ false →
-        spec.IsAllButLast asking.options (texts_of sources.now) asking.states (take t.sent t.explained.output.items)) }
+        spec.IsAllButLast asking.options sources.now asking.states (take t.sent t.explained.output.items)) }
     ensures late { IfOk result (λ t. asking.is_held ≡ true → t.sent ≡ 0) }
     ensures held { asking.is_held ≡ true → out.new ≡ out.old }
     ensures fine { OnOk result (O.failures out.new ≡ O.failures out.old) }
     ensures write { IfErr result (λ e. e ≡ ExplainFault.Write → O.failures out.new ≢ O.failures out.old) }
     ensures memory { IfErr result (λ e. e ≡ ExplainFault.OutOfMemory →
-        spec.IsCut asking.options (texts_of sources.now) asking.states (O.taken out.old) (O.taken out.new)) }
+        spec.IsCut asking.options sources.now asking.states (O.taken out.old) (O.taken out.new)) }
 {
     let readings = read_all(alloc, sources)?;
+    let each = readings.each.as_slice();
+    let files = files_in(alloc, each)?;
     let stage = Stage {
         alloc,
         coloured: asking.coloured,
         trees: readings.trees.as_slice(),
+        files: files.as_slice(),
         states: asking.states,
         options: asking.options,
     };
-    let printed = stage.put_all(readings.each.as_slice(), asking.is_held, out, watch)?;
+    let printed = stage.put_all(each, asking.is_held, out, watch)?;
     Ok(finished(printed))
 }

@@ -7,7 +7,8 @@
 //! keeps other lines from being taken for those on runs, and `output` has both. `warnings` has the report of a text without findings: the
 //! promise, and the warnings of a `warned` text, with the run to a deadlock below a circle of locks (`deadlocks`). `printing` puts the
 //! report of a text together with its notes, `together` those of several texts, each put out as soon as it is whole, and `totals` counts
-//! the findings of all of them. It exports `explain`, `first_journal`, `schedule_of` and `own_trees`.
+//! the findings of all of them. It exports `explain`, `first_journal`, `schedule_of`, `own_trees` and
+//! `own_files`.
 #![tactic(auto)]
 
 mod again;
@@ -31,5 +32,5 @@ mod warnings;
 pub use explaining::{Asking, Told, explain};
 pub use fault::ExplainFault;
 pub use flt_search::{SearchWatch, UnwatchedSearch};
-pub use lines::own_trees;
+pub use lines::{own_files, own_trees};
 pub use noted::{Again, Noted, first_journal, schedule_of};

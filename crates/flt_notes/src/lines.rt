@@ -3,11 +3,12 @@
 ghost use Rattle.std.specs.Prelude.{◌≡◌, ◌++◌, Some, IfOk, OnOk, codes, map, string_bytes};
 ghost use Rattle.flt_notes.specs.Lines as spec;
 ghost use Rattle.flt_notes.specs.Noted.{own_of, schedule_of as schedule_in};
-ghost use Rattle.flt_notes.specs.Rows.{AreJournalRows, AreNoteRows, AreRunRows};
+ghost use Rattle.flt_notes.specs.Rows.{AreJournalRows, AreNoteRows, AreRunRows, own_files as own_files_of};
 
 use crate::noted::{Again, Noted, schedule_of};
 use flt_graph::Place;
 use flt_model::{Journal, JournalEntry, Move, Verdict, Violation};
+use flt_places::Files;
 use flt_schedules::{Schedule, Scheduled, Unset, only};
 use flt_search::Broken;
 use flt_timeline::Timeline;
@@ -404,16 +405,32 @@ pub(crate) fn again_line(alloc: Global, again: &Option<Again>) -> Result<String,
 
 // ---- rows
 
-/// The legend and the rows of a journal on these filters.
+/// The files of the filters in whose runs a finding has its outcome: of all filters, or of that of a number alone.
+pub fn own_files<'f>(
+    files: &'f [Files<'f>],
+    filter: usize,
+    scheduled: &Scheduled,
+) -> &'f [Files<'f>]
+    ensures { result.now ≡ own_files_of files.now filter scheduled.now }
+{
+    match scheduled {
+        Scheduled::Together(_) => files,
+        Scheduled::Alone(_) if filter < files.len() => &files[filter..filter + 1],
+        Scheduled::Alone(_) => &[],
+    }
+}
+
+/// The legend and the rows of a journal on these filters, whose texts are in these files.
 pub(crate) fn journal_rows(
     alloc: Global,
     own: &[Tree],
+    files: &[Files<'_>],
     journal: &Journal,
     verdict: Verdict,
 ) -> Result<String, AllocError>
-    ensures { IfOk result (λ rows. AreJournalRows own.now journal.now verdict (string_bytes rows)) }
+    ensures { IfOk result (λ rows. AreJournalRows own.now files.now journal.now verdict (string_bytes rows)) }
 {
-    let timeline = Timeline::of(alloc, own, journal, verdict)?;
+    let timeline = Timeline::of(alloc, own, files, journal, verdict)?;
     let rows = timeline.text(alloc, INDENT)?;
     let mut out = String::from_str(alloc, LEGEND)?;
     out.push_str(rows.as_str())?;
@@ -421,21 +438,32 @@ pub(crate) fn journal_rows(
 }
 
 /// The legend and the rows of a run of these filters.
-pub(crate) fn run_rows(alloc: Global, own: &[Tree], broken: &Broken) -> Result<String, AllocError>
-    ensures { IfOk result (λ rows. AreRunRows own.now broken.now (string_bytes rows)) }
+pub(crate) fn run_rows(
+    alloc: Global,
+    own: &[Tree],
+    files: &[Files<'_>],
+    broken: &Broken,
+) -> Result<String, AllocError>
+    ensures { IfOk result (λ rows. AreRunRows own.now files.now broken.now (string_bytes rows)) }
 {
     let verdict = Verdict::Breaks(broken.violation, broken.entry);
-    journal_rows(alloc, own, &broken.journal, verdict)
+    journal_rows(alloc, own, files, &broken.journal, verdict)
 }
 
 /// The lines after that of a note.
-pub(crate) fn note_rows(alloc: Global, trees: &[Tree], noted: &Noted) -> Result<String, AllocError>
-    ensures { IfOk result (λ rows. AreNoteRows trees.now noted.now (string_bytes rows)) }
+pub(crate) fn note_rows(
+    alloc: Global,
+    trees: &[Tree],
+    files: &[Files<'_>],
+    noted: &Noted,
+) -> Result<String, AllocError>
+    ensures { IfOk result (λ rows. AreNoteRows trees.now files.now noted.now (string_bytes rows)) }
 {
     match schedule_of(&noted.scheduled) {
         Schedule::Breaks(broken) => {
             let own = own_trees(trees, noted.filter, &noted.scheduled);
-            run_rows(alloc, own, broken)
+            let files = own_files(files, noted.filter, &noted.scheduled);
+            run_rows(alloc, own, files, broken)
         }
         Schedule::NeverHanded => String::from_str(alloc, IS_STRICTER),
         Schedule::NotWithin | Schedule::Cut | Schedule::NeverStarted | Schedule::NeverGot(_) => Ok(

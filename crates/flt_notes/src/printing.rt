@@ -26,13 +26,13 @@ use crate::setters::Setter;
 use crate::totals::Tally;
 use crate::warned::WarnedText;
 use crate::warnings::promise_and_warnings;
-use flt_details::{fault_line, findings_line};
+use flt_details::{Source, fault_line, findings_line};
 use flt_explain::{Finding, findings};
 use flt_graph::{Graph, lower};
 use flt_model::Violation;
-use flt_places::Lines;
+use flt_places::{Files, Lines};
 use flt_reasons::{Kind, Notice, describe};
-use flt_reports::{FileText, Report, ShownFile, report_findings, report_unread};
+use flt_reports::{Report, report_findings, report_unread};
 use flt_schedules::{
     Outcome, Outlook, Schedule, Scheduled, Suspect, Suspects, only, outcomes_among,
 };
@@ -60,6 +60,8 @@ pub(crate) struct Stage<'a> {
     pub(crate) coloured: bool,
     /// The trees of the texts that parse.
     pub(crate) trees: &'a [Tree],
+    /// The files of each of these texts.
+    pub(crate) files: &'a [Files<'a>],
     /// The greatest number of states from which the search for runs of a text continues.
     pub(crate) states: u32,
     /// Which warnings are left out, and whether they count.
@@ -69,7 +71,7 @@ pub(crate) struct Stage<'a> {
 /// A text that parses: the number of its tree, its tree, its points, its findings and its warnings.
 #[derive(Clone, Copy)]
 pub(crate) struct Known<'a> {
-    pub(crate) source: FileText<'a>,
+    pub(crate) source: Source<'a>,
     pub(crate) place: usize,
     pub(crate) tree: &'a Tree,
     pub(crate) graph: &'a Graph,
@@ -272,12 +274,17 @@ impl Stage<'_> {
     }
 
     /// The lines after that of a note on one more callback.
-    fn again_rows(&self, setting: &Option<Setting>, noted: &Noted) -> Result<Vec<u8>, AllocError>
-        ensures { IfOk result (λ rows. AreSettingRows setting.now noted.now.again rows.items) }
+    fn again_rows(
+        &self,
+        source: Source<'_>,
+        setting: &Option<Setting>,
+        noted: &Noted,
+    ) -> Result<Vec<u8>, AllocError>
+        ensures { IfOk result (λ rows. AreSettingRows setting.now source.entry.files noted.now.again rows.items) }
     {
         match setting {
             Some(setting) => match &noted.again {
-                Some(again) => setting.rows(self.alloc, again),
+                Some(again) => setting.rows(self.alloc, &source.files, again),
                 None => Ok(Vec::new(self.alloc)),
             },
             None => Ok(Vec::new(self.alloc)),
@@ -288,15 +295,17 @@ impl Stage<'_> {
     fn put_note(
         &self,
         output: &mut Output,
+        source: Source<'_>,
         setting: &Option<Setting>,
         noted: Noted,
     ) -> Result<(), AllocError>
         requires said { spec.IsSaid self.now.trees.now self.now.states output.old }
         ensures said { OnOk result (spec.IsSaid self.now.trees.now self.now.states output.new) }
-        ensures note { OnOk result (spec.AddsNote self.now.trees.now self.now.states setting.now noted output.old output.new) }
+        ensures note { OnOk result (spec.AddsNote self.now.trees.now self.now.files.now self.now.states source.entry setting.now noted
+            output.old output.new) }
     {
-        let rows = note_rows(self.alloc, self.trees, &noted)?;
-        let again = self.again_rows(setting, &noted)?;
+        let rows = note_rows(self.alloc, self.trees, self.files, &noted)?;
+        let again = self.again_rows(source, setting, &noted)?;
         output.note(
             self.alloc,
             self.trees,
@@ -324,12 +333,12 @@ impl Stage<'_> {
         ensures said { OnOk result (spec.IsSaid self.now.trees.now self.now.states output.new) }
         ensures noted { OnOk result (spec.HasNotes self.now.trees.now known.entry output.new.noted) }
         ensures numbers { OnOk result (numbers_in output.new.noted ≡ numbers_in output.old.noted ++ report.now.finding ∷ []) }
-        ensures block { OnOk result (spec.AddsBlock self.now.trees.now self.now.states known.entry.source.text.now report.now
+        ensures block { OnOk result (spec.AddsBlock self.now.trees.now self.now.files.now self.now.states known.entry.source report.now
             output.old output.new) }
     {
         output.lines(report.lines.as_slice())?;
         let noted = self.noted(output.noted.as_slice(), known, setting, report, outcome)?;
-        self.put_note(output, setting, noted)?;
+        self.put_note(output, known.source, setting, noted)?;
         Ok(())
     }
 
@@ -348,7 +357,7 @@ impl Stage<'_> {
         ensures said { OnOk result (spec.IsSaid self.now.trees.now self.now.states output.new) }
         ensures noted { OnOk result (spec.HasNotes self.now.trees.now known.entry output.new.noted) }
         ensures numbers { OnOk result (numbers_in output.new.noted ≡ map (λ r. r.finding) reports.now) }
-        ensures added { OnOk result (spec.AddBlocks self.now.trees.now self.now.states known.entry.source.text.now reports.now
+        ensures added { OnOk result (spec.AddBlocks self.now.trees.now self.now.files.now self.now.states known.entry.source reports.now
             output.old output.new) }
     {
         for report in reports {
@@ -370,7 +379,8 @@ impl Stage<'_> {
         ensures said { OnOk result (spec.IsSaid self.now.trees.now self.now.states output.new) }
         ensures noted { OnOk result (spec.HasNotes self.now.trees.now known.entry output.new.noted) }
         ensures firsts { OnOk result (AreFirsts known.entry.found.now (numbers_in output.new.noted)) }
-        ensures body { OnOk result (spec.AddsBody (spec.look_of self.now) self.now.trees.now known.entry output.old output.new) }
+        ensures body { OnOk result (spec.AddsBody (spec.look_of self.now) self.now.trees.now self.now.files.now known.entry output.old
+            output.new) }
     {
         let reports = self.reports(known)?;
         let reports = reports.as_slice();
@@ -392,18 +402,13 @@ impl Stage<'_> {
             known.entry.details.now said.items) }
     {
         let lines = Lines::of(self.alloc, known.source.text)?;
-        let file_lines = Lines::of(self.alloc, known.source.file)?;
-        let file = ShownFile {
-            name: known.source.name,
-            lines: &file_lines,
-        };
         let text = WarnedText {
             alloc: self.alloc,
             coloured: self.coloured,
             states: self.states,
             own: only(self.trees, known.place),
             tree: known.tree,
-            file,
+            files: &known.source.files,
             lines: &lines,
         };
         promise_and_warnings(&text, known.details, watch)
@@ -420,7 +425,8 @@ impl Stage<'_> {
         requires silent { spec.IsSilent self.now.trees.now self.now.states output.old }
         ensures said { OnOk result (spec.IsSaid self.now.trees.now self.now.states output.new) }
         ensures noted { OnOk result (output.new.noted ≡ []) }
-        ensures body { OnOk result (spec.AddsBody (spec.look_of self.now) self.now.trees.now known.entry output.old output.new) }
+        ensures body { OnOk result (spec.AddsBody (spec.look_of self.now) self.now.trees.now self.now.files.now known.entry output.old
+            output.new) }
     {
         let said = self.promise_and_warnings(known, watch)?;
         output.lines(said.as_slice())?;
@@ -438,7 +444,8 @@ impl Stage<'_> {
         ensures said { OnOk result (spec.IsSaid self.now.trees.now self.now.states output.new) }
         ensures noted { OnOk result (spec.HasNotes self.now.trees.now known.entry output.new.noted) }
         ensures firsts { OnOk result (AreFirsts known.entry.found.now (numbers_in output.new.noted)) }
-        ensures body { OnOk result (spec.AddsBody (spec.look_of self.now) self.now.trees.now known.entry output.old output.new) }
+        ensures body { OnOk result (spec.AddsBody (spec.look_of self.now) self.now.trees.now self.now.files.now known.entry output.old
+            output.new) }
     {
         if !known.found.is_empty() {
             return self.put_found(output, known, watch);
@@ -454,12 +461,13 @@ impl Stage<'_> {
         watch: &mut W,
     ) -> Result<Part, AllocError>
         requires known { spec.IsKnownIn (spec.look_of self.now) self.now.trees.now known }
-        ensures { IfOk result (spec.IsKnownPart (spec.look_of self.now) self.now.trees.now known.entry) }
+        ensures { IfOk result (spec.IsKnownPart (spec.look_of self.now) self.now.trees.now self.now.files.now known.entry) }
     {
         texts_without_circles_are_orderly();
         let mut output = Output::new(self.alloc);
         self.put_findings(&mut output, known, watch)?;
-        output.lines(findings_line(self.alloc, known.found)?.as_bytes())?;
+        let line = findings_line(self.alloc, &known.source.files, known.found)?;
+        output.lines(line.as_bytes())?;
         let tally = Tally {
             status: warned_status(self.options.is_strict, known.found, known.details),
             findings: known.found.len(),
@@ -470,19 +478,19 @@ impl Stage<'_> {
     /// The report of a text that parses. Its points, its findings and its warnings are computed here.
     fn parsed_part<W: SearchWatch>(
         &self,
-        source: FileText<'_>,
+        source: Source<'_>,
         place: usize,
         watch: &mut W,
     ) -> Result<Part, AllocError>
         requires tree { IsTreeOf self.now.trees.now source.text.now place }
-        ensures { IfOk result (spec.IsParsedPart (spec.look_of self.now) self.now.trees.now source.entry place) }
+        ensures { IfOk result (spec.IsParsedPart (spec.look_of self.now) self.now.trees.now self.now.files.now source.entry place) }
     {
         let tree = tree_at(self.trees, source.text, place);
         let graph = lower(self.alloc, tree)?;
         let found = findings(self.alloc, &graph)?;
         let found = found.as_slice();
         let allowed = self.options.allowed;
-        let details = warning_details(self.alloc, source.text, tree, &graph, found, allowed)?;
+        let details = warning_details(self.alloc, source, tree, &graph, found, allowed)?;
         let known = Known {
             source,
             place,
@@ -495,15 +503,16 @@ impl Stage<'_> {
     }
 
     /// The report of a text that doesn't parse.
-    fn unread_part(&self, source: FileText<'_>, fault: SyntaxFault) -> Result<Part, AllocError>
+    fn unread_part(&self, source: Source<'_>, fault: SyntaxFault) -> Result<Part, AllocError>
         requires unread { IsUnread source.text.now fault }
-        ensures report { IfOk result (spec.HasReport self.now.options (filters_of self.now.trees.now) source.entry.text.now) }
+        ensures report { IfOk result (spec.HasReport self.now.options (filters_of self.now.trees.now) source.entry) }
         ensures print { IfOk result (spec.IsUnreadPart (spec.look_of self.now) source.entry) }
         ensures silent { IfOk result (λ p. spec.IsSilent self.now.trees.now self.now.states p.output) }
     {
         let mut output = Output::new(self.alloc);
         output.lines(report_unread(self.alloc, self.coloured, source)?.as_slice())?;
-        output.lines(fault_line(self.alloc, fault)?.as_bytes())?;
+        let line = fault_line(self.alloc, &source.files, fault)?;
+        output.lines(line.as_bytes())?;
         let tally = Tally {
             status: 2,
             findings: 1,
@@ -532,13 +541,13 @@ impl Stage<'_> {
     }
 
     /// The report of a certificate, a journal or a script.
-    fn notice_part(&self, source: FileText<'_>, notice: &Notice<'_>) -> Result<Part, AllocError>
+    fn notice_part(&self, source: Source<'_>, notice: &Notice<'_>) -> Result<Part, AllocError>
         ensures report { IfOk result (spec.ClosesNotice notice.now) }
         ensures print { IfOk result (spec.PrintsNotice (spec.look_of self.now) self.now.trees.now source.entry notice.now) }
         ensures silent { IfOk result (λ p. spec.IsSilent self.now.trees.now self.now.states p.output) }
     {
         let is_alone = self.is_alone(source.text);
-        let said = notice_lines(self.alloc, self.coloured, is_alone, source.name, notice)?;
+        let said = notice_lines(self.alloc, self.coloured, is_alone, source.name(), notice)?;
         let mut output = Output::new(self.alloc);
         output.lines(said.as_slice())?;
         output.lines(notice.closing(self.alloc)?.as_bytes())?;
@@ -550,9 +559,9 @@ impl Stage<'_> {
     }
 
     /// The report of a text that is taken for a certificate, a journal or a script.
-    fn other_part(&self, source: FileText<'_>, kind: Kind) -> Result<Part, AllocError>
+    fn other_part(&self, source: Source<'_>, kind: Kind) -> Result<Part, AllocError>
         requires other { IsOther source.text.now kind }
-        ensures report { IfOk result (spec.HasReport self.now.options (filters_of self.now.trees.now) source.entry.text.now) }
+        ensures report { IfOk result (spec.HasReport self.now.options (filters_of self.now.trees.now) source.entry) }
         ensures print { IfOk result (spec.IsNoticePart (spec.look_of self.now) self.now.trees.now source.entry) }
         ensures silent { IfOk result (λ p. spec.IsSilent self.now.trees.now self.now.states p.output) }
     {
@@ -567,7 +576,7 @@ impl Stage<'_> {
         watch: &mut W,
     ) -> Result<Part, AllocError>
         requires text { IsStudied self.now.trees.now studied.now }
-        ensures { IfOk result (spec.IsPart (spec.look_of self.now) self.now.trees.now studied.now) }
+        ensures { IfOk result (spec.IsPart (spec.look_of self.now) self.now.trees.now self.now.files.now studied.now) }
     {
         match studied.reading {
             Reading::Unread(fault) => self.unread_part(studied.source, fault),

@@ -7,8 +7,8 @@ ghost use Rattle.flt_syntax.specs.TextFails.{Fails};
 ghost use Rattle.flt_notes.specs.Parsed.{IsOther, IsUnread};
 ghost use Rattle.flt_notes.specs.Readings as spec;
 
+use flt_details::Source;
 use flt_reasons::{Kind, kind_of};
-use flt_reports::FileText;
 use flt_syntax::{ParseError, SyntaxFault, Tree, parse};
 use sqlite_items::Items;
 use std::alloc::{AllocError, Global};
@@ -26,7 +26,7 @@ pub(crate) enum Reading {
 /// A text, and its reading.
 #[derive(Clone, Copy)]
 pub(crate) struct Studied<'a> {
-    pub(crate) source: FileText<'a>,
+    pub(crate) source: Source<'a>,
     pub(crate) reading: Reading,
 }
 
@@ -39,7 +39,7 @@ pub(crate) struct Readings<'a> {
 
 impl<'a> Readings<'a> {
     /// Adds a text that doesn't parse and is taken for a certificate, a journal or a script.
-    fn add_other(&mut self, source: FileText<'a>, kind: Kind) -> Result<(), AllocError>
+    fn add_other(&mut self, source: Source<'a>, kind: Kind) -> Result<(), AllocError>
         requires other { IsOther source.text.now kind }
         requires old { spec.AreReadings self.old }
         ensures new { OnOk result (spec.AreReadings self.new) }
@@ -52,7 +52,7 @@ impl<'a> Readings<'a> {
     }
 
     /// Adds a text that doesn't parse and isn't taken for anything else.
-    fn add_unread(&mut self, source: FileText<'a>, fault: SyntaxFault) -> Result<(), AllocError>
+    fn add_unread(&mut self, source: Source<'a>, fault: SyntaxFault) -> Result<(), AllocError>
         requires fault { IsUnread source.text.now fault }
         requires old { spec.AreReadings self.old }
         ensures new { OnOk result (spec.AreReadings self.new) }
@@ -65,7 +65,7 @@ impl<'a> Readings<'a> {
     }
 
     /// Adds a text that parses.
-    fn add_known(&mut self, source: FileText<'a>, tree: Tree) -> Result<(), AllocError>
+    fn add_known(&mut self, source: Source<'a>, tree: Tree) -> Result<(), AllocError>
         requires spelled { Spells source.text.now tree.filter }
         requires old { spec.AreReadings self.old }
         ensures new { OnOk result (spec.AreReadings self.new) }
@@ -79,7 +79,7 @@ impl<'a> Readings<'a> {
     }
 
     /// Adds a text that doesn't parse.
-    fn add_unparsed(&mut self, source: FileText<'a>, fault: SyntaxFault) -> Result<(), AllocError>
+    fn add_unparsed(&mut self, source: Source<'a>, fault: SyntaxFault) -> Result<(), AllocError>
         requires fault { Fails source.text.now fault }
         requires old { spec.AreReadings self.old }
         ensures new { OnOk result (spec.AreReadings self.new) }
@@ -93,7 +93,7 @@ impl<'a> Readings<'a> {
     }
 
     /// Adds a text.
-    fn add(&mut self, alloc: Global, source: FileText<'a>) -> Result<(), AllocError>
+    fn add(&mut self, alloc: Global, source: Source<'a>) -> Result<(), AllocError>
         requires old { spec.AreReadings self.old }
         ensures new { OnOk result (spec.AreReadings self.new) }
         ensures source { OnOk result (spec.sources_read self.new.each.items
@@ -110,7 +110,7 @@ impl<'a> Readings<'a> {
 /// The readings of texts.
 pub(crate) fn read_all<'a>(
     alloc: Global,
-    sources: &[FileText<'a>],
+    sources: &[Source<'a>],
 ) -> Result<Readings<'a>, AllocError>
     ensures readings { IfOk result spec.AreReadings }
     ensures sources { IfOk result (λ r. spec.sources_read r.each.items ≡ sources.now) }

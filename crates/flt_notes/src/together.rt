@@ -88,7 +88,7 @@ impl Stage<'_> {
         watch: &mut W,
     ) -> Result<(), AllocError>
         requires text { IsStudied self.now.trees.now studied.now }
-        ensures added { OnOk result (IsMore (look_of self.now) self.now.trees.now studied.now printed.old printed.new) }
+        ensures added { OnOk result (IsMore (look_of self.now) self.now.trees.now self.now.files.now studied.now printed.old printed.new) }
         ensures sent { OnOk result (printed.new.sent ≡ printed.old.sent) }
     {
         let part = self.part(studied, watch)?;
@@ -108,7 +108,7 @@ impl Stage<'_> {
     ) -> Result<(), ExplainFault>
         requires text { IsStudied self.now.trees.now studied.now }
         requires sent { HoldsBack is_held printed.old }
-        ensures added { OnOk result (IsMore (look_of self.now) self.now.trees.now studied.now printed.old printed.new) }
+        ensures added { OnOk result (IsMore (look_of self.now) self.now.trees.now self.now.files.now studied.now printed.old printed.new) }
         ensures sent { OnOk result (HoldsBack is_held printed.new) }
         ensures out { OnOk result (is_held ≡ false →
             Appends (O.taken out.old) (O.taken out.new) (drop printed.old.sent printed.new.output.bytes.items)) }
@@ -136,14 +136,14 @@ impl Stage<'_> {
     ) -> Result<Printed, ExplainFault>
         requires texts { AreStudied self.now.trees.now 0 each.now }
         requires parsed { AreParsed (texts_read each.now) (filters_of self.now.trees.now) }
-        ensures printed { IfOk result (ArePrinted (look_of self.now) self.now.trees.now each.now) }
+        ensures printed { IfOk result (ArePrinted (look_of self.now) self.now.trees.now self.now.files.now each.now) }
         ensures sent { IfOk result
-            (IsPutOut self.now.options (texts_read each.now) self.now.states is_held (O.taken out.old) (O.taken out.new)) }
+            (IsPutOut self.now.options (sources_read each.now) self.now.states is_held (O.taken out.old) (O.taken out.new)) }
         ensures held { is_held ≡ true → out.new ≡ out.old }
         ensures fine { OnOk result (O.failures out.new ≡ O.failures out.old) }
         ensures write { IfErr result (λ e. e ≡ ExplainFault.Write → O.failures out.new ≢ O.failures out.old) }
         ensures memory { IfErr result (λ e. e ≡ ExplainFault.OutOfMemory →
-            spec.IsCut self.now.options (texts_read each.now) self.now.states (O.taken out.old) (O.taken out.new)) }
+            spec.IsCut self.now.options (sources_read each.now) self.now.states (O.taken out.old) (O.taken out.new)) }
     {
         let mut printed = Printed::new(self.alloc);
         let [before @ .., last] = each else {
@@ -166,19 +166,20 @@ impl Stage<'_> {
     ) -> Result<Printed, ExplainFault>
         requires texts { AreStudied self.now.trees.now 0 each.now }
         requires parsed { AreParsed (texts_read each.now) (filters_of self.now.trees.now) }
-        ensures reports { IfOk result (λ p. spec.AreSummed self.now.options (filters_of self.now.trees.now) (texts_read each.now)
+        ensures reports { IfOk result (λ p. spec.AreSummed self.now.options (filters_of self.now.trees.now) (sources_read each.now)
             p.output.bytes.items p.total.status) }
         ensures notes { IfOk result (λ p. AreNotesIn self.now.trees.now (known_in each.now) (texts_read each.now) p.output.noted) }
         ensures said { IfOk result (λ p. IsSaid self.now.trees.now self.now.states p.output) }
-        ensures print { IfOk result (λ p. AreSeveralPrinted (look_of self.now) self.now.trees.now (sources_read each.now) p.output.noted
+        ensures print { IfOk result (λ p. AreSeveralPrinted (look_of self.now) self.now.trees.now self.now.files.now
+            (sources_read each.now) p.output.noted
             p.output.bytes.items p.total.status) }
         ensures sent { IfOk result
-            (IsPutOut self.now.options (texts_read each.now) self.now.states is_held (O.taken out.old) (O.taken out.new)) }
+            (IsPutOut self.now.options (sources_read each.now) self.now.states is_held (O.taken out.old) (O.taken out.new)) }
         ensures held { is_held ≡ true → out.new ≡ out.old }
         ensures fine { OnOk result (O.failures out.new ≡ O.failures out.old) }
         ensures write { IfErr result (λ e. e ≡ ExplainFault.Write → O.failures out.new ≢ O.failures out.old) }
         ensures memory { IfErr result (λ e. e ≡ ExplainFault.OutOfMemory →
-            spec.IsCut self.now.options (texts_read each.now) self.now.states (O.taken out.old) (O.taken out.new)) }
+            spec.IsCut self.now.options (sources_read each.now) self.now.states (O.taken out.old) (O.taken out.new)) }
     {
         let mut printed = self.put_each(each, is_held, out, watch)?;
         let summary = Summary {
@@ -198,7 +199,7 @@ impl Stage<'_> {
         watch: &mut W,
     ) -> Result<Printed, AllocError>
         requires text { IsStudied self.now.trees.now studied.now }
-        ensures part { IfOk result (λ p. IsPart (look_of self.now) self.now.trees.now studied.now (part_of p)) }
+        ensures part { IfOk result (λ p. IsPart (look_of self.now) self.now.trees.now self.now.files.now studied.now (part_of p)) }
         ensures sent { IfOk result (λ p. p.sent ≡ 0) }
     {
         let part = self.part(studied, watch)?;
@@ -225,19 +226,20 @@ impl Stage<'_> {
     ) -> Result<Printed, ExplainFault>
         requires texts { AreStudied self.now.trees.now 0 each.now }
         requires parsed { AreParsed (texts_read each.now) (filters_of self.now.trees.now) }
-        ensures reports { IfOk result (λ p. spec.AreAllReports self.now.options (filters_of self.now.trees.now) (texts_read each.now)
+        ensures reports { IfOk result (λ p. spec.AreAllReports self.now.options (filters_of self.now.trees.now) (sources_read each.now)
             p.output.bytes.items p.total.status) }
         ensures notes { IfOk result (λ p. AreNotesIn self.now.trees.now (known_in each.now) (texts_read each.now) p.output.noted) }
         ensures said { IfOk result (λ p. IsSaid self.now.trees.now self.now.states p.output) }
-        ensures print { IfOk result (λ p. IsPrintOfAll (look_of self.now) self.now.trees.now (sources_read each.now) p.output.noted
+        ensures print { IfOk result (λ p. IsPrintOfAll (look_of self.now) self.now.trees.now self.now.files.now (sources_read each.now)
+            p.output.noted
             p.output.bytes.items p.total.status) }
         ensures sent { IfOk result
-            (IsPutOut self.now.options (texts_read each.now) self.now.states is_held (O.taken out.old) (O.taken out.new)) }
+            (IsPutOut self.now.options (sources_read each.now) self.now.states is_held (O.taken out.old) (O.taken out.new)) }
         ensures held { is_held ≡ true → out.new ≡ out.old }
         ensures fine { OnOk result (O.failures out.new ≡ O.failures out.old) }
         ensures write { IfErr result (λ e. e ≡ ExplainFault.Write → O.failures out.new ≢ O.failures out.old) }
         ensures memory { IfErr result (λ e. e ≡ ExplainFault.OutOfMemory →
-            spec.IsCut self.now.options (texts_read each.now) self.now.states (O.taken out.old) (O.taken out.new)) }
+            spec.IsCut self.now.options (sources_read each.now) self.now.states (O.taken out.old) (O.taken out.new)) }
     {
         match each {
             [] => Ok(Printed::new(self.alloc)),

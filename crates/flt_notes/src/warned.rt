@@ -1,7 +1,6 @@
 //! A text with warnings.
 
-use flt_places::Lines;
-use flt_reports::ShownFile;
+use flt_places::{Files, Lines};
 use flt_tree::Tree;
 use std::alloc::Global;
 
@@ -15,7 +14,7 @@ pub(crate) struct WarnedText<'a> {
     /// The tree of the text, alone.
     pub(crate) own: &'a [Tree],
     pub(crate) tree: &'a Tree,
-    /// The file in which the text is.
-    pub(crate) file: ShownFile<'a>,
+    /// The files in which the text is.
+    pub(crate) files: &'a Files<'a>,
     pub(crate) lines: &'a Lines<'a>,
 }

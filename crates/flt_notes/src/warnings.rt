@@ -21,7 +21,7 @@ fn report_with_run<W: SearchWatch>(
 ) -> Result<Vec<u8>, AllocError>
     ensures { IfOk result (λ printed. spec.IsReportWithRun (warned_of text.now) detail.now printed.items) }
 {
-    let mut printed = report_warning(text.alloc, text.coloured, text.file, text.lines, detail)?;
+    let mut printed = report_warning(text.alloc, text.coloured, text.files, text.lines, detail)?;
     let below = run_lines(text, detail.circle.as_slice(), watch)?;
     printed.extend_from_slice(below.as_slice())?;
     Ok(printed)
@@ -95,7 +95,7 @@ pub(crate) fn promise_and_warnings<W: SearchWatch>(
 ) -> Result<Vec<u8>, AllocError>
     ensures { IfOk result (λ out. spec.ArePromised (warned_of text.now) details.now out.items) }
 {
-    let mut out = report_nothing(text.alloc, text.file.name)?;
+    let mut out = report_nothing(text.alloc, text.files)?;
     let reports = shown_reports(text, details, watch)?;
     let count = warnings_line(text.alloc, shown_count(details))?;
     out.extend_from_slice(reports.as_slice())?;

@@ -3,10 +3,10 @@
 use crate::course::Named;
 use crate::title::shown;
 use flt_places::Lines;
+use flt_timeline::Timeline;
 use flt_tree::Tree;
 use flt_world::Stack;
 use std::alloc::{AllocError, Global};
-use std::fmt::Write;
 
 /// A filter's text, with its number from the highest altitude.
 #[derive(Drop)]
@@ -18,6 +18,7 @@ struct Source<'a> {
 /// The texts of filters.
 #[derive(Drop)]
 pub(crate) struct Sources<'a> {
+    timeline: &'a Timeline<'a>,
     all: Vec<Source<'a>>,
 }
 
@@ -43,9 +44,9 @@ fn without_indent(line: &[u8]) -> &[u8] {
     &[]
 }
 
-/// Adds a line after its number.
-fn put_line(out: &mut String, number: usize, line: &[u8]) -> Result<(), AllocError> {
-    write!(out, "{number}: ")?;
+/// Adds a line after its number, which is written already.
+fn put_line(out: &mut String, line: &[u8]) -> Result<(), AllocError> {
+    out.push_str(": ")?;
     for byte in without_indent(line) {
         if is_blank(*byte) {
             out.push(' ')?;
@@ -63,6 +64,7 @@ impl<'a> Sources<'a> {
         stack: &Stack<'_>,
         trees: &[Tree],
         texts: &'a [Vec<u8>],
+        timeline: &'a Timeline<'a>,
     ) -> Result<Sources<'a>, AllocError> {
         let mut all = Vec::new(alloc);
         for (tree, text) in trees.iter().zip(texts) {
@@ -70,7 +72,7 @@ impl<'a> Sources<'a> {
             let lines = Lines::of(alloc, text.as_slice())?;
             all.push(Source { filter, lines })?;
         }
-        Ok(Sources { all })
+        Ok(Sources { timeline, all })
     }
 
     /// A line; empty if it isn't there.
@@ -95,7 +97,8 @@ impl<'a> Sources<'a> {
             if !hint.is_empty() {
                 hint.push_str("\n")?;
             }
-            put_line(&mut hint, named.line, self.line(*named))?;
+            self.timeline.put_text_line(&mut hint, named.filter, named.line)?;
+            put_line(&mut hint, self.line(*named))?;
         }
         if are_more {
             hint.push_str("\n...")?;

@@ -459,7 +459,7 @@ pub fn picture(
     let stack = Stack::of(alloc, trees)?;
     let title = title_of(alloc, trees, verdict)?;
     let plan = Plan::of(alloc, &stack, journal, verdict, timeline, title.len())?;
-    let sources = Sources::of(alloc, &stack, trees, texts)?;
+    let sources = Sources::of(alloc, &stack, trees, texts, timeline)?;
     let drawing = drawn(&plan, &stack, journal, sources)?;
     let elements = drawing.elements.as_slice();
     written(alloc, plan.width(), plan.height(), title.as_str(), elements)

@@ -120,6 +120,13 @@ impl<'a> Lines<'a> {
         Ok(Lines { text, starts })
     }
 
+    /// The text itself.
+    pub fn text(&self) -> &'a [u8]
+        ensures { result.now ≡ self.now }
+    {
+        self.text
+    }
+
     /// The place of a byte, counted from 0. It is the end of the text if there is no such byte.
     #[tactic(auto, using(crate::proofs::Starts::by_lines, crate::proofs::Starts::ascending))]
     pub fn place(&self, at: usize) -> Position

@@ -2,5 +2,5 @@ pub mod Codes
 pub mod Covering
 pub mod MoreReports
 pub mod Placing
-pub mod Promise
 pub mod Widths
+pub mod Written

@@ -4,6 +4,7 @@ use Rattle.std.specs.List.{AllZip}
 use Rattle.flt_explain.specs.declared.finding.Finding.{Finding}
 use Rattle.flt_graph.specs.declared.graph.Graph.{Graph}
 use Rattle.flt_origins.specs.declared.grouping.Group.{Group}
+use Rattle.flt_places.specs.declared.files.Files.{Files}
 use Rattle.flt_tree.specs.Names.{Text}
 use Rattle.flt_tree.specs.declared.filter.Filter.{Filter}
 use Rattle.flt_details.specs.Tracing.{AreTraces}
@@ -29,8 +30,8 @@ one_report_more R groups i one r all more less is kept new after =
     let next : i + 1 ≡ suc i = omega arith in
     rw (next, after) (one_more R groups all i one r less is kept new)
 
-module _ (coloured : Bool) (name file text : Text) (f : Filter) (g : Graph) (traces : Traces) where
-  numbers_are : (groups : List Group) (all : List Report) → AllZip (IsReport coloured name file text f g traces) groups all →
+module _ (coloured : Bool) (files : Files) (text : Text) (f : Filter) (g : Graph) (traces : Traces) where
+  numbers_are : (groups : List Group) (all : List Report) → AllZip (IsReport coloured files text f g traces) groups all →
       numbers_of all ≡ map number_of groups
   numbers_are [] [] each = refl
   numbers_are [] (r ∷ all) each = absurd each
@@ -40,23 +41,24 @@ module _ (coloured : Bool) (name file text : Text) (f : Filter) (g : Graph) (tra
 
   -- the findings that have reports are the firsts of the groups
   firsts_of : (found : List Finding) (all : List Report) → AreTraces g found traces →
-      AllZip (IsReport coloured name file text f g traces) traces.groups all → AreFirsts found (numbers_of all)
+      AllZip (IsReport coloured files text f g traces) traces.groups all → AreFirsts found (numbers_of all)
   firsts_of found all traced each =
       subst (AreFirsts found) (sym (numbers_are traces.groups all each ∙ ap (map number_of) traced.groups)) (are_firsts found traces.shown)
 
 -- the findings of reports are the firsts of the groups
-pub reports_are_firsts : (coloured : Bool) (name file text : Text) (f : Filter) (g : Graph) (found : List Finding) (all : List Report) →
-    AreReports coloured name file text f g found all → AreFirsts found (numbers_of all)
-reports_are_firsts coloured name file text f g found all are =
-    firsts_of coloured name file text f g are.traces found all are.traced are.each
+pub reports_are_firsts : (coloured : Bool) (files : Files) (text : Text) (f : Filter) (g : Graph) (found : List Finding)
+    (all : List Report) →
+    AreReports coloured files text f g found all → AreFirsts found (numbers_of all)
+reports_are_firsts coloured files text f g found all are =
+    firsts_of coloured files text f g are.traces found all are.traced are.each
 
 -- the same where the lines are those of the text
-pub reports_are : (coloured : Bool) (name file text lines : Text) (f : Filter) (g : Graph) (found : List Finding) (traces : Traces)
+pub reports_are : (coloured : Bool) (files : Files) (text lines : Text) (f : Filter) (g : Graph) (found : List Finding) (traces : Traces)
     (all : List Report) → lines ≡ text → AreTraces g found traces →
-    AllZip (IsReport coloured name file lines f g traces) traces.groups all →
-    AreReports coloured name file text f g found all
-reports_are coloured name file text lines f g found traces all same traced each = record {
+    AllZip (IsReport coloured files lines f g traces) traces.groups all →
+    AreReports coloured files text f g found all
+reports_are coloured files text lines f g found traces all same traced each = record {
   traces = traces;
   traced = traced;
-  each = subst (λ t. AllZip (IsReport coloured name file t f g traces) traces.groups all) same each;
+  each = subst (λ t. AllZip (IsReport coloured files t f g traces) traces.groups all) same each;
 }

@@ -1,22 +1,24 @@
 -- The report of findings that are put together. This project's own program.
-use Rattle.std.specs.Prelude.{ℕ, ◌==◌, Bool, true, false, if◌then◌else◌, List, [], ◌∷◌, ◌++◌, Option, Some, None, codes, length, map}
+use Rattle.std.specs.Prelude.{ℕ, ◌==◌, ◌&&◌, Bool, true, false, if◌then◌else◌, List, [], ◌∷◌, ◌++◌, Option, Some, None, codes, length, map}
 use Rattle.std.specs.Fmt.{decimal}
 use Rattle.std.specs.List.{slice_split}
 use Rattle.flt_explain.specs.declared.finding.Finding.{Finding}
 use Rattle.flt_graph.specs.Graph.{span_at}
 use Rattle.flt_graph.specs.declared.graph.Graph.{Graph}
 use Rattle.flt_origins.specs.declared.grouping.Traced.{Traced}
+use Rattle.flt_places.specs.Files.{file_at, file_line}
 use Rattle.flt_places.specs.Places.{place_in}
+use Rattle.flt_places.specs.declared.files.Files.{Files}
 use Rattle.flt_tree.specs.Names.{Text}
 use Rattle.flt_tree.specs.declared.filter.Position.{Position}
 use Rattle.flt_ways.specs.declared.answer.Answer.{Answer}
 use Rattle.flt_ways.specs.declared.answer.Answer.TheVariants as answer
 use Rattle.flt_details.specs.Closing.{rule_name}
-use Rattle.flt_details.specs.Page.{shown}
+use Rattle.flt_details.specs.Page.{line_told, shown}
 use Rattle.flt_details.specs.Tracing.{other_way, way_of}
 use Rattle.flt_details.specs.declared.study.Words.{Words}
 use Rattle.flt_details.specs.declared.tracing.Shown.{Shown}
-use Rattle.flt_reports.specs.Heading.{at_place, heading}
+use Rattle.flt_reports.specs.Heading.{at_file_place, heading, name_at}
 use Rattle.flt_reports.specs.Indents.{headed}
 use Rattle.flt_reports.specs.Shown.{shown_lines}
 use Rattle.flt_reports.specs.Ways.{path_lines}
@@ -36,11 +38,15 @@ abbrev pub place_of : Text → Graph → ℕ → ℕ → Position
 place_of text g callback point = place_in text (span_at g callback point).start
 
 -- a finding's rule and title, the file, and its point
-unfoldable pub head_lines : Bool → Text → Text → Graph → Finding → Words → Text
-head_lines coloured name text g found w =
-    heading coloured (Some (rule_name found.rule)) w.title.items name
-    ++ (at_place (place_of text g found.callback found.point)
+unfoldable pub head_lines : Bool → Files → Text → Graph → Finding → Words → Text
+head_lines coloured files text g found w =
+    heading coloured (Some (rule_name found.rule)) w.title.items (name_at files (place_of text g found.callback found.point).line)
+    ++ (at_file_place files (place_of text g found.callback found.point)
     ++ (head_told w.head.items ++ numbers_told found.callback found.point))
+
+-- the file that is named in its heading
+abbrev pub home_of : Files → Text → Graph → Finding → ℕ
+home_of files text g found = file_at files (place_of text g found.callback found.point).line
 
 -- ---- the paths to it
 
@@ -58,36 +64,38 @@ notes answer.Unreached =
 notes answer.Unknown = note_line (codes "no path was found among the situations that were looked at")
 
 -- the branches of the path that shows it, and of the other one where two do
-unfoldable pub paths_told : Text → Graph → ℕ → Answer → Text
-paths_told text g callback a =
-    path_lines text g callback (codes "   = path: ") (way_of a)
-    ++ (path_lines text g callback (codes "   = other path: ") (other_way a) ++ notes a)
+unfoldable pub paths_told : Files → ℕ → Text → Graph → ℕ → Answer → Text
+paths_told files home text g callback a =
+    path_lines files home text g callback (codes "   = path: ") (way_of a)
+    ++ (path_lines files home text g callback (codes "   = other path: ") (other_way a) ++ notes a)
 
 -- the lines that show a finding, and the paths to it; nothing where it isn't known what shows it
-unfoldable pub shown_part : Bool → Text → Text → Graph → Finding → Text → Option Shown → Text
-shown_part coloured file text g found subject None = []
-shown_part coloured file text g found subject (Some s) =
-    shown_lines coloured file text g found subject s ++ paths_told text g found.callback s.answer
+unfoldable pub shown_part : Bool → Files → ℕ → Text → Graph → Finding → Text → Option Shown → Text
+shown_part coloured files home text g found subject None = []
+shown_part coloured files home text g found subject (Some s) =
+    shown_lines coloured files text g found subject s ++ paths_told files home text g found.callback s.answer
 
 -- ---- the others of its group
 
--- numbers without those that are the same as the one before them
-abbrev pub each_once : ℕ → List ℕ → List ℕ
-each_once before [] = []
-each_once before (n ∷ ns) = if n == before then each_once before ns else n ∷ each_once n ns
+-- two lines of a text are in the same line of a file
+abbrev pub is_same_line : Files → ℕ → ℕ → Bool
+is_same_line files line other = file_at files line == file_at files other && file_line files line == file_line files other
 
 -- what stands before the first of some numbers of lines, and before each other one
 unfoldable pub before_line : Bool → Text
 before_line is_below = if is_below then codes ", " else codes "   = note: also at line "
 
--- numbers of lines, where another one may stand before the first; nothing where there are none
-abbrev pub listed_from : Bool → List ℕ → Text
-listed_from is_below [] = if is_below then 10 ∷ [] else []
-listed_from is_below (n ∷ ns) = before_line is_below ++ (decimal n ++ listed_from true ns)
+-- the numbers of lines, without those that are in the same line of a file as the one before; another one may stand before the first, which
+-- is then this one. Nothing where there are none
+abbrev pub listed_from : Files → ℕ → Bool → ℕ → List ℕ → Text
+listed_from files home is_below before [] = if is_below then 10 ∷ [] else []
+listed_from files home is_below before (n ∷ ns) =
+    if is_below && is_same_line files before n then listed_from files home is_below before ns
+    else before_line is_below ++ (line_told files home n ++ listed_from files home true n ns)
 
 -- the lines on which the others of a group stand, each once
-unfoldable pub others_told : List Traced → Text
-others_told others = listed_from false (each_once 0 (map (λ (t : Traced). t.finding.line) others))
+unfoldable pub others_told : Files → ℕ → List Traced → Text
+others_told files home others = listed_from files home false 0 (map (λ (t : Traced). t.finding.line) others)
 
 -- ---- how to fix it
 
@@ -106,7 +114,8 @@ note_told note = if length note == 0 then [] else headed (codes "   = note: ") (
 -- ---- all of it
 
 -- what is wrong and where, what shows it, where the others of its group are, and how to fix it
-unfoldable pub finding_report : Bool → Text → Text → Text → Graph → Finding → Words → Option Shown → List Traced → Text
-finding_report coloured name file text g found w s others =
-    head_lines coloured name text g found w ++ (shown_part coloured file text g found w.subject.items s
-    ++ (others_told others ++ (help_told w.help.items ++ note_told w.note.items)))
+unfoldable pub finding_report : Bool → Files → Text → Graph → Finding → Words → Option Shown → List Traced → Text
+finding_report coloured files text g found w s others =
+    head_lines coloured files text g found w
+    ++ (shown_part coloured files (home_of files text g found) text g found w.subject.items s
+    ++ (others_told files (home_of files text g found) others ++ (help_told w.help.items ++ note_told w.note.items)))

@@ -1,9 +1,11 @@
 -- The first lines of reports. This project's own program.
-use Rattle.std.specs.Prelude.{Bool, [], ◌∷◌, ◌++◌, Option, Some, None, codes}
+use Rattle.std.specs.Prelude.{ℕ, Bool, [], ◌∷◌, ◌++◌, Option, Some, None, codes}
 use Rattle.std.specs.Fmt.{decimal}
 use Rattle.flt_tree.specs.Names.{Text}
 use Rattle.flt_tree.specs.declared.filter.Position.{Position}
 use Rattle.flt_details.specs.Page.{shown}
+use Rattle.flt_places.specs.Files.{file_at, file_name, file_place}
+use Rattle.flt_places.specs.declared.files.Files.{Files}
 use Rattle.flt_reports.specs.Colours.{bold, plain, red, yellow}
 
 -- a code between brackets, if there is one
@@ -31,3 +33,11 @@ warning_heading coloured kind title name =
 -- a line and a column behind a file's name
 unfoldable pub at_place : Position → Text
 at_place place = codes ":" ++ (decimal place.line ++ (codes ":" ++ decimal place.column))
+
+-- the name of the file in which a line of the text is
+abbrev pub name_at : Files → ℕ → Text
+name_at files line = file_name files (file_at files line)
+
+-- the place in its file of a place in the text, behind the file's name
+abbrev pub at_file_place : Files → Position → Text
+at_file_place files place = at_place (file_place files place)

@@ -1,7 +1,7 @@
 pub mod Colours
 pub mod Covering
+pub mod Excerpts
 pub mod Fault
-pub mod FileText
 pub mod Finding
 pub mod Heading
 pub mod Indents

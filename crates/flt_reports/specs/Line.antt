@@ -5,7 +5,7 @@ use Rattle.flt_tree.specs.declared.filter.Position.{Position}
 use Rattle.flt_details.specs.Page.{shown}
 use Rattle.flt_places.specs.declared.places.Site.{Site}
 use Rattle.flt_reports.specs.Heading.{at_place, heading}
-use Rattle.flt_reports.specs.Marks.{drawn, width}
+use Rattle.flt_reports.specs.Marks.{drawn_alone, width}
 use Rattle.flt_reports.specs.declared.marks.Stroke.TheVariants as strokes
 use Rattle.flt_reports.specs.declared.line_report.MarkedLine.{MarkedLine}
 
@@ -25,7 +25,7 @@ site_of m = record { place = place_of m; length = m.marked }
 unfoldable pub picture : Bool → MarkedLine → Text
 picture coloured m =
     if length m.shown.now == 0 then []
-    else drawn coloured (width m.line) 0 m.shown.now m.shown.now (site_of m) strokes.Error ++ meant m.meant.now ++ 10 ∷ []
+    else drawn_alone coloured (width m.line) m.shown.now (site_of m) strokes.Error ++ meant m.meant.now ++ 10 ∷ []
 
 -- a line of help; nothing where there is none
 unfoldable pub help_line : Text → Text

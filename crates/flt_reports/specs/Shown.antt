@@ -7,14 +7,16 @@ use Rattle.flt_origins.specs.declared.facts.Fact.{Fact}
 use Rattle.flt_origins.specs.declared.origin.Cause.{Cause}
 use Rattle.flt_origins.specs.declared.origin.Cause.TheVariants.{Entry, Made}
 use Rattle.flt_origins.specs.declared.origin.Origin.{Origin}
+use Rattle.flt_places.specs.Files.{file_at, file_line}
 use Rattle.flt_places.specs.Places.{line_of, site_of}
+use Rattle.flt_places.specs.declared.files.Files.{Files}
 use Rattle.flt_tree.specs.Names.{Text}
 use Rattle.flt_ways.specs.declared.answer.Answer.{Answer}
 use Rattle.flt_ways.specs.declared.answer.Way.{Way}
 use Rattle.flt_details.specs.Tracing.{other_way, way_of}
 use Rattle.flt_details.specs.declared.tracing.Shown.{Shown}
-use Rattle.flt_reports.specs.FileText.{excerpt}
-use Rattle.flt_reports.specs.MarkOrder.{all_placed, last_line}
+use Rattle.flt_reports.specs.Excerpts.{excerpt}
+use Rattle.flt_reports.specs.MarkOrder.{all_placed, greatest_line}
 use Rattle.flt_reports.specs.MarkWords.{mark_told}
 use Rattle.flt_reports.specs.Marks.{drawn, width}
 use Rattle.flt_reports.specs.declared.mark_order.Mark.{Mark}
@@ -59,14 +61,16 @@ stroke sign.Point = strokes.Error
 stroke _ = strokes.Aside
 
 -- the marks of a finding, each under what is shown for its line, with what it says, where this line was drawn before
-unfoldable pub all_drawn : Bool → ℕ → Text → Text → Graph → Finding → Text → Answer → ℕ → List (Mark Sign) → Text
-all_drawn coloured margin file text g found subject a before [] = []
-all_drawn coloured margin file text g found subject a before (m ∷ marks) =
-    drawn coloured margin before (excerpt file text m.site.place.line) (line_of text m.site.place.line) m.site (stroke m.sign)
-    ++ (mark_told g found subject a m.sign ++ all_drawn coloured margin file text g found subject a m.site.place.line marks)
+unfoldable pub all_drawn : Bool → ℕ → Files → ℕ → Text → Graph → Finding → Text → Answer → ℕ → List (Mark Sign) → Text
+all_drawn coloured margin files file text g found subject a before [] = []
+all_drawn coloured margin files file text g found subject a before (m ∷ marks) =
+    drawn coloured margin files file before (excerpt files text m.site.place.line) (line_of text m.site.place.line) m.site (stroke m.sign)
+    ++ (mark_told g found subject a m.sign
+    ++ all_drawn coloured margin files (file_at files m.site.place.line) text g found subject a (file_line files m.site.place.line) marks)
 
 -- all of them
-unfoldable pub shown_lines : Bool → Text → Text → Graph → Finding → Text → Shown → Text
-shown_lines coloured file text g found subject s =
-    all_drawn coloured (width (last_line found.line (marks_of text g found s))) file text g found subject s.answer 0
+unfoldable pub shown_lines : Bool → Files → Text → Graph → Finding → Text → Shown → Text
+shown_lines coloured files text g found subject s =
+    all_drawn coloured (width (greatest_line files 0 (marks_of text g found s))) files
+    (file_at files (site_of text (span_at g found.callback found.point)).place.line) text g found subject s.answer 0
     (marks_of text g found s)

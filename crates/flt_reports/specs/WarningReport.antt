@@ -2,7 +2,9 @@
 use Rattle.std.specs.Prelude.{ℕ, ◌==◌, ◌+◌, ◌-◌, Bool, if◌then◌else◌, List, [], ◌∷◌, ◌++◌, Option, Some, None, codes, length, slice_get}
 use Rattle.flt_details.specs.Page.{shown}
 use Rattle.flt_details.specs.declared.operands.Marks.{Marks}
+use Rattle.flt_places.specs.Files.{file_at, file_line}
 use Rattle.flt_places.specs.Places.{line_of}
+use Rattle.flt_places.specs.declared.files.Files.{Files}
 use Rattle.flt_places.specs.declared.places.Region.{Region}
 use Rattle.flt_places.specs.declared.places.Site.{Site}
 use Rattle.flt_tree.specs.Names.{Text}
@@ -10,10 +12,10 @@ use Rattle.flt_warning_details.specs.declared.detail.RelatedPlace.{RelatedPlace}
 use Rattle.flt_warning_details.specs.declared.detail.WarningDetail.{WarningDetail}
 use Rattle.flt_warnings.specs.Kinds.{kind_name}
 use Rattle.flt_warnings.specs.declared.warning.Site.{Site as Point}
-use Rattle.flt_reports.specs.FileText.{excerpt}
+use Rattle.flt_reports.specs.Excerpts.{excerpt}
 use Rattle.flt_reports.specs.Finding.{head_told, help_told, note_told, numbers_told}
-use Rattle.flt_reports.specs.Heading.{at_place, warning_heading}
-use Rattle.flt_reports.specs.MarkOrder.{all_placed, last_line}
+use Rattle.flt_reports.specs.Heading.{at_file_place, name_at, warning_heading}
+use Rattle.flt_reports.specs.MarkOrder.{all_placed, greatest_line}
 use Rattle.flt_reports.specs.Marks.{drawn, width}
 use Rattle.flt_reports.specs.declared.mark_order.Mark.{Mark}
 use Rattle.flt_reports.specs.declared.marks.Stroke.{Stroke}
@@ -31,10 +33,10 @@ point_part None = 10 ∷ []
 point_part (Some p) = numbers_told p.callback p.point
 
 -- a warning's kind and title, the file, and where it is
-unfoldable pub head_lines : Bool → Text → WarningDetail → Text
-head_lines coloured name d =
-    warning_heading coloured (kind_name d.kind) d.title name
-    ++ (at_place d.marks.statement.first ++ (head_part d.head ++ point_part d.site))
+unfoldable pub head_lines : Bool → Files → WarningDetail → Text
+head_lines coloured files d =
+    warning_heading coloured (kind_name d.kind) d.title (name_at files d.marks.statement.first.line)
+    ++ (at_file_place files d.marks.statement.first ++ (head_part d.head ++ point_part d.site))
 
 -- ---- the places
 
@@ -74,20 +76,22 @@ mark_words related None = 10 ∷ []
 mark_words related (Some number) = words_of (slice_get related number)
 
 -- each mark under what is shown for its line, with what it says, where this line was drawn before
-unfoldable pub all_drawn : Bool → ℕ → Text → Text → List RelatedPlace → ℕ → List (Mark (Option ℕ)) → Text
-all_drawn coloured margin file text related before [] = []
-all_drawn coloured margin file text related before (m ∷ marks) =
-    drawn coloured margin before (excerpt file text m.site.place.line) (line_of text m.site.place.line) m.site (stroke m.sign)
-    ++ (mark_words related m.sign ++ all_drawn coloured margin file text related m.site.place.line marks)
+unfoldable pub all_drawn : Bool → ℕ → Files → ℕ → Text → List RelatedPlace → ℕ → List (Mark (Option ℕ)) → Text
+all_drawn coloured margin files file text related before [] = []
+all_drawn coloured margin files file text related before (m ∷ marks) =
+    drawn coloured margin files file before (excerpt files text m.site.place.line) (line_of text m.site.place.line) m.site (stroke m.sign)
+    ++ (mark_words related m.sign
+    ++ all_drawn coloured margin files (file_at files m.site.place.line) text related (file_line files m.site.place.line) marks)
 
 -- all of them
-unfoldable pub places_drawn : Bool → Text → Text → WarningDetail → Text
-places_drawn coloured file text d =
-    all_drawn coloured (width (last_line d.marks.statement.first.line (marks_of text d))) file text d.related 0 (marks_of text d)
+unfoldable pub places_drawn : Bool → Files → Text → WarningDetail → Text
+places_drawn coloured files text d =
+    all_drawn coloured (width (greatest_line files 0 (marks_of text d))) files (file_at files d.marks.statement.first.line) text d.related 0
+    (marks_of text d)
 
 -- ---- all of it
 
 -- what a warning says and where, its places, what to write, and what may come of it
-unfoldable pub warning_report : Bool → Text → Text → Text → WarningDetail → Text
-warning_report coloured name file text d =
-    head_lines coloured name d ++ (places_drawn coloured file text d ++ (help_told d.help ++ note_told d.note))
+unfoldable pub warning_report : Bool → Files → Text → WarningDetail → Text
+warning_report coloured files text d =
+    head_lines coloured files d ++ (places_drawn coloured files text d ++ (help_told d.help ++ note_told d.note))

@@ -4,12 +4,12 @@ ghost use Rattle.std.specs.Prelude.{◌≡◌, ◌++◌, ◌∷◌, [], IfOk};
 ghost use Rattle.flt_details.specs.Page.{Writes};
 ghost use Rattle.flt_reports.specs.Fault as spec;
 
-use crate::file_text::{FileText, excerpt};
-use crate::heading::{tell_heading, tell_place};
+use crate::excerpts::excerpt_of;
+use crate::heading::{name_at, tell_file_place, tell_heading};
 use crate::marks::{Drawing, Stroke};
-use flt_details::{Page, fault_name};
+use flt_details::{Page, Source, fault_name, line_words};
 use flt_hints::{Spot, Told, Trouble, describe, tell};
-use flt_places::{Lines, Site};
+use flt_places::{Files, Lines, Site};
 use flt_tree::Position;
 use std::alloc::{AllocError, Global};
 
@@ -37,23 +37,26 @@ fn tell_meant(page: &mut Page, meant: &[u8]) -> Result<(), AllocError>
 /// Draws the line with marks under the refused text, and after them the word that is probably meant.
 #[tactic(auto, unfolding(crate::specs::Fault::spot_drawn))]
 fn draw_spot(
+    alloc: Global,
     page: &mut Page,
     coloured: bool,
-    file: &Lines<'_>,
+    files: &Files<'_>,
     lines: &Lines<'_>,
     spot: &Spot<'_>,
     meant: &[u8],
 ) -> Result<(), AllocError>
-    ensures { Writes result page.old page.new (spec.spot_drawn coloured file.now lines.now spot.now meant.now) }
+    ensures { Writes result page.old page.new (spec.spot_drawn coloured files.now lines.now spot.now meant.now) }
 {
     let line = spot.fault.line;
     let site = Site {
         place: place_of(spot),
         length: spot.bytes.len(),
     };
-    Drawing::new(coloured, line).draw(
+    Drawing::new(coloured, files.file_line(line), files.file_at(line)).draw(
+        alloc,
         page,
-        excerpt(file, lines, line),
+        files,
+        excerpt_of(files, lines, line),
         lines.line(line),
         &site,
         Stroke::Error,
@@ -67,18 +70,18 @@ fn draw(
     alloc: Global,
     page: &mut Page,
     coloured: bool,
-    source: FileText<'_>,
+    files: &Files<'_>,
+    text: &[u8],
     spot: &Spot<'_>,
     meant: &[u8],
 ) -> Result<(), AllocError>
     ensures { Writes result page.old page.new
-        (spec.picture coloured source.entry.file.now source.entry.text.now spot.now meant.now spot.now.token) }
+        (spec.picture coloured files.now text.now spot.now meant.now spot.now.token) }
 {
     match spot.token {
         Some(_) => {
-            let lines = Lines::of(alloc, source.text)?;
-            let file = Lines::of(alloc, source.file)?;
-            draw_spot(page, coloured, &file, &lines, spot, meant)
+            let lines = Lines::of(alloc, text)?;
+            draw_spot(alloc, page, coloured, files, &lines, spot, meant)
         }
         None => Ok(()),
     }
@@ -90,19 +93,29 @@ fn report_spot(
     alloc: Global,
     page: &mut Page,
     coloured: bool,
-    source: FileText<'_>,
+    source: Source<'_>,
     spot: &Spot<'_>,
     told: &Told,
 ) -> Result<(), AllocError>
     ensures { Writes result page.old page.new
-        (spec.fault_report coloured source.entry.name.now source.entry.file.now source.entry.text.now spot.now told.now.title.items
+        (spec.fault_report coloured source.entry.files source.entry.text.now spot.now told.now.title.items
         told.now.meant.items told.now.notes.items) }
 {
     let code = Some(fault_name(spot.fault.kind));
-    tell_heading(page, coloured, code, told.title.as_slice(), source.name)?;
-    tell_place(page, place_of(spot))?;
+    let files = &source.files;
+    let name = name_at(files, spot.fault.line);
+    tell_heading(page, coloured, code, told.title.as_slice(), name)?;
+    tell_file_place(page, files, place_of(spot))?;
     page.bytes(b"\n")?;
-    draw(alloc, page, coloured, source, spot, told.meant.as_slice())?;
+    draw(
+        alloc,
+        page,
+        coloured,
+        files,
+        source.text,
+        spot,
+        told.meant.as_slice(),
+    )?;
     page.bytes(told.notes.as_slice())
 }
 
@@ -110,12 +123,12 @@ fn report_spot(
 fn lines_in(
     alloc: Global,
     coloured: bool,
-    source: FileText<'_>,
+    source: Source<'_>,
     spot: &Spot<'_>,
     told: &Told,
 ) -> Result<Vec<u8>, AllocError>
     ensures { IfOk result (λ lines. lines.items ≡
-        spec.fault_report coloured source.entry.name.now source.entry.file.now source.entry.text.now spot.now told.now.title.items
+        spec.fault_report coloured source.entry.files source.entry.text.now spot.now told.now.title.items
         told.now.meant.items told.now.notes.items) }
 {
     let mut page = Page::new(alloc);
@@ -123,18 +136,38 @@ fn lines_in(
     Ok(page.out)
 }
 
+/// The name of the line of a call that lacks an operand; empty if there is none.
+fn line_of_call(
+    alloc: Global,
+    files: &Files<'_>,
+    trouble: &Trouble<'_>,
+) -> Result<Vec<u8>, AllocError>
+    ensures { IfOk result (λ line. line.items ≡ spec.line_of_call files.now trouble.now) }
+{
+    match trouble.open_call {
+        Some(call) => line_words(
+            alloc,
+            files,
+            files.file_at(trouble.spot.fault.line),
+            call.line,
+        ),
+        None => Ok(Vec::new(alloc)),
+    }
+}
+
 /// The report of a text's trouble.
 #[tactic(auto, unfolding(crate::specs::Fault::trouble_report))]
 fn report_trouble(
     alloc: Global,
     coloured: bool,
-    source: FileText<'_>,
+    source: Source<'_>,
     trouble: &Trouble<'_>,
 ) -> Result<Vec<u8>, AllocError>
     ensures { IfOk result (λ lines. lines.items
-        ≡ spec.trouble_report coloured source.entry.name.now source.entry.file.now source.entry.text.now trouble.now) }
+        ≡ spec.trouble_report coloured source.entry.files source.entry.text.now trouble.now) }
 {
-    let told = tell(alloc, trouble)?;
+    let line = line_of_call(alloc, &source.files, trouble)?;
+    let told = tell(alloc, trouble, line.as_slice())?;
     let lines = lines_in(alloc, coloured, source, &trouble.spot, &told)?;
     Ok(lines)
 }
@@ -143,11 +176,11 @@ fn report_trouble(
 fn report_described(
     alloc: Global,
     coloured: bool,
-    source: FileText<'_>,
+    source: Source<'_>,
     trouble: &Option<Trouble<'_>>,
 ) -> Result<Vec<u8>, AllocError>
     ensures { IfOk result (λ lines. lines.items
-        ≡ spec.report_of coloured source.entry.name.now source.entry.file.now source.entry.text.now trouble.now) }
+        ≡ spec.report_of coloured source.entry.files source.entry.text.now trouble.now) }
 {
     match trouble {
         Some(trouble) => report_trouble(alloc, coloured, source, trouble),
@@ -159,10 +192,10 @@ fn report_described(
 pub(crate) fn report_fault(
     alloc: Global,
     coloured: bool,
-    source: FileText<'_>,
+    source: Source<'_>,
 ) -> Result<Vec<u8>, AllocError>
     ensures { IfOk result (λ lines.
-        spec.IsFaultReport coloured source.entry.name.now source.entry.file.now source.entry.text.now lines.items) }
+        spec.IsFaultReport coloured source.entry.files source.entry.text.now lines.items) }
 {
     let described = describe(alloc, source.text)?;
     let lines = report_described(alloc, coloured, source, &described)?;

@@ -6,15 +6,14 @@ ghost use Rattle.flt_details.specs.Page.{Writes};
 ghost use Rattle.flt_reports.specs.Finding as spec;
 ghost use Rattle.flt_reports.specs.Indents.{headed};
 
-use crate::file_text::ShownFile;
-use crate::heading::{tell_heading, tell_place};
+use crate::heading::{name_at, tell_file_place, tell_heading};
 use crate::indents::begin;
 use crate::shown_lines::draw_shown;
 use crate::way_lines::tell_way;
-use flt_details::{Page, Scene, Shown, Words};
+use flt_details::{Page, Part, Scene, Shown, Words};
 use flt_explain::Finding;
 use flt_origins::Traced;
-use flt_places::{Lines, lines_of};
+use flt_places::{Files, lines_of};
 use flt_rules::Rule;
 use flt_ways::Answer;
 use std::alloc::{AllocError, Global};
@@ -66,18 +65,18 @@ pub(crate) fn tell_numbers(page: &mut Page, callback: usize, point: usize) -> Re
 fn tell_head(
     page: &mut Page,
     coloured: bool,
-    name: &str,
     scene: &Scene<'_>,
     finding: &Finding,
     words: &Words,
 ) -> Result<(), AllocError>
     ensures { Writes result page.old page.new
-        (spec.head_lines coloured name.now scene.now.lines.now scene.now.graph.now finding.now words.now) }
+        (spec.head_lines coloured scene.now.files scene.now.lines.now scene.now.graph.now finding.now words.now) }
 {
     let code = Some(code(finding.rule));
     let site = scene.site(finding.callback, finding.point);
+    let name = name_at(&scene.files, site.place.line);
     tell_heading(page, coloured, code, words.title.as_slice(), name)?;
-    tell_place(page, site.place)?;
+    tell_file_place(page, &scene.files, site.place)?;
     tell_callback(page, words.head.as_slice())?;
     tell_numbers(page, finding.callback, finding.point)
 }
@@ -104,16 +103,17 @@ fn notes(answer: &Answer) -> &'static str
 #[tactic(auto, unfolding(crate::specs::Finding::paths_told))]
 fn tell_ways(
     page: &mut Page,
+    home: usize,
     scene: &Scene<'_>,
     callback: usize,
     shown: &Shown,
 ) -> Result<(), AllocError>
     ensures { Writes result page.old page.new
-        (spec.paths_told scene.now.lines.now scene.now.graph.now callback shown.now.answer) }
+        (spec.paths_told scene.now.files home scene.now.lines.now scene.now.graph.now callback shown.now.answer) }
 {
     let (way, other) = shown.ways();
-    tell_way(page, scene, callback, "   = path: ", way)?;
-    tell_way(page, scene, callback, "   = other path: ", other)?;
+    tell_way(page, home, scene, callback, "   = path: ", way)?;
+    tell_way(page, home, scene, callback, "   = other path: ", other)?;
     page.texts(&[notes(&shown.answer)])
 }
 
@@ -123,20 +123,21 @@ fn tell_shown(
     alloc: Global,
     page: &mut Page,
     coloured: bool,
-    file: &Lines<'_>,
+    home: usize,
     scene: &Scene<'_>,
     finding: &Finding,
     subject: &[u8],
     shown: Option<&Shown>,
 ) -> Result<(), AllocError>
     ensures { Writes result page.old page.new
-        (spec.shown_part coloured file.now scene.now.lines.now scene.now.graph.now finding.now subject.now (option_copied shown.entry)) }
+        (spec.shown_part coloured scene.now.files home scene.now.lines.now scene.now.graph.now finding.now subject.now
+        (option_copied shown.entry)) }
 {
     let Some(shown) = shown else {
         return Ok(());
     };
-    draw_shown(alloc, page, coloured, file, scene, finding, subject, shown)?;
-    tell_ways(page, scene, finding.callback, shown)
+    draw_shown(alloc, page, coloured, scene, finding, subject, shown)?;
+    tell_ways(page, home, scene, finding.callback, shown)
 }
 
 // ---- the others of its group
@@ -153,17 +154,30 @@ fn before_line(is_below: bool) -> &'static str
     }
 }
 
+/// Whether two lines of a text are in the same line of a file.
+fn is_same_line(files: &Files<'_>, line: usize, other: usize) -> bool
+    ensures { result ≡ spec.is_same_line files.now line other }
+{
+    files.file_at(line) == files.file_at(other) && files.file_line(line) == files.file_line(other)
+}
+
 /// Writes the line numbers of the others of a group, each once.
 #[tactic(auto, unfolding(crate::specs::Finding::others_told))]
-fn tell_others(page: &mut Page, others: &[Traced]) -> Result<(), AllocError>
-    ensures { Writes result page.old page.new (spec.others_told others.now) }
+fn tell_others(
+    page: &mut Page,
+    files: Files<'_>,
+    home: usize,
+    others: &[Traced],
+) -> Result<(), AllocError>
+    ensures { Writes result page.old page.new (spec.others_told files.entry home others.now) }
 {
     let mut last: usize = 0;
     let mut told = false;
     for other in others {
         let line = other.finding.line;
-        if line != last {
-            page.numbers(&[before_line(told)], &[line])?;
+        if !told || !is_same_line(&files, last, line) {
+            page.texts(&[before_line(told)])?;
+            page.say(&[Part::Line(files, home, line)])?;
             last = line;
             told = true;
         }
@@ -216,7 +230,6 @@ pub(crate) fn report_finding(
     alloc: Global,
     page: &mut Page,
     coloured: bool,
-    file: ShownFile<'_>,
     scene: &Scene<'_>,
     finding: &Finding,
     words: &Words,
@@ -224,15 +237,15 @@ pub(crate) fn report_finding(
     others: &[Traced],
 ) -> Result<(), AllocError>
     ensures { Writes result page.old page.new
-        (spec.finding_report coloured file.entry.name.now file.entry.lines.now scene.now.lines.now scene.now.graph.now finding.now words.now
+        (spec.finding_report coloured scene.now.files scene.now.lines.now scene.now.graph.now finding.now words.now
         (option_copied shown.entry) others.now) }
 {
     let subject = words.subject.as_slice();
-    tell_head(page, coloured, file.name, scene, finding, words)?;
-    tell_shown(
-        alloc, page, coloured, file.lines, scene, finding, subject, shown,
-    )?;
-    tell_others(page, others)?;
+    let site = scene.site(finding.callback, finding.point);
+    let home = scene.files.file_at(site.place.line);
+    tell_head(page, coloured, scene, finding, words)?;
+    tell_shown(alloc, page, coloured, home, scene, finding, subject, shown)?;
+    tell_others(page, scene.files, home, others)?;
     tell_help(alloc, page, words.help.as_slice())?;
     tell_note(page, words.note.as_slice())
 }

@@ -1,11 +1,12 @@
 //! The first lines of reports.
 
-ghost use Rattle.std.specs.Prelude.{option_copied};
+ghost use Rattle.std.specs.Prelude.{◌≡◌, option_copied};
 ghost use Rattle.flt_details.specs.Page.{Writes};
 ghost use Rattle.flt_reports.specs.Heading as spec;
 
 use crate::colours::{bold, plain, red, yellow};
 use flt_details::Page;
+use flt_places::Files;
 use flt_tree::Position;
 use std::alloc::AllocError;
 
@@ -83,4 +84,22 @@ pub(crate) fn tell_place(page: &mut Page, place: Position) -> Result<(), AllocEr
     ensures { Writes result page.old page.new (spec.at_place place) }
 {
     page.numbers(&[":", ":"], &[place.line, place.column])
+}
+
+/// The name of the file in which a line of the text is.
+pub(crate) fn name_at<'f>(files: &Files<'f>, line: usize) -> &'f str
+    ensures { result.now ≡ spec.name_at files.now line }
+{
+    files.file_name(files.file_at(line))
+}
+
+/// Writes the place in its file of a place in the text, after the file's name.
+pub(crate) fn tell_file_place(
+    page: &mut Page,
+    files: &Files<'_>,
+    place: Position,
+) -> Result<(), AllocError>
+    ensures { Writes result page.old page.new (spec.at_file_place files.now place) }
+{
+    tell_place(page, files.file_place(place))
 }

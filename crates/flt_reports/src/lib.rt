@@ -4,8 +4,8 @@
 #![tactic(auto)]
 
 mod colours;
+mod excerpts;
 mod fault_report;
-mod file_text;
 mod finding_report;
 mod heading;
 mod indents;
@@ -18,7 +18,6 @@ mod shown_lines;
 mod warning_report;
 mod way_lines;
 
-pub use file_text::{FileText, ShownFile};
 pub use line_report::{MarkedLine, report_line};
 pub use reports::{Report, report_findings, report_nothing, report_unread};
 pub use warning_report::report_warning;

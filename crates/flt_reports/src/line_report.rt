@@ -54,7 +54,12 @@ fn tell_meant(page: &mut Page, meant: &[u8]) -> Result<(), AllocError>
 
 /// Draws the line, and after the marks the word that is probably meant; nothing if no part of the line is shown.
 #[tactic(auto, unfolding(crate::specs::Line::picture))]
-fn draw(page: &mut Page, coloured: bool, marked: &MarkedLine<'_>) -> Result<(), AllocError>
+fn draw(
+    alloc: Global,
+    page: &mut Page,
+    coloured: bool,
+    marked: &MarkedLine<'_>,
+) -> Result<(), AllocError>
     ensures { Writes result page.old page.new (spec.picture coloured marked.now) }
 {
     if marked.shown.is_empty() {
@@ -64,13 +69,8 @@ fn draw(page: &mut Page, coloured: bool, marked: &MarkedLine<'_>) -> Result<(), 
         place: place_of(marked),
         length: marked.marked,
     };
-    Drawing::new(coloured, marked.line).draw(
-        page,
-        marked.shown,
-        marked.shown,
-        &site,
-        Stroke::Error,
-    )?;
+    let drawing = Drawing::new(coloured, marked.line, 0);
+    drawing.draw_alone(alloc, page, marked.shown, &site, Stroke::Error)?;
     tell_meant(page, marked.meant)
 }
 
@@ -87,13 +87,18 @@ fn tell_help(page: &mut Page, help: &str) -> Result<(), AllocError>
 }
 
 #[tactic(auto, unfolding(crate::specs::Line::line_report))]
-fn tell(page: &mut Page, coloured: bool, marked: &MarkedLine<'_>) -> Result<(), AllocError>
+fn tell(
+    alloc: Global,
+    page: &mut Page,
+    coloured: bool,
+    marked: &MarkedLine<'_>,
+) -> Result<(), AllocError>
     ensures { Writes result page.old page.new (spec.line_report coloured marked.now) }
 {
     tell_heading(page, coloured, None, marked.message, marked.name)?;
     tell_place(page, place_of(marked))?;
     page.bytes(b"\n")?;
-    draw(page, coloured, marked)?;
+    draw(alloc, page, coloured, marked)?;
     tell_help(page, marked.help)
 }
 
@@ -111,6 +116,6 @@ pub fn report_line(
     ensures { IfOk result (λ lines. lines.items ≡ spec.line_report coloured marked.now) }
 {
     let mut page = Page::new(alloc);
-    tell(&mut page, coloured, marked)?;
+    tell(alloc, &mut page, coloured, marked)?;
     Ok(page.out)
 }

@@ -6,14 +6,13 @@ ghost use Rattle.flt_details.specs.Page.{Writes};
 ghost use Rattle.flt_reports.specs.MarkOrder.{all_placed};
 ghost use Rattle.flt_reports.specs.Shown as spec;
 
-use crate::file_text::excerpt;
-use crate::mark_order::{Mark, add_mark, last_line};
+use crate::excerpts::excerpt_of;
+use crate::mark_order::{Mark, add_mark, greatest_line};
 use crate::mark_words::{Sign, tell_mark};
 use crate::marks::{Drawing, Stroke};
 use flt_details::{Page, Scene, Shown};
 use flt_explain::Finding;
 use flt_origins::{Cause, Origin};
-use flt_places::Lines;
 use std::alloc::{AllocError, Global};
 
 // ---- which marks
@@ -103,9 +102,9 @@ fn stroke(sign: Sign) -> Stroke
 /// Draws marks, in their order, with their words.
 #[tactic(auto, unfolding(crate::specs::Shown::all_drawn))]
 fn draw_marks(
+    alloc: Global,
     page: &mut Page,
     drawing: &mut Drawing,
-    file: &Lines<'_>,
     scene: &Scene<'_>,
     finding: &Finding,
     subject: &[u8],
@@ -113,14 +112,22 @@ fn draw_marks(
     marks: &[Mark<Sign>],
 ) -> Result<(), AllocError>
     ensures { Writes result page.old page.new
-        (spec.all_drawn drawing.old.coloured drawing.old.margin file.now scene.now.lines.now scene.now.graph.now finding.now subject.now
-        shown.now.answer drawing.old.last marks.now) }
+        (spec.all_drawn drawing.old.coloured drawing.old.margin scene.now.files drawing.old.file scene.now.lines.now scene.now.graph.now
+        finding.now subject.now shown.now.answer drawing.old.last marks.now) }
 {
     for mark in marks {
         let number = mark.site.place.line;
         let line = scene.lines.line(number);
-        let excerpt = excerpt(&*file, &*scene.lines, number);
-        drawing.draw(page, excerpt, line, &mark.site, stroke(mark.sign))?;
+        let excerpt = excerpt_of(&scene.files, scene.lines, number);
+        drawing.draw(
+            alloc,
+            page,
+            &scene.files,
+            excerpt,
+            line,
+            &mark.site,
+            stroke(mark.sign),
+        )?;
         tell_mark(page, scene, finding, subject, shown, mark.sign)?;
     }
     Ok(())
@@ -132,22 +139,23 @@ pub(crate) fn draw_shown(
     alloc: Global,
     page: &mut Page,
     coloured: bool,
-    file: &Lines<'_>,
     scene: &Scene<'_>,
     finding: &Finding,
     subject: &[u8],
     shown: &Shown,
 ) -> Result<(), AllocError>
     ensures { Writes result page.old page.new
-        (spec.shown_lines coloured file.now scene.now.lines.now scene.now.graph.now finding.now subject.now shown.now) }
+        (spec.shown_lines coloured scene.now.files scene.now.lines.now scene.now.graph.now finding.now subject.now shown.now) }
 {
     let marks = marks_of(alloc, scene, finding, shown)?;
     let marks = marks.as_slice();
-    let mut drawing = Drawing::new(coloured, last_line(finding.line, marks));
+    let site = scene.site(finding.callback, finding.point);
+    let home = scene.files.file_at(site.place.line);
+    let mut drawing = Drawing::new(coloured, greatest_line(&scene.files, marks), home);
     draw_marks(
+        alloc,
         page,
         &mut drawing,
-        file,
         scene,
         finding,
         subject,

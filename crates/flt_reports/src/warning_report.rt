@@ -5,13 +5,13 @@ ghost use Rattle.flt_details.specs.Page.{Writes};
 ghost use Rattle.flt_reports.specs.MarkOrder.{all_placed};
 ghost use Rattle.flt_reports.specs.WarningReport as spec;
 
-use crate::file_text::{ShownFile, excerpt};
+use crate::excerpts::excerpt_of;
 use crate::finding_report::{tell_callback, tell_help, tell_note, tell_numbers};
-use crate::heading::{tell_place, tell_warning_heading};
-use crate::mark_order::{Mark, add_mark, last_line};
+use crate::heading::{name_at, tell_file_place, tell_warning_heading};
+use crate::mark_order::{Mark, add_mark, greatest_line};
 use crate::marks::{Drawing, Stroke};
 use flt_details::{Marks, Page};
-use flt_places::{Lines, Region, Site};
+use flt_places::{Files, Lines, Region, Site};
 use flt_warning_details::{RelatedPlace, WarningDetail};
 use flt_warnings::Site as Point;
 use std::alloc::{AllocError, Global};
@@ -45,14 +45,16 @@ fn tell_point(page: &mut Page, point: Option<Point>) -> Result<(), AllocError>
 fn tell_head_lines(
     page: &mut Page,
     coloured: bool,
-    name: &str,
+    files: &Files<'_>,
     detail: &WarningDetail,
 ) -> Result<(), AllocError>
-    ensures { Writes result page.old page.new (spec.head_lines coloured name.now detail.now) }
+    ensures { Writes result page.old page.new (spec.head_lines coloured files.now detail.now) }
 {
     let kind = detail.kind.name();
+    let first = detail.marks.statement.first;
+    let name = name_at(files, first.line);
     tell_warning_heading(page, coloured, kind, detail.title.as_slice(), name)?;
-    tell_place(page, detail.marks.statement.first)?;
+    tell_file_place(page, files, first)?;
     tell_head(page, detail.head.as_slice())?;
     tell_point(page, detail.site)
 }
@@ -154,22 +156,26 @@ fn tell_mark(
 
 /// Draws marks, in their order, with their words.
 #[tactic(auto, unfolding(crate::specs::WarningReport::all_drawn))]
-fn draw_marks(
+fn draw_marks<'x>(
+    alloc: Global,
     page: &mut Page,
     drawing: &mut Drawing,
-    file: &Lines<'_>,
-    lines: &Lines<'_>,
+    files: &Files<'x>,
+    lines: &Lines<'x>,
     related: &[RelatedPlace],
     marks: &[Mark<Option<usize>>],
 ) -> Result<(), AllocError>
     ensures { Writes result page.old page.new
-        (spec.all_drawn drawing.old.coloured drawing.old.margin file.now lines.now related.now drawing.old.last marks.now) }
+        (spec.all_drawn drawing.old.coloured drawing.old.margin files.now drawing.old.file lines.now related.now drawing.old.last
+        marks.now) }
 {
     for mark in marks {
         let number = mark.site.place.line;
-        let excerpt = excerpt(&*file, &*lines, number);
+        let excerpt = excerpt_of(files, lines, number);
         drawing.draw(
+            alloc,
             page,
+            files,
             excerpt,
             lines.line(number),
             &mark.site,
@@ -182,62 +188,61 @@ fn draw_marks(
 
 /// Draws the places of a warning, in the order of their lines.
 #[tactic(auto, unfolding(crate::specs::WarningReport::places_drawn))]
-fn draw_places(
+fn draw_places<'x>(
     alloc: Global,
     page: &mut Page,
     coloured: bool,
-    file: &Lines<'_>,
-    lines: &Lines<'_>,
+    files: &Files<'x>,
+    lines: &Lines<'x>,
     detail: &WarningDetail,
 ) -> Result<(), AllocError>
-    ensures { Writes result page.old page.new (spec.places_drawn coloured file.now lines.now detail.now) }
+    ensures { Writes result page.old page.new (spec.places_drawn coloured files.now lines.now detail.now) }
 {
     let marks = marks_of(alloc, lines, detail)?;
     let marks = marks.as_slice();
     let first = detail.marks.statement.first.line;
-    let mut drawing = Drawing::new(coloured, last_line(first, marks));
+    let mut drawing = Drawing::new(coloured, greatest_line(files, marks), files.file_at(first));
     let related = detail.related.as_slice();
-    draw_marks(page, &mut drawing, file, lines, related, marks)
+    draw_marks(alloc, page, &mut drawing, files, lines, related, marks)
 }
 
 // ---- all of it
 
 /// Writes the report of a warning.
 #[tactic(auto, unfolding(crate::specs::WarningReport::warning_report))]
-fn tell(
+fn tell<'x>(
     alloc: Global,
     page: &mut Page,
     coloured: bool,
-    file: ShownFile<'_>,
-    lines: &Lines<'_>,
+    files: &Files<'x>,
+    lines: &Lines<'x>,
     detail: &WarningDetail,
 ) -> Result<(), AllocError>
     ensures { Writes result page.old page.new
-        (spec.warning_report coloured file.entry.name.now file.entry.lines.now lines.now detail.now) }
+        (spec.warning_report coloured files.now lines.now detail.now) }
 {
-    tell_head_lines(page, coloured, file.name, detail)?;
-    draw_places(alloc, page, coloured, file.lines, lines, detail)?;
+    tell_head_lines(page, coloured, files, detail)?;
+    draw_places(alloc, page, coloured, files, lines, detail)?;
     tell_help(alloc, page, detail.help.as_slice())?;
     tell_note(page, detail.note.as_slice())
 }
 
-/// The report of a warning in a text of these lines, which is in this file: its title and place, the file's lines at its places, what to
+/// The report of a warning in a text of these lines, which is in these files: its title and place, the files' lines at its places, what to
 /// write, and what may result from it, in whole lines. With `coloured`, escape sequences of a terminal colour them.
 ///
 /// # Errors
 ///
 /// If memory is refused.
-pub fn report_warning(
+pub fn report_warning<'x>(
     alloc: Global,
     coloured: bool,
-    file: ShownFile<'_>,
-    lines: &Lines<'_>,
+    files: &Files<'x>,
+    lines: &Lines<'x>,
     detail: &WarningDetail,
 ) -> Result<Vec<u8>, AllocError>
-    ensures { IfOk result (λ report. report.items
-        ≡ spec.warning_report coloured file.entry.name.now file.entry.lines.now lines.now detail.now) }
+    ensures { IfOk result (λ report. report.items ≡ spec.warning_report coloured files.now lines.now detail.now) }
 {
     let mut page = Page::new(alloc);
-    tell(alloc, &mut page, coloured, file, lines, detail)?;
+    tell(alloc, &mut page, coloured, files, lines, detail)?;
     Ok(page.out)
 }

@@ -6,7 +6,7 @@ ghost use Rattle.flt_reports.specs.Indents.{headed};
 ghost use Rattle.flt_reports.specs.Ways as spec;
 
 use crate::indents::begin;
-use flt_details::{Page, Scene, step_outcome, tell_branch};
+use flt_details::{Page, Part, Scene, step_outcome, tell_branch};
 use flt_ways::{Step, Way};
 use std::alloc::AllocError;
 
@@ -14,14 +14,17 @@ use std::alloc::AllocError;
 #[tactic(auto, unfolding(crate::specs::Ways::branch_line))]
 fn tell_step(
     page: &mut Page,
+    home: usize,
     scene: &Scene<'_>,
     callback: usize,
     point: usize,
     outcome: &str,
 ) -> Result<(), AllocError>
-    ensures { Writes result page.old page.new (spec.branch_line scene.now.lines.now scene.now.graph.now callback point outcome.now) }
+    ensures { Writes result page.old page.new
+        (spec.branch_line scene.now.files home scene.now.lines.now scene.now.graph.now callback point outcome.now) }
 {
-    page.numbers(&["", ": "], &[scene.line(callback, point)])?;
+    page.say(&[Part::Line(scene.files, home, scene.line(callback, point))])?;
+    page.bytes(b": ")?;
     tell_branch(page, scene, callback, point, outcome)?;
     page.bytes(b"\n")
 }
@@ -29,19 +32,20 @@ fn tell_step(
 /// Writes the branches among some steps, a line each, the first after a word for them.
 fn tell_steps(
     page: &mut Page,
+    home: usize,
     scene: &Scene<'_>,
     callback: usize,
     word: &str,
     steps: &[Step],
 ) -> Result<(), AllocError>
     ensures { Writes result page.old page.new
-        (headed word.now (spec.branch_lines scene.now.lines.now scene.now.graph.now callback steps.now)) }
+        (headed word.now (spec.branch_lines scene.now.files home scene.now.lines.now scene.now.graph.now callback steps.now)) }
 {
     let mut told = false;
     for step in steps {
         if let Some(outcome) = step_outcome(scene, callback, *step) {
             begin(page, word, told)?;
-            tell_step(page, scene, callback, step.point, outcome)?;
+            tell_step(page, home, scene, callback, step.point, outcome)?;
             told = true;
         }
     }
@@ -52,16 +56,17 @@ fn tell_steps(
 #[tactic(auto, unfolding(crate::specs::Ways::path_lines))]
 pub(crate) fn tell_way(
     page: &mut Page,
+    home: usize,
     scene: &Scene<'_>,
     callback: usize,
     word: &str,
     way: Option<&Way>,
 ) -> Result<(), AllocError>
     ensures { Writes result page.old page.new
-        (spec.path_lines scene.now.lines.now scene.now.graph.now callback word.now (option_copied way.entry)) }
+        (spec.path_lines scene.now.files home scene.now.lines.now scene.now.graph.now callback word.now (option_copied way.entry)) }
 {
     match way {
-        Some(way) => tell_steps(page, scene, callback, word, way.steps.as_slice()),
+        Some(way) => tell_steps(page, home, scene, callback, word, way.steps.as_slice()),
         None => Ok(()),
     }
 }

@@ -17,31 +17,31 @@ use Rattle.flt_timeline.specs.declared.telling.Happening.TheVariants.{Runs}
 some_steps : (steps : ℕ) → 0 < steps → nat_eq steps 0 ≡ false
 some_steps steps h = grind arith
 
-module _ (p : List Filter) (a : ℕ) (grant : Bool) (end : ℕ) where
+module _ (p : List Filter) (a : ℕ) (grant : Bool) (filter end : ℕ) where
   -- it isn't enabled
   pub not_made : (w v x : World) (made : Bool) (why : Refusal) → v ≡ w → LeadsTo (after_step p v [] (Board a grant)) made x → made ≡ false →
       why ≡ of_step (is_some (local_step (actor_at w a).draining (activation_at w a) (activation_at w a).rest)) grant →
-      seen p a grant end w ≡ Stays why
+      seen p a grant filter end w ≡ Stays why
   not_made w v x made why same leads isnt is =
-      ap (λ (u : World). gone_by p a grant end w (after_step p u [] (Board a grant))) (sym same)
-      ∙ ap (gone_by p a grant end w) (leads ∙ ap (λ (b : Bool). if b then Some x else None) isnt)
+      ap (λ (u : World). gone_by p a grant filter end w (after_step p u [] (Board a grant))) (sym same)
+      ∙ ap (gone_by p a grant filter end w) (leads ∙ ap (λ (b : Bool). if b then Some x else None) isnt)
       ∙ ap Stays (sym is)
 
   -- it was made
   pub was_made : (w v x : World) (made : Bool) (line : ℕ) (sign : Option Sign) (outcome : Option Bool) → v ≡ w →
       LeadsTo (after_step p v [] (Board a grant)) made x → made ≡ true → line ≡ next_line end (activation_at w a).rest →
       sign ≡ sign_of w a grant (activation_at w a).rest → outcome ≡ option_map (shows x a) sign →
-      seen p a grant end w ≡ Comes x (Runs line outcome)
+      seen p a grant filter end w ≡ Comes x (Runs filter line outcome)
   was_made w v x made line sign outcome same leads does at looked is =
-      ap (λ (u : World). gone_by p a grant end w (after_step p u [] (Board a grant))) (sym same)
-      ∙ ap (gone_by p a grant end w) (leads ∙ ap (λ (b : Bool). if b then Some x else None) does)
-      ∙ ap (λ (l : ℕ). Comes x (Runs l (option_map (shows x a) (sign_of w a grant (activation_at w a).rest)))) (sym at)
-      ∙ ap (λ (s : Option Sign). Comes x (Runs line (option_map (shows x a) s))) (sym looked)
-      ∙ ap (λ (o : Option Bool). Comes x (Runs line o)) (sym is)
+      ap (λ (u : World). gone_by p a grant filter end w (after_step p u [] (Board a grant))) (sym same)
+      ∙ ap (gone_by p a grant filter end w) (leads ∙ ap (λ (b : Bool). if b then Some x else None) does)
+      ∙ ap (λ (l : ℕ). Comes x (Runs filter l (option_map (shows x a) (sign_of w a grant (activation_at w a).rest)))) (sym at)
+      ∙ ap (λ (s : Option Sign). Comes x (Runs filter line (option_map (shows x a) s))) (sym looked)
+      ∙ ap (λ (o : Option Bool). Comes x (Runs filter line o)) (sym is)
 
   -- steps of an activation that hasn't ended
   pub going : (steps : ℕ) (w : World) (ended : Bool) → ended ≡ (activation_at w a).ended → ended ≡ false → 0 < steps →
-      go p a grant end steps w ≡ go_from p a grant end 0 (steps - 1) w
+      go p a grant filter end steps w ≡ go_from p a grant filter end 0 (steps - 1) w
   going steps w ended is isnt some =
       let e : (activation_at w a).ended ≡ false = sym is ∙ isnt in
       let f : nat_eq steps 0 ≡ false = some_steps steps some in

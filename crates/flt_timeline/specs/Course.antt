@@ -141,12 +141,13 @@ pub data Gone : Type 0 where
   Comes : (world : World) → (happening : Happening) → Gone
   Stays : (why : Refusal) → Gone
 
-module _ (p : List Filter) (a : ℕ) (grant : Bool) (end : ℕ) where
-  -- what the step that others see came to, from one world to another: its line, and how a call or a test in it came out
+module _ (p : List Filter) (a : ℕ) (grant : Bool) (filter end : ℕ) where
+  -- what the step that others see came to, from one world to another: the number of the filter, its line, and how a call or a test in it
+  -- came out
   abbrev pub ran : World → World → Happening
   ran w u =
       let rest = (activation_at w a).rest in
-      happenings.Runs (next_line end rest) (option_map (shows u a) (sign_of w a grant rest))
+      happenings.Runs filter (next_line end rest) (option_map (shows u a) (sign_of w a grant rest))
 
   -- it isn't enabled, or was made
   abbrev pub gone_by : World → Option World → Gone
@@ -193,7 +194,7 @@ after_run s a run (Comes w happening) =
 -- one that has started
 abbrev pub go_entry : List Filter → Scene → ℕ → ℕ → Bool → Option Run → Entered
 go_entry p s a steps grant None = Stops refusals.NoActivation
-go_entry p s a steps grant (Some run) = after_run s a run (go p a grant (end_line p run.started) steps s.world)
+go_entry p s a steps grant (Some run) = after_run s a run (go p a grant run.started.filter (end_line p run.started) steps s.world)
 
 -- ---- entries
 

@@ -54,7 +54,7 @@ listed says (x ∷ xs) = says x ++ flat_map (λ other. codes ", " ++ says other)
 
 -- what is told by a number, in a row about this operation
 abbrev pub telling_words : Timeline → Option ℕ → ℕ → Text
-telling_words t operation number = happening_words t.filters.items operation (happening_in (telling_by t number))
+telling_words t operation number = happening_words t.filters.items t.files operation (happening_in (telling_by t number))
 
 -- so many times more, these words
 abbrev pub times_words : ℕ → Text → Text

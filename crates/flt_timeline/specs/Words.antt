@@ -3,6 +3,8 @@ use Rattle.std.specs.Prelude.{◌≡◌, ℕ, ◌+◌, Bool, true, false, List, 
 use Rattle.std.specs.Borrow.{Bor}
 use Rattle.std.specs.Char.{is_ascii_graphic}
 use Rattle.std.specs.Fmt.{decimal}
+use Rattle.flt_places.specs.Files.{file_at, file_line, file_name}
+use Rattle.flt_places.specs.declared.files.Files.{Files}
 use Rattle.flt_rules.specs.declared.place.Mode.{Mode}
 use Rattle.flt_rules.specs.declared.place.Mode.TheVariants.{Irp, Fast}
 use Rattle.flt_rules.specs.declared.place.Operation.{Operation}
@@ -138,19 +140,43 @@ abbrev pub operation_words : Text → Option ℕ → Text
 operation_words word (Some operation) = word ++ decimal operation
 operation_words word None = word
 
+-- ---- lines
+
+-- the name of the file of a line of a text, where there are several files
+abbrev pub name_before : Files → ℕ → Text
+name_before files line = if nat_lt 1 (length files.all.now) then map shown (file_name files (file_at files line)) ++ codes ":" else []
+
+-- a line of a text by its number in its file
+abbrev pub line_in : Files → ℕ → Text
+line_in files line = name_before files line ++ decimal (file_line files line)
+
+-- the same; by its number in the text, where the files aren't known
+abbrev pub line_words : Option Files → ℕ → Text
+line_words None line = decimal line
+line_words (Some files) line = line_in files line
+
+-- the files of the filter of a number, if they are known
+abbrev pub files_by : Option (Option Files) → Option Files
+files_by None = None
+files_by (Some files) = files
+
+abbrev pub files_of : List (Option Files) → ℕ → Option Files
+files_of files filter = files_by (slice_get files filter)
+
 -- what an entry came to that is about this operation, if it is about one
-abbrev pub happening_words : List (Bor Filter) → Option ℕ → Happening → Text
-happening_words filters operation (happenings.Arrives kind mode file) = arrival_words kind mode file
-happening_words filters operation happenings.Skips = operation_words (codes "skip ") operation
-happening_words filters operation happenings.Lowers = operation_words (codes "lower ") operation
-happening_words filters operation happenings.Cancels = operation_words (codes "cancel ") operation
-happening_words filters operation (happenings.Detaches altitude) = codes "detach " ++ decimal altitude
-happening_words filters operation (happenings.Unlinks altitude key) = unlink_words altitude key
-happening_words filters operation (happenings.IsDetached altitude) = codes "detached " ++ decimal altitude
-happening_words filters operation (happenings.Starts started) = callback_words filters started ++ starts_word started.draining
-happening_words filters operation (happenings.Runs line outcome) = decimal line ++ outcome_word outcome
-happening_words filters operation (happenings.IsRefused entry) = entry_words entry
-happening_words filters operation happenings.IsLeftOut = codes "not judged"
+abbrev pub happening_words : List (Bor Filter) → List (Option Files) → Option ℕ → Happening → Text
+happening_words filters files operation (happenings.Arrives kind mode file) = arrival_words kind mode file
+happening_words filters files operation happenings.Skips = operation_words (codes "skip ") operation
+happening_words filters files operation happenings.Lowers = operation_words (codes "lower ") operation
+happening_words filters files operation happenings.Cancels = operation_words (codes "cancel ") operation
+happening_words filters files operation (happenings.Detaches altitude) = codes "detach " ++ decimal altitude
+happening_words filters files operation (happenings.Unlinks altitude key) = unlink_words altitude key
+happening_words filters files operation (happenings.IsDetached altitude) = codes "detached " ++ decimal altitude
+happening_words filters files operation (happenings.Starts started) = callback_words filters started ++ starts_word started.draining
+happening_words filters files operation (happenings.Runs filter line outcome) =
+    line_words (files_of files filter) line ++ outcome_word outcome
+happening_words filters files operation (happenings.IsRefused entry) = entry_words entry
+happening_words filters files operation happenings.IsLeftOut = codes "not judged"
 
 -- a violation, as it is printed
 abbrev pub violation_word : Violation → Text

@@ -30,15 +30,16 @@ fn outcome_of(sign: Option<Sign>, world: &World<'_>, activation: usize) -> Optio
     }
 }
 
-/// Makes the step that others see, in a callback whose closing brace has this line; or says why it isn't enabled.
+/// Makes the step that others see, in a callback of a filter, whose closing brace has this line; or says why it isn't enabled.
 fn go_seen<'a>(
     world: &mut World<'a>,
     stage: &Stage<'_, 'a>,
     activation: usize,
     grant: bool,
+    filter: usize,
     end: usize,
 ) -> Result<Result<Happening, Refusal>, AllocError>
-    ensures { IfOk result (λ gone. spec.IsGone gone world.new (spec.seen stage.now.stack.now activation grant end world.old)) }
+    ensures { IfOk result (λ gone. spec.IsGone gone world.new (spec.seen stage.now.stack.now activation grant filter end world.old)) }
 {
     let next = upcoming(world, activation)?;
     let line = next_line(next, end);
@@ -48,7 +49,7 @@ fn go_seen<'a>(
         return Ok(Err(why));
     }
     let outcome = outcome_of(sign, world, activation);
-    Ok(Ok(Happening::Runs(line, outcome)))
+    Ok(Ok(Happening::Runs(filter, line, outcome)))
 }
 
 /// Makes so many steps, of which the last is seen; or says why one of them isn't enabled.
@@ -58,9 +59,10 @@ pub(crate) fn go<'a>(
     activation: usize,
     steps: u32,
     grant: bool,
+    filter: usize,
     end: usize,
 ) -> Result<Result<Happening, Refusal>, AllocError>
-    ensures { IfOk result (λ gone. spec.IsGone gone world.new (spec.go stage.now.stack.now activation grant end steps world.old)) }
+    ensures { IfOk result (λ gone. spec.IsGone gone world.new (spec.go stage.now.stack.now activation grant filter end steps world.old)) }
 {
     if world.has_ended(activation) {
         return Ok(Err(Refusal::HasEnded));
@@ -72,5 +74,5 @@ pub(crate) fn go<'a>(
     if made < steps - 1 {
         return Ok(Err(Refusal::IsSeen(made + 1)));
     }
-    go_seen(world, stage, activation, grant, end)
+    go_seen(world, stage, activation, grant, filter, end)
 }

@@ -25,7 +25,7 @@ mod timeline;
 mod words;
 
 pub use callbacks::{callbacks_at, start_of};
-pub use filters::filters_of;
+pub use filters::{filters_of, tree_at};
 pub use folds::Fold;
 pub use rows::Row;
 pub use telling::Started;

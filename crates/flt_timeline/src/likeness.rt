@@ -97,8 +97,8 @@ fn is_happening(one: Happening, other: Happening) -> bool
             own == altitude && is_key(key, other)
         }
         (Happening::Starts(own), Happening::Starts(started)) => is_started(own, started),
-        (Happening::Runs(own, outcome), Happening::Runs(line, other)) => {
-            own == line && is_outcome(outcome, other)
+        (Happening::Runs(filter, own, outcome), Happening::Runs(runs, line, other)) => {
+            filter == runs && own == line && is_outcome(outcome, other)
         }
         _ => false,
     }

@@ -278,7 +278,16 @@ impl<'a> Scene<'a> {
             return Ok(Err(Refusal::NoActivation));
         };
         let end = end_line(stage.filters, run.started);
-        match go(&mut self.world, stage, activation, steps, grant, end)? {
+        let filter = run.started.filter;
+        match go(
+            &mut self.world,
+            stage,
+            activation,
+            steps,
+            grant,
+            filter,
+            end,
+        )? {
             Ok(happening) => Ok(Ok(self.tell_run(activation, run, happening))),
             Err(why) => Ok(Err(why)),
         }

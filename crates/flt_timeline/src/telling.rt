@@ -35,8 +35,9 @@ pub(crate) enum Happening {
     Unlinks(u32, Key),
     IsDetached(u32),
     Starts(Started),
-    /// A line, from 1, whose statement others see; and if it is a call or a test, whether it succeeds or holds.
-    Runs(usize, Option<bool>),
+    /// The number of a filter, from the highest altitude, and a line of its text, from 1, whose statement others see; and if it is a call
+    /// or a test, whether it succeeds or holds.
+    Runs(usize, usize, Option<bool>),
     /// It isn't enabled.
     IsRefused(JournalEntry),
     /// It comes after the entry that ends the run.

@@ -31,7 +31,7 @@ pub(crate) struct Tellings {
 /// The chain of a description, from 0: that of a step depends on its line.
 fn chain_of(telling: &Telling) -> usize {
     match telling.happening {
-        Happening::Runs(line, _) => line % CHAINS,
+        Happening::Runs(_, line, _) => line % CHAINS,
         _ => 0,
     }
 }

@@ -6,7 +6,7 @@ ghost use Rattle.std.specs.List.{range_with_len};
 ghost use Rattle.flt_timeline.specs.Folds.{part as told_in};
 ghost use Rattle.flt_timeline.specs.Reasons.{refusal_words};
 ghost use Rattle.flt_timeline.specs.Text as spec;
-ghost use Rattle.flt_timeline.specs.Words.{Puts, violation_word as violation_code};
+ghost use Rattle.flt_timeline.specs.Words.{Puts, files_of as files_by_filter, line_words, violation_word as violation_code};
 
 use crate::columns::COLUMNS;
 use crate::folds::{Fold, folds_of, from, part, stretch};
@@ -14,7 +14,9 @@ use crate::refusal::Refusal;
 use crate::rows::Row;
 use crate::telling::{Column, Happening, Started, Telling, Who};
 use crate::timeline::Timeline;
-use crate::words::{put_callback, put_happening, put_one, put_operation, violation_word};
+use crate::words::{
+    files_of, put_callback, put_happening, put_line, put_one, put_operation, violation_word,
+};
 use flt_model::{Verdict, Violation};
 use flt_tree::Filter;
 use sqlite_items::Items;
@@ -377,7 +379,8 @@ impl<'a> Timeline<'a> {
         ensures { Puts result (string_bytes out.old) (string_bytes out.new) (spec.telling_words self.now operation number) }
     {
         let happening = happening_in(self.telling_by(number));
-        put_happening(out, self.filters.as_slice(), operation, happening)
+        let files = self.files.as_slice();
+        put_happening(out, self.filters.as_slice(), files, operation, happening)
     }
 
     /// The words of the descriptions of some numbers.
@@ -603,6 +606,23 @@ impl<'a> Timeline<'a> {
         let mut out = String::new(alloc);
         self.put_words(alloc, &mut out, row)?;
         Ok(out)
+    }
+
+    /// Writes the number in its file of a line of the text of a filter, after the file's name if there are several. Filters count from 0,
+    /// from the highest altitude, and lines from 1.
+    ///
+    /// # Errors
+    ///
+    /// If memory is refused.
+    pub fn put_text_line(
+        &self,
+        out: &mut String,
+        filter: usize,
+        line: usize,
+    ) -> Result<(), AllocError>
+        ensures { Puts result (string_bytes out.old) (string_bytes out.new) (line_words (files_by_filter self.now.files filter) line) }
+    {
+        put_line(out, files_of(self.files.as_slice(), filter), line)
     }
 
     /// The column of a row, from 0; none for one in the margin. Beyond all columns it is their number.

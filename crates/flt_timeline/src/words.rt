@@ -6,6 +6,7 @@ ghost use Rattle.flt_timeline.specs.Words as spec;
 
 use crate::telling::{Happening, Started};
 use flt_model::{JournalEntry, Key, Move, Violation};
+use flt_places::Files;
 use flt_rules::{Mode, Operation};
 use flt_tree::{Filter, Head};
 use std::alloc::AllocError;
@@ -226,14 +227,70 @@ fn put_start(out: &mut String, filters: &[&Filter], started: Started) -> Result<
     })
 }
 
-fn put_run(out: &mut String, line: usize, outcome: Option<bool>) -> Result<(), AllocError>
-    ensures { spec.Puts result (string_bytes out.old) (string_bytes out.new) (decimal line ++ spec.outcome_word outcome) }
+/// The name of the file of a line of a text, before the line's number, if there are several files.
+fn put_file(out: &mut String, files: &Files<'_>, line: usize) -> Result<(), AllocError>
+    ensures { spec.Puts result (string_bytes out.old) (string_bytes out.new) (spec.name_before files.now line) }
 {
-    let came_out = match outcome {
-        Some(outcome) => choice_word(outcome),
-        None => "",
-    };
-    write!(out, "{line}{came_out}")
+    if files.all.len() > 1 {
+        put_name(out, files.file_name(files.file_at(line)).as_bytes())?;
+        return out.push_str(":");
+    }
+    Ok(())
+}
+
+/// A line of a text by its number in its file, after the file's name if there are several.
+fn put_line_in(out: &mut String, files: &Files<'_>, line: usize) -> Result<(), AllocError>
+    ensures { spec.Puts result (string_bytes out.old) (string_bytes out.new) (spec.line_in files.now line) }
+{
+    put_file(out, files, line)?;
+    let line = files.file_line(line);
+    write!(out, "{line}")
+}
+
+/// The same; by its number in the text, if the files aren't known.
+pub(crate) fn put_line(
+    out: &mut String,
+    files: Option<Files<'_>>,
+    line: usize,
+) -> Result<(), AllocError>
+    ensures { spec.Puts result (string_bytes out.old) (string_bytes out.new) (spec.line_words files.entry line) }
+{
+    match files {
+        None => write!(out, "{line}"),
+        Some(files) => put_line_in(out, &files, line),
+    }
+}
+
+fn put_outcome(out: &mut String, outcome: Option<bool>) -> Result<(), AllocError>
+    ensures { spec.Puts result (string_bytes out.old) (string_bytes out.new) (spec.outcome_word outcome) }
+{
+    match outcome {
+        Some(outcome) => out.push_str(choice_word(outcome)),
+        None => Ok(()),
+    }
+}
+
+fn put_run(
+    out: &mut String,
+    files: Option<Files<'_>>,
+    line: usize,
+    outcome: Option<bool>,
+) -> Result<(), AllocError>
+    ensures { spec.Puts result (string_bytes out.old) (string_bytes out.new)
+        (spec.line_words files.entry line ++ spec.outcome_word outcome) }
+{
+    put_line(out, files, line)?;
+    put_outcome(out, outcome)
+}
+
+/// The files of the filter of a number, if they are known.
+pub(crate) fn files_of<'f>(files: &[Option<Files<'f>>], filter: usize) -> Option<Files<'f>>
+    ensures { result ≡ spec.files_of files.now filter }
+{
+    match files.get(filter) {
+        Some(files) => *files,
+        None => None,
+    }
 }
 
 /// A word, which ends with a blank, and the number of an operation, if there is one.
@@ -254,10 +311,12 @@ pub(crate) fn put_operation(
 pub(crate) fn put_happening(
     out: &mut String,
     filters: &[&Filter],
+    files: &[Option<Files<'_>>],
     operation: Option<usize>,
     happening: Happening,
 ) -> Result<(), AllocError>
-    ensures { spec.Puts result (string_bytes out.old) (string_bytes out.new) (spec.happening_words filters.now operation happening) }
+    ensures { spec.Puts result (string_bytes out.old) (string_bytes out.new)
+        (spec.happening_words filters.now files.now operation happening) }
 {
     match happening {
         Happening::Arrives(kind, mode, file) => put_arrival(out, kind, mode, file),
@@ -268,7 +327,9 @@ pub(crate) fn put_happening(
         Happening::Unlinks(altitude, key) => put_unlink(out, altitude, key),
         Happening::IsDetached(altitude) => put_one(out, "detached ", altitude),
         Happening::Starts(started) => put_start(out, filters, started),
-        Happening::Runs(line, outcome) => put_run(out, line, outcome),
+        Happening::Runs(filter, line, outcome) => {
+            put_run(out, files_of(files, filter), line, outcome)
+        }
         Happening::IsRefused(entry) => put_entry(out, entry),
         Happening::IsLeftOut => out.push_str("not judged"),
     }

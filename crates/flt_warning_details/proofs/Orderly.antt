@@ -4,6 +4,7 @@ use Rattle.std.proofs.Common.{◌≡◌, Bool, true, false, List, [], ◌∷◌,
 use Rattle.std.specs.Prelude.{◌⊎◌}
 use Rattle.flt_tree.specs.WellFormed.{IsWellFormed}
 use Rattle.flt_syntax.specs.Spelling.{SpelledIsWellFormed}
+use Rattle.flt_places.specs.declared.files.Files.{Files}
 use Rattle.flt_tree.specs.Names.{Text}
 use Rattle.flt_tree.specs.declared.tree.Tree.{Tree}
 use Rattle.flt_graph.specs.declared.graph.Graph.{Graph}
@@ -41,27 +42,28 @@ in_order_by x allowed comments g k (Some c) shown sought none =
     let bad : true ≡ false = sym (circle_said x allowed comments c (warned g k) sought) ∙ none in absurd (cc)
 
 -- the same of what is said by a certificate
-in_order : (text : Text) (tree : Tree) (g : Graph) (k : Certificate) (allowed : AllowedKinds) (all : List WarningDetail) →
-    AreDetailsBy text tree.filter g k allowed all → allows allowed W01 ≡ false → warns_of_circle all ≡ false → TakesInOrder g k
-in_order text tree g k allowed all by sought none =
-    let x : Parsed = parsed text tree.filter g in
+in_order : (files : Files) (text : Text) (tree : Tree) (g : Graph) (k : Certificate) (allowed : AllowedKinds) (all : List WarningDetail) →
+    AreDetailsBy files text tree.filter g k allowed all → allows allowed W01 ≡ false → warns_of_circle all ≡ false → TakesInOrder g k
+in_order files text tree g k allowed all by sought none =
+    let x : Parsed = parsed files text tree.filter g in
     in_order_by x allowed (allowances_of text) g k by.warned.circle by.warned.shown sought
     (ap (λ ws. warns_of_circle (details x allowed (allowances_of text) ws)) (sym by.warned.all) ∙ ap warns_of_circle (sym by.said) ∙ none)
 
 -- by the least certificate; there is one, since something would be found
-orderly_by : (text : Text) (tree : Tree) (g : Graph) (allowed : AllowedKinds) (all : List WarningDetail) → IsWellFormed tree.filter →
+orderly_by : (files : Files) (text : Text) (tree : Tree) (g : Graph) (allowed : AllowedKinds) (all : List WarningDetail) →
+    IsWellFormed tree.filter →
     IsKnown text tree g [] → allows allowed W01 ≡ false → warns_of_circle all ≡ false →
-    AreCertified text tree.filter g allowed all ⊎ IsUncovered g all → IsOrderly tree.filter
-orderly_by text tree g allowed all fine known sought none (inl by) = record {
+    AreCertified files text tree.filter g allowed all ⊎ IsUncovered g all → IsOrderly tree.filter
+orderly_by files text tree g allowed all fine known sought none (inl by) = record {
   accepted = record { graph = g; cert = by.certificate; well_formed = fine; lowered = known.lowered; covers = by.covers };
-  ordered = in_order text tree g by.certificate allowed all by.details sought none;
+  ordered = in_order files text tree g by.certificate allowed all by.details sought none;
 }
-orderly_by text tree g allowed all fine known sought none (inr not) =
+orderly_by files text tree g allowed all fine known sought none (inr not) =
     absurd (not.uncovered known.findings.certificate known.findings.certified known.findings.covers)
 
 -- a text of which no circle is warned is of a filter that takes its locks in an order
 pub orderly_without_circles : SpelledIsWellFormed → TextsWithoutCirclesAreOrderly
-orderly_without_circles spelled text tree graph [] allowed all known said =
-    λ e sought none. orderly_by text tree graph allowed all (spelled text tree.filter known.spelled) known sought none said
-orderly_without_circles spelled text tree graph (h ∷ hs) allowed all known said =
+orderly_without_circles spelled files text tree graph [] allowed all known said =
+    λ e sought none. orderly_by files text tree graph allowed all (spelled text tree.filter known.spelled) known sought none said
+orderly_without_circles spelled files text tree graph (h ∷ hs) allowed all known said =
     λ e sought none. absurd (cc)

@@ -1,5 +1,6 @@
 -- What is said of all warnings of a text. This project's own program.
 use Rattle.std.specs.Prelude.{◌≡◌, ◌⊎◌, ℕ, zero, suc, ◌+◌, if◌then◌else◌, List, [], ◌∷◌, ◌++◌, flat_map, length, take, slice_get, Option, Some, None}
+use Rattle.flt_places.specs.declared.files.Files.{Files}
 use Rattle.flt_tree.specs.Names.{Text}
 use Rattle.flt_tree.specs.declared.filter.Filter.{Filter}
 use Rattle.flt_graph.specs.declared.graph.Graph.{Graph}
@@ -46,7 +47,7 @@ detail_by x allowed comments w = if allows allowed (kind_of w) then [] else deta
 
 -- what is said of a comment, after some others
 abbrev pub idle_by : Parsed → List Warning → List Allowance → Option Allowance → List WarningDetail
-idle_by x ws before (Some a) = if is_needed x ws before a then [] else idle_detail a ∷ []
+idle_by x ws before (Some a) = if is_needed x ws before a then [] else idle_detail x.files a ∷ []
 idle_by x ws before None = []
 
 -- the same of the comment of a number
@@ -73,11 +74,11 @@ unfoldable pub details : Parsed → AllowedKinds → List Allowance → List War
 details x allowed comments ws = flat_map (detail_by x allowed comments) ws ++ idle_unless x allowed comments ws
 
 -- what is said by a certificate: of its warnings and of the comments of the text
-pub record AreDetailsBy (text : Text) (f : Filter) (g : Graph) (k : Certificate) (allowed : AllowedKinds) (all : List WarningDetail)
-    : Type 0 where
+pub record AreDetailsBy (files : Files) (text : Text) (f : Filter) (g : Graph) (k : Certificate) (allowed : AllowedKinds)
+    (all : List WarningDetail) : Type 0 where
   pub ws : List Warning
   pub warned : AreWarnings g k ws
-  pub said : all ≡ details (parsed text f g) allowed (allowances_of text) ws
+  pub said : all ≡ details (parsed files text f g) allowed (allowances_of text) ws
 
 -- the least certificate, or none covers the text
 abbrev pub IsLeastOf : Graph → Option Certificate → Type 0
@@ -85,11 +86,12 @@ IsLeastOf g (Some k) = Covers g k × IsLeast g k
 IsLeastOf g None = NoneCovers g
 
 -- a certificate covers the text, and by the least one this is said
-pub record AreCertified (text : Text) (f : Filter) (g : Graph) (allowed : AllowedKinds) (all : List WarningDetail) : Type 0 where
+pub record AreCertified (files : Files) (text : Text) (f : Filter) (g : Graph) (allowed : AllowedKinds) (all : List WarningDetail)
+    : Type 0 where
   pub certificate : Certificate
   pub covers : Covers g certificate
   pub least : IsLeast g certificate
-  pub details : AreDetailsBy text f g certificate allowed all
+  pub details : AreDetailsBy files text f g certificate allowed all
 
 -- none covers the text, and nothing is said
 pub record IsUncovered (g : Graph) (all : List WarningDetail) : Type 0 where
@@ -98,6 +100,6 @@ pub record IsUncovered (g : Graph) (all : List WarningDetail) : Type 0 where
 
 -- what is said of the warnings of a text: nothing where something is found; else, by the least certificate, of its warnings and of the
 -- comments that allow nothing
-abbrev pub AreWarningDetails : Text → Filter → Graph → List Finding → AllowedKinds → List WarningDetail → Type 0
-AreWarningDetails text f g (h ∷ hs) allowed all = all ≡ []
-AreWarningDetails text f g [] allowed all = AreCertified text f g allowed all ⊎ IsUncovered g all
+abbrev pub AreWarningDetails : Files → Text → Filter → Graph → List Finding → AllowedKinds → List WarningDetail → Type 0
+AreWarningDetails files text f g (h ∷ hs) allowed all = all ≡ []
+AreWarningDetails files text f g [] allowed all = AreCertified files text f g allowed all ⊎ IsUncovered g all

@@ -1,6 +1,7 @@
 -- What it means that no circle of locks is warned of. This project's own program.
 use Rattle.std.specs.Prelude.{◌≡◌, Bool, true, false, List, []}
 use Rattle.std.specs.List.{list_any}
+use Rattle.flt_places.specs.declared.files.Files.{Files}
 use Rattle.flt_tree.specs.Names.{Text}
 use Rattle.flt_tree.specs.declared.filter.Filter.{Filter}
 use Rattle.flt_tree.specs.declared.tree.Tree.{Tree}
@@ -31,6 +32,6 @@ PromisesOrder found allowed all f = found ≡ [] → allows allowed W01 ≡ fals
 
 -- that is so of what is found and warned of in a text
 abbrev pub TextsWithoutCirclesAreOrderly : Type 0
-TextsWithoutCirclesAreOrderly = (text : Text) (tree : Tree) (graph : Graph) (found : List Finding) (allowed : AllowedKinds)
-    (all : List WarningDetail) → IsKnown text tree graph found → AreWarningDetails text tree.filter graph found allowed all →
+TextsWithoutCirclesAreOrderly = (files : Files) (text : Text) (tree : Tree) (graph : Graph) (found : List Finding) (allowed : AllowedKinds)
+    (all : List WarningDetail) → IsKnown text tree graph found → AreWarningDetails files text tree.filter graph found allowed all →
     PromisesOrder found allowed all tree.filter

@@ -1,6 +1,7 @@
 -- A text that parses, with all that is looked up in it. This project's own program.
 use Rattle.std.specs.Prelude.{ℕ, List}
 use Rattle.flt_rules.specs.declared.call.LockNumber.{LockNumber}
+use Rattle.flt_places.specs.declared.files.Files.{Files}
 use Rattle.flt_tree.specs.Declarations.{lock_name}
 use Rattle.flt_tree.specs.Names.{Text}
 use Rattle.flt_tree.specs.declared.filter.Filter.{Filter}
@@ -13,21 +14,27 @@ use Rattle.flt_details.specs.Subjects.{head_of}
 use Rattle.flt_warnings.specs.declared.warning.Site.{Site}
 use Rattle.flt_warning_details.specs.declared.parsed.ParsedText.{ParsedText}
 
--- a text, its filter and its points, and its tokens
+-- a text, the files in which its lines are, its filter and its points, and its tokens
 pub record Parsed : Type 0 where
+  pub files : Files
   pub text : Text
   pub filter : Filter
   pub graph : Graph
   pub tokens : List Token
 
 -- those of a text
-abbrev pub parsed : Text → Filter → Graph → Parsed
-parsed text f g = record { text = text; filter = f; graph = g; tokens = tokens_of text }
+abbrev pub parsed : Files → Text → Filter → Graph → Parsed
+parsed files text f g = record { files = files; text = text; filter = f; graph = g; tokens = tokens_of text }
 
 -- those that the program looks things up in
 abbrev pub of_parsed : ParsedText → Parsed
-of_parsed x =
-    record { text = x.scene.lines.now; filter = x.scene.tree.now.filter; graph = x.scene.graph.now; tokens = x.tokens.now }
+of_parsed x = record {
+  files = x.scene.files;
+  text = x.scene.lines.now;
+  filter = x.scene.tree.now.filter;
+  graph = x.scene.graph.now;
+  tokens = x.tokens.now;
+}
 
 -- what is done at a point
 unfoldable pub instruction : Parsed → Site → Instruction

@@ -9,33 +9,42 @@ use crate::detail::WarningDetail;
 use crate::places::bare;
 use flt_allowances::Allowance;
 use flt_details::{Page, Part};
+use flt_places::Files;
 use flt_warnings::Kind;
 use sqlite_items::Items;
 use std::alloc::{AllocError, Global};
 
-/// Writes that a comment is for a line that has no warning of its kind.
-fn tell_needless_title(page: &mut Page, kind: Kind, statement: usize) -> Result<(), AllocError>
-    ensures { Writes result page.old page.new (spec.needless_title kind statement) }
+/// Writes that a comment, which is in the file of the number `home`, is for a line that has no warning of its kind.
+fn tell_needless_title(
+    page: &mut Page,
+    files: Files<'_>,
+    home: usize,
+    kind: Kind,
+    statement: usize,
+) -> Result<(), AllocError>
+    ensures { Writes result page.old page.new (spec.needless_title files.entry home kind statement) }
 {
     page.say(&[
         Part::Text("this comment allows no "),
         Part::Word(kind.name()),
         Part::Text(" on line "),
-        Part::Number(statement),
+        Part::Line(files, home, statement),
     ])
 }
 
 /// Writes why a comment that names a kind allows nothing.
 fn tell_named_title(
     page: &mut Page,
+    files: Files<'_>,
+    home: usize,
     kind: Kind,
     reason: &[u8],
     statement: usize,
 ) -> Result<(), AllocError>
-    ensures { Writes result page.old page.new (spec.named_title kind reason.now statement) }
+    ensures { Writes result page.old page.new (spec.named_title files.entry home kind reason.now statement) }
 {
     if is_reason(reason) {
-        tell_needless_title(page, kind, statement)
+        tell_needless_title(page, files, home, kind, statement)
     } else {
         page.texts(&["this comment allows nothing: it gives no reason"])
     }
@@ -62,12 +71,14 @@ fn tell_named_help(page: &mut Page, kind: Kind, reason: &[u8]) -> Result<(), All
 }
 
 /// Writes why a comment allows nothing.
-fn tell_title(page: &mut Page, allowance: &Allowance) -> Result<(), AllocError>
-    ensures { Writes result page.old page.new (spec.title_of allowance.now) }
+fn tell_title(page: &mut Page, files: Files<'_>, allowance: &Allowance) -> Result<(), AllocError>
+    ensures { Writes result page.old page.new (spec.title_of files.entry allowance.now) }
 {
     match allowance.kind {
         Some(kind) => tell_named_title(
             page,
+            files,
+            files.file_at(allowance.region.first.line),
             kind,
             allowance.reason.as_slice(),
             allowance.statement,
@@ -86,11 +97,11 @@ fn tell_help(page: &mut Page, allowance: &Allowance) -> Result<(), AllocError>
     }
 }
 
-fn title_of(alloc: Global, allowance: &Allowance) -> Result<Items<u8>, AllocError>
-    ensures { IfOk result (λ z. z ≡ spec.title_of allowance.now) }
+fn title_of(alloc: Global, files: Files<'_>, allowance: &Allowance) -> Result<Items<u8>, AllocError>
+    ensures { IfOk result (λ z. z ≡ spec.title_of files.entry allowance.now) }
 {
     let mut page = Page::new(alloc);
-    tell_title(&mut page, allowance)?;
+    tell_title(&mut page, files, allowance)?;
     Ok(Items::from_vec(page.out))
 }
 
@@ -103,10 +114,14 @@ fn help_of(alloc: Global, allowance: &Allowance) -> Result<Items<u8>, AllocError
 }
 
 /// The details of a comment that allows nothing.
-pub(crate) fn idle_detail(alloc: Global, allowance: &Allowance) -> Result<WarningDetail, AllocError>
-    ensures { IfOk result (λ d. d ≡ spec.idle_detail allowance.now) }
+pub(crate) fn idle_detail(
+    alloc: Global,
+    files: Files<'_>,
+    allowance: &Allowance,
+) -> Result<WarningDetail, AllocError>
+    ensures { IfOk result (λ d. d ≡ spec.idle_detail files.entry allowance.now) }
 {
-    let title = title_of(alloc, allowance)?;
+    let title = title_of(alloc, files, allowance)?;
     let help = help_of(alloc, allowance)?;
     Ok(WarningDetail {
         kind: Kind::W00,

@@ -12,7 +12,7 @@ use crate::saying::{circle_of, head_of, help_of, marks_of, note_of, related_of, 
 use flt_allowances::{Allowance, allowances};
 use flt_analyse::{AnalyseFault, Ticks, analyse};
 use flt_cert::FullCert;
-use flt_details::{Scene, tokens_of};
+use flt_details::{Scene, Source, tokens_of};
 use flt_explain::Finding;
 use flt_graph::Graph;
 use flt_places::Lines;
@@ -137,7 +137,7 @@ fn add_unneeded(
     ensures { OnOk result (all.new ≡ all.old ++ spec.idle_by (of_parsed text.now) warnings.now before.now (Some comment.now)) }
 {
     if !is_needed(text, warnings, before, comment) {
-        all.push(idle_detail(alloc, comment)?)?;
+        all.push(idle_detail(alloc, text.scene.files, comment)?)?;
     }
     Ok(())
 }
@@ -212,25 +212,26 @@ fn details(
 /// The details of the warnings of a text that a certificate covers.
 fn certified(
     alloc: Global,
-    text: &[u8],
+    source: Source<'_>,
     tree: &Tree,
     graph: &Graph,
     cert: &FullCert,
     allowed: AllowedKinds,
 ) -> Result<Items<WarningDetail>, AllocError>
-    ensures { IfOk result (spec.AreDetailsBy text.now tree.now.filter graph.now cert.now allowed) }
+    ensures { IfOk result (spec.AreDetailsBy source.entry.files source.entry.text.now tree.now.filter graph.now cert.now allowed) }
 {
-    let lines = Lines::of(alloc, text)?;
-    let tokens = tokens_of(alloc, text)?;
+    let lines = Lines::of(alloc, source.text)?;
+    let tokens = tokens_of(alloc, source.text)?;
     let parsed = ParsedText {
         scene: Scene {
             lines: &lines,
+            files: source.files,
             tree,
             graph,
         },
         tokens: tokens.as_slice(),
     };
-    let comments = allowances(alloc, text)?;
+    let comments = allowances(alloc, source.text)?;
     let found = warnings(alloc, graph, cert)?;
     details(
         alloc,
@@ -250,19 +251,19 @@ fn certified(
 /// `AllocError` if a growth is refused.
 pub fn warning_details(
     alloc: Global,
-    text: &[u8],
+    source: Source<'_>,
     tree: &Tree,
     graph: &Graph,
     found: &[Finding],
     allowed: AllowedKinds,
 ) -> Result<Items<WarningDetail>, AllocError>
-    ensures { IfOk result (spec.AreWarningDetails text.now tree.now.filter graph.now found.now allowed) }
+    ensures { IfOk result (spec.AreWarningDetails source.entry.files source.entry.text.now tree.now.filter graph.now found.now allowed) }
 {
     if let [_, ..] = found {
         return Ok(Items::new(alloc));
     }
     match certificate(alloc, graph)? {
-        Some(cert) => certified(alloc, text, tree, graph, &cert, allowed),
+        Some(cert) => certified(alloc, source, tree, graph, &cert, allowed),
         None => Ok(Items::new(alloc)),
     }
 }

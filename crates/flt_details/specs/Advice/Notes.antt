@@ -33,7 +33,7 @@ use Rattle.flt_ways.specs.declared.answer.Step.{Step}
 use Rattle.flt_ways.specs.declared.answer.Way.{Way}
 use Rattle.flt_details.specs.Advice.Locks.{release}
 use Rattle.flt_details.specs.Advice.Statuses.{is_pre_of}
-use Rattle.flt_details.specs.Case.{Circumstances, done_at, line_of, lock_kind, path, place}
+use Rattle.flt_details.specs.Case.{Circumstances, done_at, line_named, line_of, lock_kind, path, place}
 use Rattle.flt_details.specs.declared.advice.locks.Release.{Release}
 use Rattle.flt_details.specs.declared.advice.locks.Release.TheVariants.{Under}
 
@@ -152,17 +152,17 @@ unfoldable pub first_unstored : Circumstances → Option Step
 first_unstored x = first_in x (path x)
 
 -- that no statement stores a value for which a line asks
-unfoldable pub unstored_note : ℕ → ℕ → Text
-unstored_note value line =
-    concat (codes "no statement stores " ∷ decimal value ∷ codes ", which line " ∷ decimal line
+unfoldable pub unstored_note : Circumstances → ℕ → ℕ → Text
+unstored_note x value line =
+    concat (codes "no statement stores " ∷ decimal value ∷ codes ", which line " ∷ line_named x line
     ∷ codes " asks for; the rules don't trace numbers, and `n0 = file data` stands for an unknown one" ∷ [])
 
-abbrev pub value_note : Option ℕ → ℕ → Text
-value_note (Some value) line = unstored_note value line
-value_note None line = []
+abbrev pub value_note : Circumstances → Option ℕ → ℕ → Text
+value_note x (Some value) line = unstored_note x value line
+value_note x None line = []
 
 abbrev pub step_note : Circumstances → Option Step → Text
-step_note x (Some s) = value_note (unstored x s) (line_of x s)
+step_note x (Some s) = value_note x (unstored x s) (line_of x s)
 step_note x None = []
 
 -- ---- both

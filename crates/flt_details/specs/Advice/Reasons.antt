@@ -1,6 +1,5 @@
 -- Why a variable isn't held: what made it so. This project's own program.
 use Rattle.std.specs.Prelude.{ℕ, Bool, true, false, [], ◌∷◌, codes, Option, Some, None}
-use Rattle.std.specs.Fmt.{decimal}
 use Rattle.std.specs.List.{concat}
 use Rattle.flt_rules.specs.declared.call.Call.{Call}
 use Rattle.flt_rules.specs.declared.call.Call.TheVariants.{InsertIo, QueueDeferredIoWorkItem, QueueGenericWorkItem, CompletePendedPreOperation}
@@ -12,7 +11,7 @@ use Rattle.flt_origins.specs.declared.facts.VariableStatus.{VariableStatus}
 use Rattle.flt_origins.specs.declared.facts.VariableStatus.TheVariants as is
 use Rattle.flt_ways.specs.declared.answer.Step.{Step}
 use Rattle.flt_details.specs.Advice.Sentences.{in_line, on_line, since}
-use Rattle.flt_details.specs.Case.{Circumstances, call_at, cause, line_of, subject, variable_status}
+use Rattle.flt_details.specs.Case.{Circumstances, call_at, cause, line_named, line_of, subject, variable_status}
 use Rattle.flt_details.specs.Names.{call_name}
 use Rattle.flt_details.specs.Page.{marked}
 use Rattle.flt_details.specs.declared.advice.reasons.Reason.{Reason}
@@ -77,7 +76,7 @@ emptying_outcome false = codes " fails"
 -- a call gives none
 unfoldable pub emptied_by_call : Circumstances → Call → ℕ → Bool → Text
 emptied_by_call x c line succeeds =
-    concat (subject x ∷ codes " is NULL where " ∷ marked (call_name c) ∷ codes " in line " ∷ decimal line ∷ emptying_outcome succeeds ∷ [])
+    concat (subject x ∷ codes " is NULL where " ∷ marked (call_name c) ∷ codes " in line " ∷ line_named x line ∷ emptying_outcome succeeds ∷ [])
 
 abbrev pub emptied_by : Circumstances → Option Invocation → ℕ → Bool → Text
 emptied_by x (Some c) line succeeds = emptied_by_call x c.call line succeeds

@@ -255,14 +255,19 @@ fn first_unstored(case: &Case<'_>) -> Option<Step>
 }
 
 /// Writes that no statement stores a value for which a line tests.
-fn tell_unstored(page: &mut Page, value: u64, line: usize) -> Result<(), AllocError>
-    ensures { Writes result page.old page.new (spec.unstored_note value line) }
+fn tell_unstored(
+    page: &mut Page,
+    case: &Case<'_>,
+    value: u64,
+    line: usize,
+) -> Result<(), AllocError>
+    ensures { Writes result page.old page.new (spec.unstored_note (of_case case.now) value line) }
 {
     page.say(&[
         Part::Text("no statement stores "),
         Part::Value(value),
         Part::Text(", which line "),
-        Part::Number(line),
+        case.line(line),
         Part::Text(
             " asks for; the rules don't trace numbers, and `n0 = file data` stands for an unknown one",
         ),
@@ -277,7 +282,7 @@ fn tell_numbers(page: &mut Page, case: &Case<'_>, step: Option<Step>) -> Result<
         return Ok(());
     };
     match unstored(case, step) {
-        Some(value) => tell_unstored(page, value, case.step_line(step)),
+        Some(value) => tell_unstored(page, case, value, case.step_line(step)),
         None => Ok(()),
     }
 }

@@ -129,7 +129,7 @@ fn tell_emptied_by_call(
         Part::Text(" is NULL where "),
         Part::Word(call_name(call)),
         Part::Text(" in line "),
-        Part::Number(line),
+        case.line(line),
         Part::Text(emptying_outcome(succeeds)),
     ])
 }

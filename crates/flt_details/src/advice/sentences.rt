@@ -51,7 +51,7 @@ pub(crate) fn on_line<'a>(
 {
     page.say(&[
         Part::Text("line "),
-        Part::Number(line),
+        case.line(line),
         Part::Text(verb),
         Part::Marked(case.subject()),
         Part::Text(after),
@@ -72,7 +72,7 @@ pub(crate) fn since<'a>(
         Part::Text(owns),
         Part::Marked(case.subject()),
         Part::Text(" since line "),
-        Part::Number(line),
+        case.line(line),
     ])
 }
 
@@ -89,7 +89,7 @@ pub(crate) fn in_line<'a>(
     page.say(&[
         Part::Marked(case.subject()),
         Part::Text(becomes),
-        Part::Number(line),
+        case.line(line),
     ])
 }
 

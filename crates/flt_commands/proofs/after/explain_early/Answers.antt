@@ -6,7 +6,12 @@ use Rattle.flt_commands.proofs.after.explain_early.Goals as goal
 pub returns-clause-told : goal.returns-clause-told
 returns-clause-told g c = record {
   own = c.in_ok-own.own;
-  told = c.in_ok-own.ensures.told;
+  told = record {
+    told = c.in_ok-own.ensures.told;
+    noted = c.in_ok-own.ensures.noted;
+    notes = c.in_ok-own.ensures.notes;
+    print = c.in_ok-own.ensures.print;
+  };
   after = c.in_ok-told.ensures.after;
 }
 

@@ -7,5 +7,5 @@ use Rattle.flt_forms.proofs.finding.put_lines.Given as goal
 -- the lines so far, with those of the other findings
 abbrev pub invariant-loop-finding : goal.invariant-loop-finding
 invariant-loop-finding l =
-    l.out.items ++ counted (numbered_line l.name l.lines l.graph (members_in l.runs l.source)) l.finding (drop l.finding l.details)
-    ≡ l.initial.out.items ++ finding_lines l.name l.lines l.graph (members_in l.runs l.source) l.details
+    l.out.items ++ counted (numbered_line l.files l.lines l.graph (members_in l.runs l.source)) l.finding (drop l.finding l.details)
+    ≡ l.initial.out.items ++ finding_lines l.files l.lines l.graph (members_in l.runs l.source) l.details

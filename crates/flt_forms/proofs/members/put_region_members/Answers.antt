@@ -1,10 +1,8 @@
-use Rattle.std.proofs.Common.{◌≡◌, ◌-◌, arith}
 use Rattle.flt_forms.proofs.Adding.{behind}
 use Rattle.flt_forms.proofs.members.put_region_members.Goals as goal
 
 pub returns : goal.returns
 returns c =
-    let last : c.args.region.end.column - 1 ≡ c.saturating_sub.result = omega arith in
-    rw last
-    (behind c.in_ok-put_number.ensures.ok
-    (behind c.in_ok-put_number-2.ensures.ok (behind c.in_ok-put_number-3.ensures.ok c.put_number-4.ensures)))
+    let other = rw c.file_at.ensures at c.in_ok-put_other_file.ensures.ok in
+    let place = rw (c.file_place.ensures, c.file_place-2.ensures) at c.put_place.ensures in
+    behind other place

@@ -1,8 +1,4 @@
-use Rattle.flt_forms.proofs.Adding.{behind}
 use Rattle.flt_forms.proofs.results.put_whole_region.Goals as goal
 
 pub returns : goal.returns
-returns c =
-    behind c.in_ok-put_key.ensures.ok
-    (behind c.in_ok-open_object.ensures.ok (behind c.in_ok-put_number.ensures.ok (behind c.in_ok-put_column.ensures.ok
-    (behind c.in_ok-put_number-2.ensures.ok (behind c.in_ok-put_column-2.ensures.ok c.close_object.ensures)))))
+returns c = rw (c.units_behind-first.ensures, c.units_behind-end.ensures) at c.put_region.ensures

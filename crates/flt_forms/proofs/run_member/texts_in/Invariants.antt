@@ -1,5 +1,5 @@
 use Rattle.std.proofs.Common.{◌≡◌, take}
-use Rattle.flt_details.specs.Reports.{texts_of}
+use Rattle.flt_forms.specs.RunMember.{texts_of}
 use Rattle.flt_forms.proofs.run_member.texts_in.Given as goal
 
 abbrev pub invariant-loop-source : goal.invariant-loop-source

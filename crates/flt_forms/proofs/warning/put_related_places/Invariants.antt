@@ -4,4 +4,4 @@ use Rattle.flt_forms.specs.Warning.{related_place}
 use Rattle.flt_forms.proofs.warning.put_related_places.Given as goal
 
 abbrev pub invariant-loop-place : goal.invariant-loop-place
-invariant-loop-place l = Added l.initial.writer l.writer (flat_map related_place (take l.place-index l.places))
+invariant-loop-place l = Added l.initial.writer l.writer (flat_map (related_place l.files l.home) (take l.place-index l.places))

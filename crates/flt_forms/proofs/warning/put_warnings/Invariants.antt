@@ -3,4 +3,4 @@ use Rattle.flt_forms.specs.Warning.{warning_line}
 use Rattle.flt_forms.proofs.warning.put_warnings.Given as goal
 
 abbrev pub invariant-loop-detail : goal.invariant-loop-detail
-invariant-loop-detail l = l.out.items ≡ l.initial.out.items ++ flat_map (warning_line l.name) (take l.detail-index l.warned)
+invariant-loop-detail l = l.out.items ≡ l.initial.out.items ++ flat_map (warning_line l.files) (take l.detail-index l.warned)

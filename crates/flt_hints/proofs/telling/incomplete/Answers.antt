@@ -1,5 +1,4 @@
 use Rattle.std.specs.Prelude.{codes}
-use Rattle.std.specs.Fmt.{decimal}
 use Rattle.flt_hints.specs.OpenCall.{word_of}
 use Rattle.flt_hints.specs.Telling.{incomplete, quoted}
 use Rattle.flt_hints.proofs.Written.{four_pieces}
@@ -8,6 +7,6 @@ use Rattle.flt_hints.proofs.telling.incomplete.Goals as goal
 pub returns : goal.returns
 unfolding incomplete
 returns c =
-    four_pieces c.number.result c.args.out.now.items _ _ _ _ (codes "the call before this isn't complete: ")
-    (quoted (word_of c.args.call.kind)) (codes " in line ") (decimal c.args.call.line)
-    c.in_ok-text.ensures (rw c.word.ensures at c.in_ok-quoted.ensures) c.in_ok-text-2.ensures c.number.ensures
+    four_pieces c.bytes.result c.args.out.now.items _ _ _ _ (codes "the call before this isn't complete: ")
+    (quoted (word_of c.args.call.kind)) (codes " in line ") c.args.line.now
+    c.in_ok-text.ensures (rw c.word.ensures at c.in_ok-quoted.ensures) c.in_ok-text-2.ensures c.bytes.ensures

@@ -7,8 +7,8 @@ invariant-loop-mark l = record {
   coloured : l.drawing.coloured ≡ l.initial.drawing.coloured;
   margin : l.drawing.margin ≡ l.initial.drawing.margin;
   drawn :
-      l.page.out.items ++ all_drawn l.initial.drawing.coloured l.initial.drawing.margin l.file l.lines l.related l.drawing.last
-      (drop l.mark-index l.marks)
-      ≡ l.initial.page.out.items ++ all_drawn l.initial.drawing.coloured l.initial.drawing.margin l.file l.lines l.related
-      l.initial.drawing.last l.marks;
+      l.page.out.items ++ all_drawn l.initial.drawing.coloured l.initial.drawing.margin l.files l.drawing.file l.lines l.related
+      l.drawing.last (drop l.mark-index l.marks)
+      ≡ l.initial.page.out.items ++ all_drawn l.initial.drawing.coloured l.initial.drawing.margin l.files l.initial.drawing.file l.lines
+      l.related l.initial.drawing.last l.marks;
 }

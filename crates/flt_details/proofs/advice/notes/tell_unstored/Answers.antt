@@ -3,4 +3,4 @@ use Rattle.flt_details.proofs.advice.notes.tell_unstored.Goals as goal
 
 pub returns : goal.returns
 unfolding unstored_note
-returns c = c.say.ensures
+returns c = rw (← c.line.ensures) c.say.ensures

@@ -1,6 +1,6 @@
 use Rattle.std.proofs.Common.{Err, rules, ◌≡◌, ◌-◌, arith, length, take, refl, sym, subst, ap, ◌∙◌}
 use Rattle.flt_notes.specs.Printing.{ArePrinted, look_of}
-use Rattle.flt_notes.specs.Readings.{texts_read}
+use Rattle.flt_notes.specs.Readings.{sources_read}
 use Rattle.flt_notes.specs.Reported.{IsCut}
 use Rattle.flt_notes.specs.declared.fault.ExplainFault.TheVariants.{OutOfMemory}
 use Rattle.flt_notes.proofs.Several.{appends_none, cut_here, printed_empty, printed_more, printed_none, rest_out, whole_printed, whole_sent}
@@ -20,25 +20,27 @@ add_part-requires g c = record {
 
 pub returns-in_default-clause-printed : goal.returns-in_default-clause-printed
 returns-in_default-clause-printed g c =
-    printed_empty _ _ c.args.each.now c.new-printed.result c.in_default.len_below c.new-printed.ensures.bytes c.new-printed.ensures.noted
+    printed_empty _ _ _ c.args.each.now c.new-printed.result c.in_default.len_below c.new-printed.ensures.bytes c.new-printed.ensures.noted
     c.new-printed.ensures.total.0 c.new-printed.ensures.total.1 c.new-printed.ensures.total.2
 
 pub returns-clause-printed : goal.returns-clause-printed
 returns-clause-printed g c =
-    whole_printed (look_of c.args.self.now) c.args.self.now.trees.now c.args.each.now c.loop-studied.studied-index _ c.loop-studied.printed
+    whole_printed (look_of c.args.self.now) c.args.self.now.trees.now c.args.self.now.files.now c.args.each.now
+        c.loop-studied.studied-index _ c.loop-studied.printed
     c.add_part.new.printed c.in-len1-up.len_at_least c.requires.texts c.loop-studied-test.false c.loop-studied.invariant.printed
     c.in_ok-add_part.ensures.added
 
 pub returns-clause-sent : goal.returns-clause-sent
 returns-clause-sent g c =
-    whole_sent (look_of c.args.self.now) c.args.self.now.trees.now c.args.each.now c.loop-studied.studied-index _ c.loop-studied.printed
+    whole_sent (look_of c.args.self.now) c.args.self.now.trees.now c.args.self.now.files.now c.args.each.now c.loop-studied.studied-index _
+        c.loop-studied.printed
     c.add_part.new.printed c.args.is_held _ _ c.in-len1-up.len_at_least c.requires.parsed c.loop-studied-test.false
     c.loop-studied.invariant.printed c.in_ok-add_part.ensures.added c.in_ok-add_part.ensures.sent c.loop-studied.invariant.holds
     (λ h. ap g.O.Sink.taken (c.loop-studied.invariant.held h)) c.loop-studied.invariant.out
 
 pub loop-studied-init : goal.loop-studied-init
 loop-studied-init g c = record {
-  printed = printed_none _ _ c.new-printed.result c.new-printed.ensures.bytes c.new-printed.ensures.noted c.new-printed.ensures.total.0
+  printed = printed_none _ _ _ c.new-printed.result c.new-printed.ensures.bytes c.new-printed.ensures.noted c.new-printed.ensures.total.0
       c.new-printed.ensures.total.1 c.new-printed.ensures.total.2;
   holds = record { none = λ h. c.new-printed.ensures.sent; all = λ h. rw (c.new-printed.ensures.sent, c.new-printed.ensures.bytes) refl };
   held = λ h. refl;
@@ -49,6 +51,7 @@ loop-studied-init g c = record {
 pub loop-studied-preserved : goal.loop-studied-preserved
 loop-studied-preserved g c =
     let trees = c.args.self.now.trees.now in
+    let files = c.args.self.now.files.now in
     let look = look_of c.args.self.now in
     let n = length c.args.each.now - 1 in
     let before = take n c.args.each.now in
@@ -57,13 +60,13 @@ loop-studied-preserved g c =
     let old = c.loop-studied.printed in
     let new = c.put_part.new.printed in
     record {
-      printed = subst (λ e. ArePrinted look trees e new) (sym (one_taken before i _ h (here before i _ h)))
-          (printed_more look trees (take i before) _ old new c.loop-studied.invariant.printed
+      printed = subst (λ e. ArePrinted look trees files e new) (sym (one_taken before i _ h (here before i _ h)))
+          (printed_more look trees files (take i before) _ old new c.loop-studied.invariant.printed
           (studied_here trees c.args.each.now n i _ c.requires.texts h (here before i _ h))
           (placed_here trees c.args.each.now n i _ c.requires.texts h (here before i _ h)) c.in_ok-put_part.ensures.added);
       holds = c.in_ok-put_part.ensures.sent;
       held = λ e. c.put_part.ensures.held e ∙ c.loop-studied.invariant.held e;
-      out = λ e. rest_out look trees _ old new _ _ _ c.in_ok-put_part.ensures.added (c.loop-studied.invariant.holds.all e)
+      out = λ e. rest_out look trees files _ old new _ _ _ c.in_ok-put_part.ensures.added (c.loop-studied.invariant.holds.all e)
           (c.loop-studied.invariant.out e) (c.in_ok-put_part.ensures.out e);
       fine = c.in_ok-put_part.ensures.fine ∙ c.loop-studied.invariant.fine;
     }
@@ -73,10 +76,10 @@ returns-in_err-put_part-clause-memory g c =
     let fails : c.from_residual.result ≡ Err c.in_err-put_part.field-0.0 = search rules in
     let states = c.args.self.now.states in
     let options = c.args.self.now.options in
-    let texts = texts_read c.args.each.now in
-    rw fails (λ e. subst (λ o. IsCut options texts states (g.O.Sink.taken c.args.out.now) (g.O.Sink.taken o))
+    let sources = sources_read c.args.each.now in
+    rw fails (λ e. subst (λ o. IsCut options sources states (g.O.Sink.taken c.args.out.now) (g.O.Sink.taken o))
     (sym (c.in_err-put_part.ensures.memory e))
-    (cut_here (look_of c.args.self.now) c.args.self.now.trees.now c.args.each.now
+    (cut_here (look_of c.args.self.now) c.args.self.now.trees.now c.args.self.now.files.now c.args.each.now
     (length c.args.each.now - 1) c.loop-studied.studied-index c.loop-studied.printed
     c.args.is_held (g.O.Sink.taken c.args.out.now) (g.O.Sink.taken c.loop-studied.out) c.requires.parsed c.loop-studied.invariant.printed
     (λ h. ap g.O.Sink.taken (c.loop-studied.invariant.held h)) c.loop-studied.invariant.out))
@@ -84,7 +87,8 @@ returns-in_err-put_part-clause-memory g c =
 pub returns-in_err-add_part-clause-memory : goal.returns-in_err-add_part-clause-memory
 returns-in_err-add_part-clause-memory g c =
     let fails : c.from_residual-in_err-add_part.result ≡ Err OutOfMemory = search rules in
-    rw fails (λ e. cut_here (look_of c.args.self.now) c.args.self.now.trees.now c.args.each.now (length c.args.each.now - 1)
+    rw fails (λ e. cut_here (look_of c.args.self.now) c.args.self.now.trees.now c.args.self.now.files.now c.args.each.now
+        (length c.args.each.now - 1)
     c.loop-studied.studied-index c.loop-studied.printed c.args.is_held (g.O.Sink.taken c.args.out.now) (g.O.Sink.taken c.loop-studied.out)
     c.requires.parsed c.loop-studied.invariant.printed (λ h. ap g.O.Sink.taken (c.loop-studied.invariant.held h))
     c.loop-studied.invariant.out)

@@ -5,7 +5,7 @@ use Rattle.flt_notes.proofs.printing.Stage.put_each.Given as goal
 
 abbrev pub invariant-loop-studied : goal.invariant-loop-studied
 invariant-loop-studied g l = record {
-  printed : ArePrinted (look_of l.self) l.self.trees.now (take l.studied-index l.before) l.printed;
+  printed : ArePrinted (look_of l.self) l.self.trees.now l.self.files.now (take l.studied-index l.before) l.printed;
   holds : HoldsBack l.is_held l.printed;
   held : l.is_held ≡ true → l.out ≡ l.fn.out;
   out : l.is_held ≡ false → Appends (g.O.Sink.taken l.fn.out) (g.O.Sink.taken l.out) l.printed.output.bytes.items;

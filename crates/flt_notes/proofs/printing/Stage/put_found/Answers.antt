@@ -18,6 +18,6 @@ returns-clause-firsts g c = rw (c.in_ok-put_reports.ensures.numbers, c.as_slice-
 
 pub returns-clause-body : goal.returns-clause-body
 returns-clause-body g c =
-    body_of_reports (look_of c.args.self.now) _ c.args.known c.in_ok-reports.reports c.args.output.now
+    body_of_reports (look_of c.args.self.now) _ _ c.args.known c.in_ok-reports.reports c.args.output.now
     c.put_reports.new.output c.requires.some
     c.in_ok-reports.ensures.reports (rw c.as_slice-reports.ensures at c.in_ok-put_reports.ensures.added)

@@ -9,7 +9,7 @@ loop-report-init c = record {
   outcomes = c.requires.outcomes;
   said = c.requires.silent.said;
   noted = rw c.requires.silent.none no_note;
-  blocks = blocks_none _ _ _ c.args.output.now;
+  blocks = blocks_none _ _ _ _ c.args.output.now;
   numbers = rw c.requires.silent.none refl;
 }
 
@@ -32,7 +32,7 @@ loop-report-preserved c = record {
       c.loop-report.invariant.outcomes c.last_of-outcome.ensures).1;
   said = c.in_ok-put_report.ensures.said;
   noted = c.in_ok-put_report.ensures.noted;
-  blocks = blocks_more _ _ _ c.args.reports.now c.loop-report.report-index c.report-item.result c.args.output.now c.loop-report.output
+  blocks = blocks_more _ _ _ _ c.args.reports.now c.loop-report.report-index c.report-item.result c.args.output.now c.loop-report.output
       c.put_report.new.output c.loop-report-test.true c.report-item.is c.loop-report.invariant.blocks c.in_ok-put_report.ensures.block;
   numbers = c.in_ok-put_report.ensures.numbers ∙ ap (λ ns. ns ++ c.report-item.result.finding ∷ []) c.loop-report.invariant.numbers
       ∙ sym (numbers_taken c.args.reports.now c.loop-report.report-index c.report-item.result c.loop-report-test.true c.report-item.is);

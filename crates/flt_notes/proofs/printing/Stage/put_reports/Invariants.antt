@@ -10,6 +10,6 @@ invariant-loop-report l = record {
   outcomes : AllZip (IsOutcomeOf l.self.trees.now l.known) (drop l.report-index l.reports) (reverse l.outcomes.items);
   said : IsSaid l.self.trees.now l.self.states l.output;
   noted : HasNotes l.self.trees.now l.known l.output.noted;
-  blocks : AddBlocks l.self.trees.now l.self.states l.known.source.text.now (take l.report-index l.reports) l.fn.output l.output;
+  blocks : AddBlocks l.self.trees.now l.self.files.now l.self.states l.known.source (take l.report-index l.reports) l.fn.output l.output;
   numbers : numbers_in l.output.noted ≡ map (λ (r : Report). r.finding) (take l.report-index l.reports);
 }

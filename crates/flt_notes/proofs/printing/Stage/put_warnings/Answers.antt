@@ -14,5 +14,5 @@ returns-clause-noted g c = c.in_ok-lines.ensures.noted ∙ c.requires.silent.non
 
 pub returns-clause-body : goal.returns-clause-body
 returns-clause-body g c =
-    body_of_none (look_of c.args.self.now) _ c.args.known c.as_slice.result.now c.args.output.now c.lines.new.self c.requires.none
+    body_of_none (look_of c.args.self.now) _ _ c.args.known c.as_slice.result.now c.args.output.now c.lines.new.self c.requires.none
     (rw c.as_slice.ensures.value c.in_ok-said.ensures) c.in_ok-lines.ensures.bytes c.in_ok-lines.ensures.noted

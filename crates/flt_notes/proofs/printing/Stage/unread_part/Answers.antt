@@ -10,7 +10,7 @@ use Rattle.flt_notes.proofs.printing.Stage.unread_part.Goals as goal
 pub returns-clause-report : goal.returns-clause-report
 returns-clause-report c =
     let p : Part = record { output = c.lines-2.new.self; tally = record { status = 2; findings = 1 } } in
-    report_fault _ _ c.args.source.text.now c.args.fault c.lines.new.self.bytes.items p c.requires.unread refl refl
+    report_fault _ _ c.args.source c.args.fault c.lines.new.self.bytes.items p c.requires.unread refl refl
     (c.in_ok-lines-2.ensures.bytes
     ∙ ap (λ z. c.lines.new.self.bytes.items ++ quieted z) (c.as_bytes.ensures.value ∙ c.in_ok-fault_line.ensures))
 
