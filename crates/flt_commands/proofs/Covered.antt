@@ -16,6 +16,7 @@ use Rattle.flt_crew.specs.declared.running.Ran.{Ran}
 use Rattle.flt_explain.specs.declared.finding.Finding.{Finding}
 use Rattle.flt_forms.specs.Lines.{AreLinesFrom}
 use Rattle.flt_forms.specs.RunMember.{no_member, own_member}
+use Rattle.flt_forms.specs.declared.drifted.DriftedFile.{DriftedFile}
 use Rattle.flt_forms.specs.declared.run.FindingRun.{FindingRun}
 use Rattle.flt_forms.specs.Sarif.{AreResults, IsSarif}
 use Rattle.flt_forms.specs.Warned.{status_of as status_of_warned}
@@ -25,11 +26,9 @@ use Rattle.flt_forms.specs.declared.as_lines.Style.TheVariants.{Object, Sentence
 use Rattle.flt_notes.specs.Reported.{AreAllReports, AreParts, IsNoticeReport, IsStatus, IsText, IsTextReport}
 use Rattle.flt_notes.specs.Reported as reports
 use Rattle.flt_notes.specs.Whole.{Look}
-use Rattle.flt_details.specs.Reports.{IsJudged, IsKnown, texts_of as plain_texts_of}
+use Rattle.flt_details.specs.Reports.{IsJudged, IsKnown, texts_of}
 use Rattle.flt_notes.specs.declared.explaining.Told.{Told}
 use Rattle.flt_details.specs.declared.sources.Source.{Source}
-use Rattle.flt_reports.specs.FileText.{plain, texts_of}
-use Rattle.flt_reports.specs.declared.file_text.FileText.{FileText}
 use Rattle.flt_warning_details.specs.Options.{warned_status}
 use Rattle.flt_warning_details.specs.declared.detail.WarningDetail.{WarningDetail}
 use Rattle.flt_warning_details.specs.declared.options.WarningOptions.{WarningOptions}
@@ -46,7 +45,6 @@ use Rattle.flt_model.specs.Runs.{breaks}
 use Rattle.flt_syntax.specs.Spelling.{Spells}
 use Rattle.flt_tree.specs.declared.filter.Filter.{Filter}
 use Rattle.flt_commands.proofs.OnePlace.{zipped_once}
-use Rattle.flt_commands.proofs.Plain.{same_texts}
 use Rattle.flt_commands.specs.Analyse.{IsAnalysed}
 use Rattle.flt_commands.specs.Answer.{status_of, told_status}
 use Rattle.flt_commands.specs.Check.{Decides, HasPoints, IsAnswer, IsChecked}
@@ -208,16 +206,17 @@ module _ (law : Law) (runs : LawOfRuns) (nowhere : SpelledFailsNowhere) where
   unspelled : (text : Text) (f : SyntaxFault) → Fails text f → BreaksNothing text
   unspelled text f fault filter transitions spelled = absurd (nowhere text filter f spelled fault)
 
-  text_well : (options : WarningOptions) (text : Text) (j : Found) (status : ℕ) → IsText text j → IsStatus options text j status →
-      status ≡ 0 → BreaksNothing text
-  text_well options text (Unread f) status is own good = absurd (omega (arith, own, good))
-  text_well options text (Known tree graph found) status is own good =
-      unfound text tree graph found options.is_strict own.details is (sym own.worth ∙ good)
+  text_well : (options : WarningOptions) (s : Source) (j : Found) (status : ℕ) → IsText s.text.now j → IsStatus options s j status →
+      status ≡ 0 → BreaksNothing s.text.now
+  text_well options s (Unread f) status is own good = absurd (omega (arith, own, good))
+  text_well options s (Known tree graph found) status is own good =
+      unfound s.text.now tree graph found options.is_strict own.details is (sym own.worth ∙ good)
 
-  report_well : (options : WarningOptions) (filters : List Filter) (text : Text) (report : List ℕ) (status count : ℕ) →
-      IsTextReport options text report status count ⊎ IsNoticeReport filters text report status count → status ≡ 0 → BreaksNothing text
-  report_well options filters text report status count (inl is) good = text_well options text is.judged status is.is is.own good
-  report_well options filters text report status count (inr is) good = unspelled text is.other.fault is.other.unread
+  report_well : (options : WarningOptions) (filters : List Filter) (s : Source) (report : List ℕ) (status count : ℕ) →
+      IsTextReport options s report status count ⊎ IsNoticeReport filters s.text.now report status count → status ≡ 0 →
+      BreaksNothing s.text.now
+  report_well options filters s report status count (inl is) good = text_well options s is.judged status is.is is.own good
+  report_well options filters s report status count (inr is) good = unspelled s.text.now is.other.fault is.other.unread
 
   -- the greatest of two statuses is 0 only where both are
   both_zero : (m n : ℕ) → max m n ≡ 0 → (m ≡ 0) × (n ≡ 0)
@@ -226,24 +225,24 @@ module _ (law : Law) (runs : LawOfRuns) (nowhere : SpelledFailsNowhere) where
   both_zero (suc m) zero good = absurd (omega (arith, good))
   both_zero (suc m) (suc n) good = absurd (omega (arith, good))
 
-  one_more_breaks_nothing : (texts : List Text) (text : Text) → EachBreaksNothing texts → BreaksNothing text →
-      EachBreaksNothing (texts ++ text ∷ [])
-  one_more_breaks_nothing [] text each own = (own, tt)
-  one_more_breaks_nothing (t ∷ ts) text each own = (each.0, one_more_breaks_nothing ts text each.1 own)
+  one_more_breaks_nothing : (sources : List Source) (s : Source) → EachBreaksNothing (texts_of sources) → BreaksNothing s.text.now →
+      EachBreaksNothing (texts_of (sources ++ s ∷ []))
+  one_more_breaks_nothing [] s each own = (own, tt)
+  one_more_breaks_nothing (t ∷ ts) s each own = (each.0, one_more_breaks_nothing ts s each.1 own)
 
-  reported : (options : WarningOptions) (filters : List Filter) (texts : List Text) (printed : List ℕ) (status findings files : ℕ) →
-      AreParts options filters texts printed status findings files → status ≡ 0 → EachBreaksNothing texts
+  reported : (options : WarningOptions) (filters : List Filter) (sources : List Source) (printed : List ℕ) (status findings files : ℕ) →
+      AreParts options filters sources printed status findings files → status ≡ 0 → EachBreaksNothing (texts_of sources)
   reported options filters _ _ _ _ _ reports.none good = tt
   reported options filters _ _ _ _ _
-      (reports.one_more {texts = texts} {printed = printed} {greatest = greatest} {findings = findings} {files = files}
-      {text = text} {report = report} {status = status} {count = count} are is) good =
+      (reports.one_more {sources = sources} {printed = printed} {greatest = greatest} {findings = findings} {files = files}
+      {s = s} {report = report} {status = status} {count = count} are is) good =
       let zeros = both_zero greatest status good in
-      one_more_breaks_nothing texts text (reported options filters texts printed greatest findings files are zeros.0)
-      (report_well options filters text report status count is.is zeros.1)
+      one_more_breaks_nothing sources s (reported options filters sources printed greatest findings files are zeros.0)
+      (report_well options filters s report status count is.is zeros.1)
 
   in_lines : (style : Style) (options : WarningOptions) (runs : ℕ → ℕ → List Token) (number : ℕ) (sources : List Source)
       (before printed : List ℕ) (status : ℕ) → AreLinesFrom style options runs number sources before printed status → status ≡ 0 →
-      EachBreaksNothing (plain_texts_of sources)
+      EachBreaksNothing (texts_of sources)
   in_lines style options runs number [] before printed status said good = tt
   in_lines style options runs number (s ∷ ss) before printed status (part, first, others, own, rest, greatest) good =
       let zeros = both_zero first others (sym greatest ∙ good) in (
@@ -253,7 +252,7 @@ module _ (law : Law) (runs : LawOfRuns) (nowhere : SpelledFailsNowhere) where
 
   in_results : (options : WarningOptions) (names : List (Bor (List ℕ))) (runs : ℕ → ℕ → List Token) (number : ℕ) (sources : List Source)
       (tokens : List Token) (status : ℕ) → AreResults options names runs number sources tokens status → status ≡ 0 →
-      EachBreaksNothing (plain_texts_of sources)
+      EachBreaksNothing (texts_of sources)
   in_results options names runs number [] tokens status said good = tt
   in_results options names runs number (s ∷ ss) tokens status (part, others_tokens, first, others, own, rest, joined, greatest) good =
       let zeros = both_zero first others (sym greatest ∙ good) in (
@@ -262,42 +261,36 @@ module _ (law : Law) (runs : LawOfRuns) (nowhere : SpelledFailsNowhere) where
       )
 
   -- of all files
-  all_reported : (options : WarningOptions) (filters : List Filter) (texts : List Text) (printed : List ℕ) (status : ℕ) →
-      AreAllReports options filters texts printed status →
-      status ≡ 0 → EachBreaksNothing texts
+  all_reported : (options : WarningOptions) (filters : List Filter) (sources : List Source) (printed : List ℕ) (status : ℕ) →
+      AreAllReports options filters sources printed status → status ≡ 0 → EachBreaksNothing (texts_of sources)
   all_reported options filters [] printed status said good = tt
-  all_reported options filters (t ∷ []) printed status is good = (report_well options filters t printed status is.count is.is.is good, tt)
-  all_reported options filters (t ∷ u ∷ ts) printed status is good =
-      reported options filters (t ∷ u ∷ ts) is.reports status is.findings is.files is.are good
+  all_reported options filters (s ∷ []) printed status is good = (report_well options filters s printed status is.count is.is.is good, tt)
+  all_reported options filters (s ∷ t ∷ ss) printed status is good =
+      reported options filters (s ∷ t ∷ ss) is.reports status is.findings is.files is.are good
 
-  in_document : (options : WarningOptions) (sources : List Source) (missed : List UnreadFile) (runs : List FindingRun) (printed : List ℕ)
-      (status : ℕ) → IsSarif options sources missed runs printed status → status ≡ 0 → EachBreaksNothing (plain_texts_of sources)
+  in_document : (options : WarningOptions) (sources : List Source) (missed : List UnreadFile) (runs : List FindingRun)
+      (drifted : List DriftedFile) (printed : List ℕ) (status : ℕ) → IsSarif options sources missed runs drifted printed status →
+      status ≡ 0 → EachBreaksNothing (texts_of sources)
   unfolding IsSarif
-  in_document options sources missed runs printed status (run, is, same) good =
-      in_results options _ _ 0 sources is.results status is.found good
+  in_document options sources missed runs drifted printed status (run, is, same) good =
+      let zeros = both_zero is.own _ (sym is.greatest ∙ good) in in_results options _ _ 0 sources is.results is.own is.found zeros.0
 
-  told_well : (form : Form) (options : WarningOptions) (drifts : Text) (sources : List FileText) (missed : List UnreadFile) (t : Told) →
-      IsTold form options drifts sources missed t → t.explained.status ≡ 0 → EachBreaksNothing (texts_of sources)
-  told_well Human options drifts sources missed t told good =
-      all_reported options told.filters (texts_of sources) t.explained.output.items t.explained.status told.are good
-  told_well Short options drifts sources missed t told good =
-      subst EachBreaksNothing (same_texts sources)
-      (in_lines Sentence options no_member 0 (map plain sources) [] t.explained.output.items t.explained.status told good)
-  told_well Lines options drifts sources missed t told good =
-      subst EachBreaksNothing (same_texts sources)
-      (in_lines Object options no_member 0 (map plain sources) [] t.explained.output.items t.explained.status told good)
-  told_well Sarif options drifts sources missed t told good =
-      subst EachBreaksNothing (same_texts sources)
-      (in_document options (map plain sources) missed [] t.explained.output.items t.explained.status told good)
-  told_well LinesWithRuns options drifts sources missed t told good =
-      subst EachBreaksNothing (same_texts sources)
-      (in_lines Object options (own_member (map plain sources) told.runs.now) 0 (map plain sources) [] t.explained.output.items
-      t.explained.status told.lines good)
-  told_well SarifWithRuns options drifts sources missed t told good =
-      subst EachBreaksNothing (same_texts sources)
-      (in_document options (map plain sources) missed told.runs t.explained.output.items t.explained.status told.document good)
-  told_well Html options drifts sources missed t told good =
-      all_reported options told.reports.filters (texts_of sources) told.printed t.explained.status told.reports.are good
+  told_well : (form : Form) (options : WarningOptions) (drifted : List DriftedFile) (sources : List Source) (missed : List UnreadFile)
+      (t : Told) → IsTold form options drifted sources missed t → t.explained.status ≡ 0 → EachBreaksNothing (texts_of sources)
+  told_well Human options drifted sources missed t told good =
+      all_reported options told.filters sources t.explained.output.items t.explained.status told.are good
+  told_well Short options drifted sources missed t told good =
+      in_lines Sentence options no_member 0 sources [] t.explained.output.items t.explained.status told good
+  told_well Lines options drifted sources missed t told good =
+      in_lines Object options no_member 0 sources [] t.explained.output.items t.explained.status told good
+  told_well Sarif options drifted sources missed t told good =
+      in_document options sources missed [] drifted t.explained.output.items t.explained.status told good
+  told_well LinesWithRuns options drifted sources missed t told good =
+      in_lines Object options (own_member sources told.runs.now) 0 sources [] t.explained.output.items t.explained.status told.lines good
+  told_well SarifWithRuns options drifted sources missed t told good =
+      in_document options sources missed told.runs drifted t.explained.output.items t.explained.status told.document good
+  told_well Html options drifted sources missed t told good =
+      all_reported options told.reports.filters sources told.printed t.explained.status told.reports.are good
 
   -- where a file isn't read, the status isn't 0
   own_zero : (status : ℕ) (missed : List UnreadFile) → told_status status missed ≡ 0 → status ≡ 0
@@ -309,9 +302,10 @@ module _ (law : Law) (runs : LawOfRuns) (nowhere : SpelledFailsNowhere) where
       IsExplained gives is_c form look warnings.allowed journal files codes texts (Ok answer) → status_of answer ≡ 0 →
       IsClean (Explain form colour states journal warnings is_c files) texts
   explained gives is_c form colour states look journal warnings files codes texts (Explained e missed) said good =
-      let zeros = both_zero said.told.own.explained.status _ (sym said.told.after.status ∙ own_zero e.explained.status missed.items good) in
-      subst EachBreaksNothing said.told.told.given
-      (told_well form look.options _ said.told.told.sources missed.items said.told.own said.told.told.told zeros.0)
+      let with = said.told.told in
+      let zeros = both_zero with.own.explained.status _ (sym with.after.status ∙ own_zero e.explained.status missed.items good) in
+      subst EachBreaksNothing (sym said.told.given)
+      (told_well form look.options said.told.drifted said.told.sources missed.items with.own with.told.told zeros.0)
   explained gives is_c form colour states look journal warnings files codes texts (Shown rows v) said good = absurd said
   explained gives is_c form colour states look journal warnings files codes texts (has_text b) said good = absurd said
   explained gives is_c form colour states look journal warnings files codes texts (has_layouts mode outcomes) said good = absurd said

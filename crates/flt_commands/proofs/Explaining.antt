@@ -1,25 +1,32 @@
 -- What `explain` of files comes to, and what went out of it.
-use Rattle.std.proofs.Common.{◌≡◌, ◌≢◌, ℕ, true, false, List, Bor, Option, Some, None, Result, Ok, Err, IfErr, IfOk, IsErr, flat_map, map, option_map, refl, take}
-use Rattle.std.proofs.Math.Path.{subst}
+use Rattle.std.proofs.Common.{◌≡◌, ◌≢◌, ◌∙◌, ℕ, true, false, Bool, List, ◌++◌, Bor, Vec, Global, Option, Some, None, Result, Ok, Err, IfErr, IfOk, IsErr, ap, flat_map, map, option_map, refl, sym, take}
 use Rattle.std.proofs.KnownBytes.{Appends-nil}
 use Rattle.std.specs.Io.KnownBytes.{Appends}
+use Rattle.std.specs.List.{AllZip}
+use Rattle.flt_details.specs.declared.sources.Source.{Source}
+use Rattle.flt_forms.specs.declared.drifted.DriftedFile.{DriftedFile}
 use Rattle.flt_forms.specs.declared.unread.UnreadFile.{UnreadFile}
+use Rattle.flt_joined.specs.Made.{AreJoined, name_at}
+use Rattle.flt_joined.specs.Texts.{AreNamed, Given, given_of, givens}
+use Rattle.flt_joined.specs.declared.given.GivenFile.{GivenFile}
+use Rattle.flt_joined.specs.declared.joined.Joined.{Joined}
+use Rattle.flt_places.specs.declared.files.SourceFile.{SourceFile}
 use Rattle.flt_notes.specs.Whole.{IsPrint, Look, look_for}
 use Rattle.flt_notes.specs.declared.explaining.Asking.{Asking}
 use Rattle.flt_notes.specs.declared.explaining.Told.{Told}
 use Rattle.flt_notes.specs.declared.noted.Noted.{Noted}
-use Rattle.flt_reports.specs.FileText.{texts_of}
-use Rattle.flt_reports.specs.declared.file_text.FileText.{FileText}
 use Rattle.flt_warning_details.specs.declared.options.WarningOptions.{WarningOptions}
 use Rattle.flt_words.specs.declared.request.Form.{Form}
+use Rattle.flt_commands.proofs.Firsts.{mapped_twice}
+use Rattle.flt_commands.proofs.MadeSources.{sources_of_files, texts_of_sources}
 use Rattle.flt_commands.proofs.Sent.{cut_short}
-use Rattle.flt_commands.specs.Annotated.{AreFoundIn, codes_in}
+use Rattle.flt_commands.specs.Annotated.{AreFoundIn}
 use Rattle.flt_commands.specs.Answer.{sent_in}
 use Rattle.flt_commands.specs.Commands.{IsReported}
-use Rattle.flt_commands.specs.Explain.{AreNotedFor, HasReport, HoldsBack, IsCutAfter, IsCutIn, IsCutShort, IsCutUnder, IsExplained, IsNoteTold, IsPrintTold, IsSent, IsTold, IsToldOrUnwritten, IsToldUnder, IsToldWith, files_in, files_of, first_in, look_of, names_in, said_of, told_name}
-use Rattle.flt_commands.specs.Drifts.{drifts_status, drifts_told}
+use Rattle.flt_commands.specs.Explain.{HasReport, HoldsBack, IsCutAfter, IsCutOfFiles, IsCutShort, IsExplained, IsSent, IsToldOfFiles, IsToldOrUnwritten, IsToldWith, codes_in, first_in, look_of, said_of, told_name}
+use Rattle.flt_commands.specs.Drifts.{AreDrifted}
 use Rattle.flt_commands.specs.Explain as explain
-use Rattle.flt_commands.specs.Inputs.{Giving, Text}
+use Rattle.flt_commands.specs.Inputs.{Giving, Text, unread_names}
 use Rattle.flt_commands.specs.Remarks.{unread_in, unread_lines}
 use Rattle.flt_commands.specs.declared.answer.Answer.{Answer}
 use Rattle.flt_commands.specs.declared.explain.Asked.{Asked}
@@ -28,7 +35,8 @@ use Rattle.flt_commands.specs.declared.explain.Explanation.TheVariants.{Told as 
 use Rattle.flt_commands.specs.declared.failure.Failure.{Failure}
 use Rattle.flt_commands.specs.declared.fault.CommandFault.{CommandFault}
 use Rattle.flt_commands.specs.declared.fault.CommandFault.TheVariants.{OutOfMemory}
-use Rattle.flt_commands.specs.declared.annotated.FoundFiles.{FoundFiles}
+use Rattle.flt_commands.specs.Sources.{AreSources, IsSourceIn, bytes_in}
+use Rattle.flt_commands.specs.declared.annotated.NamedFiles.{NamedFiles}
 use Rattle.flt_commands.specs.declared.report.Report.{Report}
 
 -- ---- what is held back
@@ -41,28 +49,8 @@ holds_named form (Some name) named = tt
 holds_some : (form : Form) (journal : Option Text) (name : Text) → journal ≡ Some name → HoldsBack form journal
 holds_some form journal name same = rw same tt
 
--- ---- of names and what they give
-
-pub told_under : (form : Form) (look : Look) (journal : Option Text) (drifts : Text) (names texts : List Text) (codes : List (Option Text))
-    (unread : List UnreadFile) (sources : List FileText) (result : Result Told CommandFault) →
-    names_in sources ≡ map (told_name form) names → texts_of sources ≡ texts → files_in sources ≡ files_of codes texts →
-    IfOk result (IsTold form look.options drifts sources unread) → IfOk result (λ t. AreNotedFor form journal (texts_of sources) t.noted) →
-    IfOk result (IsNoteTold form (texts_of sources) look.states) → IfOk result (IsPrintTold form look drifts sources) →
-    IfOk result (IsToldUnder form look journal drifts names texts codes unread)
-told_under form look journal drifts names texts codes unread sources (Ok t) named given shown told noted notes print = record {
-  sources = sources;
-  named = named;
-  given = given;
-  shown = shown;
-  told = told;
-  noted = subst (λ ts. AreNotedFor form journal ts t.noted) given noted;
-  notes = subst (λ ts. IsNoteTold form ts look.states t) given notes;
-  print = print;
-}
-told_under form look journal drifts names texts codes unread sources (Err e) named given shown told noted notes print = tt
-
 -- a report has these notes, if they are those of one that is asked for so
-pub reported : (asked : Asked) (asking : Asking) (sources : List FileText) (t : Told) (notes : List Noted) →
+pub reported : (asked : Asked) (asking : Asking) (sources : List Source) (t : Told) (notes : List Noted) →
     asking.coloured ≡ asked.coloured → asking.states ≡ asked.states → asking.options ≡ asked.options →
     IsPrint (look_for asking) sources t.noted t.explained.output.items t.explained.status → notes ≡ t.noted →
     HasReport (look_of asked) sources notes
@@ -72,31 +60,56 @@ reported asked asking sources t notes coloured states options print same = recor
   print = rw same (rw (coloured, states, options) at print);
 }
 
--- what went out before memory ran out is cut short under these names
-pub cut_some : (form : Form) (options : WarningOptions) (states : ℕ) (names texts : List Text) (sources : List FileText)
-    (result : Result Told CommandFault)
-    (old new : Option Text) → names_in sources ≡ map (told_name form) names → texts_of sources ≡ texts →
-    IfErr result (λ e. e ≡ OutOfMemory → IsCutIn form options states sources old new) →
-    IfErr result (λ e. e ≡ OutOfMemory → IsCutUnder form options states names texts old new)
-cut_some form options states names texts sources (Ok t) old new named given cut = tt
-cut_some form options states names texts sources (Err e) old new named given cut = λ short. explain.some_out sources named given (cut short)
+-- ---- of the texts that files make
 
--- ---- of files
+module _ (form : Form) (look : Look) (allowed : List Text) (journal : Option Text) (files : List GivenFile) (joined : Joined)
+    (own : List SourceFile) (drifted : List DriftedFile) (sources : List Source) (are : AreJoined files joined)
+    (named : AreNamed (told_name form) (givens files) own) (compared : AreDrifted allowed (givens files) drifted)
+    (made : AllZip (IsSourceIn own) joined.texts.items sources) where
+  these : AreSources (told_name form) (givens files) sources (map (name_at files) joined.refused.items)
+  these = record {
+    each = sources_of_files (told_name form) files joined own sources are named made;
+    others = are.refused;
+  }
 
--- what is printed of the drifts of some files
-abbrev drifts_of : Form → List Text → FoundFiles → Text
-drifts_of form allowed f = drifts_told form allowed (map (λ name. name.now) f.names.items) (codes_in f)
+  -- what is told of them
+  pub joined_told : (unread : List UnreadFile) (result : Result Told CommandFault) →
+      IfOk result (IsToldWith form look journal drifted sources unread) →
+      IfOk result (IsToldOfFiles form look allowed journal (givens files) (map (name_at files) joined.refused.items)
+      (bytes_in joined.texts.items) unread)
+  joined_told unread (Ok t) is = record {
+    drifted = drifted;
+    compared = compared;
+    sources = sources;
+    are = these;
+    given = texts_of_sources own joined.texts.items sources made;
+    told = is;
+  }
+  joined_told unread (Err e) is = tt
 
--- what they are worth
-abbrev worth_of : Look → List Text → FoundFiles → ℕ
-worth_of look allowed f = drifts_status look.options.is_strict allowed (codes_in f)
+  -- where that is cut short
+  pub joined_cut : (options : WarningOptions) (states : ℕ) (old new : Option Text) (result : Result Told CommandFault) →
+      IfErr result (λ e. e ≡ OutOfMemory → IsCutAfter (first_in form drifted) form options states sources old new) →
+      IfErr result (λ e. e ≡ OutOfMemory → IsCutOfFiles form options states allowed (givens files) old new)
+  joined_cut options states old new (Ok t) cut = tt
+  joined_cut options states old new (Err e) cut = λ short. explain.some_told drifted sources _ compared these (cut short)
+
+-- ---- of names and what they give
+
+-- the C files among the files
+pub coded_as : (files : List GivenFile) (codes : List (Option (Vec ℕ Global))) → codes ≡ map (λ (f : GivenFile). f.code) files →
+    map (option_map (λ code. code.items)) codes ≡ codes_in (givens files)
+coded_as files codes same =
+    ap (map (option_map (λ code. code.items))) same
+    ∙ mapped_twice (λ (f : GivenFile). f.code) (option_map (λ code. code.items)) files
+    ∙ sym (mapped_twice given_of (λ (g : Given). g.code) files)
 
 module _ (gives : Giving) (is_c : Bool) (form : Form) (options : WarningOptions) (states : ℕ) (allowed files : List Text) where
   -- what is told of those that are read is cut short
-  pub cut_read : (f : FoundFiles) (old new : Option Text) → AreFoundIn is_c gives files f →
-      IsCutAfter (first_in form (drifts_of form allowed f)) form options states (map (λ name. name.now) f.names.items)
-      (map (λ text. text.items) f.texts.items) old new → IsCutShort gives is_c form options states allowed files old new
-  cut_read f old new are cut = explain.some_read _ _ _ _ are.read are.found cut
+  pub cut_read : (f : NamedFiles) (old new : Option Text) → AreFoundIn is_c gives files f →
+      IsCutOfFiles form options states allowed (givens f.read.items) old new →
+      IsCutShort gives is_c form options states allowed files old new
+  cut_read f old new are cut = explain.some_read _ _ are.are cut
 
   -- nothing went out where a file is named for a journal
   pub cut_named : {O : Type 0} (taken : O → Option Text) (old new : O) (journal : Option (Bor Text)) → journal ≢ None →
@@ -127,15 +140,33 @@ module _ (gives : Giving) (is_c : Bool) (form : Form) (options : WarningOptions)
       λ short. cut_unwritten taken old new look journal codes texts said err.1 is held
 
   -- what is said of them
-  pub explained_of : (look : Look) (journal : Option Text) (f : FoundFiles) (told : Told) (said : Explanation) →
-      AreFoundIn is_c gives files f →
-      IsToldWith (drifts_of form allowed f) (worth_of look allowed f) form look journal (map (λ name. name.now) f.names.items)
-      (map (λ text. text.items) f.texts.items) (codes_in f) f.unread.items told → IsToldOrUnwritten told f.unread.items journal said →
-      IsExplained gives is_c form look allowed journal files (codes_in f) (map (λ text. text.items) f.texts.items) (said_of said)
-  explained_of look journal f told (Said t unread) are is (same, all) =
-      rw (same, all) (record { names = _; read = are.read; found = are.found; told = is })
-  explained_of look journal f told (Unwritten name why) are is same =
-      (same, record { names = _; unread = _; read = are.read; found = are.found })
+  pub explained_of : (look : Look) (journal : Option Text) (f : NamedFiles) (refused texts : List Text) (codes : List (Option Text))
+      (unread : List UnreadFile) (told : Told) (said : Explanation) → AreFoundIn is_c gives files f →
+      unread_names unread ≡ unread_names f.unread.items ++ refused → codes ≡ codes_in (givens f.read.items) →
+      IsToldOfFiles form look allowed journal (givens f.read.items) refused texts unread told →
+      IsToldOrUnwritten told unread journal said → IsExplained gives is_c form look allowed journal files codes texts (said_of said)
+  explained_of look journal f refused texts codes unread told (Said t others) are unnamed coded is (same, all) =
+      rw (same, all) (record {
+        files = givens f.read.items;
+        missing = unread_names f.unread.items;
+        found = are.are;
+        coded = coded;
+        refused = refused;
+        others = unnamed;
+        told = is;
+      })
+  explained_of look journal f refused texts codes unread told (Unwritten name why) are unnamed coded is same =
+      (same, record {
+        files = givens f.read.items;
+        missing = unread_names f.unread.items;
+        found = are.are;
+        coded = coded;
+        told = told_name form;
+        sources = is.sources;
+        refused = refused;
+        are = is.are;
+        given = is.given;
+      })
 
 -- what went out of it
 pub sent_of_said : {O : Type 0} (taken : O → Option Text) (old new : O) (form : Form) (journal : Option Text) (told : Told)

@@ -3,6 +3,7 @@ use Rattle.std.proofs.Common.{◌≡◌, ℕ, suc, ◌+◌, ◌<◌, List, [], �
 use Rattle.std.proofs.Math.Path.{subst}
 use Rattle.std.proofs.Math.Seq.{take-suc}
 use Rattle.std.proofs.lemmas.Grind.{common_steps}
+use Rattle.flt_details.specs.declared.sources.Source.{Source}
 use Rattle.flt_forms.specs.declared.run.FindingRun.{FindingRun}
 use Rattle.flt_flows.specs.Flows.{IsFlow}
 use Rattle.flt_flows.specs.Running.{run_of}
@@ -10,23 +11,14 @@ use Rattle.flt_flows.specs.declared.flows.Flow.{Flow}
 use Rattle.flt_model.specs.Program.{by_altitude, filters_of}
 use Rattle.flt_notes.specs.Noted.{own_of}
 use Rattle.flt_notes.specs.declared.noted.Noted.{Noted}
-use Rattle.flt_reports.specs.FileText.{texts_of}
-use Rattle.flt_reports.specs.declared.file_text.FileText.{FileText}
+use Rattle.flt_notes.specs.Rows.{own_files}
+use Rattle.flt_places.specs.declared.files.Files.{Files}
 use Rattle.flt_search.specs.declared.judging.Broken.{Broken}
 use Rattle.flt_tree.specs.declared.tree.Tree.{Tree}
 use Rattle.flt_commands.specs.FindingRuns as spec
 use Rattle.flt_commands.specs.FindingRuns.{AreRunsOf, AreTrees, IsAdded, IsNext, IsOneMore, run_by}
 
--- the texts of one more source
-texts_push : (ss : List FileText) (s : FileText) → texts_of (ss ++ s ∷ []) ≡ texts_of ss ++ s.text.now ∷ []
-texts_push [] s = refl
-texts_push (t ∷ ss) s = rw (texts_push ss s) refl
-
-texts_long : (ss : List FileText) → length (texts_of ss) ≡ length ss
-texts_long [] = refl
-texts_long (t ∷ ss) = rw (texts_long ss) refl
-
-module _ (all : List FileText) (i : ℕ) (d : FileText) (within : i < length all) where
+module _ (all : List Source) (i : ℕ) (d : Source) (within : i < length all) where
   one_source_more : take (i + 1) all ≡ take i all ++ get_or all i d ∷ []
   one_source_more =
       let next : take (suc i) all ≡ take i all ++ get_or all i d ∷ [] = take-suc all i d within in
@@ -34,17 +26,18 @@ module _ (all : List FileText) (i : ℕ) (d : FileText) (within : i < length all
       rw (same, next) refl
 
   -- so many texts are before it
-  counted_before : i ≡ length (texts_of (take i all))
-  counted_before = rw (texts_long (take i all)) (grind (arith, common_steps))
+  counted_before : i ≡ length (take i all)
+  counted_before = grind (arith, common_steps)
 
   -- the trees of the texts so far and of the next one
-  pub one_more_parsed : (trees more : List Tree) (numbers others : List ℕ) → AreTrees (texts_of (take i all)) trees numbers →
-      IsOneMore i (get_or all i d).text.now trees numbers more others → AreTrees (texts_of (take (i + 1) all)) more others
-  one_more_parsed trees more numbers others are is =
-      rw (one_source_more, texts_push (take i all) (get_or all i d))
-      (spec.one_more are (subst (λ n. IsOneMore n (get_or all i d).text.now trees numbers more others) counted_before is))
+  pub one_more_parsed : (trees more : List Tree) (files further : List Files) (numbers others : List ℕ) →
+      AreTrees (take i all) trees files numbers → IsOneMore i (get_or all i d) trees files numbers more further others →
+      AreTrees (take (i + 1) all) more further others
+  one_more_parsed trees more files further numbers others are is =
+      rw one_source_more
+      (spec.one_more are (subst (λ n. IsOneMore n (get_or all i d) trees files numbers more further others) counted_before is))
 
-module _ (trees : List Tree) (numbers : List ℕ) (all : List Noted) (i : ℕ) (one : Noted) (within : i < length all)
+module _ (trees : List Tree) (files : List Files) (numbers : List ℕ) (all : List Noted) (i : ℕ) (one : Noted) (within : i < length all)
     (is : one ≡ get_or all i one) where
   one_note : take (i + 1) all ≡ take i all ++ one ∷ []
   one_note =
@@ -53,19 +46,20 @@ module _ (trees : List Tree) (numbers : List ℕ) (all : List Noted) (i : ℕ) (
       rw (same, next, ← is) refl
 
   -- the runs of the findings so far and of the next one
-  pub one_more_run : (runs after : List FindingRun) → AreRunsOf trees numbers (take i all) runs → IsNext trees numbers one runs after →
-      AreRunsOf trees numbers (take (i + 1) all) after
+  pub one_more_run : (runs after : List FindingRun) → AreRunsOf trees files numbers (take i all) runs →
+      IsNext trees files numbers one runs after → AreRunsOf trees files numbers (take (i + 1) all) after
   one_more_run runs after are next = rw one_note (spec.one_note_more one are next)
 
 -- what is found of the run of a finding whose outcome is this: its flow, or that its journal is no run
-module _ (trees : List Tree) (numbers : List ℕ) (n : Noted) (b : Broken) (runs : List FindingRun) (own : List Tree) (found : Option Flow)
-    (same : own ≡ own_of trees n.filter n.scheduled)
-    (is : MatchOption found (run_of (by_altitude (filters_of own)) b.journal ≡ None) (IsFlow own b.journal)) where
+module _ (trees : List Tree) (files : List Files) (numbers : List ℕ) (n : Noted) (b : Broken) (runs : List FindingRun) (own : List Tree)
+    (own_file : List Files) (found : Option Flow) (same : own ≡ own_of trees n.filter n.scheduled)
+    (named : own_file ≡ own_files files n.filter n.scheduled)
+    (is : MatchOption found (run_of (by_altitude (filters_of own)) b.journal ≡ None) (IsFlow own own_file b.journal)) where
   -- then nothing is added
-  pub none_added : found ≡ None → IsAdded trees numbers n b runs runs
+  pub none_added : found ≡ None → IsAdded trees files numbers n b runs runs
   none_added none = spec.no_flow (rw same at (rw none at is))
 
   -- then the run with this flow is added
   pub run_added : (f : Flow) (run : FindingRun) (after : List FindingRun) → found ≡ Some f → run ≡ run_by numbers n b f →
-      after ≡ runs ++ run ∷ [] → IsAdded trees numbers n b runs after
-  run_added f run after some by more = rw (more, by) (spec.flow (rw same at (rw some at is)))
+      after ≡ runs ++ run ∷ [] → IsAdded trees files numbers n b runs after
+  run_added f run after some by more = rw (more, by) (spec.flow (rw (same, named) at (rw some at is)))

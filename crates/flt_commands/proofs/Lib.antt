@@ -11,6 +11,7 @@ pub mod Formatting
 pub mod FoundFiles
 pub mod InTurn
 pub mod Lengths
+pub mod MadeSources
 pub mod MoreDrawn
 pub mod MoreParsed
 pub mod NewServers
@@ -26,9 +27,9 @@ pub mod OneReading
 pub mod OneThin
 pub mod OneVerdict
 pub mod Paged
-pub mod Plain
 pub mod Putting
 pub mod Readings
 pub mod Reported
 pub mod Sent
+pub mod ServedFile
 pub mod SomeRead

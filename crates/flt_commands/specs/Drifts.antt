@@ -1,5 +1,5 @@
 -- The drifts of C files that `explain` prints. This project's own program.
-use Rattle.std.specs.Prelude.{ℕ, ◌+◌, Bool, true, false, ◌&&◌, if◌then◌else◌, List, [], ◌∷◌, ◌++◌, flat_map, slice_index_or, Option, Some, None, Result, Ok, Err}
+use Rattle.std.specs.Prelude.{◌≡◌, Bool, true, false, List, [], ◌∷◌, ◌++◌, flat_map, map, Option, Some, None, Result, Ok, Err}
 use Rattle.std.specs.List.{list_any}
 use Rattle.std.specs.Str.{bytes_eq}
 use Rattle.flt_c.specs.declared.files.Flaw.{Flaw}
@@ -7,11 +7,14 @@ use Rattle.flt_drift.specs.Drifts.{drifts}
 use Rattle.flt_drift.specs.declared.drift.Drift.{Drift}
 use Rattle.flt_drift.specs.declared.drift.DriftKind.{DriftKind}
 use Rattle.flt_drift_reports.specs.Line.{drift_lines}
-use Rattle.flt_drift_reports.specs.Report.{drift_reports, has_difference}
+use Rattle.flt_drift_reports.specs.Report.{drift_reports}
 use Rattle.flt_drift_reports.specs.Words.{code}
+use Rattle.flt_forms.specs.Drifted.{drift_objects}
+use Rattle.flt_forms.specs.declared.drifted.DriftedFile.{DriftedFile}
+use Rattle.flt_joined.specs.Texts.{Given}
 use Rattle.flt_words.specs.Shown.{visible}
 use Rattle.flt_words.specs.declared.request.Form.{Form}
-use Rattle.flt_words.specs.declared.request.Form.TheVariants.{Html, Human, Short}
+use Rattle.flt_words.specs.declared.request.Form.TheVariants.{Html, Human, Lines, LinesWithRuns, Sarif, SarifWithRuns, Short}
 use Rattle.flt_commands.specs.Inputs.{Text}
 
 -- ---- the drifts of one file
@@ -38,30 +41,43 @@ shown_of allowed (Err flaw) = []
 abbrev pub shown_drifts : List Text → Text → List Drift
 shown_drifts allowed file = shown_of allowed (drifts file)
 
--- how a form prints these drifts of the C file of a name: as reports or as lines; forms for other programs don't
-abbrev pub part : Form → Text → Text → List Drift → Text
-part Human name file found = drift_reports name file found
-part Html name file found = drift_reports name file found
-part Short name file found = drift_lines (visible name) file found
-part form name file found = []
-
--- the same of the drifts of a file that are shown; one that isn't C has none
-abbrev pub part_of : Form → List Text → Text → Option Text → Text
-part_of form allowed name (Some file) = part form name file (shown_drifts allowed file)
-part_of form allowed name None = []
-
--- a file has a drift that is shown and isn't a note
-abbrev pub is_drifted : List Text → Option Text → Bool
-is_drifted allowed (Some file) = has_difference (shown_drifts allowed file)
-is_drifted allowed None = false
-
 -- ---- the drifts of all files
 
--- those of these files, of which the first has this number, in order
-abbrev pub parts_from : Form → List Text → List Text → ℕ → List (Option Text) → Text
-parts_from form allowed names number [] = []
-parts_from form allowed names number (file ∷ files) =
-    part_of form allowed (slice_index_or names number []) file ++ parts_from form allowed names (number + 1) files
+-- a C file of a name, and its drifts
+pub record DriftsOf : Type 0 where
+  pub name : Text
+  pub file : Text
+  pub drifts : List Drift
+
+abbrev pub drifts_in : DriftedFile → DriftsOf
+drifts_in f = record { name = f.name.now; file = f.file.now; drifts = f.drifts }
+
+-- a file with its drifts that are shown, if it is a C file
+abbrev pub drifts_by : List Text → Text → Option Text → List DriftsOf
+drifts_by allowed name (Some file) = record { name = name; file = file; drifts = shown_drifts allowed file } ∷ []
+drifts_by allowed name None = []
+
+abbrev pub drifts_of : List Text → Given → List DriftsOf
+drifts_of allowed g = drifts_by allowed g.name g.code
+
+-- these are the C files among some files, with their drifts that are shown
+abbrev pub AreDrifted : List Text → List Given → List DriftedFile → Type 0
+AreDrifted allowed files drifted = map drifts_in drifted ≡ flat_map (drifts_of allowed) files
+
+-- ---- how they are printed
+
+-- how a form prints these drifts of the C file of a name: as reports, as lines or as JSON objects; a SARIF document has them within it
+abbrev pub part_by : Form → Text → Text → List Drift → Text
+part_by Human name file found = drift_reports name file found
+part_by Html name file found = drift_reports name file found
+part_by Short name file found = drift_lines (visible name) file found
+part_by Lines name file found = drift_objects name file found
+part_by LinesWithRuns name file found = drift_objects name file found
+part_by Sarif name file found = []
+part_by SarifWithRuns name file found = []
+
+abbrev pub part : Form → DriftedFile → Text
+part form f = part_by form f.name.now f.file.now f.drifts
 
 -- an empty line after drifts, for people
 abbrev pub gap : Form → Text → Text
@@ -73,13 +89,6 @@ gap form (b ∷ printed) = []
 abbrev pub with_gap : Form → Text → Text
 with_gap form printed = printed ++ gap form printed
 
--- what is printed of the drifts of files with these names
-abbrev pub drifts_told : Form → List Text → List Text → List (Option Text) → Text
-drifts_told form allowed names files = with_gap form (parts_from form allowed names 0 files)
-
-abbrev pub worth : Bool → Bool → ℕ
-worth strict is_some = if strict && is_some then 1 else 0
-
--- what drifts are worth, in whatever form: where warnings count, 1 if a file has one that is shown and isn't a note
-abbrev pub drifts_status : Bool → List Text → List (Option Text) → ℕ
-drifts_status strict allowed files = worth strict (list_any (is_drifted allowed) files)
+-- what is printed of the drifts of some files, in order
+abbrev pub drifts_told : Form → List DriftedFile → Text
+drifts_told form drifted = with_gap form (flat_map (part form) drifted)

@@ -5,11 +5,14 @@ use Rattle.std.specs.Io.KnownBytes.{Appends}
 use Rattle.std.specs.List.{AllZip, list_all}
 use Rattle.std.specs.Prelude.{◌≡◌, ℕ, ◌+◌, List, [], ◌∷◌, ◌++◌, Bool, map, true, false, Option, Some, None, Result, Ok, Err, get_or, length, max, take}
 use Rattle.flt_pages.specs.Pages.{has_page, title}
+use Rattle.flt_forms.specs.Drifted.{drift_status}
 use Rattle.flt_forms.specs.Lines.{AreLines}
 use Rattle.flt_forms.specs.Sarif.{IsSarif}
+use Rattle.flt_forms.specs.declared.drifted.DriftedFile.{DriftedFile}
 use Rattle.flt_forms.specs.declared.run.FindingRun.{FindingRun}
 use Rattle.flt_forms.specs.declared.unread.UnreadFile.{UnreadFile}
 use Rattle.flt_forms.specs.declared.as_lines.Style.TheVariants.{Object, Sentence}
+use Rattle.flt_joined.specs.Texts.{Given}
 use Rattle.flt_model.specs.JournalText.{Entries, spelling}
 use Rattle.flt_notes.specs.Noted.{AreNotes, first_journal}
 use Rattle.flt_notes.specs.Reported.{AreReports, IsAllButLast, IsCut}
@@ -18,9 +21,8 @@ use Rattle.flt_notes.specs.Whole.{IsPrint, Look}
 use Rattle.flt_notes.specs.declared.noted.Noted.{Noted}
 use Rattle.flt_notes.specs.declared.explaining.Told.{Told}
 use Rattle.flt_details.specs.Reports.{texts_of}
-use Rattle.flt_places.specs.declared.files.Stand.{Stand}
 use Rattle.flt_details.specs.declared.sources.Source.{Source}
-use Rattle.flt_commands.specs.Joined.{AreSources}
+use Rattle.flt_commands.specs.Sources.{AreSources}
 use Rattle.flt_words.specs.declared.request.Colour.{Colour}
 use Rattle.flt_words.specs.declared.request.Colour.TheVariants.{Auto, Always, Never}
 use Rattle.flt_words.specs.declared.request.Form.{Form}
@@ -29,14 +31,13 @@ use Rattle.flt_words.specs.declared.request.Form.TheVariants.{Html, Human, Lines
 use Rattle.flt_warning_details.specs.declared.options.WarningOptions.{WarningOptions}
 use Rattle.flt_words.specs.Request.{Choice}
 use Rattle.flt_commands.specs.Allowed.{options_of}
-use Rattle.flt_commands.specs.Annotated.{AreFound, codes_in, gives_annotations, names_in, texts_in}
-use Rattle.flt_commands.specs.Drifts.{drifts_status, drifts_told}
+use Rattle.flt_commands.specs.Annotated.{AreFound}
+use Rattle.flt_commands.specs.Drifts.{AreDrifted, drifts_told}
 use Rattle.flt_commands.specs.FindingRuns.{AreRuns}
 use Rattle.flt_commands.specs.InTurn.{AreFirstLines}
-use Rattle.flt_commands.specs.Inputs.{AreRead, Giving, Text, unread_names}
+use Rattle.flt_commands.specs.Inputs.{Giving, Text, unread_names}
 use Rattle.flt_commands.specs.Answer.{output, sent_of}
 use Rattle.flt_commands.specs.Html.{IsPageOn, IsPaged}
-use Rattle.flt_commands.specs.declared.annotated.FoundFiles.{FoundFiles}
 use Rattle.flt_commands.specs.declared.answer.Answer.{Answer}
 use Rattle.flt_commands.specs.declared.answer.Answer.TheVariants.{Explained, Pages}
 use Rattle.flt_commands.specs.declared.explain.Asked.{Asked}
@@ -57,21 +58,23 @@ pub record AreToldWithRuns (options : WarningOptions) (sources : List Source) (t
   pub lines : AreLines Object options sources (Some runs) t.explained.output.items t.explained.status
 
 -- a SARIF document with them
-pub record IsToldWithRuns (options : WarningOptions) (sources : List Source) (unread : List UnreadFile) (t : Told) : Type 0 where
+pub record IsToldWithRuns (options : WarningOptions) (drifted : List DriftedFile) (sources : List Source) (unread : List UnreadFile)
+    (t : Told) : Type 0 where
   pub runs : List FindingRun
   pub found : AreRuns sources t.noted runs
-  pub document : IsSarif options sources unread runs t.explained.output.items t.explained.status
+  pub document : IsSarif options sources unread runs drifted t.explained.output.items t.explained.status
 
--- what is told in a form: reports, a sentence or a JSON object for each finding, a SARIF document, which tells of these files that they
--- aren't read, or a page on reports, in which these drifts come before them
-abbrev pub IsTold : Form → WarningOptions → Text → List Source → List UnreadFile → Told → Type 0
-IsTold Human options drifts sources unread t = AreReports options sources t.explained.output.items t.explained.status
-IsTold Short options drifts sources unread t = AreLines Sentence options sources None t.explained.output.items t.explained.status
-IsTold Lines options drifts sources unread t = AreLines Object options sources None t.explained.output.items t.explained.status
-IsTold Sarif options drifts sources unread t = IsSarif options sources unread [] t.explained.output.items t.explained.status
-IsTold LinesWithRuns options drifts sources unread t = AreToldWithRuns options sources t
-IsTold SarifWithRuns options drifts sources unread t = IsToldWithRuns options sources unread t
-IsTold Html options drifts sources unread t = IsPageOn options drifts sources t.explained.output.items t.explained.status
+-- what is told in a form: reports, a sentence or a JSON object for each finding, a SARIF document, which has these drifts and tells of
+-- these files that they aren't read, or a page on reports, in which the drifts come before them
+abbrev pub IsTold : Form → WarningOptions → List DriftedFile → List Source → List UnreadFile → Told → Type 0
+IsTold Human options drifted sources unread t = AreReports options sources t.explained.output.items t.explained.status
+IsTold Short options drifted sources unread t = AreLines Sentence options sources None t.explained.output.items t.explained.status
+IsTold Lines options drifted sources unread t = AreLines Object options sources None t.explained.output.items t.explained.status
+IsTold Sarif options drifted sources unread t = IsSarif options sources unread [] drifted t.explained.output.items t.explained.status
+IsTold LinesWithRuns options drifted sources unread t = AreToldWithRuns options sources t
+IsTold SarifWithRuns options drifted sources unread t = IsToldWithRuns options drifted sources unread t
+IsTold Html options drifted sources unread t =
+    IsPageOn options (drifts_told Html drifted) sources t.explained.output.items t.explained.status
 
 -- what came of the findings of these texts in runs, of each that is reported by itself; nothing is looked for where that is neither told
 -- nor written into a file
@@ -100,20 +103,21 @@ pub record HasReport (look : Look) (sources : List Source) (notes : List Noted) 
 
 -- for people all of what is printed is the reports with the notes, to the letter; a page has these without colours, after these drifts,
 -- with pictures. The runs in other forms are those that a report has
-abbrev pub IsPrintTold : Form → Look → Text → List Source → Told → Type 0
-IsPrintTold Human look drifts sources e = IsPrint look sources e.noted e.explained.output.items e.explained.status
-IsPrintTold Html look drifts sources e = IsPaged look drifts sources e.noted e.explained.output.items e.explained.status
-IsPrintTold LinesWithRuns look drifts sources e = HasReport look sources e.noted
-IsPrintTold SarifWithRuns look drifts sources e = HasReport look sources e.noted
-IsPrintTold _ look drifts sources e = Unit {0}
+abbrev pub IsPrintTold : Form → Look → List DriftedFile → List Source → Told → Type 0
+IsPrintTold Human look drifted sources e = IsPrint look sources e.noted e.explained.output.items e.explained.status
+IsPrintTold Html look drifted sources e =
+    IsPaged look (drifts_told Html drifted) sources e.noted e.explained.output.items e.explained.status
+IsPrintTold LinesWithRuns look drifted sources e = HasReport look sources e.noted
+IsPrintTold SarifWithRuns look drifted sources e = HasReport look sources e.noted
+IsPrintTold _ look drifted sources e = Unit {0}
 
--- all that is known of what is told of texts, beside the files that aren't read
-pub record IsToldUnder (form : Form) (look : Look) (journal : Option Text) (drifts : Text) (sources : List Source)
+-- all that is known of what is told of texts, with these drifts within a page or a document, and beside the files that aren't read
+pub record IsToldUnder (form : Form) (look : Look) (journal : Option Text) (drifted : List DriftedFile) (sources : List Source)
     (unread : List UnreadFile) (e : Told) : Type 0 where
-  pub told : IsTold form look.options drifts sources unread e
+  pub told : IsTold form look.options drifted sources unread e
   pub noted : AreNotedFor form journal (texts_of sources) e.noted
   pub notes : IsNoteTold form (texts_of sources) look.states e
-  pub print : IsPrintTold form look drifts sources e
+  pub print : IsPrintTold form look drifted sources e
 
 -- this is what is told of texts, after drifts that are worth this status
 pub record IsAfter (drifts : Text) (worth : ℕ) (own e : Told) : Type 0 where
@@ -121,63 +125,58 @@ pub record IsAfter (drifts : Text) (worth : ℕ) (own e : Told) : Type 0 where
   pub status : e.explained.status ≡ max own.explained.status worth
   pub noted : e.noted ≡ own.noted
 
--- the same after these first drifts, and with these within a page
-pub record IsToldAfter (first within : Text) (worth : ℕ) (form : Form) (look : Look) (journal : Option Text) (sources : List Source)
+-- the drifts that come before what a form prints of texts: a page has them within it
+abbrev pub first_in : Form → List DriftedFile → Text
+first_in Html drifted = []
+first_in form drifted = drifts_told form drifted
+
+-- the same after these drifts, or with them within it
+pub record IsToldWith (form : Form) (look : Look) (journal : Option Text) (drifted : List DriftedFile) (sources : List Source)
     (unread : List UnreadFile) (e : Told) : Type 0 where
   pub own : Told
-  pub told : IsToldUnder form look journal within sources unread own
-  pub after : IsAfter first worth own e
+  pub told : IsToldUnder form look journal drifted sources unread own
+  pub after : IsAfter (first_in form drifted) (drift_status look.options.is_strict drifted) own e
 
--- the drifts that come before what a form prints of texts: a page has them within it
-abbrev pub first_in : Form → Text → Text
-first_in Html drifts = []
-first_in form drifts = drifts
+-- the same of files that are read, of the texts that they make, and of the drifts of the C files among them but for kinds of these names;
+-- of the files these aren't read after all, and others aren't, either
+pub record IsToldOfFiles (form : Form) (look : Look) (allowed : List Text) (journal : Option Text) (files : List Given)
+    (refused texts : List Text) (unread : List UnreadFile) (e : Told) : Type 0 where
+  pub drifted : List DriftedFile
+  pub compared : AreDrifted allowed files drifted
+  pub sources : List Source
+  pub are : AreSources (told_name form) files sources refused
+  pub given : texts ≡ texts_of sources
+  pub told : IsToldWith form look journal drifted sources unread e
 
-abbrev pub within_in : Form → Text → Text
-within_in Html drifts = drifts
-within_in form drifts = []
+-- the C files among some files, each in the place of its file
+abbrev pub codes_in : List Given → List (Option Text)
+codes_in files = map (λ (g : Given). g.code) files
 
--- the same, where these are all drifts
-abbrev pub IsToldWith : Text → ℕ → Form → Look → Option Text → List Source → List UnreadFile → Told → Type 0
-IsToldWith drifts worth form look journal sources unread e =
-    IsToldAfter (first_in form drifts) (within_in form drifts) worth form look journal sources unread e
-
--- the same of those of these files that are read, and of the texts that they make: they give these texts, of which these C files have the
--- annotations, with the drifts of these but for kinds of these names; and these files aren't read, the last of them since with them a text
--- would be too long
+-- the same of those of the files of these names that are read, of which these are C files
 pub record IsToldOf (gives : Giving) (is_c : Bool) (form : Form) (look : Look) (allowed : List Text) (journal : Option Text)
-    (files : List Text) (codes : List (Option Text)) (texts : List Text) (unread : List UnreadFile) (e : Told) : Type 0 where
-  pub names : List Text
+    (names : List Text) (codes : List (Option Text)) (texts : List Text) (unread : List UnreadFile) (e : Told) : Type 0 where
+  pub files : List Given
   pub missing : List Text
-  pub read : AreRead (gives_annotations is_c gives) files names texts missing
-  pub places : List (List Stand)
-  pub found : AreFound is_c gives names texts places codes
+  pub found : AreFound is_c gives names files missing
+  pub coded : codes ≡ codes_in files
+  pub refused : List Text
+  pub others : unread_names unread ≡ missing ++ refused
+  pub told : IsToldOfFiles form look allowed journal files refused texts unread e
+
+-- those of the files of these names that are read, of which these are C files, make these texts
+pub record GiveTexts (gives : Giving) (is_c : Bool) (names : List Text) (codes : List (Option Text)) (texts : List Text) : Type 0 where
+  pub files : List Given
+  pub missing : List Text
+  pub found : AreFound is_c gives names files missing
+  pub coded : codes ≡ codes_in files
+  pub told : Text → Text
   pub sources : List Source
-  pub flawed : List Text
-  pub are : AreSources (told_name form) names texts codes sources flawed
-  pub unread : unread_names unread ≡ missing ++ flawed
-  pub told : IsToldWith (drifts_told form allowed names codes) (drifts_status look.options.is_strict allowed codes) form look journal
-      sources unread e
+  pub refused : List Text
+  pub are : AreSources told files sources refused
+  pub given : texts ≡ texts_of sources
 
--- the same of these files that are read, and of the texts that they make, beside these that aren't read
-pub record IsToldJoined (first within : Text) (worth : ℕ) (form : Form) (look : Look) (journal : Option Text) (found : FoundFiles)
-    (missing unread : List UnreadFile) (e : Told) : Type 0 where
-  pub sources : List Source
-  pub flawed : List Text
-  pub are : AreSources (told_name form) (names_in found) (texts_in found) (codes_in found) sources flawed
-  pub unread : unread_names unread ≡ unread_names missing ++ flawed
-  pub told : IsToldAfter first within worth form look journal sources unread e
-
--- those of these files that are read give these texts, of which these C files have the annotations
-pub record GiveTexts (gives : Giving) (is_c : Bool) (files : List Text) (codes : List (Option Text)) (texts : List Text) : Type 0 where
-  pub names : List Text
-  pub unread : List Text
-  pub read : AreRead (gives_annotations is_c gives) files names texts unread
-  pub places : List (List Stand)
-  pub found : AreFound is_c gives names texts places codes
-
--- what is said of the bytes of each FILE that is read, of a C file by its annotations, after the drifts of all C files but for kinds of
--- these names; a journal may not be written
+-- what is said of the texts that the FILEs that are read make, C files by their annotations, after the drifts of all C files but for
+-- kinds of these names; a journal may not be written
 abbrev pub IsExplained : Giving → Bool → Form → Look → List Text → Option Text → List Text → List (Option Text) → List Text →
     Result Answer Failure → Type 0
 IsExplained gives is_c form look allowed journal files codes texts (Ok (Explained e unread)) =
@@ -263,24 +262,22 @@ pub data IsCutAfter (drifts : Text) (form : Form) (options : WarningOptions) (st
   drifts_out : (between : Option Text) → Appends old between drifts → IsCutIn form options states sources between new →
       IsCutAfter drifts form options states sources old new
 
--- the same of the texts that these files make that are read; or nothing went out
-pub data IsCutJoined (drifts : Text) (form : Form) (options : WarningOptions) (states : ℕ) (found : FoundFiles) (old new : Option Text) :
-    Type 0 where
-  none_joined : Appends old new [] → IsCutJoined drifts form options states found old new
-  some_joined : (sources : List Source) (flawed : List Text) →
-      AreSources (told_name form) (names_in found) (texts_in found) (codes_in found) sources flawed →
-      IsCutAfter drifts form options states sources old new → IsCutJoined drifts form options states found old new
+-- the same of the texts that files make that are read, after the drifts of the C files among them but for kinds of these names; or
+-- nothing went out
+pub data IsCutOfFiles (form : Form) (options : WarningOptions) (states : ℕ) (allowed : List Text) (files : List Given)
+    (old new : Option Text) : Type 0 where
+  none_told : Appends old new [] → IsCutOfFiles form options states allowed files old new
+  some_told : (drifted : List DriftedFile) (sources : List Source) (refused : List Text) → AreDrifted allowed files drifted →
+      AreSources (told_name form) files sources refused → IsCutAfter (first_in form drifted) form options states sources old new →
+      IsCutOfFiles form options states allowed files old new
 
--- the same of the texts that those of these files make that are read; or nothing went out
-pub data IsCutShort (gives : Giving) (is_c : Bool) (form : Form) (options : WarningOptions) (states : ℕ) (allowed files : List Text)
+-- the same of those of the files of these names that are read; or nothing went out
+pub data IsCutShort (gives : Giving) (is_c : Bool) (form : Form) (options : WarningOptions) (states : ℕ) (allowed names : List Text)
     (old new : Option Text) :
     Type 0 where
-  none_read : Appends old new [] → IsCutShort gives is_c form options states allowed files old new
-  some_read : (names texts missing : List Text) (places : List (List Stand)) (codes : List (Option Text)) (sources : List Source)
-      (flawed : List Text) → AreRead (gives_annotations is_c gives) files names texts missing →
-      AreFound is_c gives names texts places codes → AreSources (told_name form) names texts codes sources flawed →
-      IsCutAfter (first_in form (drifts_told form allowed names codes)) form options states sources old new →
-      IsCutShort gives is_c form options states allowed files old new
+  none_read : Appends old new [] → IsCutShort gives is_c form options states allowed names old new
+  some_read : (files : List Given) (missing : List Text) → AreFound is_c gives names files missing →
+      IsCutOfFiles form options states allowed files old new → IsCutShort gives is_c form options states allowed names old new
 
 -- ---- pages
 

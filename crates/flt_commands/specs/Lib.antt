@@ -22,7 +22,6 @@ pub mod Format
 pub mod Html
 pub mod InTurn
 pub mod Inputs
-pub mod Joined
 pub mod Names
 pub mod Outcomes
 pub mod Remarks
@@ -30,6 +29,7 @@ pub mod Replay
 pub mod Running
 pub mod Served
 pub mod Single
+pub mod Sources
 pub mod Split
 pub mod System
 pub mod Thin

@@ -1,21 +1,21 @@
 -- What `serve` reads and writes, and its exit status. This project's own program.
-use Rattle.std.specs.Prelude.{◌≡◌, ℕ, List, [], ◌∷◌, ◌++◌, Bool, false, true, Option, Some, Result, Ok, Err, string_bytes}
+use Rattle.std.specs.Prelude.{◌≡◌, ℕ, List, [], ◌∷◌, ◌++◌, ◌⊎◌, Bool, false, true, Option, None, Some, string_bytes}
 use Rattle.std.specs.Str.Lossy.{utf8_lossy}
 use Rattle.json.specs.Json.{string}
 use Rattle.json.specs.Print.{print}
 use Rattle.json.specs.Tree.{json_tokens}
-use Rattle.flt_c.specs.InPlace.{in_place}
-use Rattle.flt_c.specs.declared.laying.PlaceFlaw.{PlaceFlaw}
 use Rattle.flt_c_files.specs.Names.{is_c_file}
+use Rattle.flt_forms.specs.declared.drifted.DriftedFile.{DriftedFile}
 use Rattle.flt_forms.specs.declared.unread.UnreadFile.{UnreadFile}
 use Rattle.flt_frames.specs.Handling.{IsServed, IsServedSoFar, Reply}
 use Rattle.flt_notes.specs.Whole.{IsPrint, Look}
 use Rattle.flt_notes.specs.declared.noted.Noted.{Noted}
 use Rattle.flt_details.specs.declared.sources.Source.{Source}
-use Rattle.flt_commands.specs.Joined.{files_in}
+use Rattle.flt_joined.specs.Texts.{AreAnnotations, AreFlawed, Given}
+use Rattle.flt_commands.specs.Sources.{IsSourceOf}
 use Rattle.flt_words.specs.declared.request.Form.TheVariants.{Human}
 use Rattle.flt_commands.specs.Allowed.{options_of}
-use Rattle.flt_commands.specs.Drifts.{drifts_told}
+use Rattle.flt_commands.specs.Drifts.{AreDrifted, drifts_told}
 use Rattle.flt_commands.specs.Inputs.{Text}
 use Rattle.flt_commands.specs.Remarks.{unread_lines}
 use Rattle.flt_commands.specs.declared.serving.Explaining.{Explaining}
@@ -27,20 +27,27 @@ use Rattle.flt_session.specs.declared.phase.Phase.TheVariants.{Fresh}
 abbrev pub look : Look
 look = record { coloured = false; states = 40000; options = options_of (record { strict = false; allowed = [] }) }
 
--- this is what `explain` prints of this text in a file of this name, whose lines it shows, to the letter
-pub record IsExplained (name file text printed : Text) : Type 0 where
+-- this is what `explain` prints of the text that this file makes, to the letter
+pub record IsExplained (g : Given) (printed : Text) : Type 0 where
   pub source : Source
-  pub given : source.text.now ≡ text
-  pub files : files_in (source ∷ []) ≡ (record { name = name; first = 1; bytes = file } ∷ []) ∷ []
+  pub of : IsSourceOf (λ name. name) (g ∷ []) source
   pub notes : List Noted
   pub status : ℕ
   pub print : IsPrint look (source ∷ []) notes printed status
 
--- the same of a C file of this name whose annotations, where they stand in it, are this text: after the drifts of the file
-pub record IsExplainedInC (name file annotations printed : Text) : Type 0 where
+-- the same after the drifts of this file, if it is C
+pub record IsExplainedWithDrifts (g : Given) (printed : Text) : Type 0 where
+  pub drifted : List DriftedFile
+  pub compared : AreDrifted [] (g ∷ []) drifted
   pub own : Text
-  pub explained : IsExplained name file annotations own
-  pub after : printed ≡ drifts_told Human [] (name ∷ []) (Some file ∷ []) ++ own
+  pub explained : IsExplained g own
+  pub after : printed ≡ drifts_told Human drifted ++ own
+
+-- the same of a C file of this name, by its annotations
+pub record IsExplainedInC (name file printed : Text) : Type 0 where
+  pub text : Text
+  pub annotations : AreAnnotations file text
+  pub explained : IsExplainedWithDrifts (record { name = name; text = text; code = Some file }) printed
 
 -- this is what it says on the standard error of a file of this name that isn't read
 pub record IsUnread (name printed : Text) : Type 0 where
@@ -48,14 +55,13 @@ pub record IsUnread (name printed : Text) : Type 0 where
   pub named : string_bytes file.name ≡ name
   pub lines : printed ≡ unread_lines file
 
--- the same of a C file, by its annotations where they stand in it, or by the flaw for which it isn't read
-abbrev pub IsSaidOfLaid : Text → Text → Result Text PlaceFlaw → Text → Type 0
-IsSaidOfLaid name file (Ok annotations) printed = IsExplainedInC name file annotations printed
-IsSaidOfLaid name file (Err flaw) printed = IsUnread name printed
+-- the same of a C file: by its annotations, or that these make no text
+abbrev pub IsSaidInC : Text → Text → Text → Type 0
+IsSaidInC name file printed = IsExplainedInC name file printed ⊎ (AreFlawed file × IsUnread name printed)
 
 abbrev pub IsSaidIf : Bool → Text → Text → Text → Type 0
-IsSaidIf true name file printed = IsSaidOfLaid name file (in_place file) printed
-IsSaidIf false name file printed = IsExplained name file file printed
+IsSaidIf true name file printed = IsSaidInC name file printed
+IsSaidIf false name file printed = IsExplained (record { name = name; text = file; code = None }) printed
 
 -- this is what `explain` says of a file of this name and these bytes, which is C or not by the ending of its name
 abbrev pub IsSaid : Text → Text → Text → Type 0

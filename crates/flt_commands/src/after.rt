@@ -4,10 +4,11 @@ ghost use Rattle.std.specs.Io.KnownBytes.{Appends};
 ghost use Rattle.std.specs.Prelude.{◌≡◌, ◌≢◌, IfErr, IfOk, IsTrue, OnOk, false, option_map, take};
 ghost use Rattle.flt_commands.specs.Explain as spec;
 
+use crate::drifts::tell_drifts;
 use crate::explain::{Asked, told};
 use crate::fault::CommandFault;
 use flt_details::{Explained, Source};
-use flt_forms::UnreadFile;
+use flt_forms::{DriftedFile, UnreadFile, drift_status};
 use flt_model::{Sink, put_all};
 use flt_notes::{SearchWatch, Told};
 use flt_words::Form;
@@ -43,26 +44,40 @@ fn holds_back(asked: Asked<'_>) -> bool
     }
 }
 
-/// The output for some texts, after some drifts, or with some within a page. Nothing is written before all is known.
+/// The drifts that come before what a form prints of texts: none of a page, which has them within it.
+fn first_drifts(
+    alloc: Global,
+    form: Form,
+    drifted: &[DriftedFile<'_>],
+) -> Result<Vec<u8>, AllocError>
+    ensures { IfOk result (λ first. first.items ≡ spec.first_in form drifted.now) }
+{
+    match form {
+        Form::Html => Ok(Vec::new(alloc)),
+        _ => tell_drifts(alloc, form, drifted),
+    }
+}
+
+/// The output for some texts, after some drifts, or with them within it. Nothing is written before all is known.
 fn explain_held<O: Sink, W: SearchWatch>(
     alloc: Global,
     asked: Asked<'_>,
-    first: Vec<u8>,
-    within: &[u8],
-    worth: u8,
+    drifted: &[DriftedFile<'_>],
     sources: &[Source<'_>],
     unread: &[UnreadFile],
     out: &mut O,
     watch: &mut W,
 ) -> Result<Told, CommandFault>
     requires { spec.HoldsBack asked.form (option_map (λ name. name.now) asked.journal) }
-    ensures told { IfOk result (spec.IsToldAfter first.items within.now worth asked.entry.form (spec.look_of asked.entry)
-        (option_map (λ name. name.now) asked.entry.journal) sources.now unread.now) }
+    ensures told { IfOk result (spec.IsToldWith asked.entry.form (spec.look_of asked.entry)
+        (option_map (λ name. name.now) asked.entry.journal) drifted.now sources.now unread.now) }
     ensures sent { IfOk result (λ t. t.sent ≡ 0) }
     ensures held { out.new ≡ out.old }
     ensures err { IfErr result (λ e. e ≡ CommandFault.OutOfMemory) }
 {
-    let own = told(alloc, asked, within, sources, unread, out, watch)?;
+    let first = first_drifts(alloc, asked.form, drifted)?;
+    let worth = drift_status(asked.options.is_strict, drifted);
+    let own = told(alloc, asked, drifted, sources, unread, out, watch)?;
     let told = told_after(first, worth, 0, own)?;
     Ok(told)
 }
@@ -71,61 +86,55 @@ fn explain_held<O: Sink, W: SearchWatch>(
 fn explain_early<O: Sink, W: SearchWatch>(
     alloc: Global,
     asked: Asked<'_>,
-    first: Vec<u8>,
-    within: &[u8],
-    worth: u8,
+    drifted: &[DriftedFile<'_>],
     sources: &[Source<'_>],
     unread: &[UnreadFile],
     out: &mut O,
     watch: &mut W,
 ) -> Result<Told, CommandFault>
-    ensures told { IfOk result (spec.IsToldAfter first.items within.now worth asked.entry.form (spec.look_of asked.entry)
-        (option_map (λ name. name.now) asked.entry.journal) sources.now unread.now) }
+    ensures told { IfOk result (spec.IsToldWith asked.entry.form (spec.look_of asked.entry)
+        (option_map (λ name. name.now) asked.entry.journal) drifted.now sources.now unread.now) }
     ensures sent { IfOk result (λ t. Appends (O.taken out.old) (O.taken out.new) (take t.sent t.explained.output.items)) }
     ensures fine { OnOk result (O.failures out.new ≡ O.failures out.old) }
     ensures write { IfErr result (λ e. e ≡ CommandFault.Write → O.failures out.new ≢ O.failures out.old) }
     ensures memory { IfErr result (λ e. e ≡ CommandFault.OutOfMemory →
-        spec.IsCutAfter first.items asked.entry.form asked.entry.options asked.entry.states sources.now (O.taken out.old)
-        (O.taken out.new)) }
+        spec.IsCutAfter (spec.first_in asked.entry.form drifted.now) asked.entry.form asked.entry.options asked.entry.states sources.now
+        (O.taken out.old) (O.taken out.new)) }
 {
+    let first = first_drifts(alloc, asked.form, drifted)?;
+    let worth = drift_status(asked.options.is_strict, drifted);
     put_all(out, first.as_slice())?;
     let before = first.len();
-    let own = told(alloc, asked, within, sources, unread, out, watch)?;
+    let own = told(alloc, asked, drifted, sources, unread, out, watch)?;
     let sent = before + min(own.sent, own.explained.output.len());
     let told = told_after(first, worth, sent, own)?;
     Ok(told)
 }
 
-/// The output for some texts, in a form, with files that aren't read, after some drifts, or with some within a page. The first
-/// drifts are written at once, and the output for each text as soon as it is made, unless all of it is held back.
+/// The output for some texts, in a form, with files that aren't read, after some drifts, or with them within it. The first drifts are
+/// written at once, and the output for each text as soon as it is made, unless all of it is held back.
 #[tactic(auto, using(crate::proofs::Sent::none_sent, crate::proofs::AfterDrifts::nothing_after))]
 pub(crate) fn explain_after<O: Sink, W: SearchWatch>(
     alloc: Global,
     asked: Asked<'_>,
-    first: Vec<u8>,
-    within: &[u8],
-    worth: u8,
+    drifted: &[DriftedFile<'_>],
     sources: &[Source<'_>],
     unread: &[UnreadFile],
     out: &mut O,
     watch: &mut W,
 ) -> Result<Told, CommandFault>
-    ensures told { IfOk result (spec.IsToldAfter first.items within.now worth asked.entry.form (spec.look_of asked.entry)
-        (option_map (λ name. name.now) asked.entry.journal) sources.now unread.now) }
+    ensures told { IfOk result (spec.IsToldWith asked.entry.form (spec.look_of asked.entry)
+        (option_map (λ name. name.now) asked.entry.journal) drifted.now sources.now unread.now) }
     ensures sent { IfOk result (λ t. Appends (O.taken out.old) (O.taken out.new) (take t.sent t.explained.output.items)) }
     ensures held { spec.HoldsBack asked.entry.form (option_map (λ name. name.now) asked.entry.journal) → out.new ≡ out.old }
     ensures fine { OnOk result (O.failures out.new ≡ O.failures out.old) }
     ensures write { IfErr result (λ e. e ≡ CommandFault.Write → O.failures out.new ≢ O.failures out.old) }
     ensures memory { IfErr result (λ e. e ≡ CommandFault.OutOfMemory →
-        spec.IsCutAfter first.items asked.entry.form asked.entry.options asked.entry.states sources.now (O.taken out.old)
-        (O.taken out.new)) }
+        spec.IsCutAfter (spec.first_in asked.entry.form drifted.now) asked.entry.form asked.entry.options asked.entry.states sources.now
+        (O.taken out.old) (O.taken out.new)) }
 {
     if holds_back(asked) {
-        return explain_held(
-            alloc, asked, first, within, worth, sources, unread, out, watch,
-        );
+        return explain_held(alloc, asked, drifted, sources, unread, out, watch);
     }
-    explain_early(
-        alloc, asked, first, within, worth, sources, unread, out, watch,
-    )
+    explain_early(alloc, asked, drifted, sources, unread, out, watch)
 }

@@ -1,13 +1,15 @@
 //! The drifts of C files, as `explain` prints them before all else.
 
-ghost use Rattle.std.specs.List.{list_any};
-ghost use Rattle.std.specs.Prelude.{◌≡◌, ◌++◌, ◌||◌, IfOk, OnOk, Some, map, option_map};
+ghost use Rattle.std.specs.Prelude.{◌≡◌, ◌++◌, IfOk, OnOk, map};
 ghost use Rattle.flt_commands.specs.Drifts as spec;
+ghost use Rattle.flt_joined.specs.Texts.{given_of, givens};
 
-use crate::extract::name_of;
 use flt_drift::{Drift, DriftKind, drifts};
-use flt_drift_reports::{code, drift_lines, has_difference, report_drifts};
+use flt_drift_reports::{code, drift_lines, report_drifts};
+use flt_forms::{DriftedFile, drift_objects};
+use flt_joined::GivenFile;
 use flt_words::{Form, visible};
+use sqlite_items::Items;
 use std::alloc::{AllocError, Global};
 
 // ---- the drifts of one file
@@ -46,83 +48,72 @@ fn shown_among(alloc: Global, allowed: &[&str], found: &[Drift]) -> Result<Vec<D
 }
 
 /// The drifts of a C file that are shown; none if it can't be compared.
-fn shown_drifts(alloc: Global, allowed: &[&str], file: &[u8]) -> Result<Vec<Drift>, AllocError>
-    ensures { IfOk result (λ shown. shown.items ≡ spec.shown_drifts (map (λ name. name.now) allowed.now) file.now) }
+fn shown_drifts(alloc: Global, allowed: &[&str], file: &[u8]) -> Result<Items<Drift>, AllocError>
+    ensures { IfOk result (λ shown. shown ≡ spec.shown_drifts (map (λ name. name.now) allowed.now) file.now) }
 {
     match drifts(alloc, file)? {
-        Ok(found) => shown_among(alloc, allowed, found.as_slice()),
-        Err(_) => Ok(Vec::new(alloc)),
-    }
-}
-
-/// These drifts of the C file of a name, as a form prints them.
-fn part(
-    alloc: Global,
-    form: Form,
-    name: &str,
-    file: &[u8],
-    found: &[Drift],
-) -> Result<Vec<u8>, AllocError>
-    ensures { IfOk result (λ bytes. bytes.items ≡ spec.part form name.now file.now found.now) }
-{
-    match form {
-        Form::Human | Form::Html => report_drifts(alloc, name, file, found),
-        Form::Short => {
-            let name = visible(alloc, name)?;
-            drift_lines(alloc, name.as_str(), file, found)
+        Ok(found) => {
+            let shown = shown_among(alloc, allowed, found.as_slice())?;
+            Ok(Items::from_vec(shown))
         }
-        Form::Lines | Form::LinesWithRuns => Ok(Vec::new(alloc)),
-        Form::Sarif | Form::SarifWithRuns => Ok(Vec::new(alloc)),
+        Err(_) => Ok(Items::new(alloc)),
     }
 }
 
 // ---- the drifts of all files
 
-/// The drifts of files as they are printed, and whether there is one that isn't a note.
-#[derive(Drop)]
-pub(crate) struct Drifted {
-    pub(crate) printed: Vec<u8>,
-    is_some: bool,
-}
-
-/// Adds the drifts of the C file of a name.
-fn add_code(
+/// Adds a file with its drifts that are shown, if it is a C file.
+fn add_file<'s>(
     alloc: Global,
-    drifted: &mut Drifted,
-    form: Form,
+    drifted: &mut Vec<DriftedFile<'s>>,
     allowed: &[&str],
-    name: &str,
-    file: &[u8],
+    file: &'s GivenFile<'s>,
 ) -> Result<(), AllocError>
-    ensures printed { OnOk result (drifted.new.printed.items ≡ drifted.old.printed.items
-        ++ spec.part_of form (map (λ name. name.now) allowed.now) name.now (Some file.now)) }
-    ensures some { OnOk result (drifted.new.is_some ≡ (drifted.old.is_some
-        || spec.is_drifted (map (λ name. name.now) allowed.now) (Some file.now))) }
+    ensures { OnOk result (map spec.drifts_in drifted.new.items ≡ map spec.drifts_in drifted.old.items
+        ++ spec.drifts_of (map (λ name. name.now) allowed.now) (given_of file.now)) }
 {
-    let found = shown_drifts(alloc, allowed, file)?;
-    let more = part(alloc, form, name, file, found.as_slice())?;
-    drifted.printed.extend_from_slice(more.as_slice())?;
-    drifted.is_some = drifted.is_some || has_difference(found.as_slice());
+    if let Some(code) = &file.code {
+        let code = code.as_slice();
+        let drifts = shown_drifts(alloc, allowed, code)?;
+        drifted.push(DriftedFile {
+            name: file.name,
+            file: code,
+            drifts,
+        })?;
+    }
     Ok(())
 }
 
-/// Adds the drifts of the file of a name, if it is a C file.
-fn add_file(
+/// The C files among some files, with their drifts, except for kinds of the names `allowed`.
+pub(crate) fn drifted_files<'s>(
     alloc: Global,
-    drifted: &mut Drifted,
-    form: Form,
     allowed: &[&str],
-    name: &str,
-    file: &Option<Vec<u8>>,
-) -> Result<(), AllocError>
-    ensures printed { OnOk result (drifted.new.printed.items ≡ drifted.old.printed.items
-        ++ spec.part_of form (map (λ name. name.now) allowed.now) name.now (option_map (λ code. code.items) file.now)) }
-    ensures some { OnOk result (drifted.new.is_some ≡ (drifted.old.is_some
-        || spec.is_drifted (map (λ name. name.now) allowed.now) (option_map (λ code. code.items) file.now))) }
+    files: &'s [GivenFile<'s>],
+) -> Result<Vec<DriftedFile<'s>>, AllocError>
+    ensures { IfOk result (λ drifted. spec.AreDrifted (map (λ name. name.now) allowed.now) (givens files.now) drifted.items) }
 {
-    match file {
-        Some(code) => add_code(alloc, drifted, form, allowed, name, code.as_slice()),
-        None => Ok(()),
+    let mut drifted = Vec::new(alloc);
+    for file in files {
+        add_file(alloc, &mut drifted, allowed, file)?;
+    }
+    Ok(drifted)
+}
+
+// ---- how they are printed
+
+/// The drifts of a C file, as a form prints them.
+fn part(alloc: Global, form: Form, drifted: &DriftedFile<'_>) -> Result<Vec<u8>, AllocError>
+    ensures { IfOk result (λ bytes. bytes.items ≡ spec.part form drifted.now) }
+{
+    let DriftedFile { name, file, drifts } = drifted;
+    match form {
+        Form::Human | Form::Html => report_drifts(alloc, name, file, drifts.as_slice()),
+        Form::Short => {
+            let name = visible(alloc, name)?;
+            drift_lines(alloc, name.as_str(), file, drifts.as_slice())
+        }
+        Form::Lines | Form::LinesWithRuns => drift_objects(alloc, name, file, drifts.as_slice()),
+        Form::Sarif | Form::SarifWithRuns => Ok(Vec::new(alloc)),
     }
 }
 
@@ -139,43 +130,20 @@ fn gap(form: Form, printed: &[u8]) -> &'static [u8]
     }
 }
 
-/// The drifts of the C files among some files with these names, as a form prints them, except for kinds of the names `allowed`.
+/// The drifts of some files, as a form prints them.
 pub(crate) fn tell_drifts(
     alloc: Global,
     form: Form,
-    allowed: &[&str],
-    names: &[&str],
-    files: &[Option<Vec<u8>>],
-) -> Result<Drifted, AllocError>
-    ensures printed { IfOk result (λ d. d.printed.items ≡ spec.drifts_told form (map (λ name. name.now) allowed.now)
-        (map (λ name. name.now) names.now) (map (option_map (λ code. code.items)) files.now)) }
-    ensures some { IfOk result (λ d. d.is_some
-        ≡ list_any (spec.is_drifted (map (λ name. name.now) allowed.now)) (map (option_map (λ code. code.items)) files.now)) }
+    drifted: &[DriftedFile<'_>],
+) -> Result<Vec<u8>, AllocError>
+    ensures { IfOk result (λ printed. printed.items ≡ spec.drifts_told form drifted.now) }
 {
-    let mut drifted = Drifted {
-        printed: Vec::new(alloc),
-        is_some: false,
-    };
-    for (number, file) in files.iter().enumerate() {
-        add_file(
-            alloc,
-            &mut drifted,
-            form,
-            allowed,
-            name_of(names, number),
-            file,
-        )?;
+    let mut printed = Vec::new(alloc);
+    for file in drifted {
+        let more = part(alloc, form, file)?;
+        printed.extend_from_slice(more.as_slice())?;
     }
-    let end = gap(form, drifted.printed.as_slice());
-    drifted.printed.extend_from_slice(end)?;
-    Ok(drifted)
-}
-
-impl Drifted {
-    /// The exit status: 1 if warnings count and there is a drift that isn't a note.
-    pub(crate) fn worth(&self, is_strict: bool) -> u8
-        ensures { result ≡ spec.worth is_strict self.now.is_some }
-    {
-        if is_strict && self.is_some { 1 } else { 0 }
-    }
+    let end = gap(form, printed.as_slice());
+    printed.extend_from_slice(end)?;
+    Ok(printed)
 }

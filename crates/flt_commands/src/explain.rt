@@ -2,11 +2,12 @@
 
 ghost use Rattle.std.specs.Io.KnownBytes.{Appends};
 ghost use Rattle.std.specs.Prelude.{◌≡◌, ◌≢◌, [], None, IfErr, IfOk, OnErr, OnOk, get_or, length, map, option_map, string_bytes, take};
+ghost use Rattle.flt_commands.specs.Drifts.{drifts_told};
 ghost use Rattle.flt_commands.specs.Explain as spec;
 ghost use Rattle.flt_commands.specs.Html.{IsPageOn, IsPaged};
-ghost use Rattle.flt_commands.specs.Joining.{AreJoined};
-ghost use Rattle.flt_commands.specs.declared.annotated.FoundFiles.{FoundFiles as FoundOf};
-ghost use Rattle.flt_forms.specs.declared.unread.UnreadFile.{UnreadFile as UnreadOf};
+ghost use Rattle.flt_commands.specs.Sources.{bytes_in};
+ghost use Rattle.flt_joined.specs.Made.{AreJoined, name_at};
+ghost use Rattle.flt_joined.specs.Texts.{givens};
 ghost use Rattle.flt_commands.specs.Remarks.{unread_in};
 ghost use Rattle.flt_forms.specs.Lines.{AreLines};
 ghost use Rattle.flt_forms.specs.Sarif.{IsSarif};
@@ -16,20 +17,21 @@ ghost use Rattle.flt_details.specs.Reports.{texts_of};
 use crate::after::explain_after;
 use crate::annotated::{NamedFiles, find_each};
 use crate::answer::Answer;
-use crate::drifts::tell_drifts;
+use crate::drifts::{drifted_files, tell_drifts};
 use crate::failure::Failure;
 use crate::fault::CommandFault;
 use crate::finding_runs::runs_of;
 use crate::html::page_on;
 use crate::in_turn::lines_in_turn;
 use crate::inputs::{Inputs, Pictures};
-use crate::joined::{Joined, files_of, join};
 use crate::remarks::unread_lines;
 use crate::report::Contents;
+use crate::sources::{add_refused, bytes_in, codes_in, sources_of};
 use crate::unwritten::Unwritten;
 use flt_details::{Explained, Source};
 use flt_driven::journal_bytes;
-use flt_forms::{Style, UnreadFile, lines, sarif};
+use flt_forms::{DriftedFile, Style, UnreadFile, lines, sarif};
+use flt_joined::{GivenFile, Joined, join, source_files};
 use flt_model::Sink;
 use flt_notes::{Asking, Noted, SearchWatch, Told, explain, first_journal};
 use flt_pages::page;
@@ -49,12 +51,16 @@ fn told_name(alloc: Global, form: Form, name: &str) -> Result<String, AllocError
 }
 
 /// The names of files, as a form prints them.
-fn told_names(alloc: Global, form: Form, names: &[&str]) -> Result<Vec<String>, AllocError>
-    ensures { IfOk result (λ told. map string_bytes told.items ≡ map (λ name. spec.told_name form name.now) names.now) }
+fn told_names(
+    alloc: Global,
+    form: Form,
+    files: &[GivenFile<'_>],
+) -> Result<Vec<String>, AllocError>
+    ensures { IfOk result (λ told. map string_bytes told.items ≡ map (λ file. spec.told_name form file.name.now) files.now) }
 {
     let mut told = Vec::new(alloc);
-    for name in names {
-        let name = told_name(alloc, form, name)?;
+    for file in files {
+        let name = told_name(alloc, form, file.name)?;
         told.push(name)?;
     }
     Ok(told)
@@ -131,14 +137,15 @@ fn unsent(explained: Explained, noted: Items<Noted>) -> Told
 fn told_page<O: Sink, W: SearchWatch>(
     alloc: Global,
     asked: Asked<'_>,
-    drifts: &[u8],
+    drifted: &[DriftedFile<'_>],
     sources: &[Source<'_>],
     out: &mut O,
     watch: &mut W,
 ) -> Result<Told, CommandFault>
-    ensures page { IfOk result (λ t. IsPageOn asked.entry.options drifts.now sources.now t.explained.output.items t.explained.status) }
+    ensures page { IfOk result (λ t. IsPageOn asked.entry.options (drifts_told Form.Html drifted.now) sources.now
+        t.explained.output.items t.explained.status) }
     ensures paged { IfOk result (λ t.
-        IsPaged (spec.look_of asked.entry) drifts.now sources.now t.noted t.explained.output.items t.explained.status) }
+        IsPaged (spec.look_of asked.entry) (drifts_told Form.Html drifted.now) sources.now t.noted t.explained.output.items t.explained.status) }
     ensures noted { IfOk result (λ t. AreNotes (texts_of sources.now) t.noted) }
     ensures sent { IfOk result (λ t. t.sent ≡ 0) }
     ensures held { out.new ≡ out.old }
@@ -151,7 +158,7 @@ fn told_page<O: Sink, W: SearchWatch>(
         options: asked.options,
     };
     let told = explain(alloc, plain, sources, out, watch)?;
-    let mut printed = Vec::from_slice(alloc, drifts)?;
+    let mut printed = tell_drifts(alloc, Form::Html, drifted)?;
     printed.extend_from_slice(told.explained.output.as_slice())?;
     let output = page_on(alloc, sources, printed.as_slice(), told.noted.as_slice())?;
     let status = told.explained.status;
@@ -186,16 +193,17 @@ fn lines_with_runs<O: Sink, W: SearchWatch>(
     Ok(unsent(explained, noted))
 }
 
-/// The same as a document, with files that aren't read.
+/// The same as a document, with drifts, and files that aren't read.
 fn sarif_with_runs<O: Sink, W: SearchWatch>(
     alloc: Global,
     asked: Asked<'_>,
+    drifted: &[DriftedFile<'_>],
     sources: &[Source<'_>],
     unread: &[UnreadFile],
     out: &mut O,
     watch: &mut W,
 ) -> Result<Told, CommandFault>
-    ensures told { IfOk result (spec.IsToldWithRuns asked.entry.options sources.now unread.now) }
+    ensures told { IfOk result (spec.IsToldWithRuns asked.entry.options drifted.now sources.now unread.now) }
     ensures print { IfOk result (λ t. spec.HasReport (spec.look_of asked.entry) sources.now t.noted) }
     ensures noted { IfOk result (λ t. AreNotes (texts_of sources.now) t.noted) }
     ensures sent { IfOk result (λ t. t.sent ≡ 0) }
@@ -204,27 +212,34 @@ fn sarif_with_runs<O: Sink, W: SearchWatch>(
 {
     let told = explain(alloc, asking(asked, true), sources, out, watch)?;
     let runs = runs_of(alloc, sources, told.noted.as_slice())?;
-    let explained = sarif(alloc, asked.options, sources, unread, runs.as_slice())?;
+    let explained = sarif(
+        alloc,
+        asked.options,
+        sources,
+        unread,
+        runs.as_slice(),
+        drifted,
+    )?;
     let noted = told.noted;
     Ok(unsent(explained, noted))
 }
 
-/// The output for some texts, in a form, with files that aren't read; a page has these drifts before all else. Each text's part is written
+/// The output for some texts, in a form, with files that aren't read; a page and a document have drifts within them. Each text's part is written
 /// as soon as it is made, unless the form is one document.
 #[tactic(auto, using(crate::proofs::Sent::none_sent, crate::proofs::Faults::write_of, crate::proofs::Faults::memory_of))]
 fn told_in_turn<O: Sink, W: SearchWatch>(
     alloc: Global,
     asked: Asked<'_>,
-    drifts: &[u8],
+    drifted: &[DriftedFile<'_>],
     sources: &[Source<'_>],
     unread: &[UnreadFile],
     out: &mut O,
     watch: &mut W,
 ) -> Result<Told, CommandFault>
-    ensures told { IfOk result (spec.IsTold asked.entry.form asked.entry.options drifts.now sources.now unread.now) }
+    ensures told { IfOk result (spec.IsTold asked.entry.form asked.entry.options drifted.now sources.now unread.now) }
     ensures noted { IfOk result (λ t. spec.AreNotedFor asked.entry.form None (texts_of sources.now) t.noted) }
     ensures notes { IfOk result (spec.IsNoteTold asked.entry.form (texts_of sources.now) asked.entry.states) }
-    ensures print { IfOk result (spec.IsPrintTold asked.entry.form (spec.look_of asked.entry) drifts.now sources.now) }
+    ensures print { IfOk result (spec.IsPrintTold asked.entry.form (spec.look_of asked.entry) drifted.now sources.now) }
     ensures sent { IfOk result (λ t. Appends (O.taken out.old) (O.taken out.new) (take t.sent t.explained.output.items)) }
     ensures early { IfOk result (spec.GoesOutEarly asked.entry.form asked.entry.options sources.now asked.entry.states) }
     ensures cut { IfOk result (λ t.
@@ -247,12 +262,12 @@ fn told_in_turn<O: Sink, W: SearchWatch>(
             lines_in_turn(alloc, Style::Object, options, sources, out)?,
         )),
         Form::Sarif => Ok(unsent(
-            sarif(alloc, options, sources, unread, &[])?,
+            sarif(alloc, options, sources, unread, &[], drifted)?,
             Items::new(alloc),
         )),
         Form::LinesWithRuns => lines_with_runs(alloc, asked, sources, out, watch),
-        Form::SarifWithRuns => sarif_with_runs(alloc, asked, sources, unread, out, watch),
-        Form::Html => told_page(alloc, asked, drifts, sources, out, watch),
+        Form::SarifWithRuns => sarif_with_runs(alloc, asked, drifted, sources, unread, out, watch),
+        Form::Html => told_page(alloc, asked, drifted, sources, out, watch),
     }
 }
 
@@ -261,16 +276,16 @@ fn told_in_turn<O: Sink, W: SearchWatch>(
 fn told_whole<O: Sink, W: SearchWatch>(
     alloc: Global,
     asked: Asked<'_>,
-    drifts: &[u8],
+    drifted: &[DriftedFile<'_>],
     sources: &[Source<'_>],
     unread: &[UnreadFile],
     out: &mut O,
     watch: &mut W,
 ) -> Result<Told, CommandFault>
-    ensures told { IfOk result (spec.IsTold asked.entry.form asked.entry.options drifts.now sources.now unread.now) }
+    ensures told { IfOk result (spec.IsTold asked.entry.form asked.entry.options drifted.now sources.now unread.now) }
     ensures noted { IfOk result (λ t. AreNotes (texts_of sources.now) t.noted) }
     ensures notes { IfOk result (spec.IsNoteTold asked.entry.form (texts_of sources.now) asked.entry.states) }
-    ensures print { IfOk result (spec.IsPrintTold asked.entry.form (spec.look_of asked.entry) drifts.now sources.now) }
+    ensures print { IfOk result (spec.IsPrintTold asked.entry.form (spec.look_of asked.entry) drifted.now sources.now) }
     ensures sent { IfOk result (λ t. Appends (O.taken out.old) (O.taken out.new) (take t.sent t.explained.output.items)) }
     ensures held { out.new ≡ out.old }
     ensures err { IfErr result (λ e. e ≡ CommandFault.OutOfMemory) }
@@ -280,32 +295,32 @@ fn told_whole<O: Sink, W: SearchWatch>(
         Form::Human => return Ok(explain(alloc, held, sources, out, watch)?),
         Form::Short => lines(alloc, Style::Sentence, asked.options, sources, None)?,
         Form::Lines => lines(alloc, Style::Object, asked.options, sources, None)?,
-        Form::Sarif => sarif(alloc, asked.options, sources, unread, &[])?,
+        Form::Sarif => sarif(alloc, asked.options, sources, unread, &[], drifted)?,
         Form::LinesWithRuns => return lines_with_runs(alloc, asked, sources, out, watch),
-        Form::SarifWithRuns => return sarif_with_runs(alloc, asked, sources, unread, out, watch),
-        Form::Html => return told_page(alloc, asked, drifts, sources, out, watch),
+        Form::SarifWithRuns => return sarif_with_runs(alloc, asked, drifted, sources, unread, out, watch),
+        Form::Html => return told_page(alloc, asked, drifted, sources, out, watch),
     };
     let told = explain(alloc, held, sources, out, watch)?;
     Ok(unsent(explained, told.noted))
 }
 
-/// The output for some texts, in a form, with files that aren't read; a page has these drifts before all else. If a file is named for a
+/// The output for some texts, in a form, with files that aren't read; a page and a document have drifts within them. If a file is named for a
 /// journal, nothing is written before all is known.
 #[tactic(auto, using(crate::proofs::Sent::cut_nowhere))]
 pub(crate) fn told<O: Sink, W: SearchWatch>(
     alloc: Global,
     asked: Asked<'_>,
-    drifts: &[u8],
+    drifted: &[DriftedFile<'_>],
     sources: &[Source<'_>],
     unread: &[UnreadFile],
     out: &mut O,
     watch: &mut W,
 ) -> Result<Told, CommandFault>
-    ensures told { IfOk result (spec.IsTold asked.entry.form asked.entry.options drifts.now sources.now unread.now) }
+    ensures told { IfOk result (spec.IsTold asked.entry.form asked.entry.options drifted.now sources.now unread.now) }
     ensures noted { IfOk result (λ t. spec.AreNotedFor asked.entry.form (option_map (λ name. name.now) asked.entry.journal)
         (texts_of sources.now) t.noted) }
     ensures notes { IfOk result (spec.IsNoteTold asked.entry.form (texts_of sources.now) asked.entry.states) }
-    ensures print { IfOk result (spec.IsPrintTold asked.entry.form (spec.look_of asked.entry) drifts.now sources.now) }
+    ensures print { IfOk result (spec.IsPrintTold asked.entry.form (spec.look_of asked.entry) drifted.now sources.now) }
     ensures sent { IfOk result (λ t. Appends (O.taken out.old) (O.taken out.new) (take t.sent t.explained.output.items)) }
     ensures cut { IfOk result (λ t.
         spec.IsCutIn asked.entry.form asked.entry.options asked.entry.states sources.now (O.taken out.old) (O.taken out.new)) }
@@ -316,44 +331,44 @@ pub(crate) fn told<O: Sink, W: SearchWatch>(
         spec.IsCutIn asked.entry.form asked.entry.options asked.entry.states sources.now (O.taken out.old) (O.taken out.new)) }
 {
     match asked.journal {
-        Some(_) => told_whole(alloc, asked, drifts, sources, unread, out, watch),
-        None => told_in_turn(alloc, asked, drifts, sources, unread, out, watch),
+        Some(_) => told_whole(alloc, asked, drifted, sources, unread, out, watch),
+        None => told_in_turn(alloc, asked, drifted, sources, unread, out, watch),
     }
 }
 
-/// The output for the texts of some files, in a form, after some drifts, or with some within a page.
+/// The output for the texts that files make, in a form, with the drifts of the C files among them.
+#[tactic(auto, using(crate::proofs::Sources::within))]
 fn told_joined<O: Sink, W: SearchWatch>(
     alloc: Global,
     asked: Asked<'_>,
-    joined: &Joined<'_>,
-    first: Vec<u8>,
-    within: &[u8],
-    worth: u8,
+    files: &[GivenFile<'_>],
+    joined: &Joined,
+    unread: &[UnreadFile],
     out: &mut O,
     watch: &mut W,
 ) -> Result<Told, CommandFault>
-    ensures told { IfOk result (λ t. (found : FoundOf) → (unread : List UnreadOf) → AreJoined found unread joined.now →
-        spec.IsToldJoined first.items within.now worth asked.entry.form (spec.look_of asked.entry)
-        (option_map (λ name. name.now) asked.entry.journal) found unread joined.now.unread.items t) }
+    requires { AreJoined files.now joined.now }
+    ensures told { IfOk result (spec.IsToldOfFiles asked.entry.form (spec.look_of asked.entry) (map (λ name. name.now) asked.entry.allowed.now)
+        (option_map (λ name. name.now) asked.entry.journal) (givens files.now) (map (name_at files.now) joined.now.refused.items)
+        (bytes_in joined.now.texts.items) unread.now) }
     ensures sent { IfOk result (λ t. Appends (O.taken out.old) (O.taken out.new) (take t.sent t.explained.output.items)) }
     ensures held { spec.HoldsBack asked.entry.form (option_map (λ name. name.now) asked.entry.journal) → out.new ≡ out.old }
     ensures fine { OnOk result (O.failures out.new ≡ O.failures out.old) }
     ensures write { IfErr result (λ e. e ≡ CommandFault.Write → O.failures out.new ≢ O.failures out.old) }
-    ensures memory { IfErr result (λ e. e ≡ CommandFault.OutOfMemory → (found : FoundOf) → (unread : List UnreadOf) →
-        AreJoined found unread joined.now → spec.IsCutJoined first.items asked.entry.form asked.entry.options asked.entry.states found
-        (O.taken out.old) (O.taken out.new)) }
+    ensures memory { IfErr result (λ e. e ≡ CommandFault.OutOfMemory →
+        spec.IsCutOfFiles asked.entry.form asked.entry.options asked.entry.states (map (λ name. name.now) asked.entry.allowed.now)
+        (givens files.now) (O.taken out.old) (O.taken out.new)) }
 {
-    let names = told_names(alloc, asked.form, joined.found.names.as_slice())?;
-    let files = files_of(alloc, &joined.found, names.as_slice())?;
-    let sources = joined.sources(alloc, files.as_slice())?;
+    let drifted = drifted_files(alloc, asked.allowed, files)?;
+    let names = told_names(alloc, asked.form, files)?;
+    let own = source_files(alloc, files, names.as_slice())?;
+    let sources = sources_of(alloc, joined.texts.as_slice(), own.as_slice())?;
     explain_after(
         alloc,
         asked,
-        first,
-        within,
-        worth,
+        drifted.as_slice(),
         sources.as_slice(),
-        joined.unread.as_slice(),
+        unread,
         out,
         watch,
     )
@@ -403,21 +418,10 @@ fn keep<'a, P: Pictures>(
     }
 }
 
-/// The drifts that come before what a form prints of texts, and those that it has within a page.
-fn placed(alloc: Global, form: Form, drifts: Vec<u8>) -> (Vec<u8>, Vec<u8>)
-    ensures first { result.0.items ≡ spec.first_in form drifts.items }
-    ensures within { result.1.items ≡ spec.within_in form drifts.items }
-{
-    match form {
-        Form::Html => (Vec::new(alloc), drifts),
-        _ => (drifts, Vec::new(alloc)),
-    }
-}
-
-/// The outcome of `explain`, in a form, for those of its names that can be read, of C files for their annotations, after the drifts of
-/// these; `contents` becomes what the names give, `codes` the C files of which texts are the annotations, and `remark` whole lines on the
-/// names that give none, or with which a text would be too long. The journal of the first finding that has one is written into a file, if one is named; else the
-/// drifts are written first and the output for each text as soon as it is made, unless the form is one document.
+/// The outcome of `explain`, in a form, for those of its names that can be read, and the texts that these files make, of C files by their
+/// annotations, after the drifts of these; `contents` becomes the texts, `codes` the C files, and `remark` whole lines on the names that
+/// give no text, or with which one would be too long. The journal of the first finding that has one is written into a file, if one is
+/// named; else the drifts are written first and the output for each text as soon as it is made, unless the form is one document.
 #[tactic(auto, using(crate::proofs::Sent::cut_short))]
 pub fn explain_files<'a, I: Inputs, P: Pictures, O: Sink, W: SearchWatch>(
     alloc: Global,
@@ -446,31 +450,27 @@ pub fn explain_files<'a, I: Inputs, P: Pictures, O: Sink, W: SearchWatch>(
         spec.IsCutShort (I.gives inputs.now) asked.entry.is_c asked.entry.form asked.entry.options asked.entry.states
         (map (λ name. name.now) asked.entry.allowed.now) (map (λ name. name.now) files.now) (O.taken out.old) (O.taken out.new)) }
 {
-    let NamedFiles { read, unread } = find_each(alloc, inputs, asked.is_c, files)?;
-    let joined = join(alloc, read, unread)?;
-    *remark = unread_lines(alloc, joined.unread.as_slice())?;
-    let drifts = tell_drifts(
+    let NamedFiles { read, mut unread } = find_each(alloc, inputs, asked.is_c, files)?;
+    let joined = join(alloc, read.as_slice())?;
+    add_refused(
         alloc,
-        asked.form,
-        asked.allowed,
-        joined.found.names.as_slice(),
-        joined.found.codes.as_slice(),
+        &mut unread,
+        read.as_slice(),
+        joined.refused.as_slice(),
     )?;
-    let worth = drifts.worth(asked.options.is_strict);
-    let (first, within) = placed(alloc, asked.form, drifts.printed);
+    *remark = unread_lines(alloc, unread.as_slice())?;
     let told = told_joined(
         alloc,
         asked,
+        read.as_slice(),
         &joined,
-        first,
-        within.as_slice(),
-        worth,
+        unread.as_slice(),
         out,
         watch,
     )?;
-    contents.texts = joined.found.texts;
-    *codes = joined.found.codes;
-    let said = keep(alloc, files, asked.journal, told, joined.unread, pictures)?;
+    contents.texts = bytes_in(alloc, joined.texts)?;
+    *codes = codes_in(alloc, read)?;
+    let said = keep(alloc, files, asked.journal, told, unread, pictures)?;
     Ok(said)
 }
 

@@ -58,8 +58,9 @@ pub(crate) fn flaw_line(alloc: Global, name: &str, flaw: Flaw) -> Result<String,
     }
 }
 
-/// Why the annotations of a file that is named elsewhere can't be laid at their places, in words, with the place.
-pub(crate) fn place_flaw_words(alloc: Global, flaw: PlaceFlaw) -> Result<String, AllocError> {
+/// Why the annotations of a file that is named elsewhere make no text, in words, with the place.
+pub(crate) fn annotation_flaw_words(alloc: Global, flaw: Flaw) -> Result<String, AllocError> {
+    let flaw = PlaceFlaw::Flawed(flaw);
     let why = flaw_words(flaw);
     match flaw_place(flaw) {
         Some(place) => {

@@ -1,19 +1,22 @@
 //! The server of an editor, over a stream of any kind that is read and one that is written.
 
 ghost use Rattle.std.specs.Prelude.{◌≡◌, ◌≢◌, None, IfErr, IfOk, true};
-ghost use Rattle.flt_c.specs.InPlace.{in_place as laid_in};
+ghost use Rattle.flt_joined.specs.Made.{IsOwn};
+ghost use Rattle.flt_joined.specs.Texts.{given_of};
 ghost use Rattle.flt_commands.specs.Served as spec;
 ghost use Rattle.flt_notes.specs.Whole.{look_for};
 
-use crate::drifts::tell_drifts;
+use crate::annotated::annotated;
+use crate::drifts::{drifted_files, tell_drifts};
 use crate::remarks::lines_on_file;
 use crate::unread::Unread;
-use flt_c::{PlaceFlaw, in_place};
 use flt_c_files::is_c_file;
-use flt_details::{FilePart, Source};
+use flt_details::Source;
 use flt_frames::{Incoming, ServeFault, serve};
+use flt_joined::{GivenFile, source_file};
 use flt_model::{Sink, WriteFault};
 use flt_notes::{Asking, UnwatchedSearch, explain};
+use flt_places::Files;
 use flt_server::Server;
 use flt_session::Reporter;
 use flt_warning_details::WarningOptions;
@@ -21,6 +24,7 @@ use flt_warnings::AllowedKinds;
 use flt_words::{DEFAULT_STATES, Form};
 use json::{Value, to_vec};
 use std::alloc::{AllocError, Global};
+use std::slice::from_ref;
 
 /// Takes no bytes: a report that is held back isn't put out.
 #[derive(Drop)]
@@ -55,18 +59,18 @@ fn asking() -> Asking
     }
 }
 
-/// The output of `explain` for a text in a file of a name, whose lines it shows.
-fn printed(alloc: Global, name: &str, file: &[u8], text: &[u8]) -> Result<Vec<u8>, AllocError>
-    ensures { IfOk result (λ out. spec.IsExplained name.now file.now text.now out.items) }
+/// The output of `explain` for the text of a file.
+fn printed(alloc: Global, file: &GivenFile<'_>) -> Result<Vec<u8>, AllocError>
+    requires { IsOwn file.now }
+    ensures { IfOk result (λ out. spec.IsExplained (given_of file.now) out.items) }
 {
-    let files = [FilePart {
-        name,
-        first: 1,
-        bytes: file,
-    }];
+    let files = [source_file(alloc, file, file.name)?];
     let sources = [Source {
-        text,
-        files: &files,
+        text: file.text.as_slice(),
+        files: Files {
+            all: &files,
+            stands: file.stands.as_slice(),
+        },
     }];
     let mut out = Nowhere { failures: 0 };
     let mut watch = UnwatchedSearch;
@@ -76,52 +80,49 @@ fn printed(alloc: Global, name: &str, file: &[u8], text: &[u8]) -> Result<Vec<u8
     }
 }
 
-/// The output of `explain` for the annotations of a C file under a name, after the drifts of the file.
-fn printed_after(
-    alloc: Global,
-    name: &str,
-    file: &[u8],
-    annotations: &[u8],
-) -> Result<Vec<u8>, AllocError>
-    ensures { IfOk result (λ out. spec.IsExplainedInC name.now file.now annotations.now out.items) }
+/// The output of `explain` for a C file: its drifts, and then that for its annotations.
+fn printed_with_drifts(alloc: Global, file: &GivenFile<'_>) -> Result<Vec<u8>, AllocError>
+    requires { IsOwn file.now }
+    ensures { IfOk result (λ out. spec.IsExplainedWithDrifts (given_of file.now) out.items) }
 {
-    let files = [Some(Vec::from_slice(alloc, file)?)];
-    let drifts = tell_drifts(alloc, Form::Human, &[], &[name], &files)?;
-    let own = printed(alloc, name, file, annotations)?;
-    let mut out = drifts.printed;
+    let drifted = drifted_files(alloc, &[], from_ref(file))?;
+    let mut out = tell_drifts(alloc, Form::Human, drifted.as_slice())?;
+    let own = printed(alloc, file)?;
     out.extend_from_slice(own.as_slice())?;
     Ok(out)
 }
 
 /// The lines of `explain` on a C file that isn't read.
-fn printed_of_unread(alloc: Global, name: &str, flaw: PlaceFlaw) -> Result<Vec<u8>, AllocError>
+fn printed_of_unread(alloc: Global, name: &str, why: Unread) -> Result<Vec<u8>, AllocError>
     ensures { IfOk result (λ out. spec.IsUnread name.now out.items) }
 {
-    let file = Unread::Flawed(flaw).file(alloc, name)?;
+    let file = why.file(alloc, name)?;
     let lines = lines_on_file(alloc, &file)?;
     Ok(lines.into_bytes())
 }
 
 /// The output of `explain` for a C file under a name.
-fn printed_in_c(alloc: Global, name: &str, file: &[u8]) -> Result<Vec<u8>, AllocError>
-    ensures { IfOk result (λ out. spec.IsSaidOfLaid name.now file.now (laid_in file.now) out.items) }
+#[tactic(auto, using(crate::proofs::ServedFile::in_c, crate::proofs::ServedFile::unread_in_c))]
+fn printed_in_c(alloc: Global, name: &str, file: Vec<u8>) -> Result<Vec<u8>, AllocError>
+    ensures { IfOk result (λ out. spec.IsSaidInC name.now file.items out.items) }
 {
-    let own = Vec::from_slice(alloc, file)?;
-    match in_place(alloc, own)? {
-        Ok(annotations) => printed_after(alloc, name, file, annotations.as_slice()),
-        Err(flaw) => printed_of_unread(alloc, name, flaw),
+    match annotated(alloc, name, file)? {
+        Ok(file) => printed_with_drifts(alloc, &file),
+        Err(why) => printed_of_unread(alloc, name, why),
     }
 }
 
 /// The output of `explain` for a file under a name, which says whether it is C.
+#[tactic(auto, using(crate::proofs::ServedFile::in_no_c))]
 fn printed_for(alloc: Global, name: &str, file: &[u8]) -> Result<Vec<u8>, AllocError>
     ensures { IfOk result (λ out. spec.IsSaid name.now file.now out.items) }
 {
+    let own = Vec::from_slice(alloc, file)?;
     if is_c_file(name) {
-        printed_in_c(alloc, name, file)
-    } else {
-        printed(alloc, name, file, file)
+        return printed_in_c(alloc, name, own);
     }
+    let file = GivenFile::plain(alloc, name, own);
+    printed(alloc, &file)
 }
 
 /// Bytes as a JSON string; bytes that aren't UTF-8 become U+FFFD.

@@ -2,8 +2,8 @@
 
 ghost use Rattle.std.specs.Prelude.{◌≡◌, IfOk, string_bytes};
 
-use crate::extract::place_flaw_words;
-use flt_c::PlaceFlaw;
+use crate::extract::annotation_flaw_words;
+use flt_c::Flaw;
 use flt_forms::UnreadFile;
 use flt_pages::page;
 use std::alloc::{AllocError, Global};
@@ -27,7 +27,7 @@ pub enum Unread {
     /// It is the standard input, which another name before it is, too.
     Again,
     /// The annotations of a C file make no text.
-    Flawed(PlaceFlaw),
+    Flawed(Flaw),
     /// The system refuses it for another reason, and says why.
     Refused(io::Error),
     /// Anything else.
@@ -97,7 +97,7 @@ impl Unread {
             Unread::TooLong => "it has more than 67,108,864 bytes",
             Unread::Endless => "it has no end within 67,108,864 bytes",
             Unread::Again => "the standard input is read once, for the first `-`",
-            Unread::Flawed(flaw) => return place_flaw_words(alloc, flaw),
+            Unread::Flawed(flaw) => return annotation_flaw_words(alloc, flaw),
             Unread::Refused(fault) => return format!(in alloc; "reading it failed: {fault}"),
             Unread::Failed => "reading it failed",
         };
@@ -117,7 +117,7 @@ impl Unread {
                 "a text has at most 65,536 bytes, a journal 1,000,000 entries",
             Unread::Again => "name each input once",
             Unread::Flawed(_) =>
-                "an annotation is what follows `//@flt` in its line, or `/*@flt` up to `*/`; a line has one at most",
+                "an annotation is what follows `//@flt` in its line, or `/*@flt` up to `*/`",
             Unread::Refused(_) | Unread::Failed => "copy it into a file first",
         }
     }

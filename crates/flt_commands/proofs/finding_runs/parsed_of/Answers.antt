@@ -4,9 +4,9 @@ use Rattle.flt_commands.proofs.FindingRuns.{one_more_parsed}
 use Rattle.flt_commands.proofs.finding_runs.parsed_of.Goals as goal
 
 pub loop-number-init : goal.loop-number-init
-loop-number-init c = rw (c.new.ensures.items, c.new-2.ensures) spec.no_text
+loop-number-init c = rw (c.new.ensures.items, c.new-2.ensures.items, c.new-3.ensures) spec.no_text
 
 pub loop-number-preserved : goal.loop-number-preserved
 loop-number-preserved c =
-    one_more_parsed c.args.sources.now c.loop-number.number _ (omega (arith, c.loop-number-test.true)) _ _ _ _ c.loop-number.invariant
+    one_more_parsed c.args.sources.now c.loop-number.number _ (omega (arith, c.loop-number-test.true)) _ _ _ _ _ _ c.loop-number.invariant
     c.in_ok-add_parsed.ensures

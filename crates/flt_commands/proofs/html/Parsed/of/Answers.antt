@@ -2,4 +2,4 @@ use Rattle.flt_notes.specs.Parsed.AreParsed.{none}
 use Rattle.flt_commands.proofs.html.Parsed.of.Goals as goal
 
 pub loop-source-init : goal.loop-source-init
-loop-source-init c = rw c.new-2.ensures none
+loop-source-init c = rw c.new-3.ensures none
