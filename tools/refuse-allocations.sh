@@ -91,7 +91,12 @@ has_first_parts() {
             [[ "$(tail -c "+$((size + 1))" "$work/wanted-out" | head -c 14)" =~ ^(Content-Length)?$ ]]
         return
     fi
-    [ "${1:-}" = explain ] && [ "$size" -lt "$(stat -c %s "$work/wanted-out")" ] && cmp -s -n "$size" "$work/out" "$work/wanted-out" || return 1
+    [ "${1:-}" = explain ] && cmp -s -n "$size" "$work/out" "$work/wanted-out" || return 1
+    if [ "$size" = "$(stat -c %s "$work/wanted-out")" ]; then
+        # (the drifts of C files are put before the lines once more, after all is printed)
+        [[ " $* " =~ ' --form short '.*'.c ' ]]
+        return
+    fi
     case " $* " in
     *" --journal "* | *" --runs "* | *" sarif "* | *" html "*) return 1 ;;
     *" --form lines "* | *" --form short "*)
