@@ -6,8 +6,8 @@ use Rattle.std.specs.List.{AllZip}
 use Rattle.flt_details.specs.declared.sources.Source.{Source}
 use Rattle.flt_forms.specs.declared.drifted.DriftedFile.{DriftedFile}
 use Rattle.flt_forms.specs.declared.unread.UnreadFile.{UnreadFile}
-use Rattle.flt_joined.specs.Made.{AreJoined, name_at}
-use Rattle.flt_joined.specs.Texts.{AreNamed, Given, given_of, givens}
+use Rattle.flt_joined.specs.Made.{AreJoined}
+use Rattle.flt_joined.specs.Texts.{AreNamed, Given, Refused, given_of, givens, refused_at}
 use Rattle.flt_joined.specs.declared.given.GivenFile.{GivenFile}
 use Rattle.flt_joined.specs.declared.joined.Joined.{Joined}
 use Rattle.flt_places.specs.declared.files.SourceFile.{SourceFile}
@@ -35,7 +35,7 @@ use Rattle.flt_commands.specs.declared.explain.Explanation.TheVariants.{Told as 
 use Rattle.flt_commands.specs.declared.failure.Failure.{Failure}
 use Rattle.flt_commands.specs.declared.fault.CommandFault.{CommandFault}
 use Rattle.flt_commands.specs.declared.fault.CommandFault.TheVariants.{OutOfMemory}
-use Rattle.flt_commands.specs.Sources.{AreSources, IsSourceIn, bytes_in}
+use Rattle.flt_commands.specs.Sources.{AreSources, IsSourceIn, bytes_in, refused_names}
 use Rattle.flt_commands.specs.declared.annotated.NamedFiles.{NamedFiles}
 use Rattle.flt_commands.specs.declared.report.Report.{Report}
 
@@ -66,16 +66,18 @@ module _ (form : Form) (look : Look) (allowed : List Text) (journal : Option Tex
     (own : List SourceFile) (drifted : List DriftedFile) (sources : List Source) (are : AreJoined files joined)
     (named : AreNamed (told_name form) (givens files) own) (compared : AreDrifted allowed (givens files) drifted)
     (made : AllZip (IsSourceIn own) joined.texts.items sources) where
-  these : AreSources (told_name form) (givens files) sources (map (name_at files) joined.refused.items)
+  these : AreSources (told_name form) (givens files) sources (refused_names files joined.refused.items)
   these = record {
     each = sources_of_files (told_name form) files joined own sources are named made;
-    others = are.refused;
+    others =
+        sym (mapped_twice (refused_at (givens files)) (λ (r : Refused). r.name) joined.refused.items)
+        ∙ ap (map (λ (r : Refused). r.name)) are.refused;
   }
 
   -- what is told of them
   pub joined_told : (unread : List UnreadFile) (result : Result Told CommandFault) →
       IfOk result (IsToldWith form look journal drifted sources unread) →
-      IfOk result (IsToldOfFiles form look allowed journal (givens files) (map (name_at files) joined.refused.items)
+      IfOk result (IsToldOfFiles form look allowed journal (givens files) (refused_names files joined.refused.items)
       (bytes_in joined.texts.items) unread)
   joined_told unread (Ok t) is = record {
     drifted = drifted;

@@ -7,9 +7,9 @@ use Rattle.std.specs.List.{list_any}
 use Rattle.std.specs.declared.alloc.AllocError.{AllocError}
 use Rattle.flt_forms.specs.declared.unread.UnreadFile.{UnreadFile}
 use Rattle.flt_joined.specs.Made.{IsOwn}
-use Rattle.flt_joined.specs.Texts.{AreAnnotations, AreFlawed, Given, given_of, givens}
+use Rattle.flt_joined.specs.Texts.{AreAnnotations, Given, given_of, givens}
 use Rattle.flt_joined.specs.declared.given.GivenFile.{GivenFile}
-use Rattle.flt_commands.specs.Annotated.{AreFoundIn, GivesBy, GivesFound, gives_annotations, gives_if_c, is_taken_for_c}
+use Rattle.flt_commands.specs.Annotated.{AreFlawed, AreFoundIn, GivesBy, GivesFound, gives_annotations, gives_if_c, is_taken_for_c}
 use Rattle.flt_commands.specs.Inputs.{Giving, IsMissing, Text, is_standard, missing, read, unread_names}
 use Rattle.flt_commands.specs.declared.annotated.NamedFiles.{NamedFiles}
 use Rattle.flt_commands.specs.declared.unread.Unread.{Unread}
@@ -31,7 +31,8 @@ found_if all gives name text None is = subst (λ b. gives_if_c b gives name (Som
 found_if all gives name text (Some code) is =
     subst (λ b. gives_if_c b gives name (Some text)) (sym is.0) (record { file = code; given = is.1.0; are = is.1.1 })
 
-module _ (all : Bool) (gives : Giving) (name : Text) (file : Text) (is : is_taken_for_c all name ≡ true) (given : gives name (Some file)) where
+module _ (all : Bool) (gives : Giving) (name : Text) (file : Text) (is : is_taken_for_c all name ≡ true)
+    (given : gives name (Some file)) where
   found_by : (found text : Text) (code : Option Text) → found ≡ name → AreAnnotations file text → code ≡ Some file →
       GivesBy all gives found text code
   found_by found text code named are coded = rw (named, coded) (is, (given, are))
@@ -55,7 +56,8 @@ module _ (all : Bool) (gives : Giving) (name : Text) (file : Text) (is : is_take
 
 -- ---- of several names
 
-module _ (all : Bool) (gives : Giving) (before : List Text) (name : Text) (old new : NamedFiles) (are : AreFoundIn all gives before old) where
+module _ (all : Bool) (gives : Giving) (before : List Text) (name : Text) (old new : NamedFiles)
+    (are : AreFoundIn all gives before old) where
   -- a name more that gives a file
   pub found_more : (g : GivenFile) → g.name.now ≡ name → GivesFound all gives (given_of g) → IsOwn g →
       is_standard name && list_any is_standard before ≡ false → new.read.items ≡ old.read.items ++ g ∷ [] →

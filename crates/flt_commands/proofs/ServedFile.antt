@@ -3,11 +3,12 @@ use Rattle.std.proofs.Common.{◌≡◌, ◌∙◌, inl, inr, ◌∷◌, [], Vec
 use Rattle.std.specs.declared.alloc.AllocError.{AllocError}
 use Rattle.flt_details.specs.declared.sources.Source.{Source}
 use Rattle.flt_joined.specs.Made.{IsOwn}
-use Rattle.flt_joined.specs.Texts.{AreAnnotations, AreFlawed, file_in, file_of, given_of}
+use Rattle.flt_joined.specs.Texts.{AreAnnotations, file_in, file_of, given_of}
 use Rattle.flt_joined.specs.declared.given.GivenFile.{GivenFile}
 use Rattle.flt_notes.specs.Whole.{IsPrint}
 use Rattle.flt_notes.specs.declared.noted.Noted.{Noted}
 use Rattle.flt_places.specs.declared.files.SourceFile.{SourceFile}
+use Rattle.flt_commands.specs.Annotated.{AreFlawed}
 use Rattle.flt_commands.specs.Inputs.{Text}
 use Rattle.flt_commands.specs.Served.{IsExplained, IsExplainedWithDrifts, IsSaidInC, IsUnread, look}
 

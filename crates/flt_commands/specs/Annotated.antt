@@ -1,10 +1,15 @@
 -- What C files give. This project's own program.
 use Rattle.std.specs.Prelude.{◌≡◌, ◌⊎◌, All, List, Bool, true, false, ◌||◌, Option, Some, None, map}
+use Rattle.flt_c.specs.declared.files.Flaw.{Flaw}
 use Rattle.flt_c_files.specs.Names.{is_c_file}
 use Rattle.flt_joined.specs.Made.{AreOwn}
-use Rattle.flt_joined.specs.Texts.{AreAnnotations, AreFlawed, Given, givens}
+use Rattle.flt_joined.specs.Texts.{AreAnnotations, Given, IsFlawed, givens}
 use Rattle.flt_commands.specs.Inputs.{AreRead, Giving, Text, unread_names}
 use Rattle.flt_commands.specs.declared.annotated.NamedFiles.{NamedFiles}
+
+-- its annotations make no text
+abbrev pub AreFlawed : Text → Type 0
+AreFlawed file = (flaw : Flaw) × IsFlawed file flaw
 
 -- the annotations of a file, or none where they make no text
 abbrev pub AreAnnotationsOr : Text → Option Text → Type 0

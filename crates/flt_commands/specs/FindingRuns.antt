@@ -55,8 +55,10 @@ run_by numbers n b flow = record {
 }
 
 -- the run of a finding that breaks something is added; none is where its journal is no run of its filters
-pub data IsAdded (trees : List Tree) (files : List Files) (numbers : List ℕ) (n : Noted) (b : Broken) (runs : List FindingRun) : List FindingRun → Type 0 where
-  no_flow : run_of (by_altitude (filters_of (own_of trees n.filter n.scheduled))) b.journal ≡ None → IsAdded trees files numbers n b runs runs
+pub data IsAdded (trees : List Tree) (files : List Files) (numbers : List ℕ) (n : Noted) (b : Broken) (runs : List FindingRun) :
+    List FindingRun → Type 0 where
+  no_flow : run_of (by_altitude (filters_of (own_of trees n.filter n.scheduled))) b.journal ≡ None →
+      IsAdded trees files numbers n b runs runs
   flow : {f : Flow} → IsFlow (own_of trees n.filter n.scheduled) (own_files files n.filter n.scheduled) b.journal f →
       IsAdded trees files numbers n b runs (runs ++ run_by numbers n b f ∷ [])
 

@@ -11,10 +11,11 @@ use Rattle.flt_frames.specs.Handling.{IsServed, IsServedSoFar, Reply}
 use Rattle.flt_notes.specs.Whole.{IsPrint, Look}
 use Rattle.flt_notes.specs.declared.noted.Noted.{Noted}
 use Rattle.flt_details.specs.declared.sources.Source.{Source}
-use Rattle.flt_joined.specs.Texts.{AreAnnotations, AreFlawed, Given}
+use Rattle.flt_joined.specs.Texts.{AreAnnotations, Given}
 use Rattle.flt_commands.specs.Sources.{IsSourceOf}
 use Rattle.flt_words.specs.declared.request.Form.TheVariants.{Human}
 use Rattle.flt_commands.specs.Allowed.{options_of}
+use Rattle.flt_commands.specs.Annotated.{AreFlawed}
 use Rattle.flt_commands.specs.Drifts.{AreDrifted, drifts_told}
 use Rattle.flt_commands.specs.Inputs.{Text}
 use Rattle.flt_commands.specs.Remarks.{unread_lines}

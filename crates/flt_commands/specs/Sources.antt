@@ -1,8 +1,10 @@
 -- The sources that files make. This project's own program.
 use Rattle.std.specs.Prelude.{◌≡◌, ◌≤◌, ℕ, All, List, filter, flat_map, map, slice_range}
 use Rattle.std.specs.List.{AllZip}
+use Rattle.flt_c.specs.declared.files.FileFlaw.{FileFlaw}
 use Rattle.flt_details.specs.declared.sources.Source.{Source}
-use Rattle.flt_joined.specs.Texts.{Given, IsTextOf, groups_of, make_text, refused_in}
+use Rattle.flt_joined.specs.Texts.{Given, IsTextOf, Refused, givens, groups_of, make_text, refused_at, refused_in}
+use Rattle.flt_joined.specs.declared.given.GivenFile.{GivenFile}
 use Rattle.flt_joined.specs.declared.joined.JoinedText.{JoinedText}
 use Rattle.flt_places.specs.declared.files.SourceFile.{SourceFile}
 use Rattle.flt_commands.specs.Inputs.{Text}
@@ -15,9 +17,13 @@ IsSourceOf told group s = IsTextOf told group s.text.now s.files
 -- text would be too long
 pub record AreSources (told : Text → Text) (files : List Given) (sources : List Source) (refused : List Text) : Type 0 where
   pub each : AllZip (IsSourceOf told) (filter make_text (groups_of files)) sources
-  pub others : refused ≡ flat_map refused_in (groups_of files)
+  pub others : refused ≡ map (λ (r : Refused). r.name) (flat_map refused_in (groups_of files))
 
 -- ---- how they are made of texts that are kept
+
+-- the names of files that are refused
+abbrev pub refused_names : List GivenFile → List FileFlaw → List Text
+refused_names files refused = map (λ (flaw : FileFlaw). (refused_at (givens files) flaw).name) refused
 
 -- texts by themselves
 abbrev pub bytes_in : List JoinedText → List Text

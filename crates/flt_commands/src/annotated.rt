@@ -5,7 +5,7 @@ ghost use Rattle.std.specs.List.{list_any};
 ghost use Rattle.flt_commands.specs.Annotated as spec;
 ghost use Rattle.flt_commands.specs.Inputs.{is_standard as is_standard_name};
 ghost use Rattle.flt_joined.specs.Made.{IsOwn};
-ghost use Rattle.flt_joined.specs.Texts.{AreAnnotations, AreFlawed, given_of};
+ghost use Rattle.flt_joined.specs.Texts.{AreAnnotations, given_of};
 
 use crate::inputs::{Inputs, is_standard};
 use crate::unread::Unread;
@@ -31,7 +31,7 @@ pub(crate) fn annotated<'a>(
     ensures text { IfOk result (λ done. IfOk done (λ g. AreAnnotations file.items g.text.items)) }
     ensures code { IfOk result (λ done. IfOk done (λ g. option_map (λ code. code.items) g.code ≡ Some file.items)) }
     ensures own { IfOk result (λ done. IfOk done IsOwn) }
-    ensures flawed { IfOk result (λ done. OnErr done (AreFlawed file.items)) }
+    ensures flawed { IfOk result (λ done. OnErr done (spec.AreFlawed file.items)) }
 {
     match GivenFile::annotated(alloc, name, file)? {
         Ok(file) => Ok(Ok(file)),

@@ -5,8 +5,8 @@ ghost use Rattle.std.specs.Prelude.{◌≡◌, ◌≢◌, [], None, IfErr, IfOk,
 ghost use Rattle.flt_commands.specs.Drifts.{drifts_told};
 ghost use Rattle.flt_commands.specs.Explain as spec;
 ghost use Rattle.flt_commands.specs.Html.{IsPageOn, IsPaged};
-ghost use Rattle.flt_commands.specs.Sources.{bytes_in};
-ghost use Rattle.flt_joined.specs.Made.{AreJoined, name_at};
+ghost use Rattle.flt_commands.specs.Sources.{bytes_in, refused_names};
+ghost use Rattle.flt_joined.specs.Made.{AreJoined};
 ghost use Rattle.flt_joined.specs.Texts.{givens};
 ghost use Rattle.flt_commands.specs.Remarks.{unread_in};
 ghost use Rattle.flt_forms.specs.Lines.{AreLines};
@@ -145,7 +145,8 @@ fn told_page<O: Sink, W: SearchWatch>(
     ensures page { IfOk result (λ t. IsPageOn asked.entry.options (drifts_told Form.Html drifted.now) sources.now
         t.explained.output.items t.explained.status) }
     ensures paged { IfOk result (λ t.
-        IsPaged (spec.look_of asked.entry) (drifts_told Form.Html drifted.now) sources.now t.noted t.explained.output.items t.explained.status) }
+        IsPaged (spec.look_of asked.entry) (drifts_told Form.Html drifted.now) sources.now t.noted t.explained.output.items
+            t.explained.status) }
     ensures noted { IfOk result (λ t. AreNotes (texts_of sources.now) t.noted) }
     ensures sent { IfOk result (λ t. t.sent ≡ 0) }
     ensures held { out.new ≡ out.old }
@@ -348,8 +349,9 @@ fn told_joined<O: Sink, W: SearchWatch>(
     watch: &mut W,
 ) -> Result<Told, CommandFault>
     requires { AreJoined files.now joined.now }
-    ensures told { IfOk result (spec.IsToldOfFiles asked.entry.form (spec.look_of asked.entry) (map (λ name. name.now) asked.entry.allowed.now)
-        (option_map (λ name. name.now) asked.entry.journal) (givens files.now) (map (name_at files.now) joined.now.refused.items)
+    ensures told { IfOk result (spec.IsToldOfFiles asked.entry.form (spec.look_of asked.entry)
+        (map (λ name. name.now) asked.entry.allowed.now)
+        (option_map (λ name. name.now) asked.entry.journal) (givens files.now) (refused_names files.now joined.now.refused.items)
         (bytes_in joined.now.texts.items) unread.now) }
     ensures sent { IfOk result (λ t. Appends (O.taken out.old) (O.taken out.new) (take t.sent t.explained.output.items)) }
     ensures held { spec.HoldsBack asked.entry.form (option_map (λ name. name.now) asked.entry.journal) → out.new ≡ out.old }

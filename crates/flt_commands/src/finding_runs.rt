@@ -131,7 +131,8 @@ fn add_run(
     parsed: &Parsed<'_>,
     noted: &Noted,
 ) -> Result<(), AllocError>
-    ensures { IfOk result (λ _. spec.IsNext parsed.now.trees.items parsed.now.files.items parsed.now.numbers noted.now runs.old.items runs.new.items) }
+    ensures { IfOk result (λ _. spec.IsNext parsed.now.trees.items parsed.now.files.items parsed.now.numbers noted.now runs.old.items
+        runs.new.items) }
 {
     match schedule_of(&noted.scheduled) {
         Schedule::Breaks(broken) => add_broken(alloc, runs, parsed, noted, broken),

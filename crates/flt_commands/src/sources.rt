@@ -1,12 +1,10 @@
 //! The sources that files make, and the files with which there is none.
 
-ghost use Rattle.std.specs.Prelude.{◌≡◌, ◌++◌, All, IfOk, OnOk, length, map, option_map};
+ghost use Rattle.std.specs.Prelude.{◌≡◌, ◌++◌, All, IfOk, OnOk, length, map, slice_get};
 ghost use Rattle.std.specs.List.{AllZip};
 ghost use Rattle.flt_commands.specs.Inputs.{unread_names};
 ghost use Rattle.flt_commands.specs.Sources as spec;
-ghost use Rattle.flt_joined.specs.Made.{name_at};
 ghost use Rattle.flt_joined.specs.Texts.{givens, name_by};
-ghost use Rattle.std.specs.Prelude.{slice_get};
 
 use crate::unread::Unread;
 use flt_c::FileFlaw;
@@ -88,7 +86,7 @@ pub(crate) fn add_refused(
     files: &[GivenFile<'_>],
     refused: &[FileFlaw],
 ) -> Result<(), AllocError>
-    ensures { OnOk result (unread_names unread.new.items ≡ unread_names unread.old.items ++ map (name_at files.now) refused.now) }
+    ensures { OnOk result (unread_names unread.new.items ≡ unread_names unread.old.items ++ spec.refused_names files.now refused.now) }
 {
     for flaw in refused {
         let name = name_of(files, flaw.file);

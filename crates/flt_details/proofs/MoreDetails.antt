@@ -46,10 +46,12 @@ the_same : {A : Type 0} (xs : List A) (n k : ℕ) (x y : A) → slice_get xs n �
 the_same xs n k x y is at there = let here = subst (λ m. slice_get xs m ≡ Some y) at there in cc
 
 -- the next finding, by what shows it
-pub one_detail_more : (files : Files) (lines text : Text) (f : Filter) (g : Graph) (found : List Finding) (shown : List Shown) (n : ℕ) (e : Finding)
+pub one_detail_more : (files : Files) (lines text : Text) (f : Filter) (g : Graph) (found : List Finding) (shown : List Shown) (n : ℕ)
+    (e : Finding)
     (s : Shown) (d : Detail) (all more : List Detail) →
     lines ≡ text → n ≡ length all → slice_get found n ≡ Some e → slice_get shown n ≡ Some s →
-    AreDetailsBy files text f g found shown all → IsDetail files lines f g e s d → more ≡ all ++ d ∷ [] → AreDetailsBy files text f g found shown more
+    AreDetailsBy files text f g found shown all → IsDetail files lines f g e s d → more ≡ all ++ d ∷ [] → AreDetailsBy files text f g found
+        shown more
 one_detail_more files lines text f g found shown n e s d all more same long is_one is_shown kept new after k e' s' d' finding_is shown_is
     detail_is =
     choose (at_push all d d' k (subst (λ ds. slice_get ds k ≡ Some d') after detail_is)) where

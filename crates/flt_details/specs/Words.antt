@@ -29,7 +29,8 @@ unfoldable pub note_of : Files → Text → Filter → Graph → Finding → Opt
 note_of files text f g found shown = note (known files text f g found shown)
 
 -- what is said of a finding of a graph, by what shows it
-pub record AreWords (files : Files) (text : Text) (f : Filter) (g : Graph) (found : Finding) (shown : Option Shown) (w : Words) : Type 0 where
+pub record AreWords (files : Files) (text : Text) (f : Filter) (g : Graph) (found : Finding) (shown : Option Shown) (w : Words)
+    : Type 0 where
   pub title : w.title.items ≡ title_of files text f g found shown
   pub help : w.help.items ≡ help_of files text f g found shown
   pub note : w.note.items ≡ note_of files text f g found shown

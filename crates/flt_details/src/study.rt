@@ -232,7 +232,8 @@ fn origin_of(
 
 #[tactic(auto, unfolding(crate::specs::Words::title_of))]
 fn title_of(alloc: Global, case: &Case<'_>) -> Result<Vec<u8>, AllocError>
-    ensures { IfOk result (λ v. v.items ≡ words.title_of case.now.scene.files case.now.scene.lines.now case.now.scene.tree.now.filter case.now.scene.graph.now
+    ensures { IfOk result (λ v. v.items ≡ words.title_of case.now.scene.files case.now.scene.lines.now case.now.scene.tree.now.filter
+        case.now.scene.graph.now
         case.now.finding (option_copied case.now.shown)) }
 {
     let mut page = Page::new(alloc);
@@ -242,7 +243,8 @@ fn title_of(alloc: Global, case: &Case<'_>) -> Result<Vec<u8>, AllocError>
 
 #[tactic(auto, unfolding(crate::specs::Words::help_of))]
 fn help_of(alloc: Global, case: &Case<'_>) -> Result<Vec<u8>, AllocError>
-    ensures { IfOk result (λ v. v.items ≡ words.help_of case.now.scene.files case.now.scene.lines.now case.now.scene.tree.now.filter case.now.scene.graph.now
+    ensures { IfOk result (λ v. v.items ≡ words.help_of case.now.scene.files case.now.scene.lines.now case.now.scene.tree.now.filter
+        case.now.scene.graph.now
         case.now.finding (option_copied case.now.shown)) }
 {
     let mut page = Page::new(alloc);
@@ -252,7 +254,8 @@ fn help_of(alloc: Global, case: &Case<'_>) -> Result<Vec<u8>, AllocError>
 
 #[tactic(auto, unfolding(crate::specs::Words::note_of))]
 fn note_of(alloc: Global, case: &Case<'_>) -> Result<Vec<u8>, AllocError>
-    ensures { IfOk result (λ v. v.items ≡ words.note_of case.now.scene.files case.now.scene.lines.now case.now.scene.tree.now.filter case.now.scene.graph.now
+    ensures { IfOk result (λ v. v.items ≡ words.note_of case.now.scene.files case.now.scene.lines.now case.now.scene.tree.now.filter
+        case.now.scene.graph.now
         case.now.finding (option_copied case.now.shown)) }
 {
     let mut page = Page::new(alloc);
@@ -271,7 +274,8 @@ fn subject_of(alloc: Global, case: &Case<'_>) -> Result<Vec<u8>, AllocError>
 
 /// The words of a case.
 fn words_in(alloc: Global, case: &Case<'_>) -> Result<Words, AllocError>
-    ensures { IfOk result (words.AreWords case.now.scene.files case.now.scene.lines.now case.now.scene.tree.now.filter case.now.scene.graph.now case.now.finding
+    ensures { IfOk result (words.AreWords case.now.scene.files case.now.scene.lines.now case.now.scene.tree.now.filter
+        case.now.scene.graph.now case.now.finding
         (option_copied case.now.shown)) }
 {
     let title = title_of(alloc, case)?;
@@ -296,7 +300,8 @@ pub fn words_of(
     shown: Option<&Shown>,
 ) -> Result<Words, AllocError>
     ensures { IfOk result
-        (words.AreWords scene.now.files scene.now.lines.now scene.now.tree.now.filter scene.now.graph.now finding.now (option_copied shown.entry)) }
+        (words.AreWords scene.now.files scene.now.lines.now scene.now.tree.now.filter scene.now.graph.now finding.now
+            (option_copied shown.entry)) }
 {
     words_in(alloc, &Case::of(scene, finding, shown))
 }
@@ -366,7 +371,8 @@ fn detail_by(
     shown: &Shown,
     like: Option<usize>,
 ) -> Result<Detail, AllocError>
-    ensures detail { IfOk result (spec.IsDetail scene.now.files scene.now.lines.now scene.now.tree.now.filter scene.now.graph.now finding.now shown.now) }
+    ensures detail { IfOk result (spec.IsDetail scene.now.files scene.now.lines.now scene.now.tree.now.filter scene.now.graph.now
+        finding.now shown.now) }
     ensures like { IfOk result (λ d. d.route.like ≡ like) }
 {
     let words = words_of(alloc, scene, finding, Some(shown))?;

@@ -1,6 +1,8 @@
 //! The details of warnings.
 
+use flt_details::Source;
 use flt_graph::lower;
+use flt_places::Files;
 use flt_syntax::parse;
 use flt_warning_details::{WarningDetail, warning_details};
 use flt_warnings::AllowedKinds;
@@ -56,9 +58,16 @@ fn are_rows(details: &[WarningDetail], rows: &[Row<'_>]) -> bool {
 fn is_told(alloc: Global, text: &str, rows: &[Row<'_>]) -> Result<bool, Fail> {
     let tree = parse(alloc, text.as_bytes())?;
     let graph = lower(alloc, &tree)?;
+    let source = Source {
+        text: text.as_bytes(),
+        files: Files {
+            all: &[],
+            stands: &[],
+        },
+    };
     let details = warning_details(
         alloc,
-        text.as_bytes(),
+        source,
         &tree,
         &graph,
         &[],

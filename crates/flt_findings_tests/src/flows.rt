@@ -165,7 +165,7 @@ fn lines_of(alloc: Global, texts: &[&str], flow: &Flow) -> Result<String, AllocE
 fn flow_of(alloc: Global, texts: &[&str], journal: &str) -> Result<Option<Flow>, Fail> {
     let trees = trees_of(alloc, texts)?;
     let journal = journal_of(alloc, journal)?;
-    Ok(Flow::of(alloc, trees.as_slice(), &journal)?)
+    Ok(Flow::of(alloc, trees.as_slice(), &[], &journal)?)
 }
 
 /// Whether the flow of a case is as it should be.

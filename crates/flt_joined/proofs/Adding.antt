@@ -5,12 +5,12 @@ use Rattle.std.proofs.lemmas.Grind.{flat_map-append}
 use Rattle.std.proofs.lemmas.List.{map_push}
 use Rattle.std.proofs.lemmas.List.Elements.{filter-append}
 use Rattle.std.specs.List.{AllZip}
-use Rattle.std.specs.Prelude.{filter, slice_get, slice_range}
+use Rattle.std.specs.Prelude.{filter, slice_range}
 use Rattle.flt_c.specs.declared.files.FileFlaw.{FileFlaw}
 use Rattle.flt_joined.proofs.Grouping.{drop_all}
 use Rattle.flt_joined.proofs.Parts.{in_part, zipped_on}
-use Rattle.flt_joined.specs.Made.{AreFirstJoined, AreJoined, AreJoinedOf, IsAdded, IsJoined, name_at}
-use Rattle.flt_joined.specs.Texts.{Given, given_of, givens, groups_of, make_text, name_by, refused_in, text_of}
+use Rattle.flt_joined.specs.Made.{AreFirstJoined, AreJoined, AreJoinedOf, IsAdded, IsJoined}
+use Rattle.flt_joined.specs.Texts.{Given, given_of, givens, groups_of, make_text, name_by, refused_at, refused_in, text_of}
 use Rattle.flt_joined.specs.declared.given.GivenFile.{GivenFile}
 use Rattle.flt_joined.specs.declared.joined.Joined.{Joined}
 
@@ -24,10 +24,11 @@ none_added files first end old new flaw is within texts refused = record {
   each = rw is tt;
   texts = texts ∙ sym (append-nil old.texts.items);
   refused =
-      let here : name_at files (record { file = first + flaw.file; flaw = flaw.flaw })
-      ≡ name_by (slice_get (givens (slice_range files first end)) flaw.file) =
-      ap name_by (sym (in_part given_of files first end flaw.file within)) in
-      rw (refused, is, map_push (name_at files) old.refused.items (record { file = first + flaw.file; flaw = flaw.flaw }), here) refl;
+      let here : refused_at (givens files) (record { file = first + flaw.file; flaw = flaw.flaw })
+      ≡ refused_at (givens (slice_range files first end)) flaw =
+      ap (λ g. record { name = name_by g; flaw = flaw.flaw }) (sym (in_part given_of files first end flaw.file within)) in
+      rw (refused, is, map_push (refused_at (givens files)) old.refused.items (record { file = first + flaw.file; flaw = flaw.flaw }), here)
+      refl;
 }
 
 -- a group more
@@ -37,18 +38,20 @@ pub one_more_joined : (files : List GivenFile) (first end : ℕ) (old new : Join
 one_more_joined files first end old new before group added =
     let one : List (List Given) = givens (slice_range files first end) ∷ [] in
     record {
-  groups = before.groups ++ one;
-  are = append_assoc before.groups one (groups_of (givens (drop end files)))
-      ∙ ap (λ rest. before.groups ++ rest) (sym group) ∙ before.are;
-  joined = record {
-    each =
-        subst₂ (AllZip (IsJoined files)) (sym (filter-append make_text before.groups one)) (sym added.texts)
-        (zipped_on (IsJoined files) (filter make_text before.groups) old.texts.items (filter make_text one) added.added before.joined.each
-        added.each);
-    refused = added.refused ∙ ap₂ (λ xs ys. xs ++ ys) before.joined.refused (sym (append-nil (refused_in (givens (slice_range files first end)))))
-        ∙ sym (flat_map-append refused_in before.groups one);
-  };
-}
+      groups = before.groups ++ one;
+      are = append_assoc before.groups one (groups_of (givens (drop end files)))
+          ∙ ap (λ rest. before.groups ++ rest) (sym group) ∙ before.are;
+      joined = record {
+        each =
+            subst₂ (AllZip (IsJoined files)) (sym (filter-append make_text before.groups one)) (sym added.texts)
+            (zipped_on (IsJoined files) (filter make_text before.groups) old.texts.items (filter make_text one) added.added
+                before.joined.each
+            added.each);
+        refused = added.refused ∙ ap₂ (λ xs ys. xs ++ ys) before.joined.refused
+            (sym (append-nil (refused_in (givens (slice_range files first end)))))
+            ∙ sym (flat_map-append refused_in before.groups one);
+      };
+    }
 
 -- all of them
 pub all_joined : (files : List GivenFile) (first : ℕ) (j : Joined) → first ≡ length files → AreFirstJoined files first j → AreJoined files j

@@ -119,7 +119,7 @@ module _ (files : List GivenFile) (d : GivenFile) (next : ℕ) (within : next �
       ap (λ all. groups_of (givens all)) (drop_more files first d long)
       ∙ ap (λ rest. with_file (given_of (get_or files first d)) (groups_of (givens rest))) (ap (λ n. drop n files) last ∙ rest)
       ∙ alone (given_of (get_or files first d)) (given_of (get_or files next d)) (givens (drop (next + 1) files))
-        (subst (λ k. goes_on (given_of (get_or files k d)) (given_of (get_or files next d)) ≡ false) before (off d))
+      (subst (λ k. goes_on (given_of (get_or files k d)) (given_of (get_or files next d)) ≡ false) before (off d))
       ∙ ap (λ behind. (given_of (get_or files first d) ∷ []) ∷ groups_of (givens behind)) (sym rest)
 
   group_from : (n first : ℕ) → first + suc n ≡ next → ((k : ℕ) → first < k → k < next → goes_on_at files d k ≡ true) →
@@ -130,7 +130,7 @@ module _ (files : List GivenFile) (d : GivenFile) (next : ℕ) (within : next �
       let none : take (next - (first + 1)) (drop (first + 1) files) ≡ [] = ap (λ n. take n (drop (first + 1) files)) zero_more in
       last_group first (omega (arith, last)) stops
       ∙ ap (λ part. givens part ∷ groups_of (givens (drop next files)))
-        (sym (part_more files first next d some within ∙ ap (λ rest. get_or files first d ∷ rest) none))
+      (sym (part_more files first next d some within ∙ ap (λ rest. get_or files first d ∷ rest) none))
   group_from (suc n) first last on =
       let some : first < next = omega (arith, last) in
       let more : first + 1 < next = omega (arith, last) in
@@ -146,16 +146,18 @@ module _ (files : List GivenFile) (d : GivenFile) (next : ℕ) (within : next �
       (on (first + 1) (omega arith) more) in
       ap (λ all. groups_of (givens all)) (drop_more files first d long)
       ∙ ap (with_file (given_of (get_or files first d))) (behind ∙ ap (λ part. givens part ∷ groups_of (givens (drop next files))) rest)
-      ∙ goes_before (given_of (get_or files first d)) (given_of (get_or files (first + 1) d)) (givens (slice_range files (first + 1 + 1) next))
-        (groups_of (givens (drop next files))) on_next
+      ∙ goes_before (given_of (get_or files first d)) (given_of (get_or files (first + 1) d))
+          (givens (slice_range files (first + 1 + 1) next))
+      (groups_of (givens (drop next files))) on_next
       ∙ ap (λ part. givens part ∷ groups_of (givens (drop next files)))
-        (sym (part_more files first next d some within ∙ ap (λ part. get_or files first d ∷ part) rest))
+      (sym (part_more files first next d some within ∙ ap (λ part. get_or files first d ∷ part) rest))
 
 -- a run is a group
 pub group_of : (files : List GivenFile) (first next : ℕ) (d : GivenFile) → IsRun files first next → Stops files next →
     groups_of (givens (drop first files)) ≡ givens (slice_range files first next) ∷ groups_of (givens (drop next files))
 group_of files first next d run stops =
-    group_from files d next run.within stops (next - (first + 1)) first (omega (arith, run.some)) (λ k behind before. run.on k d behind before)
+    group_from files d next run.within stops (next - (first + 1)) first (omega (arith, run.some))
+        (λ k behind before. run.on k d behind before)
 
 -- the last run is a group, too
 pub last_group_of : (files : List GivenFile) (first next : ℕ) → IsRun files first next → next ≡ length files →
@@ -171,7 +173,8 @@ first_code before g on = first_of (is_code before.code) _ on
     first_of true b is = refl
     first_of false b is = is
 
-pub is_group : (files : List GivenFile) (first next : ℕ) (d : GivenFile) → IsRun files first next → IsGroup (givens (slice_range files first next))
+pub is_group : (files : List GivenFile) (first next : ℕ) (d : GivenFile) → IsRun files first next →
+    IsGroup (givens (slice_range files first next))
 is_group files first next d run = by_length (one_or_more (next - (first + 1)))
   where
     one_or_more : (n : ℕ) → (n ≡ 0) ⊎ (0 < n)
@@ -181,7 +184,8 @@ is_group files first next d run = by_length (one_or_more (next - (first + 1)))
     by_length : (next - (first + 1) ≡ 0) ⊎ (0 < next - (first + 1)) → IsGroup (givens (slice_range files first next))
     by_length (inl one) =
         let none : take (next - (first + 1)) (drop (first + 1) files) ≡ [] = ap (λ n. take n (drop (first + 1) files)) one in
-        subst (λ part. IsGroup (givens part)) (sym (part_more files first next d run.some run.within ∙ ap (λ rest. get_or files first d ∷ rest) none)) tt
+        subst (λ part. IsGroup (givens part)) (sym (part_more files first next d run.some run.within
+            ∙ ap (λ rest. get_or files first d ∷ rest) none)) tt
     by_length (inr several) =
         let more : first + 1 < next = omega (arith, several) in
         let before : (first + 1) - 1 ≡ first = omega arith in
@@ -219,7 +223,8 @@ coded_files (f ∷ next ∷ files) is several = coded (given_of f) (given_of nex
 
 -- the same of what is made of them
 made_by : (files : List GivenFile) (done : Result MadeText FileFlaw) → IsGroup (givens files) → 1 < length files →
-    MatchResult done (IsMade (extracted (flat_map own_code (givens files)))) (λ flaw. extracted (flat_map own_code (givens files)) ≡ Err flaw) →
+    MatchResult done (IsMade (extracted (flat_map own_code (givens files))))
+        (λ flaw. extracted (flat_map own_code (givens files)) ≡ Err flaw) →
     MatchResult done (IsMade (text_of (givens files))) (λ flaw. (text_of (givens files) ≡ Err flaw) × (flaw.file < length files))
 made_by files (Ok text) is several made = subst (λ r. IsMade r text) (sym (coded_files files is several)) made
 made_by files (Err flaw) is several made =

@@ -1,10 +1,10 @@
 -- How the texts of files are kept. This project's own program.
-use Rattle.std.specs.Prelude.{◌≡◌, ◌<◌, ◌≤◌, ◌++◌, ◌∷◌, ℕ, All, List, [], Ok, Result, drop, filter, flat_map, length, map, slice_get, slice_range}
+use Rattle.std.specs.Prelude.{◌≡◌, ◌<◌, ◌≤◌, ◌++◌, ◌∷◌, ℕ, All, List, [], Ok, Result, drop, filter, flat_map, length, map, slice_range}
 use Rattle.std.specs.List.{AllZip}
 use Rattle.flt_c.specs.Texts as c
 use Rattle.flt_c.specs.declared.files.FileFlaw.{FileFlaw}
 use Rattle.flt_places.specs.declared.files.Stand.{Stand}
-use Rattle.flt_joined.specs.Texts.{Given, Text, given_of, givens, groups_of, make_text, name_by, refused_in, stand_of, text_of}
+use Rattle.flt_joined.specs.Texts.{Given, Text, given_of, givens, groups_of, make_text, refused_at, refused_in, stand_of, text_of}
 use Rattle.flt_joined.specs.declared.given.GivenFile.{GivenFile}
 use Rattle.flt_joined.specs.declared.joined.Joined.{Joined}
 use Rattle.flt_joined.specs.declared.joined.JoinedText.{JoinedText}
@@ -35,21 +35,17 @@ pub record IsJoined (files : List GivenFile) (group : List Given) (j : JoinedTex
   pub within : j.end ≤ length files
   pub placed : IsPlaced (text_of group) j.bytes.items j.stands.items
 
--- the name of a file that is refused
-abbrev pub name_at : List GivenFile → FileFlaw → Text
-name_at files flaw = name_by (slice_get (givens files) flaw.file)
-
 -- the text of a group is added, or the file by which there is none
 pub record IsAdded (files : List GivenFile) (group : List Given) (old new : Joined) : Type 0 where
   pub added : List JoinedText
   pub each : AllZip (IsJoined files) (filter make_text (group ∷ [])) added
   pub texts : new.texts.items ≡ old.texts.items ++ added
-  pub refused : map (name_at files) new.refused.items ≡ map (name_at files) old.refused.items ++ refused_in group
+  pub refused : map (refused_at (givens files)) new.refused.items ≡ map (refused_at (givens files)) old.refused.items ++ refused_in group
 
 -- the texts of these groups are kept so, and the files by which others have none
 pub record AreJoinedOf (files : List GivenFile) (groups : List (List Given)) (j : Joined) : Type 0 where
   pub each : AllZip (IsJoined files) (filter make_text groups) j.texts.items
-  pub refused : map (name_at files) j.refused.items ≡ flat_map refused_in groups
+  pub refused : map (refused_at (givens files)) j.refused.items ≡ flat_map refused_in groups
 
 -- the same of all groups
 abbrev pub AreJoined : List GivenFile → Joined → Type 0

@@ -4,6 +4,7 @@ use Rattle.std.specs.List.{starts_with}
 use Rattle.flt_c.specs.Files.{extracted}
 use Rattle.flt_c.specs.Texts as c
 use Rattle.flt_c.specs.declared.files.FileFlaw.{FileFlaw}
+use Rattle.flt_c.specs.declared.files.Flaw.{Flaw}
 use Rattle.flt_c.specs.declared.text.Line.{Line}
 use Rattle.flt_places.specs.declared.files.Files.{Files}
 use Rattle.flt_places.specs.declared.files.SourceFile.{SourceFile}
@@ -31,10 +32,11 @@ pub record AreAnnotations (file bytes : Text) : Type 0 where
   pub is : extracted (file ∷ []) ≡ Ok text
   pub same : bytes ≡ text.bytes
 
--- its annotations make no text
-pub record AreFlawed (file : Text) : Type 0 where
-  pub flaw : FileFlaw
-  pub is : extracted (file ∷ []) ≡ Err flaw
+-- its annotations have this flaw, so that they make no text
+pub record IsFlawed (file : Text) (flaw : Flaw) : Type 0 where
+  pub found : FileFlaw
+  pub is : extracted (file ∷ []) ≡ Err found
+  pub same : flaw ≡ found.flaw
 
 -- ---- how a text begins
 
@@ -113,12 +115,20 @@ abbrev pub name_by : Option Given → Text
 name_by (Some g) = g.name
 name_by None = []
 
--- the name of the file with which a text would be too long, so that none is made
-abbrev pub refused_by : List Given → Result c.Text FileFlaw → List Text
-refused_by group (Ok text) = []
-refused_by group (Err flaw) = name_by (slice_get group flaw.file) ∷ []
+-- a file with which a text would have this flaw, so that none is made
+pub record Refused : Type 0 where
+  pub name : Text
+  pub flaw : Flaw
 
-abbrev pub refused_in : List Given → List Text
+-- the file of such a number among some files
+abbrev pub refused_at : List Given → FileFlaw → Refused
+refused_at files flaw = record { name = name_by (slice_get files flaw.file); flaw = flaw.flaw }
+
+abbrev pub refused_by : List Given → Result c.Text FileFlaw → List Refused
+refused_by group (Ok text) = []
+refused_by group (Err flaw) = refused_at group flaw ∷ []
+
+abbrev pub refused_in : List Given → List Refused
 refused_in group = refused_by group (text_of group)
 
 -- ---- where their lines are

@@ -1,6 +1,6 @@
 //! Files that make texts.
 
-ghost use Rattle.std.specs.Prelude.{◌≡◌, IfOk, OnErr, Some, None, option_map};
+ghost use Rattle.std.specs.Prelude.{◌≡◌, IfErr, IfOk, Some, None, option_map};
 ghost use Rattle.flt_joined.specs.Made.{IsOwn};
 ghost use Rattle.flt_joined.specs.Texts as spec;
 
@@ -52,7 +52,7 @@ impl<'a> GivenFile<'a> {
         ensures text { IfOk result (λ done. IfOk done (λ g. spec.AreAnnotations file.items g.text.items)) }
         ensures code { IfOk result (λ done. IfOk done (λ g. option_map (λ code. code.items) g.code ≡ Some file.items)) }
         ensures own { IfOk result (λ done. IfOk done IsOwn) }
-        ensures flawed { IfOk result (λ done. OnErr done (spec.AreFlawed file.items)) }
+        ensures flawed { IfOk result (λ done. IfErr done (spec.IsFlawed file.items)) }
     {
         match annotations_of(alloc, from_ref(&file))? {
             Ok(found) => Ok(Ok(GivenFile {

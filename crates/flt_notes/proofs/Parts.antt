@@ -99,7 +99,8 @@ known_is look trees files k before p known said notes firsts added same status c
       is = known.known;
       own = record { details = k.details.now; are = known.warned; worth = status };
       counted = count;
-      ends = ends_quiet before.bytes.items p.output.bytes.items (findings_closing k.source.files k.found.now) (quiet_findings k.source.files k.found.now) added;
+      ends = ends_quiet before.bytes.items p.output.bytes.items (findings_closing k.source.files k.found.now)
+          (quiet_findings k.source.files k.found.now) added;
     });
   };
   notes = record {

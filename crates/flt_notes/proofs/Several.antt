@@ -46,7 +46,8 @@ notes_more trees place ts notes text (Known at) own are is placed its =
     notes_parses are (subst (λ n. AreNotesOf trees text n own) placed its)
 
 -- nothing at first
-pub printed_none : (look : Look) (trees : List Tree) (files : List Files) (p : Printed) → p.output.bytes.items ≡ [] → p.output.noted ≡ [] → p.total.status ≡ 0 →
+pub printed_none : (look : Look) (trees : List Tree) (files : List Files) (p : Printed) → p.output.bytes.items ≡ [] → p.output.noted ≡ [] →
+    p.total.status ≡ 0 →
     p.total.findings ≡ 0 → p.total.files ≡ 0 → ArePrinted look trees files [] p
 printed_none look trees files p bytes noted status findings many = record {
   parts = rw (bytes, status, findings, many) parts_none;
@@ -63,16 +64,17 @@ unnoted trees text (Known place) notes are none = absurd (omega (arith, none))
 -- with the report of a text more
 pub printed_more : (look : Look) (trees : List Tree) (files : List Files) (each : List Studied) (s : Studied) (old new : Printed) →
     ArePrinted look trees files each old →
-    IsStudied trees s → IsPlaced (known_in each) s.reading → IsMore look trees files s old new → ArePrinted look trees files (each ++ s ∷ []) new
+    IsStudied trees s → IsPlaced (known_in each) s.reading → IsMore look trees files s old new → ArePrinted look trees files
+        (each ++ s ∷ []) new
 printed_more look trees files each s old new are is placed more = record {
-  parts = rw (sources_push each s, more.bytes, more.status, more.findings, more.files) (parts_more are.parts more.is.report);
+  parts = rw (sources_push each s, more.bytes, more.status, more.findings, more.counted) (parts_more are.parts more.is.report);
   notes = rw (texts_push each s, known_push each s, more.noted)
       (notes_more trees (known_in each) (texts_read each) old.output.noted s.source.text.now s.reading
       more.part.output.noted are.notes is placed more.is.notes);
   said = rw (more.noted, more.bytes)
       (others (old.output.noted ++ more.part.output.noted) (old.output.bytes.items ++ more.part.output.bytes.items) (10 ∷ [])
       (said_both trees look.states old.output.noted old.output.bytes.items are.said more.is.said) refl);
-  prints = rw (sources_push each s, known_push each s, more.noted, more.bytes, more.status, more.findings, more.files)
+  prints = rw (sources_push each s, known_push each s, more.noted, more.bytes, more.status, more.findings, more.counted)
       (prints_more look trees files (known_in each) (sources_read each) old.output.noted old.output.bytes.items
       old.total.status old.total.findings old.total.files s.source s.reading more.part are.prints placed
       (unnoted trees s.source.text.now s.reading more.part.output.noted more.is.notes) more.is.print);
@@ -107,7 +109,8 @@ take_within (suc n) [] rest within = absurd (omega (arith, within))
 take_within (suc n) (x ∷ xs) rest within = ap (λ z. x ∷ z) (take_within n xs rest (omega (arith, within)))
 
 -- what isn't put out yet is what is more
-pub rest_out : (look : Look) (trees : List Tree) (files : List Files) (s : Studied) (old new : Printed) (a b c : Option (List ℕ)) → IsMore look trees files s old new →
+pub rest_out : (look : Look) (trees : List Tree) (files : List Files) (s : Studied) (old new : Printed) (a b c : Option (List ℕ)) →
+    IsMore look trees files s old new →
     old.sent ≡ length old.output.bytes.items → Appends a b old.output.bytes.items → Appends b c (drop old.sent new.output.bytes.items) →
     Appends a c new.output.bytes.items
 rest_out look trees files s old new a b c more all first second =
@@ -136,10 +139,12 @@ first_of look trees files each further p are parsed = record {
 }
 
 -- where it ends before all is known, so much is put out
-pub cut_none : (options : WarningOptions) (sources : List Source) (states : ℕ) (old : Option (List ℕ)) → IsCut options sources states old old
+pub cut_none : (options : WarningOptions) (sources : List Source) (states : ℕ) (old : Option (List ℕ)) → IsCut options sources states old
+    old
 cut_none options sources states old = record { printed = []; added = appends_none old; are = inl refl }
 
-pub cut_at : (look : Look) (trees : List Tree) (files : List Files) (all each rest : List Studied) (p : Printed) (held : Bool) (old new : Option (List ℕ)) →
+pub cut_at : (look : Look) (trees : List Tree) (files : List Files) (all each rest : List Studied) (p : Printed) (held : Bool)
+    (old new : Option (List ℕ)) →
     AreParsed (texts_read all) (filters_of trees) → all ≡ each ++ rest → ArePrinted look trees files each p → (held ≡ true → new ≡ old) →
     (held ≡ false → Appends old new p.output.bytes.items) → IsCut look.options (sources_read all) look.states old new
 cut_at look trees files all each rest p true old new parsed is are none some =
@@ -166,9 +171,11 @@ all_but_last options [] (t ∷ before) last states printed is are = absurd (cc i
 all_but_last options (s ∷ sources) before last states printed is are = record { before = before; last = last; whole = is; are = are }
 
 -- the reports of all texts but the last are put out, and the last one's stands behind them
-pub put_out : (look : Look) (trees : List Tree) (files : List Files) (all each : List Studied) (s : Studied) (old new : Printed) (held : Bool)
+pub put_out : (look : Look) (trees : List Tree) (files : List Files) (all each : List Studied) (s : Studied) (old new : Printed)
+    (held : Bool)
     (a b : Option (List ℕ)) →
-    AreParsed (texts_read all) (filters_of trees) → all ≡ each ++ s ∷ [] → ArePrinted look trees files each old → IsMore look trees files s old new →
+    AreParsed (texts_read all) (filters_of trees) → all ≡ each ++ s ∷ [] → ArePrinted look trees files each old → IsMore look trees files s
+        old new →
     new.sent ≡ old.sent → HoldsBack held old → (held ≡ true → b ≡ a) → (held ≡ false → Appends a b old.output.bytes.items) →
     IsPutOut look.options (sources_read all) look.states held a b new
 put_out look trees files all each s old new true a b parsed is are more kept holds none some =
@@ -297,7 +304,7 @@ more_same look trees files s old mid new more output total = record {
   noted = ap (λ (o : Output). o.noted) output ∙ more.noted;
   status = ap (λ (t : Total). t.status) total ∙ more.status;
   findings = ap (λ (t : Total). t.findings) total ∙ more.findings;
-  files = ap (λ (t : Total). t.files) total ∙ more.files;
+  counted = ap (λ (t : Total). t.files) total ∙ more.counted;
 }
 
 -- of no text there are no notes
@@ -307,7 +314,8 @@ empty_notes trees [] notes few none = rw none notes_none
 empty_notes trees (s ∷ each) notes few none = absurd (omega (arith, few))
 
 -- where there is one text, what was noted of it are the notes of all
-pub only_noted : (look : Look) (trees : List Tree) (files : List Files) (each : List Studied) (d : Studied) (p : Printed) → 1 ≤ length each → length each < 2 →
+pub only_noted : (look : Look) (trees : List Tree) (files : List Files) (each : List Studied) (d : Studied) (p : Printed) →
+    1 ≤ length each → length each < 2 →
     AreStudied trees 0 each → IsPart look trees files (get_or each 0 d) (part_of p) →
     AreNotesIn trees (known_in each) (texts_read each) p.output.noted
 only_noted look trees files [] d p some few are part = absurd (omega (arith, some))
@@ -324,7 +332,8 @@ only_sent options trees states held a (s ∷ []) p some few parsed sent =
 only_sent options trees states held a (s ∷ (t ∷ each)) p some few parsed sent = absurd (omega (arith, few))
 
 -- where there is no text, nothing printed is what is printed of all
-pub printed_empty : (look : Look) (trees : List Tree) (files : List Files) (each : List Studied) (p : Printed) → length each < 1 → p.output.bytes.items ≡ [] →
+pub printed_empty : (look : Look) (trees : List Tree) (files : List Files) (each : List Studied) (p : Printed) → length each < 1 →
+    p.output.bytes.items ≡ [] →
     p.output.noted ≡ [] → p.total.status ≡ 0 → p.total.findings ≡ 0 → p.total.files ≡ 0 → ArePrinted look trees files each p
 printed_empty look trees files [] p few bytes noted status findings many = printed_none look trees files p bytes noted status findings many
 printed_empty look trees files (s ∷ each) p few bytes noted status findings many = absurd (omega (arith, few))
@@ -333,7 +342,8 @@ printed_empty look trees files (s ∷ each) p few bytes noted status findings ma
 module _ (look : Look) (trees : List Tree) (files : List Files) (each : List Studied) (i : ℕ) (d : Studied) (old new : Printed) where
   -- where all texts but the last are printed, the last one's report completes what is printed of all
   pub whole_printed : 1 ≤ length each → AreStudied trees 0 each → length (take (length each - 1) each) ≤ i →
-      ArePrinted look trees files (take i (take (length each - 1) each)) old → IsMore look trees files (get_or each (length each - 1) d) old new →
+      ArePrinted look trees files (take i (take (length each - 1) each)) old → IsMore look trees files (get_or each (length each - 1) d)
+          old new →
       ArePrinted look trees files each new
   whole_printed some are past printed more =
       let within : length each - 1 < length each = omega (arith, some) in
@@ -359,7 +369,8 @@ module _ (look : Look) (trees : List Tree) (files : List Files) (each : List Stu
       (subst (λ e. ArePrinted look trees files e old) front printed) more kept holds none out
 
 -- where it ends before, the reports of the first are put out
-pub cut_here : (look : Look) (trees : List Tree) (files : List Files) (each : List Studied) (n i : ℕ) (p : Printed) (held : Bool) (old new : Option (List ℕ)) →
+pub cut_here : (look : Look) (trees : List Tree) (files : List Files) (each : List Studied) (n i : ℕ) (p : Printed) (held : Bool)
+    (old new : Option (List ℕ)) →
     AreParsed (texts_read each) (filters_of trees) → ArePrinted look trees files (take i (take n each)) p → (held ≡ true → new ≡ old) →
     (held ≡ false → Appends old new p.output.bytes.items) →
     IsCut look.options (sources_read each) look.states old new
@@ -384,16 +395,19 @@ print_of_only look trees files s (Known place) p placed none is = record {
 }
 
 -- where there is one text, its report is what is printed of all
-pub only_print : (look : Look) (trees : List Tree) (files : List Files) (each : List Studied) (d : Studied) (p : Printed) → 1 ≤ length each → length each < 2 →
+pub only_print : (look : Look) (trees : List Tree) (files : List Files) (each : List Studied) (d : Studied) (p : Printed) →
+    1 ≤ length each → length each < 2 →
     AreStudied trees 0 each → IsPart look trees files (get_or each 0 d) (part_of p) →
     IsPrintOfAll look trees files (sources_read each) p.output.noted p.output.bytes.items p.total.status
 only_print look trees files [] d p some few are part = absurd (omega (arith, some))
 only_print look trees files (s ∷ []) d p some few are part =
-    print_of_only look trees files s.source s.reading p are.1 (unnoted trees s.source.text.now s.reading p.output.noted part.notes) part.print
+    print_of_only look trees files s.source s.reading p are.1 (unnoted trees s.source.text.now s.reading p.output.noted part.notes)
+        part.print
 only_print look trees files (s ∷ (t ∷ each)) d p some few are part = absurd (omega (arith, few))
 
 -- where there is no text, nothing is printed of all
-pub empty_print : (look : Look) (trees : List Tree) (files : List Files) (each : List Studied) (p : Printed) → length each < 1 → p.output.noted ≡ [] →
+pub empty_print : (look : Look) (trees : List Tree) (files : List Files) (each : List Studied) (p : Printed) → length each < 1 →
+    p.output.noted ≡ [] →
     p.output.bytes.items ≡ [] → p.total.status ≡ 0 →
     IsPrintOfAll look trees files (sources_read each) p.output.noted p.output.bytes.items p.total.status
 empty_print look trees files [] p few noted bytes status = (noted, bytes, status)
@@ -414,7 +428,8 @@ several_print look trees files each old notes line printed count are same added 
   whole = summed old.output.bytes.items line printed old.total.findings old.total.files count (length (sources_read each)) added is many;
 }
 
-some_print : (look : Look) (trees : List Tree) (files : List Files) (each : List Studied) (notes : List Noted) (printed : List ℕ) (status : ℕ) →
+some_print : (look : Look) (trees : List Tree) (files : List Files) (each : List Studied) (notes : List Noted) (printed : List ℕ)
+    (status : ℕ) →
     2 ≤ length each → AreSeveralPrinted look trees files (sources_read each) notes printed status →
     IsPrintOfAll look trees files (sources_read each) notes printed status
 some_print look trees files [] notes printed status some are = absurd (omega (arith, some))
@@ -422,7 +437,8 @@ some_print look trees files (s ∷ []) notes printed status some are = absurd (o
 some_print look trees files (s ∷ (t ∷ each)) notes printed status some are = are
 
 -- where there are two texts or more, what is printed of several is what is printed of all
-pub some_printed : (look : Look) (trees : List Tree) (files : List Files) (each : List Studied) (result : Result Printed ExplainFault) → 2 ≤ length each →
+pub some_printed : (look : Look) (trees : List Tree) (files : List Files) (each : List Studied) (result : Result Printed ExplainFault) →
+    2 ≤ length each →
     IfOk result (λ p. AreSeveralPrinted look trees files (sources_read each) p.output.noted p.output.bytes.items p.total.status) →
     IfOk result (λ p. IsPrintOfAll look trees files (sources_read each) p.output.noted p.output.bytes.items p.total.status)
 some_printed look trees files each (Ok p) some are =

@@ -58,7 +58,8 @@ again_rows_are text files found (Some s) (Some (Runs run)) rows is none are = re
 
 -- a report, and its note below
 pub adds_block : (trees : List Tree) (files : List Files) (states : ℕ) (s : Source) (found : List Finding) (setting : Option Setting)
-    (r : Report) (n : Noted) (old mid new : Output) → n.finding ≡ r.finding → n.is_behind ≡ r.is_behind → IfSome setting (IsSetting s.text.now found) →
+    (r : Report) (n : Noted) (old mid new : Output) → n.finding ≡ r.finding → n.is_behind ≡ r.is_behind →
+        IfSome setting (IsSetting s.text.now found) →
     (setting ≡ None → n.again ≡ None) → mid.bytes.items ≡ old.bytes.items ++ quieted r.lines.items → mid.noted ≡ old.noted →
     AddsNote trees files states s setting n mid new → AddsBlock trees files states s r old new
 adds_block trees files states s found setting r n old mid new number behind is none added same note = record {
@@ -105,14 +106,17 @@ blocks_more trees files states s reports i r first old new h is all one =
       noted = one.noted ∙ ap (λ z. z ++ one.note ∷ []) all.noted ∙ append_assoc first.noted all.notes (one.note ∷ []);
     })
 
-some_body : (look : Look) (trees : List Tree) (files : List Files) (place : ℕ) (s : Source) (tree : Tree) (graph : Graph) (found : List Finding)
+some_body : (look : Look) (trees : List Tree) (files : List Files) (place : ℕ) (s : Source) (tree : Tree) (graph : Graph)
+    (found : List Finding)
     (details : List WarningDetail) (notes : List Noted) (printed : List ℕ) → found ≢ [] →
-    AreReportsWithNotes look trees files s tree graph found notes printed → IsBody look trees files place s tree graph found details notes printed
+    AreReportsWithNotes look trees files s tree graph found notes printed → IsBody look trees files place s tree graph found details notes
+        printed
 some_body look trees files place s tree graph [] details notes printed some are = absurd (some refl)
 some_body look trees files place s tree graph (f ∷ fs) details notes printed some are = are
 
 -- all reports of a text
-pub body_of_reports : (look : Look) (trees : List Tree) (files : List Files) (k : Known) (reports : List Report) (old new : Output) → k.found.now ≢ [] →
+pub body_of_reports : (look : Look) (trees : List Tree) (files : List Files) (k : Known) (reports : List Report) (old new : Output) →
+    k.found.now ≢ [] →
     AreReported look k.source k.tree.now k.graph.now k.found.now reports →
     AddBlocks trees files look.states k.source reports old new → AddsBody look trees files k old new
 body_of_reports look trees files k reports old new some are blocks = record {
@@ -130,7 +134,8 @@ empty_of [] b is some = refl
 empty_of (f ∷ found) b is some = absurd (some (is ∙ ne_eqb (length (f ∷ found)) 0 (λ h. omega arith)))
 
 -- what is said where nothing is found, with the warnings
-pub body_of_none : (look : Look) (trees : List Tree) (files : List Files) (k : Known) (lines : List ℕ) (old new : Output) → k.found.now ≡ [] →
+pub body_of_none : (look : Look) (trees : List Tree) (files : List Files) (k : Known) (lines : List ℕ) (old new : Output) →
+    k.found.now ≡ [] →
     ArePromised (warned_in look trees k) k.details.now lines → new.bytes.items ≡ old.bytes.items ++ quieted lines →
     new.noted ≡ old.noted → AddsBody look trees files k old new
 body_of_none look trees files k lines old new none are added same = record {
@@ -166,10 +171,13 @@ known_print law look trees files k first before p known none unnoted body notes 
       details = k.details.now;
       warned = known.warned;
       above = body.printed;
-      order = law k.source.files k.source.text.now k.tree.now k.graph.now k.found.now look.options.allowed k.details.now known.known known.warned;
-      body = subst (λ ns. IsBody look trees files k.place k.source k.tree.now k.graph.now k.found.now k.details.now ns body.printed) (sym all)
+      order = law k.source.files k.source.text.now k.tree.now k.graph.now k.found.now look.options.allowed k.details.now known.known
+          known.warned;
+      body = subst (λ ns. IsBody look trees files k.place k.source k.tree.now k.graph.now k.found.now k.details.now ns body.printed)
+          (sym all)
           body.is;
-      whole = added ∙ ap (λ z. before.bytes.items ++ z) (quieted_same last (quiet_findings k.source.files k.found.now)) ∙ ap (λ z. z ++ last) above;
+      whole = added ∙ ap (λ z. before.bytes.items ++ z) (quieted_same last (quiet_findings k.source.files k.found.now))
+          ∙ ap (λ z. z ++ last) above;
       worth = status;
       many = count;
     }

@@ -50,7 +50,8 @@ look_of stage = record { coloured = stage.coloured; states = stage.states; optio
 pub record IsKnownIn (look : Look) (trees : List Tree) (k : Known) : Type 0 where
   pub own : slice_get trees k.place ≡ Some k.tree.now
   pub known : IsKnown k.source.text.now k.tree.now k.graph.now k.found.now
-  pub warned : AreWarningDetails k.source.files k.source.text.now k.tree.now.filter k.graph.now k.found.now look.options.allowed k.details.now
+  pub warned : AreWarningDetails k.source.files k.source.text.now k.tree.now.filter k.graph.now k.found.now look.options.allowed
+      k.details.now
 
 -- the same, as a text with warnings
 abbrev pub warned_in : Look → List Tree → Known → Warned
@@ -102,7 +103,8 @@ pub record PrintsNotice (look : Look) (trees : List Tree) (s : Source) (n : Noti
 -- ---- reports with their notes
 
 -- a note is added, with rows below its lines
-pub record AddsNote (trees : List Tree) (files : List Files) (states : ℕ) (s : Source) (setting : Option Setting) (n : Noted) (old new : Output) : Type 0 where
+pub record AddsNote (trees : List Tree) (files : List Files) (states : ℕ) (s : Source) (setting : Option Setting) (n : Noted)
+    (old new : Output) : Type 0 where
   pub rows : List ℕ
   pub are : AreNoteRows trees files n rows
   pub again : List ℕ
@@ -119,7 +121,8 @@ pub record AddsBlock (trees : List Tree) (files : List Files) (states : ℕ) (s 
   pub noted : new.noted ≡ old.noted ++ note ∷ []
 
 -- reports are added, each with its note
-pub record AddBlocks (trees : List Tree) (files : List Files) (states : ℕ) (s : Source) (reports : List Report) (old new : Output) : Type 0 where
+pub record AddBlocks (trees : List Tree) (files : List Files) (states : ℕ) (s : Source) (reports : List Report) (old new : Output)
+    : Type 0 where
   pub notes : List Noted
   pub printed : List ℕ
   pub are : AreBlocks trees files states s reports notes printed
@@ -197,7 +200,7 @@ pub record IsMore (look : Look) (trees : List Tree) (files : List Files) (s : St
   pub noted : new.output.noted ≡ old.output.noted ++ part.output.noted
   pub status : new.total.status ≡ max old.total.status part.tally.status
   pub findings : new.total.findings ≡ old.total.findings + part.tally.findings
-  pub files : new.total.files ≡ old.total.files + some part.tally.findings
+  pub counted : new.total.files ≡ old.total.files + some part.tally.findings
 
 -- all or nothing is put out
 pub record HoldsBack (is_held : Bool) (p : Printed) : Type 0 where

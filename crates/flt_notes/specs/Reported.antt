@@ -94,7 +94,8 @@ pub data AreParts (options : WarningOptions) (filters : List Filter) : List Sour
       (files + some count)
 
 -- the reports of several files, and a line that says how much is found
-pub record AreSummed (options : WarningOptions) (filters : List Filter) (sources : List Source) (printed : List ℕ) (status : ℕ) : Type 0 where
+pub record AreSummed (options : WarningOptions) (filters : List Filter) (sources : List Source) (printed : List ℕ) (status : ℕ)
+    : Type 0 where
   pub reports : List ℕ
   pub findings : ℕ
   pub files : ℕ

@@ -44,8 +44,8 @@ abbrev pub own_files : List Files → ℕ → Scheduled → List Files
 own_files files place (Together s) = files
 own_files files place (Alone s) = slice_range files place (place + 1)
 
--- a journal on these filters, whose texts are in these files, of which this is said, as rows, four blanks in, below a line that says how they
--- are read
+-- a journal on these filters, whose texts are in these files, of which this is said, as rows, four blanks in, below a line that says how
+-- they are read
 pub record AreJournalRows (own : List Tree) (files : List Files) (journal : Entries) (verdict : Verdict) (rows : List ℕ) : Type 0 where
   pub timeline : Timeline
   pub is : IsTimeline (filters_of own) files journal verdict timeline

@@ -53,7 +53,8 @@ abbrev pub AreReported : Look → Source → Tree → Graph → List Finding →
 AreReported look s tree graph found reports = AreReports look.coloured s.files s.text.now tree.filter graph found reports
 
 -- what is printed of a finding that has a report: the report; the line of its note, and rows; the line on one more callback, and rows
-pub record IsBlock (trees : List Tree) (files : List Files) (states : ℕ) (s : Source) (r : Report) (n : Noted) (printed : List ℕ) : Type 0 where
+pub record IsBlock (trees : List Tree) (files : List Files) (states : ℕ) (s : Source) (r : Report) (n : Noted) (printed : List ℕ)
+    : Type 0 where
   pub finding : n.finding ≡ r.finding
   pub behind : n.is_behind ≡ r.is_behind
   pub rows : List ℕ
@@ -70,7 +71,8 @@ pub data AreBlocks (trees : List Tree) (files : List Files) (states : ℕ) (s : 
       AreBlocks trees files states s (rs ++ r ∷ []) (ns ++ n ∷ []) (printed ++ own)
 
 -- all reports of a text, each with its note
-pub record AreReportsWithNotes (look : Look) (trees : List Tree) (files : List Files) (s : Source) (tree : Tree) (graph : Graph) (found : List Finding)
+pub record AreReportsWithNotes (look : Look) (trees : List Tree) (files : List Files) (s : Source) (tree : Tree) (graph : Graph)
+    (found : List Finding)
     (notes : List Noted) (printed : List ℕ) : Type 0 where
   pub reports : List Report
   pub are : AreReported look s tree graph found reports
@@ -95,14 +97,18 @@ pub record AreWarningsAlone (x : Warned) (details : List WarningDetail) (notes :
   pub whole : printed ≡ quieted lines
 
 -- what is above the last line: what is said where nothing is found, with the warnings, or the reports with their notes
-abbrev pub IsBody : Look → List Tree → List Files → ℕ → Source → Tree → Graph → List Finding → List WarningDetail → List Noted → List ℕ → Type 0
-IsBody look trees files place s tree graph [] details notes printed = AreWarningsAlone (warned_at look trees place s tree) details notes printed
-IsBody look trees files place s tree graph (f ∷ fs) details notes printed = AreReportsWithNotes look trees files s tree graph (f ∷ fs) notes printed
+abbrev pub IsBody : Look → List Tree → List Files → ℕ → Source → Tree → Graph → List Finding → List WarningDetail → List Noted →
+    List ℕ → Type 0
+IsBody look trees files place s tree graph [] details notes printed = AreWarningsAlone (warned_at look trees place s tree) details notes
+    printed
+IsBody look trees files place s tree graph (f ∷ fs) details notes printed = AreReportsWithNotes look trees files s tree graph (f ∷ fs)
+    notes printed
 
 -- what is printed of a text that parses, whose tree is that of this place, with its status and how many findings it has: what is printed
 -- and the status are of the same warnings
 -- (`order`: where nothing is found and no circle of locks is warned of, its filter takes its locks in an order)
-pub record IsKnownPrint (look : Look) (trees : List Tree) (files : List Files) (place : ℕ) (s : Source) (notes : List Noted) (printed : List ℕ)
+pub record IsKnownPrint (look : Look) (trees : List Tree) (files : List Files) (place : ℕ) (s : Source) (notes : List Noted)
+    (printed : List ℕ)
     (status count : ℕ) : Type 0 where
   pub tree : Tree
   pub own : slice_get trees place ≡ Some tree
@@ -160,16 +166,20 @@ IsFailedPrint look trees s printed status count =
 pub data ArePrints (look : Look) (trees : List Tree) (files : List Files) : ℕ → List Source → List Noted → List ℕ → ℕ → ℕ → ℕ → Type 0 where
   no_print : ArePrints look trees files 0 [] [] [] 0 0 0
   fails : {place : ℕ} {ss : List Source} {ns : List Noted} {printed : List ℕ} {greatest findings many : ℕ} {s : Source} {own : List ℕ}
-      {status count : ℕ} → ArePrints look trees files place ss ns printed greatest findings many → IsFailedPrint look trees s own status count →
-      ArePrints look trees files place (ss ++ s ∷ []) ns (printed ++ own ++ 10 ∷ []) (max greatest status) (findings + count) (many + some count)
+      {status count : ℕ} → ArePrints look trees files place ss ns printed greatest findings many → IsFailedPrint look trees s own status
+          count →
+      ArePrints look trees files place (ss ++ s ∷ []) ns (printed ++ own ++ 10 ∷ []) (max greatest status) (findings + count)
+          (many + some count)
   parses : {place : ℕ} {ss : List Source} {ns : List Noted} {printed : List ℕ} {greatest findings many : ℕ} {s : Source}
       {more : List Noted} {own : List ℕ} {status count : ℕ} → ArePrints look trees files place ss ns printed greatest findings many →
       IsKnownPrint look trees files place s more own status count →
-      ArePrints look trees files (place + 1) (ss ++ s ∷ []) (ns ++ more) (printed ++ own ++ 10 ∷ []) (max greatest status) (findings + count)
+      ArePrints look trees files (place + 1) (ss ++ s ∷ []) (ns ++ more) (printed ++ own ++ 10 ∷ []) (max greatest status)
+          (findings + count)
       (many + some count)
 
 -- the same of several files, and a line that says how much is found
-pub record AreSeveralPrinted (look : Look) (trees : List Tree) (files : List Files) (sources : List Source) (notes : List Noted) (printed : List ℕ)
+pub record AreSeveralPrinted (look : Look) (trees : List Tree) (files : List Files) (sources : List Source) (notes : List Noted)
+    (printed : List ℕ)
     (status : ℕ) : Type 0 where
   pub place : ℕ
   pub prints : List ℕ
@@ -179,7 +189,8 @@ pub record AreSeveralPrinted (look : Look) (trees : List Tree) (files : List Fil
   pub whole : printed ≡ prints ++ summary findings many (length sources) ++ 10 ∷ []
 
 -- what is printed of one file alone
-pub record IsOnePrinted (look : Look) (trees : List Tree) (files : List Files) (s : Source) (notes : List Noted) (printed : List ℕ) (status : ℕ) : Type 0 where
+pub record IsOnePrinted (look : Look) (trees : List Tree) (files : List Files) (s : Source) (notes : List Noted) (printed : List ℕ)
+    (status : ℕ) : Type 0 where
   pub count : ℕ
   pub is : IsKnownPrint look trees files 0 s notes printed status count ⊎ ((notes ≡ []) × IsFailedPrint look trees s printed status count)
 

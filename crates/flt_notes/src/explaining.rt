@@ -49,10 +49,10 @@ pub struct Told {
 fn add_files<'a>(all: &mut Vec<Files<'a>>, studied: &Studied<'a>) -> Result<(), AllocError>
     ensures { OnOk result (all.new.items ≡ all.old.items ++ files_by studied.now.reading studied.now.source) }
 {
-    match studied.reading {
-        Reading::Known(_) => all.push(studied.source.files),
-        Reading::Unread(_) | Reading::Other(_) => Ok(()),
+    if let Reading::Known(_) = studied.reading {
+        all.push(studied.source.files)?;
     }
+    Ok(())
 }
 
 /// The files of each text that parses.

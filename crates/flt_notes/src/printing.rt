@@ -301,7 +301,8 @@ impl Stage<'_> {
     ) -> Result<(), AllocError>
         requires said { spec.IsSaid self.now.trees.now self.now.states output.old }
         ensures said { OnOk result (spec.IsSaid self.now.trees.now self.now.states output.new) }
-        ensures note { OnOk result (spec.AddsNote self.now.trees.now self.now.files.now self.now.states source.entry setting.now noted output.old output.new) }
+        ensures note { OnOk result (spec.AddsNote self.now.trees.now self.now.files.now self.now.states source.entry setting.now noted
+            output.old output.new) }
     {
         let rows = note_rows(self.alloc, self.trees, self.files, &noted)?;
         let again = self.again_rows(source, setting, &noted)?;
@@ -378,7 +379,8 @@ impl Stage<'_> {
         ensures said { OnOk result (spec.IsSaid self.now.trees.now self.now.states output.new) }
         ensures noted { OnOk result (spec.HasNotes self.now.trees.now known.entry output.new.noted) }
         ensures firsts { OnOk result (AreFirsts known.entry.found.now (numbers_in output.new.noted)) }
-        ensures body { OnOk result (spec.AddsBody (spec.look_of self.now) self.now.trees.now self.now.files.now known.entry output.old output.new) }
+        ensures body { OnOk result (spec.AddsBody (spec.look_of self.now) self.now.trees.now self.now.files.now known.entry output.old
+            output.new) }
     {
         let reports = self.reports(known)?;
         let reports = reports.as_slice();
@@ -423,7 +425,8 @@ impl Stage<'_> {
         requires silent { spec.IsSilent self.now.trees.now self.now.states output.old }
         ensures said { OnOk result (spec.IsSaid self.now.trees.now self.now.states output.new) }
         ensures noted { OnOk result (output.new.noted ≡ []) }
-        ensures body { OnOk result (spec.AddsBody (spec.look_of self.now) self.now.trees.now self.now.files.now known.entry output.old output.new) }
+        ensures body { OnOk result (spec.AddsBody (spec.look_of self.now) self.now.trees.now self.now.files.now known.entry output.old
+            output.new) }
     {
         let said = self.promise_and_warnings(known, watch)?;
         output.lines(said.as_slice())?;
@@ -441,7 +444,8 @@ impl Stage<'_> {
         ensures said { OnOk result (spec.IsSaid self.now.trees.now self.now.states output.new) }
         ensures noted { OnOk result (spec.HasNotes self.now.trees.now known.entry output.new.noted) }
         ensures firsts { OnOk result (AreFirsts known.entry.found.now (numbers_in output.new.noted)) }
-        ensures body { OnOk result (spec.AddsBody (spec.look_of self.now) self.now.trees.now self.now.files.now known.entry output.old output.new) }
+        ensures body { OnOk result (spec.AddsBody (spec.look_of self.now) self.now.trees.now self.now.files.now known.entry output.old
+            output.new) }
     {
         if !known.found.is_empty() {
             return self.put_found(output, known, watch);

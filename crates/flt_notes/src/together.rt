@@ -170,7 +170,8 @@ impl Stage<'_> {
             p.output.bytes.items p.total.status) }
         ensures notes { IfOk result (λ p. AreNotesIn self.now.trees.now (known_in each.now) (texts_read each.now) p.output.noted) }
         ensures said { IfOk result (λ p. IsSaid self.now.trees.now self.now.states p.output) }
-        ensures print { IfOk result (λ p. AreSeveralPrinted (look_of self.now) self.now.trees.now self.now.files.now (sources_read each.now) p.output.noted
+        ensures print { IfOk result (λ p. AreSeveralPrinted (look_of self.now) self.now.trees.now self.now.files.now
+            (sources_read each.now) p.output.noted
             p.output.bytes.items p.total.status) }
         ensures sent { IfOk result
             (IsPutOut self.now.options (sources_read each.now) self.now.states is_held (O.taken out.old) (O.taken out.new)) }
@@ -229,7 +230,8 @@ impl Stage<'_> {
             p.output.bytes.items p.total.status) }
         ensures notes { IfOk result (λ p. AreNotesIn self.now.trees.now (known_in each.now) (texts_read each.now) p.output.noted) }
         ensures said { IfOk result (λ p. IsSaid self.now.trees.now self.now.states p.output) }
-        ensures print { IfOk result (λ p. IsPrintOfAll (look_of self.now) self.now.trees.now self.now.files.now (sources_read each.now) p.output.noted
+        ensures print { IfOk result (λ p. IsPrintOfAll (look_of self.now) self.now.trees.now self.now.files.now (sources_read each.now)
+            p.output.noted
             p.output.bytes.items p.total.status) }
         ensures sent { IfOk result
             (IsPutOut self.now.options (sources_read each.now) self.now.states is_held (O.taken out.old) (O.taken out.new)) }

@@ -3,3 +3,4 @@ pub mod Covering
 pub mod MoreReports
 pub mod Placing
 pub mod Widths
+pub mod Written

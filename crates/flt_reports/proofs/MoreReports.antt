@@ -46,7 +46,8 @@ module _ (coloured : Bool) (files : Files) (text : Text) (f : Filter) (g : Graph
       subst (AreFirsts found) (sym (numbers_are traces.groups all each ∙ ap (map number_of) traced.groups)) (are_firsts found traces.shown)
 
 -- the findings of reports are the firsts of the groups
-pub reports_are_firsts : (coloured : Bool) (files : Files) (text : Text) (f : Filter) (g : Graph) (found : List Finding) (all : List Report) →
+pub reports_are_firsts : (coloured : Bool) (files : Files) (text : Text) (f : Filter) (g : Graph) (found : List Finding)
+    (all : List Report) →
     AreReports coloured files text f g found all → AreFirsts found (numbers_of all)
 reports_are_firsts coloured files text f g found all are =
     firsts_of coloured files text f g are.traces found all are.traced are.each

@@ -36,7 +36,8 @@ bar coloured = blue coloured ++ codes " | " ++ plain coloured
 unfoldable pub dots : ℕ → ℕ → Text
 dots before number = if before == 0 || number - 1 == before then [] else codes "..." ++ 10 ∷ []
 
--- between a line of the text and the line of this file that was drawn before: the name of its file, where this one isn't the file that is named, else dots
+-- between a line of the text and the line of this file that was drawn before: the name of its file, where this one isn't the file that is
+-- named, else dots
 unfoldable pub gap : Files → ℕ → ℕ → ℕ → Text
 gap files file before number =
     if file_at files number == file then dots before (file_line files number)

@@ -59,11 +59,16 @@ named_from between is_behind (file ∷ files) =
 abbrev pub named : Text → List SourceFile → Text
 named between files = named_from between false files
 
--- the command that prints the certificate of a text: that of annotations is extracted first
-unfoldable pub command : Files → Text
-command files =
-    if length files.stands.now == 0 then codes "fltstack analyse " ++ named (codes " ") files.all.now
-    else codes "fltstack extract " ++ (named (codes " ") files.all.now ++ codes " | fltstack analyse -")
+-- the command that prints the certificate of the text of a file, and that for the annotations of files, which are extracted first
+unfoldable pub analyse_command : List SourceFile → Text
+analyse_command files = codes "fltstack analyse " ++ named (codes " ") files
+
+unfoldable pub extract_command : List SourceFile → Text
+extract_command files = codes "fltstack extract " ++ (named (codes " ") files ++ codes " | fltstack analyse -")
+
+-- the one of the two for a text in these files
+abbrev pub command : Files → Text
+command files = if length files.stands.now == 0 then analyse_command files.all.now else extract_command files.all.now
 
 -- what that promises, and how to see the certificate
 unfoldable pub nothing_report : Files → Text

@@ -4,7 +4,7 @@ ghost use Rattle.std.specs.Prelude.{◌≡◌, ◌++◌, ◌∷◌, [], IfOk};
 ghost use Rattle.flt_details.specs.Page.{Writes};
 ghost use Rattle.flt_reports.specs.Fault as spec;
 
-use crate::excerpts::excerpt;
+use crate::excerpts::excerpt_of;
 use crate::heading::{name_at, tell_file_place, tell_heading};
 use crate::marks::{Drawing, Stroke};
 use flt_details::{Page, Source, fault_name, line_words};
@@ -56,7 +56,7 @@ fn draw_spot(
         alloc,
         page,
         files,
-        excerpt(files, lines, line),
+        excerpt_of(files, lines, line),
         lines.line(line),
         &site,
         Stroke::Error,

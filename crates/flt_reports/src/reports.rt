@@ -158,18 +158,33 @@ fn tell_names(page: &mut Page, between: &str, files: &[SourceFile<'_>]) -> Resul
     Ok(())
 }
 
-/// Writes the command that prints the certificate of a text. That of annotations is extracted first.
-#[tactic(auto, unfolding(crate::specs::Reports::command))]
+/// Writes the command that prints the certificate of the text of a file.
+#[tactic(auto, unfolding(crate::specs::Reports::analyse_command))]
+fn tell_analyse(page: &mut Page, files: &[SourceFile<'_>]) -> Result<(), AllocError>
+    ensures { Writes result page.old page.new (spec.analyse_command files.now) }
+{
+    page.bytes(b"fltstack analyse ")?;
+    tell_names(page, " ", files)
+}
+
+/// Writes the command that prints the certificate for the annotations of files, which are extracted first.
+#[tactic(auto, unfolding(crate::specs::Reports::extract_command))]
+fn tell_extract(page: &mut Page, files: &[SourceFile<'_>]) -> Result<(), AllocError>
+    ensures { Writes result page.old page.new (spec.extract_command files.now) }
+{
+    page.bytes(b"fltstack extract ")?;
+    tell_names(page, " ", files)?;
+    page.bytes(b" | fltstack analyse -")
+}
+
+/// Writes the one of the two for a text in these files.
 fn tell_command(page: &mut Page, files: &Files<'_>) -> Result<(), AllocError>
     ensures { Writes result page.old page.new (spec.command files.now) }
 {
-    if files.stands.is_empty() {
-        page.bytes(b"fltstack analyse ")?;
-        return tell_names(page, " ", files.all);
+    match files.stands {
+        [] => tell_analyse(page, files.all),
+        [_, ..] => tell_extract(page, files.all),
     }
-    page.bytes(b"fltstack extract ")?;
-    tell_names(page, " ", files.all)?;
-    page.bytes(b" | fltstack analyse -")
 }
 
 /// Writes the promise of a text without findings, and how to see its certificate.

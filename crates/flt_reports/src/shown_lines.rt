@@ -6,7 +6,7 @@ ghost use Rattle.flt_details.specs.Page.{Writes};
 ghost use Rattle.flt_reports.specs.MarkOrder.{all_placed};
 ghost use Rattle.flt_reports.specs.Shown as spec;
 
-use crate::excerpts::excerpt;
+use crate::excerpts::excerpt_of;
 use crate::mark_order::{Mark, add_mark, greatest_line};
 use crate::mark_words::{Sign, tell_mark};
 use crate::marks::{Drawing, Stroke};
@@ -118,7 +118,7 @@ fn draw_marks(
     for mark in marks {
         let number = mark.site.place.line;
         let line = scene.lines.line(number);
-        let excerpt = excerpt(&scene.files, scene.lines, number);
+        let excerpt = excerpt_of(&scene.files, scene.lines, number);
         drawing.draw(
             alloc,
             page,

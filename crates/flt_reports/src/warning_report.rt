@@ -5,7 +5,7 @@ ghost use Rattle.flt_details.specs.Page.{Writes};
 ghost use Rattle.flt_reports.specs.MarkOrder.{all_placed};
 ghost use Rattle.flt_reports.specs.WarningReport as spec;
 
-use crate::excerpts::excerpt;
+use crate::excerpts::excerpt_of;
 use crate::finding_report::{tell_callback, tell_help, tell_note, tell_numbers};
 use crate::heading::{name_at, tell_file_place, tell_warning_heading};
 use crate::mark_order::{Mark, add_mark, greatest_line};
@@ -156,12 +156,12 @@ fn tell_mark(
 
 /// Draws marks, in their order, with their words.
 #[tactic(auto, unfolding(crate::specs::WarningReport::all_drawn))]
-fn draw_marks(
+fn draw_marks<'x>(
     alloc: Global,
     page: &mut Page,
     drawing: &mut Drawing,
-    files: &Files<'_>,
-    lines: &Lines<'_>,
+    files: &Files<'x>,
+    lines: &Lines<'x>,
     related: &[RelatedPlace],
     marks: &[Mark<Option<usize>>],
 ) -> Result<(), AllocError>
@@ -171,7 +171,7 @@ fn draw_marks(
 {
     for mark in marks {
         let number = mark.site.place.line;
-        let excerpt = excerpt(files, lines, number);
+        let excerpt = excerpt_of(files, lines, number);
         drawing.draw(
             alloc,
             page,
@@ -188,12 +188,12 @@ fn draw_marks(
 
 /// Draws the places of a warning, in the order of their lines.
 #[tactic(auto, unfolding(crate::specs::WarningReport::places_drawn))]
-fn draw_places(
+fn draw_places<'x>(
     alloc: Global,
     page: &mut Page,
     coloured: bool,
-    files: &Files<'_>,
-    lines: &Lines<'_>,
+    files: &Files<'x>,
+    lines: &Lines<'x>,
     detail: &WarningDetail,
 ) -> Result<(), AllocError>
     ensures { Writes result page.old page.new (spec.places_drawn coloured files.now lines.now detail.now) }
@@ -210,12 +210,12 @@ fn draw_places(
 
 /// Writes the report of a warning.
 #[tactic(auto, unfolding(crate::specs::WarningReport::warning_report))]
-fn tell(
+fn tell<'x>(
     alloc: Global,
     page: &mut Page,
     coloured: bool,
-    files: &Files<'_>,
-    lines: &Lines<'_>,
+    files: &Files<'x>,
+    lines: &Lines<'x>,
     detail: &WarningDetail,
 ) -> Result<(), AllocError>
     ensures { Writes result page.old page.new
@@ -233,11 +233,11 @@ fn tell(
 /// # Errors
 ///
 /// If memory is refused.
-pub fn report_warning(
+pub fn report_warning<'x>(
     alloc: Global,
     coloured: bool,
-    files: &Files<'_>,
-    lines: &Lines<'_>,
+    files: &Files<'x>,
+    lines: &Lines<'x>,
     detail: &WarningDetail,
 ) -> Result<Vec<u8>, AllocError>
     ensures { IfOk result (λ report. report.items ≡ spec.warning_report coloured files.now lines.now detail.now) }

@@ -1,9 +1,9 @@
 //! Diagnostics of a text that doesn't parse.
 
 use crate::members::{add_line, put_number, put_string, put_text};
-use crate::places::Document;
+use crate::places::{Document, own_files};
 use crate::trial::trial_text;
-use flt_details::fault_name;
+use flt_details::{fault_name, line_words};
 use flt_hints::{Told, Trouble, describe, tell};
 use flt_outline::Part;
 use flt_places::{Region, lines_of};
@@ -67,13 +67,22 @@ fn region_of(trouble: &Trouble<'_>) -> Region {
     }
 }
 
+/// The line of the call that isn't complete, in words; nothing if there is none.
+fn open_line(alloc: Global, trouble: &Trouble<'_>) -> Result<Vec<u8>, AllocError> {
+    match trouble.open_call {
+        Some(call) => line_words(alloc, &own_files(), 0, call.line),
+        None => Ok(Vec::new(alloc)),
+    }
+}
+
 fn put_fault(
     alloc: Global,
     writer: &mut Writer,
     document: &Document<'_>,
     trouble: &Trouble<'_>,
 ) -> Result<(), AllocError> {
-    let told = tell(alloc, trouble)?;
+    let line = open_line(alloc, trouble)?;
+    let told = tell(alloc, trouble, line.as_slice())?;
     let message = message_of(alloc, &told)?;
     writer.begin_object()?;
     document.put_region(writer, "range", region_of(trouble))?;

@@ -151,7 +151,7 @@ pub(crate) fn put_findings(
     found: &[Finding],
 ) -> Result<(), AllocError> {
     let count = sent_count(found).min(found.len());
-    let details = details(alloc, document.text, tree, graph, &found[..count])?;
+    let details = details(alloc, document.source(), tree, graph, &found[..count])?;
     for detail in details.as_slice() {
         put_finding(alloc, writer, document, detail)?;
     }

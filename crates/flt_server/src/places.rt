@@ -1,8 +1,9 @@
 //! Documents, and places in them as members of JSON objects.
 
 use crate::annotated::{CFile, Pair};
+use flt_details::Source;
 use flt_outline::{Part, byte_of, spot_of};
-use flt_places::{Lines, Region};
+use flt_places::{Files, Lines, Region};
 use flt_session::{Encoding, OpenText, Spot};
 use flt_tree::Position;
 use json::Writer;
@@ -19,6 +20,24 @@ pub(crate) struct Document<'a> {
     /// The C file in which the text is, if it is one.
     pub(crate) c_file: Option<CFile<'a>>,
     pub(crate) encoding: Encoding,
+}
+
+/// The files of a document: its text is a file by itself, so that its lines have their own numbers.
+pub(crate) fn own_files() -> Files<'static> {
+    Files {
+        all: &[],
+        stands: &[],
+    }
+}
+
+impl<'a> Document<'a> {
+    /// Its text, as words about it are made.
+    pub(crate) fn source(&self) -> Source<'a> {
+        Source {
+            text: self.text,
+            files: own_files(),
+        }
+    }
 }
 
 /// A document that is open.

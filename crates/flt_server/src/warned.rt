@@ -138,7 +138,7 @@ pub(crate) fn put_warnings(
     }
     let all = warning_details(
         alloc,
-        document.text,
+        document.source(),
         tree,
         graph,
         found,

@@ -50,7 +50,8 @@ in_order files text tree g k allowed all by sought none =
     (ap (λ ws. warns_of_circle (details x allowed (allowances_of text) ws)) (sym by.warned.all) ∙ ap warns_of_circle (sym by.said) ∙ none)
 
 -- by the least certificate; there is one, since something would be found
-orderly_by : (files : Files) (text : Text) (tree : Tree) (g : Graph) (allowed : AllowedKinds) (all : List WarningDetail) → IsWellFormed tree.filter →
+orderly_by : (files : Files) (text : Text) (tree : Tree) (g : Graph) (allowed : AllowedKinds) (all : List WarningDetail) →
+    IsWellFormed tree.filter →
     IsKnown text tree g [] → allows allowed W01 ≡ false → warns_of_circle all ≡ false →
     AreCertified files text tree.filter g allowed all ⊎ IsUncovered g all → IsOrderly tree.filter
 orderly_by files text tree g allowed all fine known sought none (inl by) = record {

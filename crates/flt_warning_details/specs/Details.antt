@@ -86,7 +86,8 @@ IsLeastOf g (Some k) = Covers g k × IsLeast g k
 IsLeastOf g None = NoneCovers g
 
 -- a certificate covers the text, and by the least one this is said
-pub record AreCertified (files : Files) (text : Text) (f : Filter) (g : Graph) (allowed : AllowedKinds) (all : List WarningDetail) : Type 0 where
+pub record AreCertified (files : Files) (text : Text) (f : Filter) (g : Graph) (allowed : AllowedKinds) (all : List WarningDetail)
+    : Type 0 where
   pub certificate : Certificate
   pub covers : Covers g certificate
   pub least : IsLeast g certificate

@@ -13,7 +13,8 @@ loop-finding-preserved c = record {
       one_longer c.args.found.now c.loop-finding.finding-index c.loop-finding.all _ _ c.loop-finding-test.true c.loop-finding.invariant.long
       c.in_ok-push.ensures.ok;
   each =
-      one_detail_more c.args.source.files _ c.args.source.text.now c.args.tree.now.filter c.args.graph.now c.args.found.now _ _ _ _ _ c.loop-finding.all _
+      one_detail_more c.args.source.files _ c.args.source.text.now c.args.tree.now.filter c.args.graph.now c.args.found.now _ _ _ _ _
+          c.loop-finding.all _
       c.in_ok-lines.ensures c.len-number.ensures
       (found_at c.args.found.now c.loop-finding.finding-index _ _ _ c.loop-finding-test.true (search rules) c.len-number.ensures
       c.loop-finding.invariant.long)
@@ -25,6 +26,7 @@ loop-finding-preserved c = record {
 
 pub returns : goal.returns
 returns c =
-    all_details c.args.source.files c.args.source.text.now c.args.tree.now.filter c.args.graph.now c.args.found.now _ c.loop-finding.finding-index c.loop-finding.all
+    all_details c.args.source.files c.args.source.text.now c.args.tree.now.filter c.args.graph.now c.args.found.now _
+        c.loop-finding.finding-index c.loop-finding.all
     c.in_ok-traces.ensures c.loop-finding-test.false c.loop-finding.invariant.long c.loop-finding.invariant.each
     c.loop-finding.invariant.like

@@ -8,7 +8,7 @@ returns-then-not-goes_on-clause-group c =
     (inr (
       c.loop-next-test.true,
       off_at c.args.files.now c.loop-next.next c.index-files-next.result c.index-files-next-in-loop-next.result c.loop-next-test.true
-      c.index-files-next.is c.index-files-next-in-loop-next.is c.if-not-goes_on.ensures,
+          c.index-files-next.is c.index-files-next-in-loop-next.is c.if-not-goes_on.ensures,
     ))
 
 pub returns-then-not-goes_on-clause-code : goal.returns-then-not-goes_on-clause-code

@@ -4,4 +4,5 @@ use Rattle.flt_notes.proofs.deadlocks.wait_lines.Given as goal
 
 abbrev pub invariant-loop-wait : goal.invariant-loop-wait
 invariant-loop-wait l =
-    l.page.out.items ++ wait_lines l.files l.home l.tree.filter (drop l.wait-index l.waits) ≡ wait_lines l.files l.home l.tree.filter l.waits
+    l.page.out.items ++ wait_lines l.files l.home l.tree.filter (drop l.wait-index l.waits) ≡ wait_lines l.files l.home l.tree.filter
+        l.waits

@@ -9,5 +9,5 @@ returns-clause-added g c = record {
   noted = c.in_ok-lines.ensures.noted ∙ c.in_ok-add.ensures.noted;
   status = c.in_ok-add.ensures.status;
   findings = c.in_ok-add.ensures.findings;
-  files = c.in_ok-add.ensures.files;
+  counted = c.in_ok-add.ensures.files;
 }

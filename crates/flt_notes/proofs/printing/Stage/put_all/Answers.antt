@@ -11,7 +11,8 @@ returns-in-empty-clause-said g c = said_none _ _ c.new.result.output c.new.ensur
 
 pub returns-in_ok-put_only-in-len1-clause-notes : goal.returns-in_ok-put_only-in-len1-clause-notes
 returns-in_ok-put_only-in-len1-clause-notes g c =
-    only_noted (look_of c.args.self.now) c.args.self.now.trees.now c.args.self.now.files.now c.args.each.now _ c.in_ok-put_only-in-len1.field-0 c.in-len1.len_at_least
+    only_noted (look_of c.args.self.now) c.args.self.now.trees.now c.args.self.now.files.now c.args.each.now _
+        c.in_ok-put_only-in-len1.field-0 c.in-len1.len_at_least
     c.in-len1.len_below c.requires.texts c.in_ok-put_only-in-len1.ensures.part
 
 pub returns-in_ok-put_only-in-len1-clause-sent : goal.returns-in_ok-put_only-in-len1-clause-sent
@@ -21,15 +22,18 @@ returns-in_ok-put_only-in-len1-clause-sent g c =
 
 pub returns-in-empty-clause-print : goal.returns-in-empty-clause-print
 returns-in-empty-clause-print g c =
-    empty_print (look_of c.args.self.now) c.args.self.now.trees.now c.args.self.now.files.now c.args.each.now c.new.result c.in-empty.len_below c.new.ensures.noted
+    empty_print (look_of c.args.self.now) c.args.self.now.trees.now c.args.self.now.files.now c.args.each.now c.new.result
+        c.in-empty.len_below c.new.ensures.noted
     c.new.ensures.bytes c.new.ensures.total.0
 
 pub returns-in_ok-put_only-in-len1-clause-print : goal.returns-in_ok-put_only-in-len1-clause-print
 returns-in_ok-put_only-in-len1-clause-print g c =
-    only_print (look_of c.args.self.now) c.args.self.now.trees.now c.args.self.now.files.now c.args.each.now _ c.in_ok-put_only-in-len1.field-0 c.in-len1.len_at_least
+    only_print (look_of c.args.self.now) c.args.self.now.trees.now c.args.self.now.files.now c.args.each.now _
+        c.in_ok-put_only-in-len1.field-0 c.in-len1.len_at_least
     c.in-len1.len_below c.requires.texts c.in_ok-put_only-in-len1.ensures.part
 
 pub returns-in-len2-up-clause-print : goal.returns-in-len2-up-clause-print
 returns-in-len2-up-clause-print g c =
-    some_printed (look_of c.args.self.now) c.args.self.now.trees.now c.args.self.now.files.now c.args.each.now c.put_several.result c.in-len2-up.len_at_least
+    some_printed (look_of c.args.self.now) c.args.self.now.trees.now c.args.self.now.files.now c.args.each.now c.put_several.result
+        c.in-len2-up.len_at_least
     c.put_several.ensures.print

@@ -25,13 +25,15 @@ returns-in_default-clause-printed g c =
 
 pub returns-clause-printed : goal.returns-clause-printed
 returns-clause-printed g c =
-    whole_printed (look_of c.args.self.now) c.args.self.now.trees.now c.args.self.now.files.now c.args.each.now c.loop-studied.studied-index _ c.loop-studied.printed
+    whole_printed (look_of c.args.self.now) c.args.self.now.trees.now c.args.self.now.files.now c.args.each.now
+        c.loop-studied.studied-index _ c.loop-studied.printed
     c.add_part.new.printed c.in-len1-up.len_at_least c.requires.texts c.loop-studied-test.false c.loop-studied.invariant.printed
     c.in_ok-add_part.ensures.added
 
 pub returns-clause-sent : goal.returns-clause-sent
 returns-clause-sent g c =
-    whole_sent (look_of c.args.self.now) c.args.self.now.trees.now c.args.self.now.files.now c.args.each.now c.loop-studied.studied-index _ c.loop-studied.printed
+    whole_sent (look_of c.args.self.now) c.args.self.now.trees.now c.args.self.now.files.now c.args.each.now c.loop-studied.studied-index _
+        c.loop-studied.printed
     c.add_part.new.printed c.args.is_held _ _ c.in-len1-up.len_at_least c.requires.parsed c.loop-studied-test.false
     c.loop-studied.invariant.printed c.in_ok-add_part.ensures.added c.in_ok-add_part.ensures.sent c.loop-studied.invariant.holds
     (λ h. ap g.O.Sink.taken (c.loop-studied.invariant.held h)) c.loop-studied.invariant.out
@@ -85,7 +87,8 @@ returns-in_err-put_part-clause-memory g c =
 pub returns-in_err-add_part-clause-memory : goal.returns-in_err-add_part-clause-memory
 returns-in_err-add_part-clause-memory g c =
     let fails : c.from_residual-in_err-add_part.result ≡ Err OutOfMemory = search rules in
-    rw fails (λ e. cut_here (look_of c.args.self.now) c.args.self.now.trees.now c.args.self.now.files.now c.args.each.now (length c.args.each.now - 1)
+    rw fails (λ e. cut_here (look_of c.args.self.now) c.args.self.now.trees.now c.args.self.now.files.now c.args.each.now
+        (length c.args.each.now - 1)
     c.loop-studied.studied-index c.loop-studied.printed c.args.is_held (g.O.Sink.taken c.args.out.now) (g.O.Sink.taken c.loop-studied.out)
     c.requires.parsed c.loop-studied.invariant.printed (λ h. ap g.O.Sink.taken (c.loop-studied.invariant.held h))
     c.loop-studied.invariant.out)

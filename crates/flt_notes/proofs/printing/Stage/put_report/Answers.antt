@@ -25,7 +25,8 @@ returns-clause-numbers c =
 
 pub returns-clause-block : goal.returns-clause-block
 returns-clause-block c =
-    adds_block c.args.self.now.trees.now c.args.self.now.files.now c.args.self.now.states c.args.known.source c.args.known.found.now c.args.setting.now
+    adds_block c.args.self.now.trees.now c.args.self.now.files.now c.args.self.now.states c.args.known.source c.args.known.found.now
+        c.args.setting.now
     c.args.report.now c.in_ok-noted.noted c.args.output.now c.lines.new.self c.put_note.new.output c.in_ok-noted.ensures.number
     c.in_ok-noted.ensures.behind c.requires.setting c.in_ok-noted.ensures.none
     (c.in_ok-lines.ensures.bytes ∙ ap (λ z. c.args.output.now.bytes.items ++ quieted z) c.as_slice.ensures.value)
