@@ -1,4 +1,4 @@
-use Rattle.flt_crew.proofs.running.drive_named.Given as goal
+use Rattle.flt_crew.proofs.running.run.Given as goal
 
 abbrev pub ghosts-drive-N-Counts : goal.ghosts-drive-N-Counts
 ghosts-drive-N-Counts g a = record {
