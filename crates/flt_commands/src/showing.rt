@@ -66,7 +66,7 @@ fn show<'a, P: Pictures>(
     ensures untouched { name.entry ≡ None → pictures.new ≡ pictures.old }
 {
     let trees = replayed.trees.as_slice();
-    let timeline = Timeline::of(alloc, trees, &replayed.journal, replayed.verdict)?;
+    let timeline = Timeline::of(alloc, trees, &[], &replayed.journal, replayed.verdict)?;
     if let Some(name) = name {
         if let Err(why) = draw(alloc, inputs, name, replayed, texts, &timeline, pictures)? {
             return Err(Failure::CannotWrite(name, why));

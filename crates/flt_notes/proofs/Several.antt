@@ -423,7 +423,7 @@ several_print look trees files each old notes line printed count are same added 
   place = known_in each;
   prints = old.output.bytes.items;
   findings = old.total.findings;
-  files = old.total.files;
+  many = old.total.files;
   are = rw same are.prints;
   whole = summed old.output.bytes.items line printed old.total.findings old.total.files count (length (sources_read each)) added is many;
 }

@@ -23,11 +23,11 @@ use std::fmt;
 
 /// Writes the lock for which an activation waits, and the line.
 #[tactic(auto, unfolding(crate::specs::Deadlocked::wait_words))]
-fn tell_wait(
+fn tell_wait<'x>(
     page: &mut Page,
-    files: &Files<'_>,
+    files: &Files<'x>,
     home: usize,
-    tree: &Tree,
+    tree: &'x Tree,
     wait: &Blocked,
 ) -> Result<(), AllocError>
     ensures { Writes result page.old page.new (spec.wait_words files.now home tree.now.filter wait.now) }

@@ -19,7 +19,7 @@ returns g c =
       tally = record { status = c.warned_status.result; findings = length c.args.known.found.now };
     } in
     let added = c.in_ok-lines.ensures.bytes
-    ∙ ap (λ z. c.put_findings.new.output.bytes.items ++ quieted z) (c.as_bytes.ensures.value ∙ c.in_ok-findings_line.ensures) in
+    ∙ ap (λ z. c.put_findings.new.output.bytes.items ++ quieted z) (c.as_bytes.ensures.value ∙ c.in_ok-line.ensures) in
     known_is look _ _ c.args.known c.put_findings.new.output p c.requires.known c.in_ok-put_findings.ensures.said
     c.in_ok-put_findings.ensures.noted c.in_ok-put_findings.ensures.firsts added c.in_ok-lines.ensures.noted c.warned_status.ensures refl
     (known_print c.texts_without_circles_are_orderly.ensures look _ _ c.args.known c.new-output.result c.put_findings.new.output p

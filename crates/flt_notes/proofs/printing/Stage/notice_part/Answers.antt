@@ -16,7 +16,7 @@ pub returns-clause-print : goal.returns-clause-print
 returns-clause-print c =
     prints_notice (look_of c.args.self.now) c.args.self.now.trees.now c.args.source c.is_alone-is_alone.result
     c.args.notice.now c.as_slice.result.now
-    c.lines.new.self.bytes.items _ c.is_alone-is_alone.ensures (rw c.as_slice.ensures.value c.in_ok-said.ensures)
+    c.lines.new.self.bytes.items _ c.is_alone-is_alone.ensures (rw c.as_slice.ensures.value (rw c.name.ensures at c.in_ok-said.ensures))
     (c.in_ok-lines.ensures.bytes ∙ ap (λ z. z ++ quieted c.as_slice.result.now) c.new-output.ensures.bytes)
     (c.in_ok-lines-2.ensures.bytes
     ∙ ap (λ z. c.lines.new.self.bytes.items ++ quieted z) (c.as_bytes.ensures.value ∙ c.in_ok-closing.ensures))

@@ -1,21 +1,20 @@
 use Rattle.std.proofs.Common.{Err, rules, ◌≡◌, ◌-◌, arith, length, take, refl, sym, subst, ap, ◌∙◌}
-use Rattle.flt_notes.specs.Printing.{ArePrinted, look_of}
+use Rattle.flt_notes.specs.Printing.{ArePrinted, IsMore, look_of}
 use Rattle.flt_notes.specs.Readings.{sources_read}
 use Rattle.flt_notes.specs.Reported.{IsCut}
 use Rattle.flt_notes.specs.declared.fault.ExplainFault.TheVariants.{OutOfMemory}
 use Rattle.flt_notes.proofs.Several.{appends_none, cut_here, printed_empty, printed_more, printed_none, rest_out, whole_printed, whole_sent}
-use Rattle.flt_notes.proofs.Studied.{here, one_taken, placed_here, studied_at, studied_here, studied_taken}
+use Rattle.flt_notes.proofs.Studied.{last_studied, one_taken, placed_here, studied_here}
 use Rattle.flt_notes.proofs.printing.Stage.put_each.Goals as goal
 
 pub put_part-requires-clause-text : goal.put_part-requires-clause-text
 put_part-requires-clause-text g c =
-    studied_at c.args.self.now.trees.now 0 (take (length c.args.each.now - 1) c.args.each.now) c.loop-studied.studied-index _
-    (studied_taken _ 0 c.args.each.now _ c.requires.texts) c.loop-studied-test.true
+    studied_here c.args.self.now.trees.now c.args.each.now (length c.args.each.now - 1) c.loop-studied.studied-index c.studied-item.result
+    c.requires.texts c.loop-studied-test.true c.studied-item.is
 
 pub add_part-requires : goal.add_part-requires
 add_part-requires g c = record {
-  text = studied_at c.args.self.now.trees.now 0 c.args.each.now (length c.args.each.now - 1) _ c.requires.texts
-      (omega (arith, c.in-len1-up.len_at_least));
+  text = last_studied c.args.self.now.trees.now c.args.each.now c.last-item.result c.requires.texts c.in-len1-up.len_at_least c.last-item.is;
 }
 
 pub returns-in_default-clause-printed : goal.returns-in_default-clause-printed
@@ -26,16 +25,20 @@ returns-in_default-clause-printed g c =
 pub returns-clause-printed : goal.returns-clause-printed
 returns-clause-printed g c =
     whole_printed (look_of c.args.self.now) c.args.self.now.trees.now c.args.self.now.files.now c.args.each.now
-        c.loop-studied.studied-index _ c.loop-studied.printed
+        c.loop-studied.studied-index c.last-item.result c.loop-studied.printed
     c.add_part.new.printed c.in-len1-up.len_at_least c.requires.texts c.loop-studied-test.false c.loop-studied.invariant.printed
-    c.in_ok-add_part.ensures.added
+    (subst (λ s. IsMore (look_of c.args.self.now) c.args.self.now.trees.now c.args.self.now.files.now s c.loop-studied.printed
+    c.add_part.new.printed) c.last-item.is c.in_ok-add_part.ensures.added)
 
 pub returns-clause-sent : goal.returns-clause-sent
 returns-clause-sent g c =
-    whole_sent (look_of c.args.self.now) c.args.self.now.trees.now c.args.self.now.files.now c.args.each.now c.loop-studied.studied-index _
-        c.loop-studied.printed
+    whole_sent (look_of c.args.self.now) c.args.self.now.trees.now c.args.self.now.files.now c.args.each.now
+        c.loop-studied.studied-index c.last-item.result c.loop-studied.printed
     c.add_part.new.printed c.args.is_held _ _ c.in-len1-up.len_at_least c.requires.parsed c.loop-studied-test.false
-    c.loop-studied.invariant.printed c.in_ok-add_part.ensures.added c.in_ok-add_part.ensures.sent c.loop-studied.invariant.holds
+    c.loop-studied.invariant.printed
+    (subst (λ s. IsMore (look_of c.args.self.now) c.args.self.now.trees.now c.args.self.now.files.now s c.loop-studied.printed
+    c.add_part.new.printed) c.last-item.is c.in_ok-add_part.ensures.added)
+    c.in_ok-add_part.ensures.sent c.loop-studied.invariant.holds
     (λ h. ap g.O.Sink.taken (c.loop-studied.invariant.held h)) c.loop-studied.invariant.out
 
 pub loop-studied-init : goal.loop-studied-init
@@ -57,16 +60,18 @@ loop-studied-preserved g c =
     let before = take n c.args.each.now in
     let i = c.loop-studied.studied-index in
     let h = c.loop-studied-test.true in
+    let s = c.studied-item.result in
+    let is = c.studied-item.is in
     let old = c.loop-studied.printed in
     let new = c.put_part.new.printed in
     record {
-      printed = subst (λ e. ArePrinted look trees files e new) (sym (one_taken before i _ h (here before i _ h)))
-          (printed_more look trees files (take i before) _ old new c.loop-studied.invariant.printed
-          (studied_here trees c.args.each.now n i _ c.requires.texts h (here before i _ h))
-          (placed_here trees c.args.each.now n i _ c.requires.texts h (here before i _ h)) c.in_ok-put_part.ensures.added);
+      printed = subst (λ e. ArePrinted look trees files e new) (sym (one_taken before i s h is))
+          (printed_more look trees files (take i before) s old new c.loop-studied.invariant.printed
+          (studied_here trees c.args.each.now n i s c.requires.texts h is) (placed_here trees c.args.each.now n i s c.requires.texts h is)
+          c.in_ok-put_part.ensures.added);
       holds = c.in_ok-put_part.ensures.sent;
       held = λ e. c.put_part.ensures.held e ∙ c.loop-studied.invariant.held e;
-      out = λ e. rest_out look trees files _ old new _ _ _ c.in_ok-put_part.ensures.added (c.loop-studied.invariant.holds.all e)
+      out = λ e. rest_out look trees files s old new _ _ _ c.in_ok-put_part.ensures.added (c.loop-studied.invariant.holds.all e)
           (c.loop-studied.invariant.out e) (c.in_ok-put_part.ensures.out e);
       fine = c.in_ok-put_part.ensures.fine ∙ c.loop-studied.invariant.fine;
     }

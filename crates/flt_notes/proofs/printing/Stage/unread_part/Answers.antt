@@ -12,7 +12,7 @@ returns-clause-report c =
     let p : Part = record { output = c.lines-2.new.self; tally = record { status = 2; findings = 1 } } in
     report_fault _ _ c.args.source c.args.fault c.lines.new.self.bytes.items p c.requires.unread refl refl
     (c.in_ok-lines-2.ensures.bytes
-    ∙ ap (λ z. c.lines.new.self.bytes.items ++ quieted z) (c.as_bytes.ensures.value ∙ c.in_ok-fault_line.ensures))
+    ∙ ap (λ z. c.lines.new.self.bytes.items ++ quieted z) (c.as_bytes.ensures.value ∙ c.in_ok-line.ensures))
 
 pub returns-clause-print : goal.returns-clause-print
 returns-clause-print c =
@@ -21,7 +21,7 @@ returns-clause-print c =
     (rw c.as_slice.ensures.value c.in_ok-report_unread.ensures)
     (c.in_ok-lines.ensures.bytes ∙ ap (λ z. z ++ quieted c.as_slice.result.now) c.new-output.ensures.bytes)
     (c.in_ok-lines-2.ensures.bytes
-    ∙ ap (λ z. c.lines.new.self.bytes.items ++ quieted z) (c.as_bytes.ensures.value ∙ c.in_ok-fault_line.ensures))
+    ∙ ap (λ z. c.lines.new.self.bytes.items ++ quieted z) (c.as_bytes.ensures.value ∙ c.in_ok-line.ensures))
     refl refl
 
 pub returns-clause-silent : goal.returns-clause-silent
