@@ -11,6 +11,15 @@ use Rattle.flt_forms.specs.Members.{Added, Adds, line_of}
 pub none_added : (a : Written) → Added a a []
 none_added a = record { before = refl; tokens = sym (append-nil a.tokens) }
 
+module _ {a b : Written} {xs ys : List Token} where
+  -- the same tokens
+  pub same_added : Added a b xs → xs ≡ ys → Added a b ys
+  same_added added same = record { before = added.before; tokens = added.tokens ∙ ap (λ ts. a.tokens ++ ts) same }
+
+  pub same_adds : {E : Type 0} {r : Result (Unit {0}) E} → Adds r a b xs → xs ≡ ys → Adds r a b ys
+  same_adds {r = Ok u} adds same = record { ok = same_added adds.ok same }
+  same_adds {r = Err e} adds same = record { ok = tt }
+
 module _ {a b c : Written} {xs ys : List Token} where
   -- what stands behind what stands behind
   pub both : Added a b xs → Added b c ys → Added a c (xs ++ ys)

@@ -1,5 +1,5 @@
 -- Results of SARIF 2.1.0 (OASIS): where C files and their annotations differ.
-use Rattle.std.specs.Prelude.{ℕ, List, [], ◌∷◌, ◌++◌, Option, Some, None, codes, flat_map, if◌then◌else◌, option_map}
+use Rattle.std.specs.Prelude.{ℕ, List, [], ◌∷◌, ◌++◌, Some, codes, flat_map, if◌then◌else◌, option_map}
 use Rattle.std.specs.Borrow.{Bor}
 use Rattle.flt_columns.specs.Columns.{column_of}
 use Rattle.flt_drift.specs.declared.drift.Drift.{Drift}

@@ -302,13 +302,13 @@ fn put_document(
 ///
 /// `AllocError` if a growth is refused.
 #[tactic(auto, unfolding(crate::specs::Sarif::IsSarif))]
-pub fn sarif(
+pub fn sarif<'s>(
     alloc: Global,
     options: WarningOptions,
-    sources: &[Source<'_>],
+    sources: &[Source<'s>],
     unread: &[UnreadFile],
     runs: &[FindingRun],
-    drifted: &[DriftedFile<'_>],
+    drifted: &[DriftedFile<'s>],
 ) -> Result<Explained, AllocError>
     ensures { IfOk result (λ e. spec.IsSarif options sources.now unread.now runs.now drifted.now e.output.items e.status) }
 {

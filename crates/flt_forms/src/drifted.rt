@@ -179,7 +179,8 @@ fn is_drifted(drifted: &[DriftedFile<'_>]) -> bool
         .any(|file| has_difference(file.drifts.as_slice()))
 }
 
-/// The exit status that results from the drifts of C files: 1 if warnings count and code and annotations differ in one of the files; else 0.
+/// The exit status that results from the drifts of C files: 1 if warnings count and code and annotations differ in one of the files; else
+/// 0.
 pub fn drift_status(is_strict: bool, drifted: &[DriftedFile<'_>]) -> u8
     ensures { result ≡ spec.drift_status is_strict drifted.now }
 {

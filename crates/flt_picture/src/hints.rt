@@ -97,7 +97,8 @@ impl<'a> Sources<'a> {
             if !hint.is_empty() {
                 hint.push_str("\n")?;
             }
-            self.timeline.put_text_line(&mut hint, named.filter, named.line)?;
+            self.timeline
+                .put_text_line(&mut hint, named.filter, named.line)?;
             put_line(&mut hint, self.line(*named))?;
         }
         if are_more {

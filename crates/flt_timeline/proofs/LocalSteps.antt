@@ -36,8 +36,10 @@ module _ (p : List Filter) (a : ℕ) (grant : Bool) (filter end : ℕ) where
       elim (local [] [] w a)
       as (λ x. is_some (option_and_then (λ s. unseen more s.world a) x) ≡ true →
       option_and_then (λ s. unseen (suc more) s.world a) x ≡ None →
-      unless_seen p a grant filter end made (go_from p a grant filter end (made + 1) steps) x ≡ Stays (IsSeen t))
-      [ None ↦ (λ g h. absurd (cc)) | Some s ↦ (λ g h. seen_early steps (made + 1) more t s.world (omega (arith, less)) g h (omega (arith, at))) ]
+      unless_seen p a grant filter end made (go_from p a grant filter end (made + 1) steps) x ≡ Stays (IsSeen t)) [
+        | None ↦ (λ g h. absurd (cc))
+        | Some s ↦ (λ g h. seen_early steps (made + 1) more t s.world (omega (arith, less)) g h (omega (arith, at)))
+      ]
       some none
 
   -- one before the last isn't

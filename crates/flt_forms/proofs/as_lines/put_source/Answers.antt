@@ -22,5 +22,8 @@ returns c =
       lines = first.1;
       all = refl;
     } in
-    let joined = append_assoc (c.args.out.items ++ first.0) shown clean ∙ append_assoc c.args.out.items first.0 (shown ++ clean) in
-    (first.0 ++ (shown ++ clean), is, rw (c.in_ok-output.ensures, c.name.ensures, c.as_slice-2.ensures, c.in_ok-shown.ensures, c.as_slice.ensures, first.2) joined)
+    let joined = append_assoc (c.args.out.items ++ first.0) shown clean ∙ append_assoc c.args.out.items first.0 (shown ++ clean) in (
+      first.0 ++ (shown ++ clean),
+      is,
+      rw (c.in_ok-output.ensures, c.name.ensures, c.as_slice-2.ensures, c.in_ok-shown.ensures, c.as_slice.ensures, first.2) joined,
+    )

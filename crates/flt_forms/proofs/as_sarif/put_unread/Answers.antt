@@ -16,7 +16,8 @@ returns c =
     let help : c.in_ok-help.help.items ≡ help_of files trouble =
     c.in_ok-help.ensures ∙ ap help_in (c.in_ok-told.ensures.notes ∙ ap (notes_of trouble) line) in
     let is : IsFaultResult c.args.file.now c.args.source
-    (fault_result c.args.file.now trouble.spot.fault trouble.spot.bytes.now c.in_ok-told.told.title.items c.in_ok-help.help.items) = record {
+    (fault_result c.args.file.now trouble.spot.fault trouble.spot.bytes.now c.in_ok-told.told.title.items
+    c.in_ok-help.help.items) = record {
       trouble = trouble;
       described = described;
       result = λ i. fault_result c.args.file.now trouble.spot.fault trouble.spot.bytes.now (c.in_ok-told.ensures.title i) (help i);

@@ -1,6 +1,6 @@
 use Rattle.std.proofs.Common.{◌∙◌, ap, map, sym}
 use Rattle.std.specs.Borrow.{Bor}
-use Rattle.std.specs.Prelude.{ℕ, List, flat_map}
+use Rattle.std.specs.Prelude.{ℕ, List, [], flat_map}
 use Rattle.flt_forms.proofs.Names.{names_append}
 use Rattle.flt_forms.specs.Files.{own_names, with_names}
 use Rattle.flt_forms.specs.declared.drifted.DriftedFile.{DriftedFile}
@@ -13,4 +13,4 @@ returns c =
     c.in_ok-add_drifted.ensures
     ∙ ap (λ (so : List (Bor (List ℕ))). with_names so names)
     (c.in_ok-add_texts.ensures ∙ ap (λ (so : List (Bor (List ℕ))). with_names so texts) c.new-names.ensures.items)
-    ∙ sym (names_append c.new-names.result.items texts names)
+    ∙ sym (names_append [] texts names)

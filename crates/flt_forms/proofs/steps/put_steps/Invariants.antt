@@ -5,4 +5,6 @@ use Rattle.flt_forms.specs.Steps.{step}
 use Rattle.flt_forms.proofs.steps.put_steps.Given as goal
 
 abbrev pub invariant-loop-stage : goal.invariant-loop-stage
-invariant-loop-stage l = Added l.initial.writer l.writer (flat_map (step l.points.files l.points.home (regions l.points)) (take l.stage-index l.stages))
+invariant-loop-stage l =
+    Added l.initial.writer l.writer
+    (flat_map (step l.points.files l.points.home (regions l.points)) (take l.stage-index l.stages))

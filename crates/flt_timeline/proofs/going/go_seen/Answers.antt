@@ -7,14 +7,16 @@ use Rattle.flt_timeline.proofs.going.go_seen.Goals as goal
 
 pub returns-then-not-branch : goal.returns-then-not-branch
 returns-then-not-branch c =
-    not_made c.args.stage.now.stack.now c.args.activation c.args.grant c.args.filter c.args.end c.args.world.now _ _ _ _ c.in_ok-next.ensures.same
+    not_made c.args.stage.now.stack.now c.args.activation c.args.grant c.args.filter c.args.end c.args.world.now _ _ _ _
+    c.in_ok-next.ensures.same
     (c.in_ok-step_seen.ensures []) c.if-not-branch.true
     (c.of_step-why.ensures _ _ (activation_at c.args.world.now c.args.activation).rest (later c.args.world.now c.args.activation)
     c.in_ok-next.ensures.first)
 
 pub returns : goal.returns
 returns c =
-    was_made c.args.stage.now.stack.now c.args.activation c.args.grant c.args.filter c.args.end c.args.world.now _ _ _ _ _ _ c.in_ok-next.ensures.same
+    was_made c.args.stage.now.stack.now c.args.activation c.args.grant c.args.filter c.args.end c.args.world.now _ _ _ _ _ _
+    c.in_ok-next.ensures.same
     (c.in_ok-step_seen.ensures []) c.if-not-branch.false
     (c.next_line-line.ensures (activation_at c.args.world.now c.args.activation).rest (later c.args.world.now c.args.activation)
     c.in_ok-next.ensures.first)
