@@ -31,7 +31,7 @@ fn plain_in_code(front: Front) -> Plain
     }
 }
 
-/// The bytes that are plain in what is being read.
+/// The bytes that are plain in a mode, before the code of a line or after it.
 pub(crate) fn plain_in(mode: Mode, front: Front) -> Plain
     ensures { result ≡ spec.plain_in mode front }
 {

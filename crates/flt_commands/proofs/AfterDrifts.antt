@@ -44,6 +44,11 @@ pub memory_only : {O : Type 0} (failures : O → ℕ) (old new : O) (e : Command
 memory_only failures old new OutOfMemory failed held = refl
 memory_only failures old new Write failed held = absurd (failed refl (ap failures held))
 
+-- where memory runs out it is so, since it is so anyway
+pub cut_always : {X : Type 0} (result : Result Told CommandFault) → X → IfErr result (λ e. e ≡ OutOfMemory → X)
+cut_always (Ok t) is = tt
+cut_always (Err e) is = λ short. is
+
 -- nothing went out
 pub nothing_after : (drifts : Text) (form : Form) (options : WarningOptions) (states : ℕ) (sources : List Source) (old : Option Text) →
     IsCutAfter drifts form options states sources old old

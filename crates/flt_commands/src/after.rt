@@ -13,14 +13,25 @@ use flt_model::{Sink, put_all};
 use flt_notes::{SearchWatch, Told};
 use flt_words::Form;
 use std::alloc::{AllocError, Global};
-use std::cmp::{max, min};
+use std::cmp::max;
 
-/// The output for texts after drifts that are worth this status, when so many bytes of all of it are written already.
+/// The output for texts after drifts that are worth this status, when so many bytes of all of it are written already. Without drifts no
+/// memory is requested: all may be written by then.
 fn told_after(first: Vec<u8>, worth: u8, sent: usize, own: Told) -> Result<Told, AllocError>
     ensures after { IfOk result (spec.IsAfter first.items worth own) }
     ensures sent { IfOk result (λ e. e.sent ≡ sent) }
 {
     let status = max(own.explained.status, worth);
+    if first.is_empty() {
+        return Ok(Told {
+            explained: Explained {
+                output: own.explained.output,
+                status,
+            },
+            noted: own.noted,
+            sent,
+        });
+    }
     let mut output = first;
     output.extend_from_slice(own.explained.output.as_slice())?;
     Ok(Told {
@@ -106,7 +117,7 @@ fn explain_early<O: Sink, W: SearchWatch>(
     put_all(out, first.as_slice())?;
     let before = first.len();
     let own = told(alloc, asked, drifted, sources, unread, out, watch)?;
-    let sent = before + min(own.sent, own.explained.output.len());
+    let sent = before + own.sent.min(own.explained.output.len());
     let told = told_after(first, worth, sent, own)?;
     Ok(told)
 }
