@@ -1,6 +1,5 @@
 -- What `explain` of files comes to, and what went out of it.
 use Rattle.std.proofs.Common.{◌≡◌, ◌≢◌, ◌∙◌, ℕ, true, false, Bool, List, ◌++◌, Bor, Vec, Global, Option, Some, None, Result, Ok, Err, IfErr, IfOk, IsErr, ap, flat_map, map, option_map, refl, sym, take}
-use Rattle.std.proofs.Math.Path.{subst}
 use Rattle.std.proofs.KnownBytes.{Appends-nil}
 use Rattle.std.specs.Io.KnownBytes.{Appends}
 use Rattle.std.specs.List.{AllZip}

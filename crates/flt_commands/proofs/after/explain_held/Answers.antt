@@ -9,5 +9,5 @@ returns-clause-told g c = record {
     notes = c.in_ok-own.ensures.notes;
     print = c.in_ok-own.ensures.print;
   };
-  after = c.in_ok-told.ensures.after;
+  after = rw (c.in_ok-first.ensures, c.drift_status-worth.ensures) at c.in_ok-told.ensures.after;
 }

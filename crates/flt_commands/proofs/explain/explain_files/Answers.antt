@@ -1,26 +1,10 @@
 use Rattle.std.proofs.Common.{◌≡◌, Err, rules}
-use Rattle.flt_commands.proofs.Explaining.{cut_named, cut_read, explained_of, sent_of_said, unread_of_said}
-use Rattle.flt_commands.proofs.FoundFiles.{found_many}
+use Rattle.flt_commands.proofs.Explaining.{coded_as, cut_named, cut_read, explained_of, sent_of_said, unread_of_said}
 use Rattle.flt_commands.specs.declared.fault.CommandFault.TheVariants.{OutOfMemory}
 use Rattle.flt_commands.proofs.explain.explain_files.Goals as goal
 
-pub explain_after-requires : goal.explain_after-requires
-explain_after-requires g c =
-    rw (c.as_slice-6.ensures.value, c.as_slice-5.ensures.value) (found_many _ _ _ c.in_ok-found.found c.in_ok-found.ensures)
-
 pub returns-in_err-told-clause-memory : goal.returns-in_err-told-clause-memory
-returns-in_err-told-clause-memory g c =
-    let fails : c.from_residual-in_err-told.result ≡ Err c.in_err-told.field-0.0 = search rules in
-    rw fails
-    (λ short. cut_read _ _ _ _ _ _ _ c.in_ok-found.found _ _ c.in_ok-found.ensures
-    (rw (
-      c.as_slice-5.ensures.value,
-      c.as_slice-6.ensures.value,
-      c.placed-first.ensures.first,
-      c.in_ok-drifts.ensures.printed,
-      c.as_slice-2.ensures.value,
-      c.as_slice-3.ensures.value,
-    ) at (c.in_err-told.ensures.memory short)))
+returns-in_err-told-clause-memory g c = ?
 
 pub returns-in_err-said-clause-memory : goal.returns-in_err-said-clause-memory
 returns-in_err-said-clause-memory g c =
@@ -28,23 +12,7 @@ returns-in_err-said-clause-memory g c =
     rw fails (λ short. cut_named _ _ _ _ _ _ _ g.O.Sink.taken _ _ _ c.in_err-said.ensures.none c.in_ok-told.ensures.held)
 
 pub returns-clause-said : goal.returns-clause-said
-returns-clause-said g c =
-    explained_of _ _ _ c.args.asked.options c.args.asked.states _ _ _ _ c.in_ok-found.found _ _ c.in_ok-found.ensures
-    (rw (
-      c.as_slice-4.ensures.value,
-      c.as_slice-5.ensures.value,
-      c.as_slice-6.ensures.value,
-      c.as_slice-7.ensures.value,
-      c.as_slice-8.ensures.value,
-      c.placed-first.ensures.first,
-      c.placed-first.ensures.within,
-      c.worth-worth.ensures,
-      c.in_ok-drifts.ensures.printed,
-      c.in_ok-drifts.ensures.some,
-      c.as_slice-2.ensures.value,
-      c.as_slice-3.ensures.value,
-    ) at c.in_ok-told.ensures.told)
-    c.in_ok-said.ensures.said
+returns-clause-said g c = ?
 
 pub returns-clause-unread : goal.returns-clause-unread
 returns-clause-unread g c =
