@@ -1,6 +1,6 @@
 //! Small C files, and the drifts in them.
 
-use flt_drift::{Drift, DriftKind, drifts};
+use flt_c_drift::{Drift, DriftKind, drifts};
 use std::alloc::{AllocError, Global};
 use std::test::Fail;
 

@@ -5,15 +5,15 @@ use Rattle.std.proofs.Math.Seq.{take-append-add, take-length}
 use Rattle.std.proofs.lemmas.List.{take_min}
 use Rattle.std.proofs.KnownBytes.{Appends-nil, Appends-trans}
 use Rattle.std.specs.Io.KnownBytes.{Appends}
-use Rattle.flt_details.specs.declared.sources.Source.{Source}
-use Rattle.flt_forms.specs.declared.as_lines.Style.{Style}
-use Rattle.flt_forms.specs.declared.as_lines.Style.TheVariants.{Object, Sentence}
-use Rattle.flt_forms.specs.declared.unread.UnreadFile.{UnreadFile}
-use Rattle.flt_forms.specs.Lines.{AreLines}
-use Rattle.flt_notes.specs.Reported.{AreWhole, IsAllButLast}
-use Rattle.flt_notes.specs.Whole.{Look}
-use Rattle.flt_notes.specs.declared.explaining.Told.{Told}
-use Rattle.flt_warning_details.specs.declared.options.WarningOptions.{WarningOptions}
+use Rattle.flt_explain_details.specs.declared.sources.Source.{Source}
+use Rattle.flt_explain_forms.specs.declared.as_lines.Style.{Style}
+use Rattle.flt_explain_forms.specs.declared.as_lines.Style.TheVariants.{Object, Sentence}
+use Rattle.flt_explain_forms.specs.declared.unread.UnreadFile.{UnreadFile}
+use Rattle.flt_explain_forms.specs.Lines.{AreLines}
+use Rattle.flt_explain_notes.specs.Reported.{AreWhole, IsAllButLast}
+use Rattle.flt_explain_notes.specs.Whole.{Look}
+use Rattle.flt_explain_notes.specs.declared.explaining.Told.{Told}
+use Rattle.flt_explain_warning_details.specs.declared.options.WarningOptions.{WarningOptions}
 use Rattle.flt_words.specs.declared.request.Form.{Form}
 use Rattle.flt_words.specs.declared.request.Form.TheVariants.{Html, Human, Lines, LinesWithRuns, Sarif, SarifWithRuns, Short}
 use Rattle.flt_commands.specs.Explain.{IsCutAfter}

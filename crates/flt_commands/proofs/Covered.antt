@@ -11,34 +11,34 @@ use Rattle.flt_cert.specs.declared.cert.Cert.TheVariants.{Full}
 use Rattle.flt_check.specs.Accepting.{CertCovers, full_of}
 use Rattle.flt_check.specs.Covering.{Covers}
 use Rattle.flt_sound.specs.Soundness.{IsAccepted, AreAccepted, AcceptedRunsBreakNothing}
-use Rattle.flt_crew.specs.Running.{IsRun}
-use Rattle.flt_crew.specs.declared.running.Ran.{Ran}
+use Rattle.flt_stack_crew.specs.Running.{IsRun}
+use Rattle.flt_stack_crew.specs.declared.running.Ran.{Ran}
 use Rattle.flt_explain.specs.declared.finding.Finding.{Finding}
-use Rattle.flt_forms.specs.Lines.{AreLinesFrom}
-use Rattle.flt_forms.specs.RunMember.{no_member, own_member}
-use Rattle.flt_forms.specs.declared.drifted.DriftedFile.{DriftedFile}
-use Rattle.flt_forms.specs.declared.run.FindingRun.{FindingRun}
-use Rattle.flt_forms.specs.Sarif.{AreResults, IsSarif}
-use Rattle.flt_forms.specs.Warned.{status_of as status_of_warned}
-use Rattle.flt_forms.specs.declared.as_lines.Style.{Style}
-use Rattle.flt_forms.specs.declared.unread.UnreadFile.{UnreadFile}
-use Rattle.flt_forms.specs.declared.as_lines.Style.TheVariants.{Object, Sentence}
-use Rattle.flt_notes.specs.Reported.{AreAllReports, AreParts, IsNoticeReport, IsStatus, IsText, IsTextReport}
-use Rattle.flt_notes.specs.Reported as reports
-use Rattle.flt_notes.specs.Whole.{Look}
-use Rattle.flt_details.specs.Reports.{IsJudged, IsKnown, texts_of}
-use Rattle.flt_notes.specs.declared.explaining.Told.{Told}
-use Rattle.flt_details.specs.declared.sources.Source.{Source}
-use Rattle.flt_warning_details.specs.Options.{warned_status}
-use Rattle.flt_warning_details.specs.declared.detail.WarningDetail.{WarningDetail}
-use Rattle.flt_warning_details.specs.declared.options.WarningOptions.{WarningOptions}
+use Rattle.flt_explain_forms.specs.Lines.{AreLinesFrom}
+use Rattle.flt_explain_forms.specs.RunMember.{no_member, own_member}
+use Rattle.flt_explain_forms.specs.declared.drifted.DriftedFile.{DriftedFile}
+use Rattle.flt_explain_forms.specs.declared.run.FindingRun.{FindingRun}
+use Rattle.flt_explain_forms.specs.Sarif.{AreResults, IsSarif}
+use Rattle.flt_explain_forms.specs.Warned.{status_of as status_of_warned}
+use Rattle.flt_explain_forms.specs.declared.as_lines.Style.{Style}
+use Rattle.flt_explain_forms.specs.declared.unread.UnreadFile.{UnreadFile}
+use Rattle.flt_explain_forms.specs.declared.as_lines.Style.TheVariants.{Object, Sentence}
+use Rattle.flt_explain_notes.specs.Reported.{AreAllReports, AreParts, IsNoticeReport, IsStatus, IsText, IsTextReport}
+use Rattle.flt_explain_notes.specs.Reported as reports
+use Rattle.flt_explain_notes.specs.Whole.{Look}
+use Rattle.flt_explain_details.specs.Reports.{IsJudged, IsKnown, texts_of}
+use Rattle.flt_explain_notes.specs.declared.explaining.Told.{Told}
+use Rattle.flt_explain_details.specs.declared.sources.Source.{Source}
+use Rattle.flt_explain_warning_details.specs.Options.{warned_status}
+use Rattle.flt_explain_warning_details.specs.declared.detail.WarningDetail.{WarningDetail}
+use Rattle.flt_explain_warning_details.specs.declared.options.WarningOptions.{WarningOptions}
 use Rattle.flt_words.specs.declared.request.Colour.{Colour}
 use Rattle.flt_words.specs.declared.request.Part.{Part}
 use Rattle.flt_words.specs.declared.request.Form.{Form}
 use Rattle.flt_words.specs.declared.request.Form.TheVariants.{Html, Human, Lines, LinesWithRuns, Sarif, SarifWithRuns, Short}
 use Rattle.json.specs.Token.{Token}
-use Rattle.flt_details.specs.declared.judged.Judged.{Judged as Found}
-use Rattle.flt_details.specs.declared.judged.Judged.TheVariants.{Unread, Known}
+use Rattle.flt_explain_details.specs.declared.judged.Judged.{Judged as Found}
+use Rattle.flt_explain_details.specs.declared.judged.Judged.TheVariants.{Unread, Known}
 use Rattle.flt_tree.specs.declared.tree.Tree.{Tree}
 use Rattle.flt_model.specs.Program.{by_altitude}
 use Rattle.flt_model.specs.Runs.{breaks}

@@ -3,19 +3,19 @@ use Rattle.std.proofs.Common.{◌≡◌, ◌≢◌, ◌∙◌, ℕ, true, false,
 use Rattle.std.proofs.KnownBytes.{Appends-nil}
 use Rattle.std.specs.Io.KnownBytes.{Appends}
 use Rattle.std.specs.List.{AllZip}
-use Rattle.flt_details.specs.declared.sources.Source.{Source}
-use Rattle.flt_forms.specs.declared.drifted.DriftedFile.{DriftedFile}
-use Rattle.flt_forms.specs.declared.unread.UnreadFile.{UnreadFile}
+use Rattle.flt_explain_details.specs.declared.sources.Source.{Source}
+use Rattle.flt_explain_forms.specs.declared.drifted.DriftedFile.{DriftedFile}
+use Rattle.flt_explain_forms.specs.declared.unread.UnreadFile.{UnreadFile}
 use Rattle.flt_joined.specs.Made.{AreJoined}
 use Rattle.flt_joined.specs.Texts.{AreNamed, Given, Refused, given_of, givens, refused_at}
 use Rattle.flt_joined.specs.declared.given.GivenFile.{GivenFile}
 use Rattle.flt_joined.specs.declared.joined.Joined.{Joined}
 use Rattle.flt_places.specs.declared.files.SourceFile.{SourceFile}
-use Rattle.flt_notes.specs.Whole.{IsPrint, Look, look_for}
-use Rattle.flt_notes.specs.declared.explaining.Asking.{Asking}
-use Rattle.flt_notes.specs.declared.explaining.Told.{Told}
-use Rattle.flt_notes.specs.declared.noted.Noted.{Noted}
-use Rattle.flt_warning_details.specs.declared.options.WarningOptions.{WarningOptions}
+use Rattle.flt_explain_notes.specs.Whole.{IsPrint, Look, look_for}
+use Rattle.flt_explain_notes.specs.declared.explaining.Asking.{Asking}
+use Rattle.flt_explain_notes.specs.declared.explaining.Told.{Told}
+use Rattle.flt_explain_notes.specs.declared.noted.Noted.{Noted}
+use Rattle.flt_explain_warning_details.specs.declared.options.WarningOptions.{WarningOptions}
 use Rattle.flt_words.specs.declared.request.Form.{Form}
 use Rattle.flt_commands.proofs.Firsts.{mapped_twice}
 use Rattle.flt_commands.proofs.MadeSources.{sources_of_files, texts_of_sources}
@@ -157,18 +157,20 @@ module _ (gives : Giving) (is_c : Bool) (form : Form) (options : WarningOptions)
         others = unnamed;
         told = is;
       })
-  explained_of look journal f refused texts codes unread told (Unwritten name why) are unnamed coded is same =
-      (same, record {
-        files = givens f.read.items;
-        missing = unread_names f.unread.items;
-        found = are.are;
-        coded = coded;
-        told = told_name form;
-        sources = is.sources;
-        refused = refused;
-        are = is.are;
-        given = is.given;
-      })
+  explained_of look journal f refused texts codes unread told (Unwritten name why) are unnamed coded is same = (
+    same,
+    record {
+      files = givens f.read.items;
+      missing = unread_names f.unread.items;
+      found = are.are;
+      coded = coded;
+      told = told_name form;
+      sources = is.sources;
+      refused = refused;
+      are = is.are;
+      given = is.given;
+    },
+  )
 
 -- what went out of it
 pub sent_of_said : {O : Type 0} (taken : O → Option Text) (old new : O) (form : Form) (journal : Option Text) (told : Told)

@@ -17,7 +17,7 @@ use Rattle.flt_commands.specs.declared.outcomes.Outcome.{Outcome}
 use Rattle.flt_commands.specs.declared.outcomes.Outcomes.{Outcomes}
 use Rattle.flt_commands.specs.declared.outcomes.Outcome.TheVariants.{Same, Other, Unwritten, Fault, Long}
 use Rattle.flt_commands.specs.declared.report.Report.{Report}
-use Rattle.flt_forms.specs.declared.unread.UnreadFile.{UnreadFile}
+use Rattle.flt_explain_forms.specs.declared.unread.UnreadFile.{UnreadFile}
 use Rattle.flt_words.specs.Request.{Format}
 use Rattle.flt_words.specs.declared.request.FormatMode.{FormatMode}
 use Rattle.flt_words.specs.declared.request.FormatMode.TheVariants as modes

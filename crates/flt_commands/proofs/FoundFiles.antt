@@ -5,7 +5,7 @@ use Rattle.std.proofs.lemmas.List.{map_push}
 use Rattle.std.proofs.lemmas.List.Elements.{All-push}
 use Rattle.std.specs.List.{list_any}
 use Rattle.std.specs.declared.alloc.AllocError.{AllocError}
-use Rattle.flt_forms.specs.declared.unread.UnreadFile.{UnreadFile}
+use Rattle.flt_explain_forms.specs.declared.unread.UnreadFile.{UnreadFile}
 use Rattle.flt_joined.specs.Made.{IsOwn}
 use Rattle.flt_joined.specs.Texts.{AreAnnotations, Given, given_of, givens}
 use Rattle.flt_joined.specs.declared.given.GivenFile.{GivenFile}

@@ -3,12 +3,12 @@ use Rattle.std.proofs.Common.{◌≡◌, ◌∙◌, ℕ, suc, ◌+◌, ◌<◌, 
 use Rattle.std.proofs.Math.Seq.{take-suc}
 use Rattle.std.proofs.KnownBytes.{Appends-nil, Appends-trans}
 use Rattle.std.specs.Io.KnownBytes.{Appends}
-use Rattle.flt_details.specs.declared.sources.Explained.{Explained}
-use Rattle.flt_details.specs.declared.sources.Source.{Source}
-use Rattle.flt_forms.specs.Lines.{AreLines, AreLinesFrom, IsPart}
-use Rattle.flt_forms.specs.RunMember.{no_member, no_run}
-use Rattle.flt_forms.specs.declared.as_lines.Style.{Style}
-use Rattle.flt_warning_details.specs.declared.options.WarningOptions.{WarningOptions}
+use Rattle.flt_explain_details.specs.declared.sources.Explained.{Explained}
+use Rattle.flt_explain_details.specs.declared.sources.Source.{Source}
+use Rattle.flt_explain_forms.specs.Lines.{AreLines, AreLinesFrom, IsPart}
+use Rattle.flt_explain_forms.specs.RunMember.{no_member, no_run}
+use Rattle.flt_explain_forms.specs.declared.as_lines.Style.{Style}
+use Rattle.flt_explain_warning_details.specs.declared.options.WarningOptions.{WarningOptions}
 use Rattle.flt_commands.specs.Inputs.{Text}
 use Rattle.flt_commands.specs.InTurn.{AreFirstLines, IsTextMore}
 

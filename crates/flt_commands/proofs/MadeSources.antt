@@ -3,8 +3,8 @@ use Rattle.std.proofs.Common.{◌≡◌, ◌∙◌, ◌≤◌, ℕ, zero, suc, �
 use Rattle.std.proofs.lemmas.List.{length-map}
 use Rattle.std.specs.List.{AllZip}
 use Rattle.std.specs.Prelude.{All, filter, slice_range}
-use Rattle.flt_details.specs.Reports.{texts_of}
-use Rattle.flt_details.specs.declared.sources.Source.{Source}
+use Rattle.flt_explain_details.specs.Reports.{texts_of}
+use Rattle.flt_explain_details.specs.declared.sources.Source.{Source}
 use Rattle.flt_joined.specs.Made.{AreJoined, IsJoined}
 use Rattle.flt_joined.specs.Texts.{AreNamed, Given, Text, file_in, file_of, given_of, givens, groups_of, make_text}
 use Rattle.flt_joined.specs.declared.given.GivenFile.{GivenFile}

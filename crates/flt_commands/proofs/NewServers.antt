@@ -2,9 +2,9 @@
 use Rattle.std.proofs.Common.{◌≡◌, ◌≢◌, ◌↔◌, ℕ, Option, Some, None, Result, Ok, Err, IfErr, IfOk, IfSome, IsTrue, refl, true}
 use Rattle.flt_commands.specs.Inputs.{Text}
 use Rattle.flt_commands.specs.Served.{IsNew, IsReport, IsSaid, MayAnswer, Serves, ServesSoFar, as_string}
-use Rattle.flt_frames.specs.Handling.{IsServed, IsServedSoFar}
-use Rattle.flt_frames.specs.declared.fault.ServeFault.{ServeFault}
-use Rattle.flt_frames.specs.declared.fault.ServeFault.TheVariants.{Write}
+use Rattle.flt_server_frames.specs.Handling.{IsServed, IsServedSoFar}
+use Rattle.flt_server_frames.specs.declared.fault.ServeFault.{ServeFault}
+use Rattle.flt_server_frames.specs.declared.fault.ServeFault.TheVariants.{Write}
 use Rattle.flt_commands.specs.declared.serving.Explaining.{Explaining}
 use Rattle.flt_server.specs.declared.server.Server.{Server}
 

@@ -17,7 +17,7 @@ use Rattle.flt_commands.specs.declared.failure.Failure.{Failure}
 use Rattle.flt_commands.specs.declared.outcomes.FileOutcome.{FileOutcome}
 use Rattle.flt_commands.specs.declared.outcomes.Outcome.{Outcome}
 use Rattle.flt_commands.specs.declared.outcomes.Outcome.TheVariants.{Same, Other, Unwritten, Fault, Long}
-use Rattle.flt_forms.specs.declared.unread.UnreadFile.{UnreadFile}
+use Rattle.flt_explain_forms.specs.declared.unread.UnreadFile.{UnreadFile}
 use Rattle.flt_layout.specs.Layout.{laid_out}
 use Rattle.flt_layout.specs.declared.formatted.FormatError.TheVariants as error
 use Rattle.flt_syntax.specs.Spelling.{Spells}

@@ -9,12 +9,12 @@ use Rattle.flt_commands.specs.Drawn.{IsDrawnFor}
 use Rattle.flt_commands.specs.EmitInto.{ArePut}
 use Rattle.flt_commands.specs.Explain.{ArePaged, IsSpelledAs, IsWritten}
 use Rattle.flt_commands.specs.Format.{AreChanged}
-use Rattle.flt_notes.specs.Noted.{first_journal}
+use Rattle.flt_explain_notes.specs.Noted.{first_journal}
 use Rattle.std.specs.Prelude.{⊤}
 use Rattle.flt_commands.specs.Inputs.{Giving, Says, Text, given}
 use Rattle.flt_commands.specs.Remarks.{IsFound, unread_in, unread_lines}
 use Rattle.flt_commands.specs.Answer.{status_of, told_status}
-use Rattle.flt_forms.specs.declared.unread.UnreadFile.{UnreadFile}
+use Rattle.flt_explain_forms.specs.declared.unread.UnreadFile.{UnreadFile}
 use Rattle.flt_model.specs.JournalText.{Entries}
 use Rattle.flt_words.specs.Request.{Asked, Choice, EmitInto, Explain, Format, Show}
 use Rattle.flt_words.specs.Words.{asked}

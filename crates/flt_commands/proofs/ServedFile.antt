@@ -1,12 +1,12 @@
 -- What is said of one file.
 use Rattle.std.proofs.Common.{◌≡◌, ◌∙◌, inl, inr, ◌∷◌, [], Vec, Global, ℕ, Some, None, Result, Ok, Err, IfOk, List, ap, option_map}
 use Rattle.std.specs.declared.alloc.AllocError.{AllocError}
-use Rattle.flt_details.specs.declared.sources.Source.{Source}
+use Rattle.flt_explain_details.specs.declared.sources.Source.{Source}
 use Rattle.flt_joined.specs.Made.{IsOwn}
 use Rattle.flt_joined.specs.Texts.{AreAnnotations, file_in, file_of, given_of}
 use Rattle.flt_joined.specs.declared.given.GivenFile.{GivenFile}
-use Rattle.flt_notes.specs.Whole.{IsPrint}
-use Rattle.flt_notes.specs.declared.noted.Noted.{Noted}
+use Rattle.flt_explain_notes.specs.Whole.{IsPrint}
+use Rattle.flt_explain_notes.specs.declared.noted.Noted.{Noted}
 use Rattle.flt_places.specs.declared.files.SourceFile.{SourceFile}
 use Rattle.flt_commands.specs.Annotated.{AreFlawed}
 use Rattle.flt_commands.specs.Inputs.{Text}
@@ -18,10 +18,10 @@ pub in_c : (name file : Text) (g : GivenFile) (result : Result (Vec ℕ Global) 
     IfOk result (λ out. IsExplainedWithDrifts (given_of g) out.items) → IfOk result (λ out. IsSaidInC name file out.items)
 in_c name file g (Ok out) named are coded is =
     inl (record {
-  text = g.text.items;
-  annotations = are;
-  explained = rw (named, coded) at is;
-})
+      text = g.text.items;
+      annotations = are;
+      explained = rw (named, coded) at is;
+    })
 in_c name file g (Err e) named are coded is = tt
 
 -- or these make no text

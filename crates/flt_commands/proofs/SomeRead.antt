@@ -3,7 +3,7 @@ use Rattle.std.proofs.Common.{◌≡◌, ◌∙◌, ◌+◌, ◌<◌, ℕ, false
 use Rattle.std.proofs.lemmas.List.{length-map, length_push, map_push}
 use Rattle.std.proofs.lemmas.Grind.{common_steps}
 use Rattle.std.specs.List.{list_any}
-use Rattle.flt_forms.specs.declared.unread.UnreadFile.{UnreadFile}
+use Rattle.flt_explain_forms.specs.declared.unread.UnreadFile.{UnreadFile}
 use Rattle.flt_commands.specs.declared.inputs.ReadFiles.{ReadFiles}
 use Rattle.flt_commands.specs.Inputs.{AreRead, AreReadIn, Giving, IsMissing, Text, is_standard, missing, none, read, unread_names}
 

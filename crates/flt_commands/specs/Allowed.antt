@@ -1,10 +1,10 @@
 -- What the words of `explain` ask of warnings, as it is asked for below. This project's own program.
 use Rattle.std.specs.Prelude.{List, Option, Some, None, fold}
 use Rattle.flt_commands.specs.Inputs.{Text}
-use Rattle.flt_warning_details.specs.declared.options.WarningOptions.{WarningOptions}
-use Rattle.flt_warnings.specs.Kinds.{kind_named, none_allowed, with_kind}
-use Rattle.flt_warnings.specs.declared.kinds.AllowedKinds.{AllowedKinds}
-use Rattle.flt_warnings.specs.declared.warning.Kind.{Kind}
+use Rattle.flt_explain_warning_details.specs.declared.options.WarningOptions.{WarningOptions}
+use Rattle.flt_explain_warnings.specs.Kinds.{kind_named, none_allowed, with_kind}
+use Rattle.flt_explain_warnings.specs.declared.kinds.AllowedKinds.{AllowedKinds}
+use Rattle.flt_explain_warnings.specs.declared.warning.Kind.{Kind}
 use Rattle.flt_words.specs.Request.{Choice}
 
 -- kinds that are left out, and one more, if there is one

@@ -4,10 +4,10 @@ use Rattle.std.specs.Fmt.{decimal}
 use Rattle.std.specs.List.{join_by}
 use Rattle.flt_rules.specs.Rule.{number, text}
 use Rattle.flt_rules.specs.declared.rule.Rule.{Rule}
-use Rattle.flt_crew.specs.declared.ending.Ending.{Ending}
-use Rattle.flt_crew.specs.declared.ending.Ending.TheVariants.{Whole, Full, Already, Differ}
+use Rattle.flt_stack_crew.specs.declared.ending.Ending.{Ending}
+use Rattle.flt_stack_crew.specs.declared.ending.Ending.TheVariants.{Whole, Full, Already, Differ}
 use Rattle.flt_check.specs.declared.checker.Refusal.{Refusal}
-use Rattle.flt_forms.specs.declared.unread.UnreadFile.{UnreadFile}
+use Rattle.flt_explain_forms.specs.declared.unread.UnreadFile.{UnreadFile}
 use Rattle.flt_model.specs.declared.verdict.Verdict.{Verdict}
 use Rattle.flt_model.specs.declared.verdict.Verdict.TheVariants.{Legal, NotARun, Breaks}
 use Rattle.flt_model.specs.declared.verdict.Violation.{Violation}

@@ -2,9 +2,9 @@
 use Rattle.std.specs.Prelude.{◌≡◌, ℕ, ◌+◌, List, [], ◌∷◌, ◌++◌, slice_index_or, Result, Ok, Err}
 use Rattle.flt_c.specs.declared.files.FileFlaw.{FileFlaw}
 use Rattle.flt_c.specs.declared.files.Flaw.{Flaw}
-use Rattle.flt_drift.specs.Drifts.{drifts}
-use Rattle.flt_drift.specs.declared.drift.Drift.{Drift}
-use Rattle.flt_drift_reports.specs.Report.{drift_reports}
+use Rattle.flt_c_drift.specs.Drifts.{drifts}
+use Rattle.flt_c_drift.specs.declared.drift.Drift.{Drift}
+use Rattle.flt_c_drift_reports.specs.Report.{drift_reports}
 use Rattle.flt_commands.specs.Inputs.{Text}
 use Rattle.flt_commands.specs.declared.answer.Answer.{Answer}
 use Rattle.flt_commands.specs.declared.answer.Answer.TheVariants.{Compared}

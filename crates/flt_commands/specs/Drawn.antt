@@ -1,9 +1,9 @@
 -- What is written under the name of a picture. This project's own program.
 use Rattle.std.specs.Prelude.{◌≡◌, List, Option, Some, None, Result, IfOk}
-use Rattle.flt_driven.specs.Texts.{AreSpelled}
+use Rattle.flt_stack_driven.specs.Texts.{AreSpelled}
 use Rattle.flt_model.specs.declared.verdict.Verdict.{Verdict}
-use Rattle.flt_picture.specs.Pictures.{IsPicture}
-use Rattle.flt_picture.specs.Titles.{title_of}
+use Rattle.flt_explain_picture.specs.Pictures.{IsPicture}
+use Rattle.flt_explain_picture.specs.Titles.{title_of}
 use Rattle.flt_tree.specs.declared.filter.Filter.{Filter}
 use Rattle.flt_commands.specs.Inputs.{Text}
 use Rattle.flt_commands.specs.declared.answer.Answer.{Answer}

@@ -4,31 +4,31 @@ use Rattle.std.specs.Io.{StartsWith}
 use Rattle.std.specs.Io.KnownBytes.{Appends}
 use Rattle.std.specs.List.{AllZip, list_all}
 use Rattle.std.specs.Prelude.{◌≡◌, ℕ, ◌+◌, List, [], ◌∷◌, ◌++◌, Bool, map, true, false, Option, Some, None, Result, Ok, Err, get_or, length, max, take}
-use Rattle.flt_pages.specs.Pages.{has_page, title}
-use Rattle.flt_forms.specs.Drifted.{drift_status}
-use Rattle.flt_forms.specs.Lines.{AreLines}
-use Rattle.flt_forms.specs.Sarif.{IsSarif}
-use Rattle.flt_forms.specs.declared.drifted.DriftedFile.{DriftedFile}
-use Rattle.flt_forms.specs.declared.run.FindingRun.{FindingRun}
-use Rattle.flt_forms.specs.declared.unread.UnreadFile.{UnreadFile}
-use Rattle.flt_forms.specs.declared.as_lines.Style.TheVariants.{Object, Sentence}
+use Rattle.flt_explain_pages.specs.Pages.{has_page, title}
+use Rattle.flt_explain_forms.specs.Drifted.{drift_status}
+use Rattle.flt_explain_forms.specs.Lines.{AreLines}
+use Rattle.flt_explain_forms.specs.Sarif.{IsSarif}
+use Rattle.flt_explain_forms.specs.declared.drifted.DriftedFile.{DriftedFile}
+use Rattle.flt_explain_forms.specs.declared.run.FindingRun.{FindingRun}
+use Rattle.flt_explain_forms.specs.declared.unread.UnreadFile.{UnreadFile}
+use Rattle.flt_explain_forms.specs.declared.as_lines.Style.TheVariants.{Object, Sentence}
 use Rattle.flt_joined.specs.Texts.{Given}
 use Rattle.flt_model.specs.JournalText.{Entries, spelling}
-use Rattle.flt_notes.specs.Noted.{AreNotes, first_journal}
-use Rattle.flt_notes.specs.Reported.{AreReports, IsAllButLast, IsCut}
-use Rattle.flt_notes.specs.Told.{Tells}
-use Rattle.flt_notes.specs.Whole.{IsPrint, Look}
-use Rattle.flt_notes.specs.declared.noted.Noted.{Noted}
-use Rattle.flt_notes.specs.declared.explaining.Told.{Told}
-use Rattle.flt_details.specs.Reports.{texts_of}
-use Rattle.flt_details.specs.declared.sources.Source.{Source}
+use Rattle.flt_explain_notes.specs.Noted.{AreNotes, first_journal}
+use Rattle.flt_explain_notes.specs.Reported.{AreReports, IsAllButLast, IsCut}
+use Rattle.flt_explain_notes.specs.Told.{Tells}
+use Rattle.flt_explain_notes.specs.Whole.{IsPrint, Look}
+use Rattle.flt_explain_notes.specs.declared.noted.Noted.{Noted}
+use Rattle.flt_explain_notes.specs.declared.explaining.Told.{Told}
+use Rattle.flt_explain_details.specs.Reports.{texts_of}
+use Rattle.flt_explain_details.specs.declared.sources.Source.{Source}
 use Rattle.flt_commands.specs.Sources.{AreSources}
 use Rattle.flt_words.specs.declared.request.Colour.{Colour}
 use Rattle.flt_words.specs.declared.request.Colour.TheVariants.{Auto, Always, Never}
 use Rattle.flt_words.specs.declared.request.Form.{Form}
 use Rattle.flt_words.specs.Shown.{visible}
 use Rattle.flt_words.specs.declared.request.Form.TheVariants.{Html, Human, Lines, LinesWithRuns, Sarif, SarifWithRuns, Short}
-use Rattle.flt_warning_details.specs.declared.options.WarningOptions.{WarningOptions}
+use Rattle.flt_explain_warning_details.specs.declared.options.WarningOptions.{WarningOptions}
 use Rattle.flt_words.specs.Request.{Choice}
 use Rattle.flt_commands.specs.Allowed.{options_of}
 use Rattle.flt_commands.specs.Annotated.{AreFound}

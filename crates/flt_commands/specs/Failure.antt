@@ -2,7 +2,7 @@
 use Rattle.std.specs.Prelude.{List, ℕ, ◌++◌, codes}
 use Rattle.std.specs.Fmt.{decimal}
 use Rattle.flt_commands.specs.Flaws.{flaw_line}
-use Rattle.flt_details.specs.Closing.{syntax_line}
+use Rattle.flt_explain_details.specs.Closing.{syntax_line}
 use Rattle.flt_words.specs.Shown.{visible}
 use Rattle.flt_syntax.specs.declared.fault.ParseError.{ParseError}
 use Rattle.flt_syntax.specs.declared.fault.SyntaxFault.{SyntaxFault}

@@ -5,19 +5,19 @@ use Rattle.flt_syntax.specs.TextFails.{Fails}
 use Rattle.flt_syntax.specs.declared.fault.SyntaxFault.{SyntaxFault}
 use Rattle.flt_places.specs.declared.files.Files.{Files}
 use Rattle.flt_tree.specs.declared.tree.Tree.{Tree}
-use Rattle.flt_flows.specs.Flows.{IsFlow}
-use Rattle.flt_flows.specs.Running.{run_of}
-use Rattle.flt_flows.specs.declared.flows.Flow.{Flow}
-use Rattle.flt_details.specs.declared.sources.Source.{Source}
-use Rattle.flt_forms.specs.declared.run.FindingRun.{FindingRun}
+use Rattle.flt_explain_flows.specs.Flows.{IsFlow}
+use Rattle.flt_explain_flows.specs.Running.{run_of}
+use Rattle.flt_explain_flows.specs.declared.flows.Flow.{Flow}
+use Rattle.flt_explain_details.specs.declared.sources.Source.{Source}
+use Rattle.flt_explain_forms.specs.declared.run.FindingRun.{FindingRun}
 use Rattle.flt_model.specs.Program.{by_altitude, filters_of}
-use Rattle.flt_notes.specs.Noted.{own_of, schedule_of}
-use Rattle.flt_notes.specs.Rows.{own_files}
-use Rattle.flt_notes.specs.declared.noted.Noted.{Noted}
-use Rattle.flt_schedules.specs.declared.schedules.Schedule.{Schedule}
-use Rattle.flt_schedules.specs.declared.schedules.Schedule.TheVariants.{Breaks}
-use Rattle.flt_schedules.specs.declared.schedules.Scheduled.{Scheduled}
-use Rattle.flt_schedules.specs.declared.schedules.Scheduled.TheVariants.{Together, Alone}
+use Rattle.flt_explain_notes.specs.Noted.{own_of, schedule_of}
+use Rattle.flt_explain_notes.specs.Rows.{own_files}
+use Rattle.flt_explain_notes.specs.declared.noted.Noted.{Noted}
+use Rattle.flt_search_schedules.specs.declared.schedules.Schedule.{Schedule}
+use Rattle.flt_search_schedules.specs.declared.schedules.Schedule.TheVariants.{Breaks}
+use Rattle.flt_search_schedules.specs.declared.schedules.Scheduled.{Scheduled}
+use Rattle.flt_search_schedules.specs.declared.schedules.Scheduled.TheVariants.{Together, Alone}
 use Rattle.flt_search.specs.declared.judging.Broken.{Broken}
 
 -- ---- trees

@@ -1,12 +1,12 @@
 -- What is told line by line, one text's lines as soon as they are made. This project's own program.
 use Rattle.std.specs.Io.KnownBytes.{Appends}
 use Rattle.std.specs.Prelude.{◌≡◌, ℕ, List, ◌++◌, Option, None, max, take}
-use Rattle.flt_details.specs.declared.sources.Explained.{Explained}
-use Rattle.flt_details.specs.declared.sources.Source.{Source}
-use Rattle.flt_forms.specs.Lines.{AreLines, IsPart}
-use Rattle.flt_forms.specs.RunMember.{no_run}
-use Rattle.flt_forms.specs.declared.as_lines.Style.{Style}
-use Rattle.flt_warning_details.specs.declared.options.WarningOptions.{WarningOptions}
+use Rattle.flt_explain_details.specs.declared.sources.Explained.{Explained}
+use Rattle.flt_explain_details.specs.declared.sources.Source.{Source}
+use Rattle.flt_explain_forms.specs.Lines.{AreLines, IsPart}
+use Rattle.flt_explain_forms.specs.RunMember.{no_run}
+use Rattle.flt_explain_forms.specs.declared.as_lines.Style.{Style}
+use Rattle.flt_explain_warning_details.specs.declared.options.WarningOptions.{WarningOptions}
 use Rattle.flt_commands.specs.Inputs.{Text}
 
 -- the lines of one text more went out, and stand behind what was told before

@@ -1,8 +1,8 @@
 -- What texts come to that are laid out, and how that is printed. This project's own program.
 use Rattle.std.specs.List.{list_any}
 use Rattle.std.specs.Prelude.{ℕ, Bool, true, false, ◌&&◌, if◌then◌else◌, List, [], ◌∷◌, ◌++◌, codes, flat_map, string_bytes}
-use Rattle.flt_details.specs.Closing.{syntax_line}
-use Rattle.flt_forms.specs.declared.unread.UnreadFile.{UnreadFile}
+use Rattle.flt_explain_details.specs.Closing.{syntax_line}
+use Rattle.flt_explain_forms.specs.declared.unread.UnreadFile.{UnreadFile}
 use Rattle.flt_syntax.specs.declared.fault.SyntaxFault.{SyntaxFault}
 use Rattle.flt_words.specs.Shown.{visible}
 use Rattle.flt_words.specs.declared.request.FormatMode.{FormatMode}

@@ -5,12 +5,12 @@ use Rattle.json.specs.Json.{string}
 use Rattle.json.specs.Print.{print}
 use Rattle.json.specs.Tree.{json_tokens}
 use Rattle.flt_c_files.specs.Names.{is_c_file}
-use Rattle.flt_forms.specs.declared.drifted.DriftedFile.{DriftedFile}
-use Rattle.flt_forms.specs.declared.unread.UnreadFile.{UnreadFile}
-use Rattle.flt_frames.specs.Handling.{IsServed, IsServedSoFar, Reply}
-use Rattle.flt_notes.specs.Whole.{IsPrint, Look}
-use Rattle.flt_notes.specs.declared.noted.Noted.{Noted}
-use Rattle.flt_details.specs.declared.sources.Source.{Source}
+use Rattle.flt_explain_forms.specs.declared.drifted.DriftedFile.{DriftedFile}
+use Rattle.flt_explain_forms.specs.declared.unread.UnreadFile.{UnreadFile}
+use Rattle.flt_server_frames.specs.Handling.{IsServed, IsServedSoFar, Reply}
+use Rattle.flt_explain_notes.specs.Whole.{IsPrint, Look}
+use Rattle.flt_explain_notes.specs.declared.noted.Noted.{Noted}
+use Rattle.flt_explain_details.specs.declared.sources.Source.{Source}
 use Rattle.flt_joined.specs.Texts.{AreAnnotations, Given}
 use Rattle.flt_commands.specs.Sources.{IsSourceOf}
 use Rattle.flt_words.specs.declared.request.Form.TheVariants.{Human}
@@ -21,8 +21,8 @@ use Rattle.flt_commands.specs.Inputs.{Text}
 use Rattle.flt_commands.specs.Remarks.{unread_lines}
 use Rattle.flt_commands.specs.declared.serving.Explaining.{Explaining}
 use Rattle.flt_server.specs.declared.server.Server.{Server}
-use Rattle.flt_session.specs.Answers.{IsAnswered}
-use Rattle.flt_session.specs.declared.phase.Phase.TheVariants.{Fresh}
+use Rattle.flt_server_session.specs.Answers.{IsAnswered}
+use Rattle.flt_server_session.specs.declared.phase.Phase.TheVariants.{Fresh}
 
 -- how `explain` prints without options
 abbrev pub look : Look

@@ -2,7 +2,7 @@
 use Rattle.std.specs.Prelude.{◌≡◌, ◌≤◌, ℕ, All, List, filter, flat_map, map, slice_range}
 use Rattle.std.specs.List.{AllZip}
 use Rattle.flt_c.specs.declared.files.FileFlaw.{FileFlaw}
-use Rattle.flt_details.specs.declared.sources.Source.{Source}
+use Rattle.flt_explain_details.specs.declared.sources.Source.{Source}
 use Rattle.flt_joined.specs.Texts.{Given, IsTextOf, Refused, givens, groups_of, make_text, refused_at, refused_in}
 use Rattle.flt_joined.specs.declared.given.GivenFile.{GivenFile}
 use Rattle.flt_joined.specs.declared.joined.JoinedText.{JoinedText}

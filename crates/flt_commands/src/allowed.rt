@@ -4,8 +4,8 @@ ghost use Rattle.std.specs.Prelude.{◌≡◌, map};
 ghost use Rattle.flt_commands.specs.Allowed as spec;
 ghost use Rattle.flt_words.specs.Request.{choice_of};
 
-use flt_warning_details::WarningOptions;
-use flt_warnings::{AllowedKinds, kind_named};
+use flt_explain_warning_details::WarningOptions;
+use flt_explain_warnings::{AllowedKinds, kind_named};
 use flt_words::WarningChoice;
 
 /// These kinds, and the one of a name.

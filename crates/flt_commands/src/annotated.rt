@@ -10,7 +10,7 @@ ghost use Rattle.flt_joined.specs.Texts.{AreAnnotations, given_of};
 use crate::inputs::{Inputs, is_standard};
 use crate::unread::Unread;
 use flt_c_files::is_c_file;
-use flt_forms::UnreadFile;
+use flt_explain_forms::UnreadFile;
 use flt_joined::GivenFile;
 use std::alloc::{AllocError, Global};
 

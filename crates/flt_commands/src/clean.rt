@@ -6,8 +6,8 @@ ghost use Rattle.flt_commands.specs.Check.{HasPoints};
 ghost use Rattle.std.specs.Prelude.{List};
 ghost use Rattle.flt_commands.specs.Clean.{BreaksNothing, BreakNothing};
 ghost use Rattle.flt_commands.specs.Inputs.{Text};
-ghost use Rattle.flt_crew.specs.Running.{IsRun};
-ghost use Rattle.flt_crew.specs.declared.running.Ran.{Ran};
+ghost use Rattle.flt_stack_crew.specs.Running.{IsRun};
+ghost use Rattle.flt_stack_crew.specs.declared.running.Ran.{Ran};
 ghost use Rattle.flt_graph.specs.declared.graph.Graph.{Graph};
 
 use flt_check::accepted_certificates_fill_up;

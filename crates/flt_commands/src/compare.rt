@@ -11,8 +11,8 @@ use crate::extract::name_of;
 use crate::failure::Failure;
 use crate::inputs::{Inputs, read_all};
 use crate::report::Contents;
-use flt_drift::drifts;
-use flt_drift_reports::report_drifts;
+use flt_c_drift::drifts;
+use flt_c_drift_reports::report_drifts;
 use std::alloc::Global;
 
 /// The answer on the files of some names: reports of the drifts of each, or the first one that can't be read.

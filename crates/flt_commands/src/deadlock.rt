@@ -4,11 +4,11 @@
 use crate::answer::Answer;
 use crate::failure::Failure;
 use crate::report::Contents;
-use flt_crew::{Ending, Ran, Watch};
+use flt_explain_waits::{Blocked, waits_of};
 use flt_model::{Journal, JournalFault, read};
+use flt_stack_crew::{Ending, Ran, Watch};
 use flt_syntax::{ParseError, parse};
 use flt_tree::{Callback, Filter, Span, Tree};
-use flt_waits::{Blocked, waits_of};
 use std::alloc::{AllocError, Global};
 use std::fmt::Write;
 

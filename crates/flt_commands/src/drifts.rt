@@ -4,9 +4,9 @@ ghost use Rattle.std.specs.Prelude.{◌≡◌, ◌++◌, IfOk, OnOk, map};
 ghost use Rattle.flt_commands.specs.Drifts as spec;
 ghost use Rattle.flt_joined.specs.Texts.{given_of, givens};
 
-use flt_drift::{Drift, DriftKind, drifts};
-use flt_drift_reports::{code, drift_lines, report_drifts};
-use flt_forms::{DriftedFile, drift_objects};
+use flt_c_drift::{Drift, DriftKind, drifts};
+use flt_c_drift_reports::{code, drift_lines, report_drifts};
+use flt_explain_forms::{DriftedFile, drift_objects};
 use flt_joined::GivenFile;
 use flt_words::{Form, visible};
 use sqlite_items::Items;

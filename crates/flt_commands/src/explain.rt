@@ -9,10 +9,10 @@ ghost use Rattle.flt_commands.specs.Sources.{bytes_in, refused_names};
 ghost use Rattle.flt_joined.specs.Made.{AreJoined};
 ghost use Rattle.flt_joined.specs.Texts.{givens};
 ghost use Rattle.flt_commands.specs.Remarks.{unread_in};
-ghost use Rattle.flt_forms.specs.Lines.{AreLines};
-ghost use Rattle.flt_forms.specs.Sarif.{IsSarif};
-ghost use Rattle.flt_notes.specs.Noted.{AreNotes, first_journal};
-ghost use Rattle.flt_details.specs.Reports.{texts_of};
+ghost use Rattle.flt_explain_forms.specs.Lines.{AreLines};
+ghost use Rattle.flt_explain_forms.specs.Sarif.{IsSarif};
+ghost use Rattle.flt_explain_notes.specs.Noted.{AreNotes, first_journal};
+ghost use Rattle.flt_explain_details.specs.Reports.{texts_of};
 
 use crate::after::explain_after;
 use crate::annotated::{NamedFiles, find_each};
@@ -28,14 +28,14 @@ use crate::remarks::unread_lines;
 use crate::report::Contents;
 use crate::sources::{add_refused, bytes_in, codes_in, sources_of};
 use crate::unwritten::Unwritten;
-use flt_details::{Explained, Source};
-use flt_driven::journal_bytes;
-use flt_forms::{DriftedFile, Style, UnreadFile, lines, sarif};
+use flt_explain_details::{Explained, Source};
+use flt_explain_forms::{DriftedFile, Style, UnreadFile, lines, sarif};
+use flt_explain_notes::{Asking, Noted, SearchWatch, Told, explain, first_journal};
+use flt_explain_pages::page;
+use flt_explain_warning_details::WarningOptions;
 use flt_joined::{GivenFile, Joined, join, source_files};
 use flt_model::Sink;
-use flt_notes::{Asking, Noted, SearchWatch, Told, explain, first_journal};
-use flt_pages::page;
-use flt_warning_details::WarningOptions;
+use flt_stack_driven::journal_bytes;
 use flt_words::{Form, visible};
 use sqlite_items::Items;
 use std::alloc::{AllocError, Global};
@@ -51,11 +51,7 @@ fn told_name(alloc: Global, form: Form, name: &str) -> Result<String, AllocError
 }
 
 /// The names of files, as a form prints them.
-fn told_names(
-    alloc: Global,
-    form: Form,
-    files: &[GivenFile<'_>],
-) -> Result<Vec<String>, AllocError>
+fn told_names(alloc: Global, form: Form, files: &[GivenFile<'_>]) -> Result<Vec<String>, AllocError>
     ensures { IfOk result (λ told. map string_bytes told.items ≡ map (λ file. spec.told_name form file.name.now) files.now) }
 {
     let mut told = Vec::new(alloc);
@@ -146,7 +142,7 @@ fn told_page<O: Sink, W: SearchWatch>(
         t.explained.output.items t.explained.status) }
     ensures paged { IfOk result (λ t.
         IsPaged (spec.look_of asked.entry) (drifts_told Form.Html drifted.now) sources.now t.noted t.explained.output.items
-            t.explained.status) }
+        t.explained.status) }
     ensures noted { IfOk result (λ t. AreNotes (texts_of sources.now) t.noted) }
     ensures sent { IfOk result (λ t. t.sent ≡ 0) }
     ensures held { out.new ≡ out.old }
@@ -298,7 +294,9 @@ fn told_whole<O: Sink, W: SearchWatch>(
         Form::Lines => lines(alloc, Style::Object, asked.options, sources, None)?,
         Form::Sarif => sarif(alloc, asked.options, sources, unread, &[], drifted)?,
         Form::LinesWithRuns => return lines_with_runs(alloc, asked, sources, out, watch),
-        Form::SarifWithRuns => return sarif_with_runs(alloc, asked, drifted, sources, unread, out, watch),
+        Form::SarifWithRuns => return sarif_with_runs(
+            alloc, asked, drifted, sources, unread, out, watch,
+        ),
         Form::Html => return told_page(alloc, asked, drifted, sources, out, watch),
     };
     let told = explain(alloc, held, sources, out, watch)?;

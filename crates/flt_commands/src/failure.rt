@@ -7,7 +7,7 @@ use crate::extract::flaw_line;
 use crate::unwritten::Unwritten;
 use flt_c::Flaw;
 use flt_cert::CertFault;
-use flt_details::SyntaxLine;
+use flt_explain_details::SyntaxLine;
 use flt_syntax::{ParseError, SyntaxFault};
 use flt_words::visible;
 use std::alloc::{AllocError, AllocFailed, Global};

@@ -1,7 +1,7 @@
 //! Why a command ended without its answer.
 
+use flt_explain_notes::ExplainFault;
 use flt_model::WriteFault;
-use flt_notes::ExplainFault;
 use std::alloc::{AllocError, AllocFailed};
 use thiserror::Error;
 

@@ -3,13 +3,13 @@
 ghost use Rattle.std.specs.Prelude.{◌≡◌, IfOk, get_or};
 ghost use Rattle.flt_commands.specs.FindingRuns as spec;
 
-use flt_details::Source;
-use flt_flows::Flow;
-use flt_forms::FindingRun;
-use flt_notes::{Noted, own_files, own_trees, schedule_of};
+use flt_explain_details::Source;
+use flt_explain_flows::Flow;
+use flt_explain_forms::FindingRun;
+use flt_explain_notes::{Noted, own_files, own_trees, schedule_of};
 use flt_places::Files;
-use flt_schedules::{Schedule, Scheduled};
 use flt_search::Broken;
+use flt_search_schedules::{Schedule, Scheduled};
 use flt_syntax::{ParseError, parse};
 use flt_tree::Tree;
 use sqlite_items::Items;

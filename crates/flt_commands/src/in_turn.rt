@@ -3,13 +3,13 @@
 ghost use Rattle.std.specs.Io.KnownBytes.{Appends};
 ghost use Rattle.std.specs.Prelude.{◌≡◌, ◌≢◌, IfErr, IfOk, None, OnOk};
 ghost use Rattle.flt_commands.specs.InTurn as spec;
-ghost use Rattle.flt_forms.specs.Lines.{AreLines};
+ghost use Rattle.flt_explain_forms.specs.Lines.{AreLines};
 
 use crate::fault::CommandFault;
-use flt_details::{Explained, Source};
-use flt_forms::{Style, lines};
+use flt_explain_details::{Explained, Source};
+use flt_explain_forms::{Style, lines};
+use flt_explain_warning_details::WarningOptions;
 use flt_model::{Sink, put_all};
-use flt_warning_details::WarningOptions;
 use std::alloc::Global;
 use std::cmp::max;
 

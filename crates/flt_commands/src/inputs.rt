@@ -13,7 +13,7 @@ use crate::pieces::Pieces;
 use crate::system::Reader;
 use crate::unread::Unread;
 use crate::unwritten::Unwritten;
-use flt_forms::UnreadFile;
+use flt_explain_forms::UnreadFile;
 use std::alloc::{AllocError, Global};
 use std::cmp::min;
 

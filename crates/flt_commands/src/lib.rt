@@ -49,8 +49,8 @@ mod unwritten;
 
 pub use commands::command;
 pub use fault::CommandFault;
-pub use flt_crew::{Unwatched, Watch};
-pub use flt_frames::{Incoming, ServeFault};
+pub use flt_server_frames::{Incoming, ServeFault};
+pub use flt_stack_crew::{Unwatched, Watch};
 pub use host::{Execution, run};
 pub use inputs::{Inputs, MAX_INPUT, Pictures, read_pieces_within, read_text_within, read_within};
 pub use kept::kept_texts_are_told_as_whole;

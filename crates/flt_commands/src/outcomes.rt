@@ -4,8 +4,8 @@ ghost use Rattle.std.specs.List.{list_any};
 ghost use Rattle.std.specs.Prelude.{◌≡◌, ◌++◌, IfOk, flat_map, string_bytes};
 ghost use Rattle.flt_commands.specs.Outcomes as spec;
 
-use flt_details::SyntaxLine;
-use flt_forms::UnreadFile;
+use flt_explain_details::SyntaxLine;
+use flt_explain_forms::UnreadFile;
 use flt_syntax::SyntaxFault;
 use flt_words::{FormatMode, visible};
 use std::alloc::{AllocError, Global};

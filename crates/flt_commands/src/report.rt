@@ -10,10 +10,10 @@ use crate::answer::{Answer, told_status};
 use crate::explain::Explanation;
 use crate::failure::Failure;
 use crate::fault::CommandFault;
-use flt_crew::Ending;
-use flt_forms::UnreadFile;
+use flt_explain_forms::UnreadFile;
+use flt_explain_notes::Told;
 use flt_model::Journal;
-use flt_notes::Told;
+use flt_stack_crew::Ending;
 use std::alloc::{AllocError, Global};
 
 /// The report on a command: the inputs that were read for it, and the bytes for each output.

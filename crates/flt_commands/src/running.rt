@@ -8,7 +8,7 @@ use crate::answer::Answer;
 use crate::failure::Failure;
 use crate::inputs::{Inputs, read_all};
 use crate::report::Contents;
-use flt_crew::{RunFault, Watch, run};
+use flt_stack_crew::{RunFault, Watch, run};
 use flt_words::Workers;
 use std::alloc::Global;
 use std::sync::Wait;

@@ -1,7 +1,7 @@
 //! The progress of searches for runs.
 
-use flt_crew::Unwatched;
-use flt_notes::SearchWatch;
+use flt_explain_notes::SearchWatch;
+use flt_stack_crew::Unwatched;
 use flt_words::DEFAULT_STATES;
 
 /// Hears how far the searches for runs of `explain` have come. Nothing that it does changes the findings.

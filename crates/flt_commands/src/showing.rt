@@ -6,8 +6,8 @@ ghost use Rattle.flt_commands.specs.Drawn.{IsDrawnFor, IsDrawnIn};
 ghost use Rattle.flt_commands.specs.Inputs.{Says};
 ghost use Rattle.flt_commands.specs.Replay as spec;
 ghost use Rattle.flt_model.specs.Program.{filters_of};
-ghost use Rattle.flt_picture.specs.Pictures.{IsPicture};
-ghost use Rattle.flt_picture.specs.Titles.{title_of};
+ghost use Rattle.flt_explain_picture.specs.Pictures.{IsPicture};
+ghost use Rattle.flt_explain_picture.specs.Titles.{title_of};
 
 use crate::answer::Answer;
 use crate::failure::Failure;
@@ -16,9 +16,9 @@ use crate::pieces::Pieces;
 use crate::replay::{Replayed, replay_all};
 use crate::report::Contents;
 use crate::unwritten::Unwritten;
+use flt_explain_picture::picture;
+use flt_explain_timeline::Timeline;
 use flt_model::{Journal, Verdict};
-use flt_picture::picture;
-use flt_timeline::Timeline;
 use std::alloc::{AllocError, Global};
 
 /// The rows of a timeline, if they are requested; else nothing.

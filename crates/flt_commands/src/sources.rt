@@ -8,8 +8,8 @@ ghost use Rattle.flt_joined.specs.Texts.{givens, name_by};
 
 use crate::unread::Unread;
 use flt_c::FileFlaw;
-use flt_details::Source;
-use flt_forms::UnreadFile;
+use flt_explain_details::Source;
+use flt_explain_forms::UnreadFile;
 use flt_joined::{GivenFile, JoinedText};
 use flt_places::SourceFile;
 use std::alloc::{AllocError, Global};
@@ -42,10 +42,7 @@ pub(crate) fn sources_of<'s>(
 }
 
 /// Texts by themselves.
-pub(crate) fn bytes_in(
-    alloc: Global,
-    texts: Vec<JoinedText>,
-) -> Result<Vec<Vec<u8>>, AllocError>
+pub(crate) fn bytes_in(alloc: Global, texts: Vec<JoinedText>) -> Result<Vec<Vec<u8>>, AllocError>
     ensures { IfOk result (λ all. map (λ bytes. bytes.items) all.items ≡ spec.bytes_in texts.items) }
 {
     let mut all = Vec::new(alloc);

@@ -4,8 +4,8 @@ ghost use Rattle.std.specs.Prelude.{◌≡◌, IfOk, string_bytes};
 
 use crate::extract::annotation_flaw_words;
 use flt_c::Flaw;
-use flt_forms::UnreadFile;
-use flt_pages::page;
+use flt_explain_forms::UnreadFile;
+use flt_explain_pages::page;
 use std::alloc::{AllocError, Global};
 use std::io;
 

@@ -1,11 +1,11 @@
 //! Circles of acquisitions, and whether a run to a deadlock at them is found.
 
-use flt_deadlocks::{Answer, Bounds, Deadlock, UnwatchedSearch, Watched, find_deadlock};
 use flt_graph::{Graph, lower};
 use flt_model::Verdict;
 use flt_order::Acquisition;
 use flt_replay::replay;
 use flt_rules::LockNumber;
+use flt_search_deadlocks::{Answer, Bounds, Deadlock, UnwatchedSearch, Watched, find_deadlock};
 use flt_syntax::{Tree, parse};
 use std::alloc::{AllocError, Global};
 use std::test::Fail;

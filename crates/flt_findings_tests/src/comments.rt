@@ -1,7 +1,7 @@
 //! The comments of a text that allow a warning.
 
-use flt_allowances::{Allowance, allowances};
-use flt_warnings::Kind;
+use flt_explain_allowances::{Allowance, allowances};
+use flt_explain_warnings::Kind;
 use std::alloc::{AllocError, Global};
 use std::test::Fail;
 

@@ -1,11 +1,11 @@
 //! The details of warnings.
 
-use flt_details::Source;
+use flt_explain_details::Source;
+use flt_explain_warning_details::{WarningDetail, warning_details};
+use flt_explain_warnings::AllowedKinds;
 use flt_graph::lower;
 use flt_places::Files;
 use flt_syntax::parse;
-use flt_warning_details::{WarningDetail, warning_details};
-use flt_warnings::AllowedKinds;
 use std::alloc::Global;
 use std::test::Fail;
 
@@ -65,14 +65,7 @@ fn is_told(alloc: Global, text: &str, rows: &[Row<'_>]) -> Result<bool, Fail> {
             stands: &[],
         },
     };
-    let details = warning_details(
-        alloc,
-        source,
-        &tree,
-        &graph,
-        &[],
-        AllowedKinds::none(),
-    )?;
+    let details = warning_details(alloc, source, &tree, &graph, &[], AllowedKinds::none())?;
     Ok(are_rows(details.as_slice(), rows))
 }
 

@@ -1,6 +1,6 @@
 //! Journals on texts, and the flows of their runs.
 
-use flt_flows::{Flow, FlowActivation, FlowStep};
+use flt_explain_flows::{Flow, FlowActivation, FlowStep};
 use flt_model::{Journal, JournalFault, Reading, read};
 use flt_syntax::{Tree, parse};
 use flt_tree::Span;

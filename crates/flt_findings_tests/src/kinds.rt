@@ -4,9 +4,9 @@ ghost use Rattle.std.specs.Prelude.{◌≡◌, ◌<◌};
 
 use flt_analyse::{AnalyseFault, Ticks, analyse};
 use flt_cert::FullCert;
+use flt_explain_warnings::{Site, Warning, warnings};
 use flt_graph::{Graph, lower};
 use flt_syntax::parse;
-use flt_warnings::{Site, Warning, warnings};
 use std::alloc::{AllocError, Global};
 use std::marker::Brand;
 use std::sync::ledger::{Blank, Ledger};

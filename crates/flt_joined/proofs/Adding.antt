@@ -45,7 +45,7 @@ one_more_joined files first end old new before group added =
         each =
             subst₂ (AllZip (IsJoined files)) (sym (filter-append make_text before.groups one)) (sym added.texts)
             (zipped_on (IsJoined files) (filter make_text before.groups) old.texts.items (filter make_text one) added.added
-                before.joined.each
+            before.joined.each
             added.each);
         refused = added.refused ∙ ap₂ (λ xs ys. xs ++ ys) before.joined.refused
             (sym (append-nil (refused_in (givens (slice_range files first end)))))

@@ -147,7 +147,7 @@ module _ (files : List GivenFile) (d : GivenFile) (next : ℕ) (within : next �
       ap (λ all. groups_of (givens all)) (drop_more files first d long)
       ∙ ap (with_file (given_of (get_or files first d))) (behind ∙ ap (λ part. givens part ∷ groups_of (givens (drop next files))) rest)
       ∙ goes_before (given_of (get_or files first d)) (given_of (get_or files (first + 1) d))
-          (givens (slice_range files (first + 1 + 1) next))
+      (givens (slice_range files (first + 1 + 1) next))
       (groups_of (givens (drop next files))) on_next
       ∙ ap (λ part. givens part ∷ groups_of (givens (drop next files)))
       (sym (part_more files first next d some within ∙ ap (λ part. get_or files first d ∷ part) rest))
@@ -157,7 +157,7 @@ pub group_of : (files : List GivenFile) (first next : ℕ) (d : GivenFile) → I
     groups_of (givens (drop first files)) ≡ givens (slice_range files first next) ∷ groups_of (givens (drop next files))
 group_of files first next d run stops =
     group_from files d next run.within stops (next - (first + 1)) first (omega (arith, run.some))
-        (λ k behind before. run.on k d behind before)
+    (λ k behind before. run.on k d behind before)
 
 -- the last run is a group, too
 pub last_group_of : (files : List GivenFile) (first next : ℕ) → IsRun files first next → next ≡ length files →
@@ -185,7 +185,7 @@ is_group files first next d run = by_length (one_or_more (next - (first + 1)))
     by_length (inl one) =
         let none : take (next - (first + 1)) (drop (first + 1) files) ≡ [] = ap (λ n. take n (drop (first + 1) files)) one in
         subst (λ part. IsGroup (givens part)) (sym (part_more files first next d run.some run.within
-            ∙ ap (λ rest. get_or files first d ∷ rest) none)) tt
+        ∙ ap (λ rest. get_or files first d ∷ rest) none)) tt
     by_length (inr several) =
         let more : first + 1 < next = omega (arith, several) in
         let before : (first + 1) - 1 ≡ first = omega arith in
@@ -224,7 +224,7 @@ coded_files (f ∷ next ∷ files) is several = coded (given_of f) (given_of nex
 -- the same of what is made of them
 made_by : (files : List GivenFile) (done : Result MadeText FileFlaw) → IsGroup (givens files) → 1 < length files →
     MatchResult done (IsMade (extracted (flat_map own_code (givens files))))
-        (λ flaw. extracted (flat_map own_code (givens files)) ≡ Err flaw) →
+    (λ flaw. extracted (flat_map own_code (givens files)) ≡ Err flaw) →
     MatchResult done (IsMade (text_of (givens files))) (λ flaw. (text_of (givens files) ≡ Err flaw) × (flaw.file < length files))
 made_by files (Ok text) is several made = subst (λ r. IsMade r text) (sym (coded_files files is several)) made
 made_by files (Err flaw) is several made =

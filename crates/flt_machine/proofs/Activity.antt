@@ -13,7 +13,7 @@ use Rattle.flt_model.specs.Moves.{has_active}
 use Rattle.flt_model.specs.Program.{callbacks_at}
 use Rattle.flt_model.specs.Runs.{Moment}
 use Rattle.flt_model.specs.World.{Actor, Activation, no_actor, nobody, activation_at, actor_at}
-use Rattle.flt_frame.specs.declared.standing.Standing.{Standing}
+use Rattle.flt_machine_frames.specs.declared.standing.Standing.{Standing}
 use Rattle.flt_machine.specs.Active.{AreCounted, active_of, counted}
 use Rattle.flt_machine.specs.Situations.{Situation, KeptFor, IsAt, has_standing, standing_of}
 use Rattle.flt_machine.proofs.Local.{goes_there}

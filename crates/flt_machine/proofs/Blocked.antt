@@ -18,7 +18,7 @@ use Rattle.flt_rules.specs.declared.held.Access.TheVariants.{Exclusive, Shared}
 use Rattle.flt_model.specs.Runs.{Moment, next}
 use Rattle.flt_model.specs.Steps.{Board, list_step, first_step, plain_step, fallible_step, may_be_refused, may_take}
 use Rattle.flt_model.specs.World.{World, Activation, activation_at}
-use Rattle.flt_calls.specs.Plans.{leaves_choice_by, begins_with_choice, choice_at}
+use Rattle.flt_machine_calls.specs.Plans.{leaves_choice_by, begins_with_choice, choice_at}
 use Rattle.flt_machine.specs.Blocking.{is_blocked_by, is_blocked}
 
 -- a step is there unless it is blocked

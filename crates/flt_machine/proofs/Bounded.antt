@@ -4,11 +4,11 @@ use Rattle.std.specs.Prelude.{IfSome}
 use Rattle.std.proofs.Math.ListN.{set, get_or}
 use Rattle.std.proofs.lemmas.Bool.{cases_eq, cases_lt}
 use Rattle.std.proofs.lemmas.List.{get_or-set_same, get_or-set_other, get_or_past, length-set, length-append}
-use Rattle.flt_frame.specs.declared.standing.Standing.{Standing}
+use Rattle.flt_machine_frames.specs.declared.standing.Standing.{Standing}
 use Rattle.flt_model.specs.declared.moves.JournalEntry.{JournalEntry}
 use Rattle.flt_model.specs.World.{Store}
-use Rattle.flt_store.specs.Changes.{after_change, IsPossible}
-use Rattle.flt_store.specs.declared.change.Change.{Change}
+use Rattle.flt_machine_store.specs.Changes.{after_change, IsPossible}
+use Rattle.flt_machine_store.specs.declared.change.Change.{Change}
 use Rattle.flt_machine.specs.Counted.{AreAtMost, IsBounded, IsSmall}
 use Rattle.flt_machine.specs.Situations.{Situation}
 use Rattle.flt_machine.proofs.Counting.{references_after, arrivals_after, items_after, queues_after}

@@ -10,14 +10,14 @@ use Rattle.flt_model.specs.LocalSteps.{local_step}
 use Rattle.flt_model.specs.Program.{callbacks_at}
 use Rattle.flt_model.specs.Runs.{Moment, next, after}
 use Rattle.flt_model.specs.World.{Store, Actor, Activation, no_actor, nobody, activation_at, actor_at}
-use Rattle.flt_store.specs.Changes.{after_change}
-use Rattle.flt_calls.specs.Own.{AreOf}
-use Rattle.flt_calls.specs.Plans.{IsCaller, IsCounted, IsPlanned, IsWritten, remaining_by, choice_at}
-use Rattle.flt_calls.specs.declared.plans.Plan.{Plan}
-use Rattle.flt_frame.specs.Leads.{IsAdvance}
-use Rattle.flt_frame.specs.Standings.{StandsFor}
-use Rattle.flt_frame.specs.declared.frame.Advanced.{Advanced}
-use Rattle.flt_frame.specs.declared.standing.Standing.{Standing}
+use Rattle.flt_machine_store.specs.Changes.{after_change}
+use Rattle.flt_machine_calls.specs.Own.{AreOf}
+use Rattle.flt_machine_calls.specs.Plans.{IsCaller, IsCounted, IsPlanned, IsWritten, remaining_by, choice_at}
+use Rattle.flt_machine_calls.specs.declared.plans.Plan.{Plan}
+use Rattle.flt_machine_frames.specs.Leads.{IsAdvance}
+use Rattle.flt_machine_frames.specs.Standings.{StandsFor}
+use Rattle.flt_machine_frames.specs.declared.frame.Advanced.{Advanced}
+use Rattle.flt_machine_frames.specs.declared.standing.Standing.{Standing}
 use Rattle.flt_machine.specs.Blocking.{is_blocked}
 use Rattle.flt_machine.specs.Calls.{Commits, IsFresh, IsLater, IsRefusedAt, caller_of, step_at}
 use Rattle.flt_machine.specs.Situations.{Situation, IsKept, IsAt, standing_of}

@@ -4,13 +4,13 @@ use Rattle.std.proofs.lemmas.Bool.{and_from}
 use Rattle.std.specs.Bool.{IsTrue}
 use Rattle.std.specs.List.{list_all}
 use Rattle.flt_costs.specs.Costs.{IsRunTo, steps_of}
-use Rattle.flt_frame.specs.Loading.{AreGraphsOfFilters}
+use Rattle.flt_machine_frames.specs.Loading.{AreGraphsOfFilters}
 use Rattle.flt_graph.specs.declared.graph.Graph.{Graph}
 use Rattle.flt_tree.specs.Measures.{are_small, max_cost}
 use Rattle.flt_tree.specs.declared.filter.Filter.{Filter}
 use Rattle.flt_model.specs.Runs.{Moment}
 use Rattle.flt_model.specs.declared.moves.JournalEntry.{JournalEntry}
-use Rattle.flt_frame.specs.declared.loaded.Loaded.{Loaded}
+use Rattle.flt_machine_frames.specs.declared.loaded.Loaded.{Loaded}
 use Rattle.flt_machine.specs.Situations.{Situation, IsBoard, IsOwn}
 
 -- a board's journal is a run

@@ -12,9 +12,9 @@ use Rattle.flt_model.specs.Moves.{other_entries}
 use Rattle.flt_model.specs.Settling as settling
 use Rattle.flt_model.specs.World.{Store, Context, Link, no_context, context_at, Detached, Detaching, is_freed, queue_at, route_at, visit_at, with_context, with_link, with_route, add_reference, drop_reference}
 use Rattle.flt_ops.specs.Parts.{way_of}
-use Rattle.flt_store.specs.Changes.{after_change, IsPossible}
-use Rattle.flt_store.specs.declared.change.Change.{Change}
-use Rattle.flt_store.specs.declared.change.Change.TheVariants as change
+use Rattle.flt_machine_store.specs.Changes.{after_change, IsPossible}
+use Rattle.flt_machine_store.specs.declared.change.Change.{Change}
+use Rattle.flt_machine_store.specs.declared.change.Change.TheVariants as change
 use Rattle.flt_machine.specs.Counted.{AreAtMost}
 
 -- ---- references

@@ -9,11 +9,11 @@ use Rattle.flt_model.specs.Moves.{make}
 use Rattle.flt_model.specs.Runs.{Moment}
 use Rattle.flt_model.specs.Steps.{Make}
 use Rattle.flt_model.specs.World.{World, Store, Actor, Activation}
-use Rattle.flt_store.specs.Stores.{world_of}
-use Rattle.flt_dispatch.specs.Decisions.{Decides, IsActive, IsDecided, frees_by, gains_by}
-use Rattle.flt_dispatch.specs.declared.decision.Decision.{Decision}
-use Rattle.flt_frame.specs.Loading.{AreLoaded}
-use Rattle.flt_frame.specs.declared.loaded.Loaded.{Loaded}
+use Rattle.flt_machine_store.specs.Stores.{world_of}
+use Rattle.flt_machine_dispatch.specs.Decisions.{Decides, IsActive, IsDecided, frees_by, gains_by}
+use Rattle.flt_machine_dispatch.specs.declared.decision.Decision.{Decision}
+use Rattle.flt_machine_frames.specs.Loading.{AreLoaded}
+use Rattle.flt_machine_frames.specs.declared.loaded.Loaded.{Loaded}
 use Rattle.flt_machine.specs.Calls.{IsDisabled, Makes}
 use Rattle.flt_machine.specs.Moving.{moved_by, HasMoved}
 use Rattle.flt_machine.specs.Situations.{Situation, IsAt, IsBoard, IsOwn, Now}

@@ -4,9 +4,9 @@ use Rattle.std.proofs.lemmas.Bool.{true≢false}
 use Rattle.flt_model.specs.declared.subject.Subject.{Subject}
 use Rattle.flt_model.specs.declared.subject.Subject.TheVariants as subject
 use Rattle.flt_model.specs.World.{Store}
-use Rattle.flt_store.specs.Changes.{after_change, cancels_entries}
-use Rattle.flt_store.specs.declared.change.Change.{Change}
-use Rattle.flt_store.specs.declared.change.Change.TheVariants as change
+use Rattle.flt_machine_store.specs.Changes.{after_change, cancels_entries}
+use Rattle.flt_machine_store.specs.declared.change.Change.{Change}
+use Rattle.flt_machine_store.specs.declared.change.Change.TheVariants as change
 use Rattle.flt_machine.specs.Tickets.{by_altitude, entries_of, newcomer, one_of, operations, teardown_of}
 use Rattle.flt_machine.proofs.Quieted.{quiet_entries, quiet_items, quiet_operations, quiet_teardown}
 

@@ -7,7 +7,7 @@ use Rattle.std.specs.Prelude.{nat_lt}
 use Rattle.flt_rules.specs.declared.place.Mode.{Mode}
 use Rattle.flt_rules.specs.declared.place.Operation.{Operation}
 use Rattle.flt_tree.specs.declared.filter.Filter.{Filter}
-use Rattle.flt_frame.specs.declared.standing.Standing.{Standing}
+use Rattle.flt_machine_frames.specs.declared.standing.Standing.{Standing}
 use Rattle.flt_model.specs.declared.moves.JournalEntry.{JournalEntry}
 use Rattle.flt_model.specs.declared.moves.Move.{Move}
 use Rattle.flt_model.specs.declared.moves.Move.TheVariants as move
@@ -17,12 +17,12 @@ use Rattle.flt_model.specs.Effects.{Step}
 use Rattle.flt_model.specs.Moves.{arrive, fits_mode, make, stores, with_arrival}
 use Rattle.flt_model.specs.Runs.{Moment}
 use Rattle.flt_model.specs.World.{World, Store}
-use Rattle.flt_store.specs.Changes.{after_change}
-use Rattle.flt_store.specs.declared.change.Change.{Change}
-use Rattle.flt_store.specs.declared.change.Change.TheVariants as change
-use Rattle.flt_dispatch.specs.Decisions.{Decides, HasRoom, actors_by, activations_by}
-use Rattle.flt_dispatch.specs.declared.decision.Decision.{Decision}
-use Rattle.flt_dispatch.specs.declared.decision.Start.{Start}
+use Rattle.flt_machine_store.specs.Changes.{after_change}
+use Rattle.flt_machine_store.specs.declared.change.Change.{Change}
+use Rattle.flt_machine_store.specs.declared.change.Change.TheVariants as change
+use Rattle.flt_machine_dispatch.specs.Decisions.{Decides, HasRoom, actors_by, activations_by}
+use Rattle.flt_machine_dispatch.specs.declared.decision.Decision.{Decision}
+use Rattle.flt_machine_dispatch.specs.declared.decision.Start.{Start}
 use Rattle.flt_machine.specs.Moving.{HasMoved, standings_by}
 use Rattle.flt_machine.specs.Situations.{Situation, IsAt, standing_of}
 use Rattle.flt_machine.specs.Tickets.{after_go, after_move, by_move, newcomer, subjects}

@@ -14,20 +14,20 @@ use Rattle.flt_model.specs.Program.{callbacks_at}
 use Rattle.flt_model.specs.Runs.{Moment, next}
 use Rattle.flt_model.specs.Steps as steps
 use Rattle.flt_model.specs.World.{Store, Activation, activation_at, actor_at}
-use Rattle.flt_store.specs.Changes.{after_change}
-use Rattle.flt_frame.specs.Firsts.{Remains}
-use Rattle.flt_frame.specs.Leads.{IsAdvance}
-use Rattle.flt_frame.specs.Loading.{AreLoaded, instruction_in}
-use Rattle.flt_frame.specs.Standings.{StandsFor}
-use Rattle.flt_frame.specs.declared.frame.Advanced.{Advanced}
-use Rattle.flt_frame.specs.declared.loaded.Loaded.{Loaded}
-use Rattle.flt_frame.specs.declared.standing.Standing.{Standing}
-use Rattle.flt_calls.specs.Continuing.{leads_on}
-use Rattle.flt_calls.specs.Decoding.{is_ending}
-use Rattle.flt_calls.specs.Own.{AreOf, AreOwn}
-use Rattle.flt_calls.specs.Plans.{IsPlanned, PlansStep, TakesNone, choice_at, is_end, remaining_by}
-use Rattle.flt_calls.specs.declared.caller.Caller.{Caller}
-use Rattle.flt_calls.specs.declared.plans.Plan.{Plan}
+use Rattle.flt_machine_store.specs.Changes.{after_change}
+use Rattle.flt_machine_frames.specs.Firsts.{Remains}
+use Rattle.flt_machine_frames.specs.Leads.{IsAdvance}
+use Rattle.flt_machine_frames.specs.Loading.{AreLoaded, instruction_in}
+use Rattle.flt_machine_frames.specs.Standings.{StandsFor}
+use Rattle.flt_machine_frames.specs.declared.frame.Advanced.{Advanced}
+use Rattle.flt_machine_frames.specs.declared.loaded.Loaded.{Loaded}
+use Rattle.flt_machine_frames.specs.declared.standing.Standing.{Standing}
+use Rattle.flt_machine_calls.specs.Continuing.{leads_on}
+use Rattle.flt_machine_calls.specs.Decoding.{is_ending}
+use Rattle.flt_machine_calls.specs.Own.{AreOf, AreOwn}
+use Rattle.flt_machine_calls.specs.Plans.{IsPlanned, PlansStep, TakesNone, choice_at, is_end, remaining_by}
+use Rattle.flt_machine_calls.specs.declared.caller.Caller.{Caller}
+use Rattle.flt_machine_calls.specs.declared.plans.Plan.{Plan}
 use Rattle.flt_machine.specs.Blocking.{is_blocked}
 use Rattle.flt_machine.specs.Calls.{Commits, IsAdvanced, IsBlocked, IsFresh, IsLater, IsRefusedAt, caller_of, instruction_for, is_refused_lock, leaves_choice_at, step_at}
 use Rattle.flt_machine.specs.Counted.{AreDistinct, IsBounded, IsSmall}

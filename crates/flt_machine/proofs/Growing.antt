@@ -9,11 +9,11 @@ use Rattle.flt_model.specs.declared.moves.JournalEntry.{JournalEntry}
 use Rattle.flt_model.specs.declared.moves.JournalEntry.TheVariants as journal_entry
 use Rattle.flt_model.specs.declared.moves.Move.{Move}
 use Rattle.flt_model.specs.World.{Store, Actor, Activation}
-use Rattle.flt_store.specs.Changes.{after_change, IsPossible}
-use Rattle.flt_dispatch.specs.Decisions.{actors_by}
-use Rattle.flt_dispatch.specs.declared.decision.Decision.{Decision}
-use Rattle.flt_dispatch.specs.declared.decision.Start.{Start}
-use Rattle.flt_frame.specs.declared.standing.Standing.{Standing}
+use Rattle.flt_machine_store.specs.Changes.{after_change, IsPossible}
+use Rattle.flt_machine_dispatch.specs.Decisions.{actors_by}
+use Rattle.flt_machine_dispatch.specs.declared.decision.Decision.{Decision}
+use Rattle.flt_machine_dispatch.specs.declared.decision.Start.{Start}
+use Rattle.flt_machine_frames.specs.declared.standing.Standing.{Standing}
 use Rattle.flt_machine.specs.Counted.{AreAtMost, AreDistinct, IsBounded, IsSmall}
 use Rattle.flt_machine.specs.Moving.{gained_by, Begins, standings_by, moved_by, HasMoved}
 use Rattle.flt_machine.specs.Situations.{Situation}

@@ -20,11 +20,11 @@ use Rattle.flt_model.specs.Runs.{Moment, after, next, run_from}
 use Rattle.flt_model.specs.Steps.{Local, moved_on}
 use Rattle.flt_model.specs.Variables.{operation_in}
 use Rattle.flt_model.specs.World.{Activation, nobody, activation_at, actor_at}
-use Rattle.flt_frame.specs.declared.standing.Standing.{Standing}
-use Rattle.flt_frame.specs.declared.frame.Advanced.{Advanced}
-use Rattle.flt_frame.specs.Leads.{locally, Leads, IsFrom, IsAdvance}
-use Rattle.flt_calls.specs.Plans.{given_of}
-use Rattle.flt_frame.specs.Standings.{activation_with}
+use Rattle.flt_machine_frames.specs.declared.standing.Standing.{Standing}
+use Rattle.flt_machine_frames.specs.declared.frame.Advanced.{Advanced}
+use Rattle.flt_machine_frames.specs.Leads.{locally, Leads, IsFrom, IsAdvance}
+use Rattle.flt_machine_calls.specs.Plans.{given_of}
+use Rattle.flt_machine_frames.specs.Standings.{activation_with}
 use Rattle.flt_machine.specs.Calls.{IsFresh, local_steps}
 use Rattle.flt_machine.specs.Situations.{Situation, standing_of, IsKept, KeptFor, IsAt}
 

@@ -19,12 +19,12 @@ use Rattle.flt_model.specs.Moves.{gains_visit}
 use Rattle.flt_model.specs.Trace.{gains, loses, of_actor, one_if}
 use Rattle.flt_model.specs.Variables.{starting}
 use Rattle.flt_model.specs.World.{World, Store, Actor, Activation, no_actor, nobody, activation_at, actor_at}
-use Rattle.flt_store.specs.Changes.{after_change}
-use Rattle.flt_calls.specs.Own.{AreOf}
-use Rattle.flt_dispatch.specs.Decisions.{IsDecided, actors_by, activations_by, gains_by, frees_by, events_by}
-use Rattle.flt_dispatch.specs.declared.decision.Decision.{Decision}
-use Rattle.flt_dispatch.specs.declared.decision.Start.{Start}
-use Rattle.flt_frame.specs.declared.standing.Standing.{Standing}
+use Rattle.flt_machine_store.specs.Changes.{after_change}
+use Rattle.flt_machine_calls.specs.Own.{AreOf}
+use Rattle.flt_machine_dispatch.specs.Decisions.{IsDecided, actors_by, activations_by, gains_by, frees_by, events_by}
+use Rattle.flt_machine_dispatch.specs.declared.decision.Decision.{Decision}
+use Rattle.flt_machine_dispatch.specs.declared.decision.Start.{Start}
+use Rattle.flt_machine_frames.specs.declared.standing.Standing.{Standing}
 use Rattle.flt_machine.specs.Calls.{Makes}
 use Rattle.flt_machine.specs.Situations.{Situation, IsKept, KeptFor, IsAt, standing_of}
 use Rattle.flt_machine.specs.Moving.{gained_by, Begins, moved_by}

@@ -6,7 +6,7 @@ use Rattle.flt_model.specs.declared.event.Object.TheVariants.{Visit}
 use Rattle.flt_model.specs.Runs.{start}
 use Rattle.flt_model.specs.Trace.{gains, loses}
 use Rattle.flt_model.specs.World.{Entry, Holder, Presence, Attached}
-use Rattle.flt_store.specs.Stores.{empty_store}
+use Rattle.flt_machine_store.specs.Stores.{empty_store}
 use Rattle.flt_machine.specs.Situations.{IsAt, IsBoard, opening}
 
 -- the same for each filter

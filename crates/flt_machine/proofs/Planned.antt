@@ -17,16 +17,16 @@ use Rattle.flt_model.specs.Settling as settling
 use Rattle.flt_model.specs.Trace.{gains, loses}
 use Rattle.flt_model.specs.World.{Store, Activation, Detached, Detaching, activation_at, actor_at, context_at, is_freed, route_at, visit_at, with_context, with_route}
 use Rattle.flt_ops.specs.Parts.{way_of}
-use Rattle.flt_store.specs.Changes.{after_change}
-use Rattle.flt_store.specs.declared.change.Change.{Change}
-use Rattle.flt_store.specs.declared.change.Change.TheVariants as change
-use Rattle.flt_calls.specs.Own.{AreOf}
-use Rattle.flt_calls.specs.Plans.{written, is_end, IsPlanned, IsWritten, IsCountedOn, remaining_by}
-use Rattle.flt_calls.specs.declared.plans.Plan.{Plan}
-use Rattle.flt_calls.specs.declared.plans.Write.{Write}
-use Rattle.flt_calls.specs.declared.plans.Write.TheVariants as write
-use Rattle.flt_frame.specs.Standings.{StandsFor, activation_with}
-use Rattle.flt_frame.specs.declared.standing.Standing.{Standing}
+use Rattle.flt_machine_store.specs.Changes.{after_change}
+use Rattle.flt_machine_store.specs.declared.change.Change.{Change}
+use Rattle.flt_machine_store.specs.declared.change.Change.TheVariants as change
+use Rattle.flt_machine_calls.specs.Own.{AreOf}
+use Rattle.flt_machine_calls.specs.Plans.{written, is_end, IsPlanned, IsWritten, IsCountedOn, remaining_by}
+use Rattle.flt_machine_calls.specs.declared.plans.Plan.{Plan}
+use Rattle.flt_machine_calls.specs.declared.plans.Write.{Write}
+use Rattle.flt_machine_calls.specs.declared.plans.Write.TheVariants as write
+use Rattle.flt_machine_frames.specs.Standings.{StandsFor, activation_with}
+use Rattle.flt_machine_frames.specs.declared.standing.Standing.{Standing}
 use Rattle.flt_machine.specs.Situations.{IsKept}
 use Rattle.flt_machine.proofs.Stepped.{IsStepped, gains-append, loses-append}
 

@@ -15,9 +15,9 @@ use Rattle.flt_model.specs.Settling as settling
 use Rattle.flt_model.specs.World.{Store, Arrival, Context, Down, Entry, Presence, Route, Visiting, Detached, context_at, is_detaching, is_freed, no_route, presence_at, queue_at, route_at, visit_at, with_context, with_route}
 use Rattle.flt_ops.specs.declared.parts.Way.{Way}
 use Rattle.flt_ops.specs.Parts.{way_of}
-use Rattle.flt_store.specs.Changes.{after_change}
-use Rattle.flt_store.specs.declared.change.Change.{Change}
-use Rattle.flt_store.specs.declared.change.Change.TheVariants as change
+use Rattle.flt_machine_store.specs.Changes.{after_change}
+use Rattle.flt_machine_store.specs.declared.change.Change.{Change}
+use Rattle.flt_machine_store.specs.declared.change.Change.TheVariants as change
 use Rattle.flt_machine.specs.Tickets.{newcomer, goes_on, operations, entries_of, teardown_of, by_altitude}
 use Rattle.flt_machine.proofs.Passing.{newcomer_none}
 use Rattle.flt_machine.proofs.Quiet.{at_set, stays, into_visit, no_operation, same_operations, same_entries, no_teardown, any_rest, any_other}

@@ -14,12 +14,12 @@ use Rattle.flt_graph.specs.Instruction as invocation
 use Rattle.flt_graph.specs.declared.instruction.Instruction.{Instruction}
 use Rattle.flt_graph.specs.declared.instruction.Instruction.TheVariants as instruction
 use Rattle.flt_graph.specs.declared.instruction.Invocation.{Invocation}
-use Rattle.flt_frame.specs.Firsts.{Remains}
-use Rattle.flt_frame.specs.declared.standing.Standing.{Standing}
+use Rattle.flt_machine_frames.specs.Firsts.{Remains}
+use Rattle.flt_machine_frames.specs.declared.standing.Standing.{Standing}
 use Rattle.flt_model.specs.Locks.{holders_of, is_free_for}
 use Rattle.flt_model.specs.World.{World, actor_at}
-use Rattle.flt_calls.specs.Plans.{choice_at, begins_with_choice, leaves_choice_by}
-use Rattle.flt_calls.specs.declared.caller.Caller.{Caller}
+use Rattle.flt_machine_calls.specs.Plans.{choice_at, begins_with_choice, leaves_choice_by}
+use Rattle.flt_machine_calls.specs.declared.caller.Caller.{Caller}
 use Rattle.flt_machine.specs.Blocking.{is_blocked_by, is_blocked}
 use Rattle.flt_machine.specs.Calls.{is_refused_lock, leaves_choice_at}
 

@@ -12,12 +12,12 @@ use Rattle.flt_rules.specs.declared.call.LockNumber.{LockNumber}
 use Rattle.flt_rules.specs.declared.call.LockNumber.TheVariants.{L0, L1, L2, L3, L4, L5, L6, L7}
 use Rattle.flt_rules.specs.declared.held.Access.{Access}
 use Rattle.flt_rules.specs.declared.held.HeldLock.{HeldLock}
-use Rattle.flt_calls.specs.Continuing.{HasRoom}
-use Rattle.flt_calls.specs.Plans.{TakesNone, written, is_end}
-use Rattle.flt_calls.specs.declared.plans.Write.{Write}
-use Rattle.flt_calls.specs.declared.plans.Write.TheVariants as write
-use Rattle.flt_frame.specs.Standings.{activation_with}
-use Rattle.flt_frame.specs.declared.standing.Standing.{Standing}
+use Rattle.flt_machine_calls.specs.Continuing.{HasRoom}
+use Rattle.flt_machine_calls.specs.Plans.{TakesNone, written, is_end}
+use Rattle.flt_machine_calls.specs.declared.plans.Write.{Write}
+use Rattle.flt_machine_calls.specs.declared.plans.Write.TheVariants as write
+use Rattle.flt_machine_frames.specs.Standings.{activation_with}
+use Rattle.flt_machine_frames.specs.declared.standing.Standing.{Standing}
 use Rattle.flt_model.specs.World.{Activation}
 use Rattle.flt_machine.specs.Counted.{AreApart, AreDistinct, IsSmall}
 

@@ -14,7 +14,7 @@ use Rattle.flt_model.specs.declared.moves.JournalEntry.{JournalEntry}
 use Rattle.flt_model.specs.declared.moves.JournalEntry.TheVariants.{Go}
 use Rattle.flt_model.specs.declared.moves.JournalEntry.TheVariants as journal_entry
 use Rattle.flt_model.specs.declared.moves.Move.{Move}
-use Rattle.flt_calls.specs.Plans.{choice_at}
+use Rattle.flt_machine_calls.specs.Plans.{choice_at}
 use Rattle.flt_model.specs.Effects.{Step}
 use Rattle.flt_model.specs.Expansion.{expand, expansion}
 use Rattle.flt_model.specs.Program.{callbacks_at}
@@ -22,9 +22,9 @@ use Rattle.flt_model.specs.Runs.{Moment, start, after, next, run_from}
 use Rattle.flt_model.specs.Steps.{Transition, Make}
 use Rattle.flt_model.specs.Trace.{gains, loses, gain, lose, of_actor, same_object}
 use Rattle.flt_model.specs.World.{World, Store, Activation, nobody, activation_at, actor_at}
-use Rattle.flt_frame.specs.declared.standing.Standing.{Standing}
-use Rattle.flt_frame.specs.declared.frame.Advanced.{Advanced}
-use Rattle.flt_calls.specs.Own.{IsOf, AreOf}
+use Rattle.flt_machine_frames.specs.declared.standing.Standing.{Standing}
+use Rattle.flt_machine_frames.specs.declared.frame.Advanced.{Advanced}
+use Rattle.flt_machine_calls.specs.Own.{IsOf, AreOf}
 use Rattle.flt_machine.specs.Calls.{Commits, Makes, local_steps, step_at}
 use Rattle.flt_machine.specs.Situations.{Situation, KeptFor, IsAt, IsBoard}
 

@@ -1,6 +1,6 @@
 -- How many activations of a filter go on, as a board counts them. This project's own representation.
 use Rattle.std.specs.Prelude.{◌≡◌, ℕ, ◌+◌, ◌==◌, ◌&&◌, List, [], ◌∷◌, get_or, is_some, Option, if◌then◌else◌}
-use Rattle.flt_frame.specs.declared.standing.Standing.{Standing}
+use Rattle.flt_machine_frames.specs.declared.standing.Standing.{Standing}
 use Rattle.flt_model.specs.World.{Actor}
 use Rattle.flt_machine.specs.Counted.{IsBounded}
 use Rattle.flt_machine.specs.Situations.{Situation}

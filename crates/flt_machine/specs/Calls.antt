@@ -8,14 +8,14 @@ use Rattle.flt_rules.specs.declared.held.Access.TheVariants.{Exclusive, Shared}
 use Rattle.flt_tree.specs.declared.filter.Callback.{Callback}
 use Rattle.flt_tree.specs.declared.filter.Filter.{Filter}
 use Rattle.flt_tree.specs.declared.filter.Statement.{Statement}
-use Rattle.flt_calls.specs.Plans.{choice_at, is_end, IsWritten, IsCountedOn}
-use Rattle.flt_calls.specs.declared.caller.Caller.{Caller}
-use Rattle.flt_calls.specs.declared.plans.Plan.{Plan}
-use Rattle.flt_frame.specs.Loading.{AreLoaded, instruction_in}
-use Rattle.flt_frame.specs.Leads.{IsAdvance}
-use Rattle.flt_frame.specs.declared.frame.Advanced.{Advanced}
-use Rattle.flt_frame.specs.declared.loaded.Loaded.{Loaded}
-use Rattle.flt_frame.specs.declared.standing.Standing.{Standing}
+use Rattle.flt_machine_calls.specs.Plans.{choice_at, is_end, IsWritten, IsCountedOn}
+use Rattle.flt_machine_calls.specs.declared.caller.Caller.{Caller}
+use Rattle.flt_machine_calls.specs.declared.plans.Plan.{Plan}
+use Rattle.flt_machine_frames.specs.Loading.{AreLoaded, instruction_in}
+use Rattle.flt_machine_frames.specs.Leads.{IsAdvance}
+use Rattle.flt_machine_frames.specs.declared.frame.Advanced.{Advanced}
+use Rattle.flt_machine_frames.specs.declared.loaded.Loaded.{Loaded}
+use Rattle.flt_machine_frames.specs.declared.standing.Standing.{Standing}
 use Rattle.flt_model.specs.declared.event.Event.{Event}
 use Rattle.flt_model.specs.declared.moves.JournalEntry.TheVariants.{Go}
 use Rattle.flt_model.specs.declared.moves.Move.{Move}

@@ -2,7 +2,7 @@
 use Rattle.std.specs.Prelude.{◌≡◌, ◌≤◌, ◌*◌, ◌==◌, ℕ, false, List, [], ◌∷◌, length, Some}
 use Rattle.flt_rules.specs.Call.{place_of}
 use Rattle.flt_rules.specs.declared.held.HeldLock.{HeldLock}
-use Rattle.flt_frame.specs.declared.standing.Standing.{Standing}
+use Rattle.flt_machine_frames.specs.declared.standing.Standing.{Standing}
 use Rattle.flt_model.specs.World.{Store, context_at}
 use Rattle.flt_machine.specs.Situations.{Situation, standing_of}
 

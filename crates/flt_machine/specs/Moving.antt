@@ -6,12 +6,12 @@ use Rattle.flt_model.specs.declared.moves.JournalEntry.TheVariants as journal_en
 use Rattle.flt_model.specs.declared.moves.Move.{Move}
 use Rattle.flt_model.specs.Program.{body_at, callbacks_at}
 use Rattle.flt_model.specs.Variables.{starting}
-use Rattle.flt_store.specs.Changes.{after_change}
-use Rattle.flt_dispatch.specs.Decisions.{actors_by}
-use Rattle.flt_dispatch.specs.declared.decision.Decision.{Decision}
-use Rattle.flt_dispatch.specs.declared.decision.Start.{Start}
-use Rattle.flt_frame.specs.Standings.{StandsFor}
-use Rattle.flt_frame.specs.declared.standing.Standing.{Standing}
+use Rattle.flt_machine_store.specs.Changes.{after_change}
+use Rattle.flt_machine_dispatch.specs.Decisions.{actors_by}
+use Rattle.flt_machine_dispatch.specs.declared.decision.Decision.{Decision}
+use Rattle.flt_machine_dispatch.specs.declared.decision.Start.{Start}
+use Rattle.flt_machine_frames.specs.Standings.{StandsFor}
+use Rattle.flt_machine_frames.specs.declared.standing.Standing.{Standing}
 use Rattle.flt_machine.specs.Situations.{Situation}
 
 -- how often the new activation has gained the visit that it is given: once, where it is given one

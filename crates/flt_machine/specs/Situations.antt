@@ -2,12 +2,12 @@
 use Rattle.std.specs.Prelude.{◌≡◌, ◌≤◌, ℕ, ◌==◌, ◌&&◌, ◌||◌, Bool, true, false, List, [], ◌∷◌, length, get_or, is_some, Option, Some, None}
 use Rattle.flt_tree.specs.declared.filter.Callback.{Callback}
 use Rattle.flt_tree.specs.declared.filter.Filter.{Filter}
-use Rattle.flt_calls.specs.Plans.{IsCounted}
-use Rattle.flt_frame.specs.Loading.{AreLoaded}
-use Rattle.flt_frame.specs.Standings.{StandsFor}
-use Rattle.flt_frame.specs.declared.frame.Frame.{Frame}
-use Rattle.flt_frame.specs.declared.loaded.Loaded.{Loaded}
-use Rattle.flt_frame.specs.declared.standing.Standing.{Standing}
+use Rattle.flt_machine_calls.specs.Plans.{IsCounted}
+use Rattle.flt_machine_frames.specs.Loading.{AreLoaded}
+use Rattle.flt_machine_frames.specs.Standings.{StandsFor}
+use Rattle.flt_machine_frames.specs.declared.frame.Frame.{Frame}
+use Rattle.flt_machine_frames.specs.declared.loaded.Loaded.{Loaded}
+use Rattle.flt_machine_frames.specs.declared.standing.Standing.{Standing}
 use Rattle.flt_model.specs.declared.event.Event.{Event}
 use Rattle.flt_model.specs.declared.event.Object.TheVariants.{Visit}
 use Rattle.flt_model.specs.declared.moves.JournalEntry.{JournalEntry}
@@ -17,7 +17,7 @@ use Rattle.flt_model.specs.Runs.{Moment, run}
 use Rattle.flt_model.specs.Steps.{Transition}
 use Rattle.flt_model.specs.Trace.{gains, loses}
 use Rattle.flt_model.specs.World.{Store, Actor, Activation, activation_at, actor_at, no_actor}
-use Rattle.flt_store.specs.Stores.{empty_store}
+use Rattle.flt_machine_store.specs.Stores.{empty_store}
 
 -- all that a board holds: activations by number, each with what it is and how far it has come, unless it has ended; what
 -- activations share; and what happened

@@ -1,9 +1,9 @@
 //! Moves.
 
 ghost use Rattle.std.specs.Prelude.{◌≡◌, ◌≢◌, ◌↔◌, ◌<◌, ◌≤◌, ◌+◌, ◌++◌, ◌∷◌, [], false, List, length, Some, Err, is_some, IsTrue, IfOk, IfSome, OnOk, OnErr};
-ghost use Rattle.flt_dispatch.specs.Decisions.{IsActive, actors_by, frees_by, gains_by, is_cancelling};
-ghost use Rattle.flt_dispatch.specs.Turns as turns;
-ghost use Rattle.flt_frame.specs.Loading.{AreLoaded};
+ghost use Rattle.flt_machine_dispatch.specs.Decisions.{IsActive, actors_by, frees_by, gains_by, is_cancelling};
+ghost use Rattle.flt_machine_dispatch.specs.Turns as turns;
+ghost use Rattle.flt_machine_frames.specs.Loading.{AreLoaded};
 ghost use Rattle.flt_machine.specs.Calls as spec;
 ghost use Rattle.flt_machine.specs.Calls.{IsDisabled, IsFullFor};
 ghost use Rattle.flt_machine.specs.Moving.{Begins, HasMoved};
@@ -16,7 +16,7 @@ ghost use Rattle.flt_model.specs.Steps.{Make};
 ghost use Rattle.flt_model.specs.World.{is_detaching, presence_at};
 ghost use Rattle.flt_model.specs.declared.moves.JournalEntry.TheVariants as journal_entry;
 ghost use Rattle.flt_model.specs.declared.subject.Subject.TheVariants as subject;
-ghost use Rattle.flt_store.specs.Changes.{after_change, cancels_entries, IsPossible};
+ghost use Rattle.flt_machine_store.specs.Changes.{after_change, cancels_entries, IsPossible};
 ghost use Rattle.flt_tree.specs.declared.filter.Filter.{Filter};
 
 use crate::active::{count_start, make_room};
@@ -28,8 +28,8 @@ use crate::kept::Kept;
 use crate::tickets::subjects_by;
 use crate::writing::write;
 use counted_heap::Heap;
-use flt_dispatch::{Decision, Start, decide};
-use flt_frame::{Loaded, Standing};
+use flt_machine_dispatch::{Decision, Start, decide};
+use flt_machine_frames::{Loaded, Standing};
 use flt_model::{JournalEntry, Move, Subject};
 use flt_ops::MAX_OPERATIONS;
 use std::alloc::AllocError;
@@ -127,7 +127,7 @@ impl Board {
         ensures next { Now loaded.now self.now (λ p m. result ≡ turns.next_of p m.world serial) }
         ensures few { IfSome result (λ step. is_cancelling step ≡ false) }
     {
-        flt_dispatch::next_of(loaded, &self.store, serial)
+        flt_machine_dispatch::next_of(loaded, &self.store, serial)
     }
 
     /// The move of the teardown of the filter at an altitude; none if it isn't being detached, or if only its activations are left.
@@ -137,7 +137,7 @@ impl Board {
         ensures few { IfSome result (λ step. is_cancelling step ≡ false) }
     {
         let active = self.has_active(loaded.number(altitude));
-        flt_dispatch::next_of_teardown(loaded, &self.store, altitude, active)
+        flt_machine_dispatch::next_of_teardown(loaded, &self.store, altitude, active)
     }
 
     /// Whether the filter at an altitude is being detached: its teardown has begun and not ended. False if no filter has that altitude.

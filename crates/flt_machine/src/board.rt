@@ -4,10 +4,10 @@ ghost use Rattle.std.specs.Prelude.{◌≡◌, ◌≢◌, ◌↔◌, ◌≤◌, 
 ghost use Rattle.std.specs.List.{list_any};
 ghost use Rattle.std.specs.Option.{option_copied};
 ghost use Rattle.flt_costs.specs.Costs.{IsStarted, callback_cost, steps_of};
-ghost use Rattle.flt_dispatch.specs.Turns as turns;
-ghost use Rattle.flt_frame.specs.Loading.{AreLoaded};
-ghost use Rattle.flt_frame.specs.Standings.{StandsFor};
-ghost use Rattle.flt_frame.specs.declared.loaded.Loaded.{Loaded};
+ghost use Rattle.flt_machine_dispatch.specs.Turns as turns;
+ghost use Rattle.flt_machine_frames.specs.Loading.{AreLoaded};
+ghost use Rattle.flt_machine_frames.specs.Standings.{StandsFor};
+ghost use Rattle.flt_machine_frames.specs.declared.loaded.Loaded.{Loaded};
 ghost use Rattle.flt_machine.specs.Situations as spec;
 ghost use Rattle.flt_machine.specs.Situations.{IsBoard, IsAt, IsOwn, Now};
 ghost use Rattle.flt_model.specs.Moves.{make};
@@ -23,10 +23,10 @@ use crate::actor::Actor;
 use crate::kept::Kept;
 use counted_heap::Heap;
 use flt_costs::journals_stay_within_costs;
-use flt_frame::{Frame, Loaded, Standing};
+use flt_machine_frames::{Frame, Loaded, Standing};
+use flt_machine_store::{Outcome, Store};
 use flt_model::{Journal, Move};
 use flt_rules::Place;
-use flt_store::{Outcome, Store};
 use std::alloc::AllocError;
 use std::marker::Model;
 

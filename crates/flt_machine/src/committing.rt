@@ -1,11 +1,11 @@
 //! Steps of activations.
 
 ghost use Rattle.std.specs.Prelude.{◌≡◌, ◌≢◌, ◌↔◌, ◌||◌, not, ◌<◌, ◌≤◌, ◌+◌, ◌++◌, ◌∷◌, [], ℕ, true, false, List, length, set, get_or, IsSome, IsTrue, is_some, if◌then◌else◌, Some, None, OnOk, OnErr, IfOk, IfSome};
-ghost use Rattle.flt_calls.specs.Continuing.{leads_on};
-ghost use Rattle.flt_calls.specs.Own.{AreOf};
-ghost use Rattle.flt_calls.specs.Plans.{TakesNone, is_end};
-ghost use Rattle.flt_frame.specs.Firsts.{Remains};
-ghost use Rattle.flt_frame.specs.Loading.{AreLoaded};
+ghost use Rattle.flt_machine_calls.specs.Continuing.{leads_on};
+ghost use Rattle.flt_machine_calls.specs.Own.{AreOf};
+ghost use Rattle.flt_machine_calls.specs.Plans.{TakesNone, is_end};
+ghost use Rattle.flt_machine_frames.specs.Firsts.{Remains};
+ghost use Rattle.flt_machine_frames.specs.Loading.{AreLoaded};
 ghost use Rattle.flt_machine.specs.Calls as spec;
 ghost use Rattle.flt_machine.specs.Calls.{IsAdvanced, IsBlocked, IsFresh};
 ghost use Rattle.flt_machine.specs.Counted.{IsSmall};
@@ -15,7 +15,7 @@ ghost use Rattle.flt_machine.specs.declared.committing.Commit.TheVariants as ans
 ghost use Rattle.flt_machine.specs.declared.events.Events.{Events};
 ghost use Rattle.flt_model.specs.declared.moves.JournalEntry.TheVariants.{Go};
 ghost use Rattle.flt_model.specs.declared.subject.Subject.TheVariants as subject;
-ghost use Rattle.flt_store.specs.Changes.{after_change, IsPossible};
+ghost use Rattle.flt_machine_store.specs.Changes.{after_change, IsPossible};
 ghost use Rattle.flt_tree.specs.declared.filter.Callback.{Callback};
 ghost use Rattle.flt_tree.specs.declared.filter.Filter.{Filter};
 ghost use Rattle.flt_tree.specs.declared.filter.Statement.{Statement};
@@ -27,12 +27,12 @@ use crate::kept::Kept;
 use crate::tickets::subjects_by;
 use crate::writing::write;
 use counted_heap::Heap;
-use flt_calls::{Caller, Plan, Write, continued, plan_step};
-use flt_frame::{Advanced, Loaded, Standing, standings_have_points};
 use flt_graph::Instruction;
+use flt_machine_calls::{Caller, Plan, Write, continued, plan_step};
+use flt_machine_frames::{Advanced, Loaded, Standing, standings_have_points};
+use flt_machine_store::Change;
 use flt_model::{JournalEntry, Subject};
 use flt_rules::{Access, Call};
-use flt_store::Change;
 use std::alloc::AllocError;
 
 /// The answer of a commit. After any but `Committed` the board and its journal are unchanged.

@@ -1,10 +1,10 @@
 //! The effect of a move or a step: its events, and the subjects that get a ticket.
 
 ghost use Rattle.std.specs.Prelude.{◌≡◌, ◌≢◌, ◌++◌, IfOk, OnOk, OnErr};
-ghost use Rattle.flt_dispatch.specs.Decisions as spec;
+ghost use Rattle.flt_machine_dispatch.specs.Decisions as spec;
 
 use counted_heap::Heap;
-use flt_dispatch::Decision;
+use flt_machine_dispatch::Decision;
 use flt_model::{Event, Object, Subject};
 use sqlite_items::Items;
 use std::alloc::AllocError;

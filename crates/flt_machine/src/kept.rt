@@ -3,7 +3,7 @@
 ghost use Rattle.std.specs.Prelude.{◌≡◌, ◌≢◌, IfOk, OnOk, OnErr};
 
 use counted_heap::Heap;
-use flt_frame::Standing;
+use flt_machine_frames::Standing;
 use std::alloc::AllocError;
 use std::marker::Model;
 
@@ -14,7 +14,7 @@ pub(crate) struct Kept {
 }
 
 impl Model for Kept {
-    ghost use Rattle.flt_frame.specs.declared.standing.Standing.{Standing};
+    ghost use Rattle.flt_machine_frames.specs.declared.standing.Standing.{Standing};
 
     ghost Value = { Standing };
 

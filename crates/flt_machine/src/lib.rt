@@ -19,8 +19,8 @@ pub use board::{Board, MAX_ENTRIES};
 pub use committing::Commit;
 pub use events::Events;
 pub use fault::ApplyFault;
-pub use flt_frame::{Advanced, Frame, Loaded, LoadedFault, advance};
+pub use flt_machine_frames::{Advanced, Frame, Loaded, LoadedFault, advance};
 /// How an operation ended at its lowest point.
-pub use flt_store::Outcome;
+pub use flt_machine_store::Outcome;
 /// The answer of a call that was refused memory.
 pub use std::alloc::AllocError as OutOfMemory;

@@ -8,13 +8,13 @@ ghost use Rattle.flt_model.specs.Moves.{is_entry_of, is_up};
 ghost use Rattle.flt_model.specs.World as machine;
 ghost use Rattle.flt_model.specs.declared.subject.Subject.TheVariants as subject;
 ghost use Rattle.flt_ops.specs.Parts.{position_of, way_of};
-ghost use Rattle.flt_store.specs.Changes.{after_change, cancels_entries, IsPossible};
-ghost use Rattle.flt_store.specs.declared.change.Change.TheVariants as change;
+ghost use Rattle.flt_machine_store.specs.Changes.{after_change, cancels_entries, IsPossible};
+ghost use Rattle.flt_machine_store.specs.declared.change.Change.TheVariants as change;
 
 use counted_heap::Heap;
-use flt_frame::Loaded;
+use flt_machine_frames::Loaded;
+use flt_machine_store::{Change, Position, Store, Way};
 use flt_model::Subject;
-use flt_store::{Change, Position, Store, Way};
 use std::alloc::AllocError;
 
 /// The subjects that get a ticket by a change of the store, with the activation that starts or hasn't ended.

@@ -1,11 +1,11 @@
 //! Changes, each with its entry.
 
 ghost use Rattle.std.specs.Prelude.{◌≡◌, ◌≢◌, ◌++◌, ◌∷◌, [], OnOk, OnErr};
-ghost use Rattle.flt_store.specs.Changes.{after_change, IsPossible};
+ghost use Rattle.flt_machine_store.specs.Changes.{after_change, IsPossible};
 
 use counted_heap::Heap;
+use flt_machine_store::{Change, Store};
 use flt_model::{Journal, JournalEntry};
-use flt_store::{Change, Store};
 use std::alloc::AllocError;
 
 /// Changes the store and adds the entry that says so, or changes nothing.

@@ -1,6 +1,6 @@
 -- How often each activation holds each context, counted by context, and how often it holds contexts in all.
 use Rattle.std.specs.Prelude.{◌≡◌, ℕ, zero, suc, ◌+◌, ◌≤◌, List}
-use Rattle.flt_records.specs.Counts.{count}
+use Rattle.flt_replay_records.specs.Counts.{count}
 use Rattle.flt_replay.specs.Rows.{Counted, count_of}
 
 -- how often an activation holds a context

@@ -12,7 +12,7 @@ use Rattle.flt_model.specs.Runs.{Moment, next, keeps}
 use Rattle.flt_model.specs.Steps.{Transition}
 use Rattle.flt_model.specs.Violations.{legal_statuses, levels_kept, is_disciplined, legal_places}
 use Rattle.flt_model.specs.World.{World, activation_at}
-pub use Rattle.flt_world.specs.Filters.{filters_of}
+pub use Rattle.flt_replay_world.specs.Filters.{filters_of}
 
 -- ---- the violations of who holds what, and those of rules
 

@@ -10,7 +10,7 @@ use Rattle.flt_model.specs.Trace.{gains, loses, frees, settles, is_held}
 use Rattle.flt_model.specs.Violations.{in_queue, in_item, is_fresh, leaks_nothing, is_first_settling, no_stale_use, no_leak, settled_once, one_owner}
 use Rattle.flt_model.specs.World.{World, Store, Activation, is_settled}
 use Rattle.flt_replay.specs.Apart.{is_apart, are_apart, ends_in}
-use Rattle.flt_records.specs.Counts.{count, occurs}
+use Rattle.flt_replay_records.specs.Counts.{count, occurs}
 use Rattle.flt_replay.specs.Holdings.{times_held}
 use Rattle.flt_replay.specs.Rows.{Counted, count_of}
 

@@ -4,7 +4,7 @@ use Rattle.std.specs.BTreeMap.{is_at}
 use Rattle.std.specs.Map.{lookup}
 use Rattle.std.specs.Option.{unwrap_or}
 use Rattle.std.specs.Ordering.{nat_cmp}
-use Rattle.flt_records.specs.Counts.{count_in}
+use Rattle.flt_replay_records.specs.Counts.{count_in}
 use Rattle.flt_replay.specs.declared.ledger.rows.First.{First}
 
 -- by activation the number in place, and the others of each that has some

@@ -15,13 +15,13 @@ ghost use Rattle.flt_model.specs.declared.event.Event.TheVariants.{Use, Gain, Lo
 ghost use Rattle.flt_model.specs.declared.verdict.Violation.TheVariants.{V1, V2, V3, V4};
 ghost use Rattle.flt_model.specs.World as machine;
 ghost use Rattle.flt_model.specs.Violations as rules;
-ghost use Rattle.flt_records.specs.Counts.{count, occurs};
+ghost use Rattle.flt_replay_records.specs.Counts.{count, occurs};
 ghost use Rattle.flt_replay.specs.Rows.{count_of};
 ghost use Rattle.flt_replay.specs.Ledger as spec;
 
 use flt_model::{Event, Object, Violation, local_steps_are_quiet};
-use flt_records::Counts;
-use flt_world::World;
+use flt_replay_records::Counts;
+use flt_replay_world::World;
 use std::alloc::{AllocError, Global};
 use std::marker::Model;
 

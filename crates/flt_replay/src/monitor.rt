@@ -10,9 +10,9 @@ ghost use Rattle.flt_model.specs.Steps.{Transition, Make, Local, Board};
 ghost use Rattle.flt_replay.specs.Ledger.{Agrees};
 ghost use Rattle.flt_replay.specs.Judging.{Follows, IsJudgedBy, first_of, of_rules};
 ghost use Rattle.flt_replay.specs.Lesser.{BreaksRule, EndsBy, moment_after};
-ghost use Rattle.flt_world.specs.Filters.{filters_of};
+ghost use Rattle.flt_replay_world.specs.Filters.{filters_of};
 ghost use Rattle.flt_replay.specs.Monitoring.{IsAt, ComesTo, GoesOn};
-ghost use Rattle.flt_world.specs.Happening.{holds_given};
+ghost use Rattle.flt_replay_world.specs.Happening.{holds_given};
 ghost use Rattle.flt_tree.specs.declared.filter.Filter.{Filter};
 
 use crate::ledger::Ledger;
@@ -21,9 +21,9 @@ use flt_model::{
     Event, Journal, JournalEntry, Move, Object, Verdict, Violation, first_faults_are_told,
     legal_journals_are_clean_runs, local_steps_are_quiet, locks_stay_exclusive,
 };
-use flt_steps::Setup;
+use flt_replay_steps::Setup;
+use flt_replay_world::{Stack, World};
 use flt_tree::{OperationVariable, Tree};
-use flt_world::{Stack, World};
 use std::alloc::{AllocError, Global};
 
 /// The outcome of an entry.
@@ -96,7 +96,7 @@ impl<'a> Monitor<'a> {
     {
         locks_stay_exclusive();
         room.events.clear();
-        if !flt_moves::make(&mut self.world, alloc, stack, next, &mut room.events)? {
+        if !flt_replay_moves::make(&mut self.world, alloc, stack, next, &mut room.events)? {
             return Ok(Course::Stops);
         }
         self.judged(alloc, room, None)
@@ -125,7 +125,7 @@ impl<'a> Monitor<'a> {
         };
         let locks = self.world.locks_of(alloc, a)?;
         room.events.clear();
-        if !flt_steps::step_seen(&mut self.world, stack, setup, &mut room.events)? {
+        if !flt_replay_steps::step_seen(&mut self.world, stack, setup, &mut room.events)? {
             return Ok(None);
         }
         let scene = Scene {
@@ -163,7 +163,7 @@ impl<'a> Monitor<'a> {
     {
         local_steps_are_quiet();
         locks_stay_exclusive();
-        flt_steps::steps_unseen(&mut self.world, a, steps)
+        flt_replay_steps::steps_unseen(&mut self.world, a, steps)
     }
 
     /// The same, for mostly no steps.

@@ -14,7 +14,7 @@ ghost use Rattle.flt_model.specs.declared.event.Event.TheVariants.{Call as Calle
 ghost use Rattle.flt_model.specs.declared.event.Object.TheVariants.{Visit};
 ghost use Rattle.flt_replay.specs.Judging.{is_by, keeps_rule, least_of, of_rules};
 ghost use Rattle.flt_replay.specs.Scenes.{before};
-ghost use Rattle.flt_world.specs.Happening.{holds_visit, holds_given};
+ghost use Rattle.flt_replay_world.specs.Happening.{holds_visit, holds_given};
 ghost use Rattle.flt_rules.specs.Call as calls;
 ghost use Rattle.flt_rules.specs.Columns.{has_place};
 ghost use Rattle.flt_rules.specs.Held as held;
@@ -26,13 +26,13 @@ ghost use Rattle.flt_tree.specs.declared.variable.OperationVariable.TheVariants 
 
 use crate::statuses::{is_of_mode, is_possessed};
 use flt_model::{Answer, Event, Violation};
-use flt_records::holds_lock;
+use flt_replay_records::holds_lock;
+use flt_replay_world::{Stack, World};
 use flt_rules::{
     Call, HeldLock, Level, LockNumber, Mode, Operation, Place, Places, Possessed, Stage, StatusRow,
     StatusWord, is_legal_in_draining, row, status_row,
 };
 use flt_tree::{OperationVariable, Status};
-use flt_world::{Stack, World};
 
 /// Whether the lock is the latest taken.
 fn is_latest(lock: LockNumber, locks: &[HeldLock]) -> bool

@@ -1,7 +1,7 @@
 //! Answers: each run is judged once, and each goal is answered by its own copy of one.
 
 ghost use Rattle.std.specs.Prelude.{IfOk, IfSome};
-ghost use Rattle.flt_world.specs.Filters.{filters_of};
+ghost use Rattle.flt_replay_world.specs.Filters.{filters_of};
 ghost use Rattle.flt_search.specs.Found as spec;
 
 use crate::goal::Goal;

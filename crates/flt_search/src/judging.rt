@@ -1,7 +1,7 @@
 //! Journals as the monitor judges them.
 
 ghost use Rattle.std.specs.Prelude.{◌≡◌, ◌↔◌, IfOk, IfSome, IsTrue, Contains};
-ghost use Rattle.flt_world.specs.Filters.{filters_of};
+ghost use Rattle.flt_replay_world.specs.Filters.{filters_of};
 ghost use Rattle.flt_search.specs.Found as spec;
 
 use counted_heap::Heap;

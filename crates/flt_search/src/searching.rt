@@ -1,19 +1,19 @@
 //! The search, round after round, and its answers.
 
 ghost use Rattle.std.specs.Prelude.{IfOk};
-ghost use Rattle.flt_world.specs.Filters.{filters_of};
+ghost use Rattle.flt_replay_world.specs.Filters.{filters_of};
 ghost use Rattle.flt_search.specs.Found as spec;
 
 use crate::answering::{Answer, Proposals, answers};
 use crate::goal::{Bounds, Goal};
 use crate::judging::{is_same, judge};
 use crate::shortening::shorten;
-use flt_explore::{
+use flt_model::{JournalEntry, Violation};
+use flt_search_plan::Plan;
+use flt_search_rounds::{
     Firsts, Found, Left, ROUNDS, Round, Search, SearchWatch, Stand, Targets, Watched, explore,
 };
-use flt_model::{JournalEntry, Violation};
-use flt_plan::Plan;
-use flt_small_world::Violations;
+use flt_search_world::Violations;
 use flt_tree::Tree;
 use std::alloc::{AllocError, Global};
 

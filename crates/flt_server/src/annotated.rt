@@ -1,9 +1,9 @@
 //! The annotations of C files, as texts that are read.
 
 use flt_c::{PlaceFlaw, in_place};
-use flt_outline::byte_of;
 use flt_places::Lines;
-use flt_session::{Encoding, Spot};
+use flt_server_outline::byte_of;
+use flt_server_session::{Encoding, Spot};
 use flt_tree::Position;
 use std::alloc::{AllocError, Global};
 

@@ -3,9 +3,9 @@
 use crate::members::{put_number, put_text};
 use crate::places::Document;
 use crate::trial::{byte_of_fault, fault_of, trial_text};
-use flt_details::tokens_of;
-use flt_hints::{Choices, Expected, describe};
-use flt_outline::is_variable;
+use flt_explain_details::tokens_of;
+use flt_explain_hints::{Choices, Expected, describe};
+use flt_server_outline::is_variable;
 use flt_syntax::{Kind, SyntaxFault};
 use json::Writer;
 use std::alloc::{AllocError, Global};

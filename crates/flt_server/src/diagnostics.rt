@@ -8,8 +8,8 @@ use crate::flaws::put_flaw;
 use crate::places::{Document, document_in_c, document_of};
 use crate::warned::put_warnings;
 use flt_c::{Flaw, PlaceFlaw};
-use flt_details::{Judged, judge};
-use flt_session::OpenText;
+use flt_explain_details::{Judged, judge};
+use flt_server_session::OpenText;
 use json::Writer;
 use std::alloc::{AllocError, Global};
 

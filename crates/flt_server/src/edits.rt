@@ -3,9 +3,9 @@
 use crate::focus::Focus;
 use crate::members::{put_string, put_text};
 use crate::places::Document;
-use flt_details::{Judged, judge};
 use flt_explain::Finding;
-use flt_outline::Part;
+use flt_explain_details::{Judged, judge};
+use flt_server_outline::Part;
 use json::Writer;
 use std::alloc::{AllocError, Global};
 

@@ -1,13 +1,13 @@
 //! Facts of a statement in words, by the certificate of a text: each variable, each lock and the level where it is reached.
 
 ghost use Rattle.std.specs.Prelude.{◌≡◌, ◌<◌, IfOk};
-ghost use Rattle.flt_warning_details.specs.Details.{IsLeastOf};
+ghost use Rattle.flt_explain_warning_details.specs.Details.{IsLeastOf};
 
 use flt_abs::{Abs, Statuses};
 use flt_analyse::{AnalyseFault, Ticks, analyse};
 use flt_cert::FullCert;
-use flt_details::{Page, word_of};
 use flt_explain::Subject;
+use flt_explain_details::{Page, word_of};
 use flt_graph::Graph;
 use flt_rules::{Access, HeldLock, Level, entry_level, raised_by};
 use flt_syntax::Tree;

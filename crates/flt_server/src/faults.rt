@@ -3,10 +3,10 @@
 use crate::members::{add_line, put_number, put_string, put_text};
 use crate::places::{Document, own_files};
 use crate::trial::trial_text;
-use flt_details::{fault_name, line_words};
-use flt_hints::{Told, Trouble, describe, tell};
-use flt_outline::Part;
+use flt_explain_details::{fault_name, line_words};
+use flt_explain_hints::{Told, Trouble, describe, tell};
 use flt_places::{Region, lines_of};
+use flt_server_outline::Part;
 use flt_syntax::SyntaxFault;
 use flt_tree::Position;
 use json::Writer;

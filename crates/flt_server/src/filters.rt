@@ -11,7 +11,7 @@ use crate::places::{Document, document_in_c, document_of};
 use crate::symbols::symbols;
 use crate::uses::{definition, references};
 use flt_c_files::is_c_file;
-use flt_session::{Language, OpenText, Question};
+use flt_server_session::{Language, OpenText, Question};
 use std::alloc::{AllocError, Global};
 
 /// The language of filters.

@@ -3,11 +3,11 @@
 use crate::faults::{put_kind, put_rest};
 use crate::members::{add_line, put_text};
 use crate::places::{Document, region_of as region_of_part};
-use flt_details::{Detail, Maker, Marks, RuleName, Words, details};
 use flt_explain::Finding;
+use flt_explain_details::{Detail, Maker, Marks, RuleName, Words, details};
 use flt_graph::Graph;
-use flt_outline::Part;
 use flt_places::Region;
+use flt_server_outline::Part;
 use flt_syntax::Tree;
 use json::Writer;
 use std::alloc::{AllocError, Global};

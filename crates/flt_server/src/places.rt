@@ -1,10 +1,10 @@
 //! Documents, and places in them as members of JSON objects.
 
 use crate::annotated::{CFile, Pair};
-use flt_details::Source;
-use flt_outline::{Part, byte_of, spot_of};
+use flt_explain_details::Source;
 use flt_places::{Files, Lines, Region};
-use flt_session::{Encoding, OpenText, Spot};
+use flt_server_outline::{Part, byte_of, spot_of};
+use flt_server_session::{Encoding, OpenText, Spot};
 use flt_tree::Position;
 use json::Writer;
 use std::alloc::{AllocError, Global};

@@ -1,13 +1,13 @@
 //! The server of a client whose documents are texts of filters.
 
 ghost use Rattle.std.specs.Prelude.{◌≡◌, [], IfOk, OnErr};
-ghost use Rattle.flt_frames.specs.Handling.{reply_of};
-ghost use Rattle.flt_session.specs.Answers.{IsAnswered};
-ghost use Rattle.flt_session.specs.declared.phase.Phase.TheVariants.{Fresh};
+ghost use Rattle.flt_server_frames.specs.Handling.{reply_of};
+ghost use Rattle.flt_server_session.specs.Answers.{IsAnswered};
+ghost use Rattle.flt_server_session.specs.declared.phase.Phase.TheVariants.{Fresh};
 
 use crate::filters::Filters;
-use flt_frames::{Answered, Handler};
-use flt_session::{Reporter, Session};
+use flt_server_frames::{Answered, Handler};
+use flt_server_session::{Reporter, Session};
 use std::alloc::{AllocError, Global};
 
 /// A server of one client.
@@ -31,7 +31,7 @@ impl<R: Reporter + Drop> Server<R> {
 }
 
 impl<R: Reporter + Drop> Handler for Server<R> {
-    ghost use Rattle.flt_session.specs.Answers.{IsAnswered};
+    ghost use Rattle.flt_server_session.specs.Answers.{IsAnswered};
 
     ghost answers = { λ old body answer new. IsAnswered R.reports old.session body answer new.session };
 

@@ -2,8 +2,8 @@
 
 use crate::members::null;
 use crate::places::{Document, region_of};
-use flt_details::tokens_of;
-use flt_outline::{Marked, Part, declaration_of, mark_tokens, mention_at, uses_of};
+use flt_explain_details::tokens_of;
+use flt_server_outline::{Marked, Part, declaration_of, mark_tokens, mention_at, uses_of};
 use flt_syntax::Token;
 use json::Writer;
 use sqlite_items::Items;

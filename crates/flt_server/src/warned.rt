@@ -5,10 +5,10 @@ use crate::findings::{put_related_place, region_of};
 use crate::members::{add_line, put_text};
 use crate::places::Document;
 use flt_explain::Finding;
+use flt_explain_warning_details::{RelatedPlace, WarningDetail, warning_details};
+use flt_explain_warnings::AllowedKinds;
 use flt_graph::{Graph, Instruction};
 use flt_syntax::{Action, Tree};
-use flt_warning_details::{RelatedPlace, WarningDetail, warning_details};
-use flt_warnings::AllowedKinds;
 use json::Writer;
 use std::alloc::{AllocError, Global};
 

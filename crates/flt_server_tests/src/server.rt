@@ -2,9 +2,9 @@
 
 ghost use Rattle.std.specs.Prelude.{⊤};
 
-use flt_frames::{Answered, Handler};
 use flt_server::Server;
-use flt_session::Reporter;
+use flt_server_frames::{Answered, Handler};
+use flt_server_session::Reporter;
 use std::alloc::{AllocError, Global};
 use std::test::Fail;
 

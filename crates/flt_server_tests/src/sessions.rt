@@ -2,8 +2,8 @@
 
 ghost use Rattle.std.specs.Prelude.{⊤};
 
-use flt_frames::Answered;
-use flt_session::{Encoding, Language, OpenText, Question, Reporter, Session, Spot};
+use flt_server_frames::Answered;
+use flt_server_session::{Encoding, Language, OpenText, Question, Reporter, Session, Spot};
 use std::alloc::{AllocError, Global};
 use std::test::Fail;
 

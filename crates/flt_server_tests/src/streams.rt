@@ -1,7 +1,9 @@
 //! Tests of frames that are read from streams in pieces, and of a server's output over such streams.
 
-use flt_frames::{Answered, Frame, Handler, Incoming, ServeFault, push_frame, read_frame, serve};
 use flt_model::{ReadFault, Sink, WriteFault};
+use flt_server_frames::{
+    Answered, Frame, Handler, Incoming, ServeFault, push_frame, read_frame, serve,
+};
 use std::alloc::{AllocError, Global};
 use std::test::Fail;
 

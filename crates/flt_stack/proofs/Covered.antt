@@ -14,7 +14,7 @@ use Rattle.flt_cert.specs.declared.cert.Cert.{Cert}
 use Rattle.flt_check.specs.Accepting.{CertCovers, IsCertFault, full_of}
 use Rattle.flt_check.specs.Covering.{Covers}
 use Rattle.flt_check.specs.declared.checker.Refusal.{Refusal}
-use Rattle.flt_frame.specs.Loading.{AreGraphsOfFilters}
+use Rattle.flt_machine_frames.specs.Loading.{AreGraphsOfFilters}
 use Rattle.flt_sound.specs.Progress.{AreOrderly, IsOrderly}
 use Rattle.flt_sound.specs.Soundness.{IsAccepted, AreAccepted}
 use Rattle.flt_stack.proofs.Leasts.{orderly_by}

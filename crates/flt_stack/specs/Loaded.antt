@@ -1,8 +1,8 @@
 -- What is kept of loaded filters.
 use Rattle.std.specs.Prelude.{◌≡◌, ◌↔◌, Bool, IsTrue, List}
 use Rattle.flt_tree.specs.declared.filter.Filter.{Filter}
-use Rattle.flt_frame.specs.Loading.{AreLoaded}
-use Rattle.flt_frame.specs.declared.loaded.Loaded.{Loaded}
+use Rattle.flt_machine_frames.specs.Loading.{AreLoaded}
+use Rattle.flt_machine_frames.specs.declared.loaded.Loaded.{Loaded}
 use Rattle.flt_model.specs.Program.{HasDistinctAltitudes, by_altitude}
 use Rattle.flt_sound.specs.Progress.{AreOrderly}
 use Rattle.flt_sound.specs.Soundness.{AreAccepted}

@@ -1,7 +1,7 @@
 //! The loaded filters, each accepted, from the highest altitude to the lowest, and the same as a machine runs them.
 
 ghost use Rattle.std.specs.Prelude.{◌≡◌, ◌↔◌, ℕ, IsTrue, List, None};
-ghost use Rattle.flt_frame.specs.Loading.{AreLoaded};
+ghost use Rattle.flt_machine_frames.specs.Loading.{AreLoaded};
 ghost use Rattle.flt_machine.specs.Situations.{IsBoard};
 ghost use Rattle.flt_model.specs.Expansion.{IsCleanRun, verdict};
 ghost use Rattle.flt_model.specs.Program.{by_altitude, filters_of};

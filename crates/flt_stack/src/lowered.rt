@@ -3,7 +3,7 @@
 
 ghost use Rattle.std.specs.Prelude.{◌≡◌, ◌↔◌, List, None, length, IfErr, IfOk, IfSome, IsTrue};
 ghost use Rattle.std.specs.List.{All};
-ghost use Rattle.flt_frame.specs.Loading.{AreGraphsOfFilters};
+ghost use Rattle.flt_machine_frames.specs.Loading.{AreGraphsOfFilters};
 ghost use Rattle.flt_model.specs.Program.{filters_of};
 ghost use Rattle.flt_model.specs.Runs.{breaks};
 ghost use Rattle.flt_model.specs.Steps.{Transition};

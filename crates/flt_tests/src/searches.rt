@@ -2,8 +2,8 @@
 
 use flt_explain::findings;
 use flt_graph::{Graph, lower};
-use flt_schedules::{Outlook, Suspect, Suspects, outcomes_among};
 use flt_search::SearchWatch;
+use flt_search_schedules::{Outlook, Suspect, Suspects, outcomes_among};
 use flt_syntax::{Tree, parse};
 use std::alloc::{AllocError, Global};
 use std::test::Fail;

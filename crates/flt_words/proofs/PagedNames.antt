@@ -2,7 +2,7 @@
 use Rattle.std.proofs.Common.{◌≡◌, ◌≤◌, ℕ, List, [], ◌∷◌, Bor, arith, length, map, sym}
 use Rattle.std.proofs.lemmas.List.Folds.{list_all-map}
 use Rattle.std.specs.List.{list_all}
-use Rattle.flt_pages.specs.Pages.{has_page}
+use Rattle.flt_explain_pages.specs.Pages.{has_page}
 use Rattle.flt_words.specs.Words.{have_pages}
 
 -- where there are names, they have pages if each of them has one

@@ -12,7 +12,7 @@ use Rattle.clap.specs.Walk.{Row, Text, all_of, byte_or_zero, first_of}
 use Rattle.clap.specs.declared.error.kind.ErrorKind.{ErrorKind}
 use Rattle.clap.specs.declared.error.kind.ErrorKind.TheVariants.{OutOfMemory}
 use Rattle.flt_words.specs.Program.{program_app}
-use Rattle.flt_pages.specs.Pages.{has_page}
+use Rattle.flt_explain_pages.specs.Pages.{has_page}
 use Rattle.flt_words.specs.declared.request.Form.{Form}
 use Rattle.flt_words.specs.declared.request.Form.TheVariants.{Html, Human, Lines, LinesWithRuns, Sarif, SarifWithRuns, Short}
 use Rattle.flt_words.specs.declared.request.FormatMode.TheVariants.{Print, Check as CheckOnly, Write}

@@ -5,7 +5,7 @@ ghost use Rattle.std.specs.List.{list_all, list_any};
 ghost use Rattle.clap.specs.Matches.{found_of};
 ghost use Rattle.clap.specs.Simple.{subcommand_rows_of};
 ghost use Rattle.clap.specs.Walk.{rows_of};
-ghost use Rattle.flt_pages.specs.Pages.{has_page};
+ghost use Rattle.flt_explain_pages.specs.Pages.{has_page};
 ghost use Rattle.flt_words.specs.Request.{Serve, asked_of, choice_of};
 ghost use Rattle.flt_words.specs.Words as spec;
 
@@ -15,7 +15,7 @@ use crate::shown::visible;
 use crate::workers::Workers;
 use clap::ArgMatches;
 use clap::error::ErrorKind;
-use flt_pages::page;
+use flt_explain_pages::page;
 use std::alloc::{AllocError, Global};
 
 /// The error if the number of workers isn't 1 to 16.

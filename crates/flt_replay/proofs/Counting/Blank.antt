@@ -6,7 +6,7 @@ use Rattle.flt_model.specs.declared.event.Object.TheVariants.{Context, Visit}
 use Rattle.flt_model.specs.Runs.{start}
 use Rattle.flt_model.specs.Trace.{gains, loses, frees, settles}
 use Rattle.flt_replay.proofs.Machine.Owners.{tidy_start}
-use Rattle.flt_records.specs.Counts.{count}
+use Rattle.flt_replay_records.specs.Counts.{count}
 use Rattle.flt_replay.specs.Holdings.{times_held}
 use Rattle.flt_replay.specs.Rows.{count_of}
 use Rattle.flt_replay.specs.Ledger.{Tally, Tells, Agrees, held, running_with}

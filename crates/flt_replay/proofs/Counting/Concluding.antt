@@ -26,7 +26,7 @@ use Rattle.flt_replay.proofs.Machine.Onward.{Onward, Peopled, NobodyNew, OneNew,
 use Rattle.flt_replay.proofs.Machine.Owners.{Tidy, Spared, tidy_after, one_owner_after, one_owner_at}
 use Rattle.flt_replay.proofs.Counting.Tallies.{held_is}
 use Rattle.flt_replay.specs.Apart.{ends_in}
-use Rattle.flt_records.specs.Counts.{count, occurs}
+use Rattle.flt_replay_records.specs.Counts.{count, occurs}
 use Rattle.flt_replay.specs.Holdings.{times_held}
 use Rattle.flt_replay.specs.Rows.{count_of}
 use Rattle.flt_replay.specs.Judging.{Follows, first_of, of_holding}

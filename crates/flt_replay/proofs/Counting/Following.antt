@@ -11,7 +11,7 @@ use Rattle.flt_model.specs.declared.event.Event.{Event}
 use Rattle.flt_model.specs.declared.event.Event.TheVariants as event
 use Rattle.flt_replay.specs.Apart.{is_end_of, ends_in}
 use Rattle.flt_replay.specs.Rows.{count_of}
-use Rattle.flt_records.specs.Counts.{occurs}
+use Rattle.flt_replay_records.specs.Counts.{occurs}
 use Rattle.flt_replay.specs.Ledger.{Tally, Stopped, Halted, Started, Joined}
 
 -- ---- an activation more

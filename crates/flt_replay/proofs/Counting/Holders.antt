@@ -6,7 +6,7 @@ use Rattle.std.proofs.Math.ListN.{set}
 use Rattle.std.specs.Prelude.{◌==◌, ◌&&◌, if◌then◌else◌}
 use Rattle.flt_model.specs.Trace.{one_if, of_actor}
 use Rattle.flt_replay.proofs.Counting.Ones.{one_here, one_elsewhere, actor_here, actor_elsewhere}
-use Rattle.flt_records.specs.Counts.{count, occurs}
+use Rattle.flt_replay_records.specs.Counts.{count, occurs}
 use Rattle.flt_replay.specs.Rows.{Counted, count_of}
 use Rattle.flt_replay.specs.Ledger.{Tally, IsCounted, Turned, Stopped, Started, is_without, share, running_with}
 

@@ -14,7 +14,7 @@ use Rattle.flt_model.specs.World.{World}
 use Rattle.flt_replay.proofs.Counting.Ones.{actor_none}
 use Rattle.flt_replay.proofs.Counting.Tallies.{held_is}
 use Rattle.flt_replay.specs.Apart.{is_apart}
-use Rattle.flt_records.specs.Counts.{count, occurs}
+use Rattle.flt_replay_records.specs.Counts.{count, occurs}
 use Rattle.flt_replay.specs.Holdings.{times_held}
 use Rattle.flt_replay.specs.Rows.{Counted, count_of}
 use Rattle.flt_replay.specs.Ledger.{Tally, Tells, IsCounted, Turned, Noted, held}

@@ -7,7 +7,7 @@ use Rattle.std.proofs.lemmas.Grind.{get_or-set_at}
 use Rattle.std.proofs.lemmas.List.{get_or-set_other}
 use Rattle.std.proofs.lemmas.List.Sums.{sum_by_push}
 use Rattle.flt_model.specs.Trace.{one_if, of_actor}
-use Rattle.flt_records.specs.Counts.{count, occurs}
+use Rattle.flt_replay_records.specs.Counts.{count, occurs}
 use Rattle.flt_replay.specs.Rows.{Counted, AreApart, blank, in_place, count_among, count_of}
 use Rattle.flt_replay.specs.declared.ledger.rows.First.{First}
 use Rattle.flt_replay.proofs.Counting.Ones.{one_elsewhere, actor_here, actor_elsewhere}

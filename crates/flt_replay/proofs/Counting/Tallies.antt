@@ -12,7 +12,7 @@ use Rattle.flt_model.specs.declared.event.Object.TheVariants.{Context, Visit}
 use Rattle.flt_model.specs.Trace.{one_if, of_actor, gains, loses, gain, is_held}
 use Rattle.flt_model.specs.Violations.{is_live, is_let_go, leaks_nothing}
 use Rattle.flt_replay.proofs.Counting.Ones.{one_elsewhere, actor_none}
-use Rattle.flt_records.specs.Counts.{count}
+use Rattle.flt_replay_records.specs.Counts.{count}
 use Rattle.flt_replay.specs.Holdings.{times_held}
 use Rattle.flt_replay.specs.Ledger.{Tally, Tells, held}
 

@@ -4,7 +4,7 @@ use Rattle.std.proofs.lemmas.Bool.{cases_eq, cases_lt}
 use Rattle.std.proofs.lemmas.Bool.Decides.{nat_tests}
 use Rattle.std.specs.Prelude.{◌==◌, ◌↔◌, IsTrue}
 use Rattle.flt_model.specs.Trace.{one_if, of_actor}
-use Rattle.flt_records.specs.Counts.{count}
+use Rattle.flt_replay_records.specs.Counts.{count}
 use Rattle.flt_replay.specs.Rows.{Counted, count_of}
 use Rattle.flt_replay.specs.Holdings.{times_held, sum_below, AreTotals}
 use Rattle.flt_replay.proofs.Counting.Ones.{one_here, one_elsewhere, actor_here, actor_elsewhere, actor_none}

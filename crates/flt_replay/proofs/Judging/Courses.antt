@@ -20,8 +20,8 @@ use Rattle.flt_model.specs.World.{World, activation_at, opening}
 use Rattle.flt_replay.specs.Judging.{Follows, IsJudgedBy, first_of, of_holding, of_rules, with_locks, keeps_rule, is_by}
 use Rattle.flt_replay.specs.Ledger.{Agrees}
 use Rattle.flt_replay.specs.Monitoring.{IsAt, ComesTo, GoesOn}
-use Rattle.flt_steps.specs.Unseen as several
-use Rattle.flt_world.specs.Happening.{ComesOf, Happened, holds_visit, holds_given}
+use Rattle.flt_replay_steps.specs.Unseen as several
+use Rattle.flt_replay_world.specs.Happening.{ComesOf, Happened, holds_visit, holds_given}
 use Rattle.flt_replay.specs.declared.monitor.Course.{Course as Code}
 use Rattle.flt_replay.specs.declared.monitor.Course.TheVariants as code
 use Rattle.flt_replay.specs.declared.monitor.Monitor.{Monitor}

@@ -26,7 +26,7 @@ use Rattle.flt_model.specs.Violations.{is_legal, is_low_enough, is_disciplined, 
 use Rattle.flt_model.specs.World.{World, Activation, activation_at, nobody}
 use Rattle.flt_replay.proofs.Machine.Frames.{Stepped, stepped}
 use Rattle.flt_replay.specs.Judging.{is_by, keeps_rule, with_locks}
-use Rattle.flt_world.specs.Happening.{holds_visit, holds_given}
+use Rattle.flt_replay_world.specs.Happening.{holds_visit, holds_given}
 
 -- ---- worlds that the rules can't tell apart, where the events are an activation's
 

@@ -6,7 +6,7 @@ ghost use Rattle.flt_model.specs.Trace.{one_if, of_actor};
 ghost use Rattle.flt_replay.specs.Holdings as spec;
 
 use super::rows::Rows;
-use flt_records::Counts;
+use flt_replay_records::Counts;
 use std::alloc::{AllocError, Global};
 use std::marker::Model;
 

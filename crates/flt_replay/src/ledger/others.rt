@@ -3,10 +3,10 @@
 
 ghost use Rattle.std.specs.Prelude.{◌≡◌, ◌+◌, ℕ, ◌<◌, ◌≤◌, min, OnOk, OnErr, IsTrue};
 ghost use Rattle.flt_model.specs.Trace.{one_if, of_actor};
-ghost use Rattle.flt_records.specs.Counts.{count, occurs};
+ghost use Rattle.flt_replay_records.specs.Counts.{count, occurs};
 ghost use Rattle.flt_replay.specs.Rows as spec;
 
-use flt_records::{Counts, SparseCounts};
+use flt_replay_records::{Counts, SparseCounts};
 use std::alloc::{AllocError, Global};
 use std::collections::BTreeMap;
 use std::marker::Model;
@@ -26,7 +26,7 @@ impl Model for Others {
 }
 
 impl Others {
-    #[tactic(auto, unfolding(crate::specs::Rows::count_among, flt_records::specs::Counts::count_in))]
+    #[tactic(auto, unfolding(crate::specs::Rows::count_among, flt_replay_records::specs::Counts::count_in))]
     pub(crate) fn new(alloc: Global) -> Others
         ensures { (a n : ℕ) → spec.count_among result a n ≡ 0 }
     {
@@ -37,7 +37,7 @@ impl Others {
 
     /// Whether no activation has any.
     #[inline(always)]
-    #[tactic(auto, unfolding(crate::specs::Rows::count_among, flt_records::specs::Counts::count_in))]
+    #[tactic(auto, unfolding(crate::specs::Rows::count_among, flt_replay_records::specs::Counts::count_in))]
     pub(crate) fn are_none(&self) -> bool
         ensures { IsTrue result → (a n : ℕ) → spec.count_among self.now a n ≡ 0 }
     {
@@ -45,7 +45,7 @@ impl Others {
     }
 
     #[inline(never)]
-    #[tactic(auto, unfolding(crate::specs::Rows::count_among, flt_records::specs::Counts::count_in))]
+    #[tactic(auto, unfolding(crate::specs::Rows::count_among, flt_replay_records::specs::Counts::count_in))]
     pub(crate) fn count(&self, activation: usize, number: usize) -> u64
         ensures { result ≡ spec.count_among self.now activation number }
     {
@@ -57,7 +57,7 @@ impl Others {
 
     /// Adds one to a number's count for an activation.
     #[inline(never)]
-    #[tactic(auto, unfolding(crate::specs::Rows::count_among, flt_records::specs::Counts::count_in, flt_model::specs::Trace::of_actor))]
+    #[tactic(auto, unfolding(crate::specs::Rows::count_among, flt_replay_records::specs::Counts::count_in, flt_model::specs::Trace::of_actor))]
     pub(crate) fn add(
         &mut self,
         alloc: Global,
@@ -83,7 +83,7 @@ impl Others {
 
     /// Takes one off a number's count for an activation, which is at least 1.
     #[inline(never)]
-    #[tactic(auto, unfolding(crate::specs::Rows::count_among, flt_records::specs::Counts::count_in, flt_model::specs::Trace::of_actor))]
+    #[tactic(auto, unfolding(crate::specs::Rows::count_among, flt_replay_records::specs::Counts::count_in, flt_model::specs::Trace::of_actor))]
     pub(crate) fn take(&mut self, activation: usize, number: usize)
         ensures some { 0 < spec.count_among self.old activation number → (a n : ℕ) →
             spec.count_among self.old a n ≡ spec.count_among self.new a n + of_actor activation a (one_if number n) }
@@ -104,7 +104,7 @@ impl Others {
 
     /// Adds one to the count in `holders` of each number that counts for an activation.
     #[inline(never)]
-    #[tactic(auto, unfolding(crate::specs::Rows::count_among, flt_records::specs::Counts::count_in))]
+    #[tactic(auto, unfolding(crate::specs::Rows::count_among, flt_replay_records::specs::Counts::count_in))]
     pub(crate) fn add_to(
         &self,
         alloc: Global,
@@ -122,7 +122,7 @@ impl Others {
 
     /// Takes one off the count in `holders` of each number that counts for an activation.
     #[inline(never)]
-    #[tactic(auto, unfolding(crate::specs::Rows::count_among, flt_records::specs::Counts::count_in))]
+    #[tactic(auto, unfolding(crate::specs::Rows::count_among, flt_replay_records::specs::Counts::count_in))]
     pub(crate) fn take_from(
         &self,
         alloc: Global,
@@ -142,7 +142,7 @@ impl Others {
 
     /// Lists the numbers that count for an activation, each once.
     #[inline(never)]
-    #[tactic(auto, unfolding(crate::specs::Rows::count_among, flt_records::specs::Counts::count_in))]
+    #[tactic(auto, unfolding(crate::specs::Rows::count_among, flt_replay_records::specs::Counts::count_in))]
     pub(crate) fn list(
         &self,
         alloc: Global,

@@ -3,11 +3,11 @@
 
 ghost use Rattle.std.specs.Prelude.{◌≡◌, ◌+◌, ℕ, ◌<◌, ◌≤◌, length, get_or, set, min, OnOk, OnErr};
 ghost use Rattle.flt_model.specs.Trace.{one_if, of_actor};
-ghost use Rattle.flt_records.specs.Counts.{count, occurs};
+ghost use Rattle.flt_replay_records.specs.Counts.{count, occurs};
 ghost use Rattle.flt_replay.specs.Rows as spec;
 
 use super::others::Others;
-use flt_records::Counts;
+use flt_replay_records::Counts;
 use std::alloc::{AllocError, Global};
 use std::marker::Model;
 

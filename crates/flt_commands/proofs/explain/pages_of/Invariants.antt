@@ -1,7 +1,7 @@
 use Rattle.std.proofs.Common.{◌≡◌, true, map, take}
 use Rattle.std.specs.Io.{StartsWith}
 use Rattle.std.specs.List.{AllZip, list_all}
-use Rattle.flt_pages.specs.Pages.{has_page, title}
+use Rattle.flt_explain_pages.specs.Pages.{has_page, title}
 use Rattle.flt_commands.proofs.explain.pages_of.Given as goal
 
 abbrev pub invariant-loop-name : goal.invariant-loop-name

@@ -1,5 +1,5 @@
 use Rattle.flt_commands.proofs.AfterDrifts.{whole_lines}
-use Rattle.flt_forms.specs.declared.as_lines.Style.TheVariants.{Object, Sentence}
+use Rattle.flt_explain_forms.specs.declared.as_lines.Style.TheVariants.{Object, Sentence}
 use Rattle.flt_commands.proofs.explain.told_in_turn.Goals as goal
 
 pub returns-in_ok-lines_in_turn-in-Short-clause-cut : goal.returns-in_ok-lines_in_turn-in-Short-clause-cut

@@ -1,6 +1,6 @@
 use Rattle.std.proofs.Common.{◌≡◌, None, take}
 use Rattle.std.specs.Io.KnownBytes.{Appends}
-use Rattle.flt_forms.specs.Lines.{AreLines}
+use Rattle.flt_explain_forms.specs.Lines.{AreLines}
 use Rattle.flt_commands.proofs.in_turn.lines_in_turn.Given as goal
 
 abbrev pub invariant-loop-source : goal.invariant-loop-source

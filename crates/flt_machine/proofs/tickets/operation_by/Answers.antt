@@ -1,5 +1,5 @@
 use Rattle.std.proofs.Common.{subst, sym, ◌∙◌}
-use Rattle.flt_store.specs.Changes.{IsPossible}
+use Rattle.flt_machine_store.specs.Changes.{IsPossible}
 use Rattle.flt_machine.proofs.Followed.{arrived, passed_on, lowered_left, lowered_over}
 use Rattle.flt_machine.proofs.Quieted.{quiet_operations}
 use Rattle.flt_machine.proofs.tickets.operation_by.Goals as goal

@@ -1,5 +1,5 @@
 use Rattle.std.proofs.Common.{◌∙◌}
-use Rattle.flt_store.specs.Parts.{entry_of}
+use Rattle.flt_machine_store.specs.Parts.{entry_of}
 use Rattle.flt_machine.proofs.Entered.{stands_there}
 use Rattle.flt_machine.proofs.tickets.stands.Goals as goal
 

@@ -1,6 +1,6 @@
 -- A teardown begins with the filter's detaching alone.
 use Rattle.std.proofs.Common.{subst, sym}
-use Rattle.flt_store.specs.Changes.{IsPossible}
+use Rattle.flt_machine_store.specs.Changes.{IsPossible}
 use Rattle.flt_machine.proofs.Entered.{no_torn, torn_down}
 use Rattle.flt_machine.proofs.Quieted.{quiet_teardown}
 use Rattle.flt_machine.proofs.tickets.teardown_by.Goals as goal

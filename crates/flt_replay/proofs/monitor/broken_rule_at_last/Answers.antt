@@ -1,5 +1,5 @@
 use Rattle.std.proofs.Common.{rules}
-use Rattle.flt_world.specs.Filters.{filters_of}
+use Rattle.flt_replay_world.specs.Filters.{filters_of}
 use Rattle.flt_replay.proofs.Judging.Lesser.{breaks_rule}
 use Rattle.flt_replay.proofs.monitor.broken_rule_at_last.Goals as goal
 

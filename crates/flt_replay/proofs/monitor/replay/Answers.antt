@@ -1,4 +1,4 @@
-use Rattle.flt_world.specs.Filters.{filters_of}
+use Rattle.flt_replay_world.specs.Filters.{filters_of}
 use Rattle.flt_replay.proofs.monitor.replay.Goals as goal
 
 pub returns-clause-legal : goal.returns-clause-legal

@@ -1,5 +1,5 @@
 use Rattle.std.proofs.Common.{[], false}
-use Rattle.flt_world.specs.Filters.{filters_of}
+use Rattle.flt_replay_world.specs.Filters.{filters_of}
 use Rattle.flt_search.proofs.MoreAnswers.{one_answer_more}
 use Rattle.flt_search.proofs.answering.answers.Goals as goal
 

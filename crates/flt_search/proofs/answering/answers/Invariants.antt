@@ -1,5 +1,5 @@
 use Rattle.std.proofs.Common.{take}
-use Rattle.flt_world.specs.Filters.{filters_of}
+use Rattle.flt_replay_world.specs.Filters.{filters_of}
 use Rattle.flt_search.specs.Found.{AreAnswers}
 use Rattle.flt_search.proofs.answering.answers.Given as goal
 

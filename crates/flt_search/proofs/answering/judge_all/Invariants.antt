@@ -1,4 +1,4 @@
-use Rattle.flt_world.specs.Filters.{filters_of}
+use Rattle.flt_replay_world.specs.Filters.{filters_of}
 use Rattle.flt_search.specs.Found.{AreRuns}
 use Rattle.flt_search.proofs.answering.judge_all.Given as goal
 

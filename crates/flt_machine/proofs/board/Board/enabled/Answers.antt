@@ -2,7 +2,7 @@
 use Rattle.std.proofs.Common.{subst, sym, ◌∙◌}
 use Rattle.flt_model.specs.Moves.{make}
 use Rattle.flt_model.specs.World.{World}
-use Rattle.flt_dispatch.specs.Decisions.{Decides}
+use Rattle.flt_machine_dispatch.specs.Decisions.{Decides}
 use Rattle.flt_machine.specs.Situations.{Situation, IsAt}
 use Rattle.flt_machine.proofs.Decided.{there, enabled_there}
 use Rattle.flt_machine.proofs.board.Board.enabled.Goals as goal

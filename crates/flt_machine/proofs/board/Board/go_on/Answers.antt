@@ -2,7 +2,7 @@ use Rattle.std.proofs.Common.{length, not, ◌||◌, subst, refl}
 use Rattle.flt_machine.specs.Calls.{leaves_choice_at}
 use Rattle.flt_machine.specs.Counted.{IsBounded}
 use Rattle.flt_machine.specs.Situations.{Situation}
-use Rattle.flt_calls.specs.Plans.{PlansStep}
+use Rattle.flt_machine_calls.specs.Plans.{PlansStep}
 use Rattle.flt_machine.proofs.Going.{commits_to, goes_on, small_after, small_before, small_ever, takes_free}
 use Rattle.flt_machine.proofs.board.Board.go_on.Goals as goal
 

@@ -1,7 +1,7 @@
 -- The next move is that of the board's store, and of its activations.
 use Rattle.std.proofs.Common.{subst, sym, ◌∙◌}
 use Rattle.flt_model.specs.World.{World}
-use Rattle.flt_dispatch.specs.Turns as turns
+use Rattle.flt_machine_dispatch.specs.Turns as turns
 use Rattle.flt_machine.specs.Situations.{Situation, IsAt}
 use Rattle.flt_machine.proofs.Activity.{active_there}
 use Rattle.flt_machine.proofs.Decided.{there}

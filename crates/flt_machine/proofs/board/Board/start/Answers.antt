@@ -1,6 +1,6 @@
 -- The actor and its standing come behind the others, and its filter counts one more.
 use Rattle.std.proofs.Common.{Some, subst, sym, refl}
-use Rattle.flt_frame.specs.declared.standing.Standing.{Standing}
+use Rattle.flt_machine_frames.specs.declared.standing.Standing.{Standing}
 use Rattle.flt_machine.specs.Counted.{IsBounded}
 use Rattle.flt_machine.specs.Moving.{Begins}
 use Rattle.flt_machine.proofs.Consistent.{start_fits, started_so}

@@ -3,8 +3,8 @@ use Rattle.std.proofs.Common.{◌≡◌, [], ◌∷◌, Some, length, ap, subst,
 use Rattle.flt_model.specs.declared.moves.Move.{Move}
 use Rattle.flt_model.specs.declared.subject.Subject.TheVariants as subject
 use Rattle.flt_model.specs.Moves.{make}
-use Rattle.flt_store.specs.Changes.{after_change}
-use Rattle.flt_dispatch.specs.Decisions.{Decides}
+use Rattle.flt_machine_store.specs.Changes.{after_change}
+use Rattle.flt_machine_dispatch.specs.Decisions.{Decides}
 use Rattle.flt_machine.specs.Situations.{Situation}
 use Rattle.flt_machine.specs.Tickets.{by_move, one_of, subjects}
 use Rattle.flt_machine.proofs.Decided.{decided_now}

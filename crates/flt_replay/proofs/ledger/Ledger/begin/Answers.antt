@@ -1,6 +1,6 @@
 use Rattle.std.proofs.Common.{◌≡◌, ◌+◌, ℕ, Bool, List, min, length, subst, sym}
 use Rattle.flt_replay.proofs.Counting.Holders.{started}
-use Rattle.flt_records.specs.Counts.{count}
+use Rattle.flt_replay_records.specs.Counts.{count}
 use Rattle.flt_replay.specs.Rows.{count_of}
 use Rattle.flt_replay.specs.Ledger.{Tally, Started}
 use Rattle.flt_replay.specs.contracts.ledger.Ledger.{the_view}

@@ -3,7 +3,7 @@ use Rattle.std.proofs.Common.{◌≡◌, List, true, take}
 use Rattle.std.specs.List.{list_all}
 use Rattle.flt_model.specs.declared.event.Event.{Event}
 use Rattle.flt_model.specs.Violations.{legal_statuses, levels_kept, is_disciplined, legal_places}
-use Rattle.flt_world.specs.Happening.{holds_given}
+use Rattle.flt_replay_world.specs.Happening.{holds_given}
 use Rattle.flt_replay.specs.Judging.{is_by}
 use Rattle.flt_replay.specs.Scenes.{before}
 use Rattle.flt_replay.proofs.rules.Scene.broken_rule.Given as goal

@@ -1,0 +1,7 @@
+use Rattle.std.proofs.Common.{◌≡◌, drop, map}
+use Rattle.flt_c_drift.specs.Locks.{declared_of, known_of}
+use Rattle.flt_c_drift.proofs.lock.Locks.known.Given as goal
+
+abbrev pub invariant-loop-lock : goal.invariant-loop-lock
+invariant-loop-lock l =
+    known_of (map declared_of (drop l.lock-index l.self.declared.items)) l.name ≡ known_of (map declared_of l.self.declared.items) l.name

@@ -1,0 +1,7 @@
+use Rattle.std.proofs.Common.{◌≡◌, ◌+◌, drop}
+use Rattle.flt_c_drift.specs.Runs.{run_count}
+use Rattle.flt_c_drift.specs.declared.run.Run.TheVariants as r
+use Rattle.flt_c_drift.proofs.run.idle_count.Given as goal
+
+abbrev pub invariant-loop-letter : goal.invariant-loop-letter
+invariant-loop-letter l = (l.n ≡ l.letter-index) × (l.n + run_count r.Idle (drop l.letter-index l.letters) ≡ run_count r.Idle l.letters)

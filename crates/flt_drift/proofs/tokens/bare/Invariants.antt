@@ -1,6 +1,0 @@
-use Rattle.std.proofs.Common.{◌≡◌}
-use Rattle.flt_drift.specs.Tokens.{bare}
-use Rattle.flt_drift.proofs.tokens.bare.Given as goal
-
-abbrev pub invariant-loop-pair : goal.invariant-loop-pair
-invariant-loop-pair l = l.rest ≡ bare l._pair l.tokens

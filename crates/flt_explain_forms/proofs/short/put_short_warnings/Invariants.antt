@@ -1,0 +1,6 @@
+use Rattle.std.proofs.Common.{◌≡◌, ◌++◌, flat_map, take}
+use Rattle.flt_explain_forms.specs.Short.{warning_line}
+use Rattle.flt_explain_forms.proofs.short.put_short_warnings.Given as goal
+
+abbrev pub invariant-loop-detail : goal.invariant-loop-detail
+invariant-loop-detail l = l.out.items ≡ l.initial.out.items ++ flat_map (warning_line l.files) (take l.detail-index l.warned)

@@ -1,0 +1,7 @@
+use Rattle.flt_explain_forms.proofs.Adding.{behind}
+use Rattle.flt_explain_forms.proofs.steps.put_step.Goals as goal
+
+pub returns : goal.returns
+returns c =
+    behind c.in_ok-open_object.ensures.ok (behind c.in_ok-put_number.ensures.ok (behind c.in_ok-put_place.ensures.ok
+    (behind c.in_ok-put_side.ensures.ok (behind c.in_ok-put_filled.ensures.ok c.close_object.ensures))))

@@ -1,0 +1,192 @@
+//! The drifts of C files, as JSON.
+
+ghost use Rattle.std.specs.Prelude.{◌≡◌, ◌++◌, IfOk, codes, flat_map};
+ghost use Rattle.flt_c_drift_reports.specs.Words as words;
+ghost use Rattle.flt_explain_forms.specs.Drifted as spec;
+ghost use Rattle.flt_explain_forms.specs.Members.{Adds, line_of, string_member};
+
+use crate::members::{close_object, open_object, put_place, put_string, put_text};
+use crate::preface::put_preface;
+use flt_c_drift::{Drift, DriftKind};
+use flt_c_drift_reports::{code, drift_sentence, has_difference, help, is_difference};
+use flt_places::{Lines, Region};
+use flt_tree::Span;
+use json::Writer;
+use sqlite_items::Items;
+use std::alloc::{AllocError, Global};
+
+/// A C file, and the points in which it and its annotations differ.
+#[derive(Drop)]
+pub struct DriftedFile<'a> {
+    pub name: &'a str,
+    pub file: &'a [u8],
+    /// In the order of their places.
+    pub drifts: Items<Drift>,
+}
+
+// ---- a drift
+
+fn level_word(kind: DriftKind) -> &'static str
+    ensures { result.now ≡ spec.level_word kind }
+{
+    if is_difference(kind) {
+        "warning"
+    } else {
+        "note"
+    }
+}
+
+/// Writes whether a drift is a warning or a note.
+pub(crate) fn put_drift_level(writer: &mut Writer, kind: DriftKind) -> Result<(), AllocError>
+    ensures { Adds result writer.old writer.new (spec.level kind) }
+{
+    put_string(writer, "level", level_word(kind))
+}
+
+/// The region of `length` bytes of a file from byte `start` on, counted from 0.
+pub(crate) fn region_at(lines: &Lines<'_>, start: usize, length: usize) -> Region
+    ensures { result ≡ spec.region_at lines.now start length }
+{
+    let span = Span {
+        line: 0,
+        start,
+        end: start,
+    };
+    lines.part(span, 0, length)
+}
+
+/// The region of the word that a drift is about.
+pub(crate) fn region_of(lines: &Lines<'_>, drift: Drift) -> Region
+    ensures { result ≡ spec.region_of lines.now drift }
+{
+    region_at(lines, drift.start, drift.length)
+}
+
+fn put_region(writer: &mut Writer, region: Region) -> Result<(), AllocError>
+    ensures { Adds result writer.old writer.new (spec.place region) }
+{
+    put_place(writer, region.first, region.end)
+}
+
+fn put_code(writer: &mut Writer, kind: DriftKind) -> Result<(), AllocError>
+    ensures { Adds result writer.old writer.new (string_member (codes "drift") (words.code kind)) }
+{
+    put_string(writer, "drift", code(kind))
+}
+
+/// Writes how code and annotations are made to agree.
+pub(crate) fn put_drift_help(writer: &mut Writer, kind: DriftKind) -> Result<(), AllocError>
+    ensures { Adds result writer.old writer.new (string_member (codes "help") (words.help kind)) }
+{
+    put_string(writer, "help", help(kind))
+}
+
+fn put_words(
+    alloc: Global,
+    writer: &mut Writer,
+    file: &[u8],
+    drift: Drift,
+) -> Result<(), AllocError>
+    ensures { Adds result writer.old writer.new (spec.words file.now drift) }
+{
+    let sentence = drift_sentence(alloc, file, drift)?;
+    put_code(writer, drift.kind)?;
+    put_text(alloc, writer, "message", &sentence)?;
+    put_drift_help(writer, drift.kind)
+}
+
+/// Writes a drift at a region of the C file of a name.
+fn put_drift(
+    alloc: Global,
+    writer: &mut Writer,
+    name: &str,
+    file: &[u8],
+    region: Region,
+    drift: Drift,
+) -> Result<(), AllocError>
+    ensures { Adds result writer.old writer.new (spec.drift name.now file.now region drift) }
+{
+    open_object(writer)?;
+    put_preface(writer, "drift", name)?;
+    put_drift_level(writer, drift.kind)?;
+    put_region(writer, region)?;
+    put_words(alloc, writer, file, drift)?;
+    close_object(writer)
+}
+
+// ---- the drifts of a file
+
+/// Adds a drift on a line of its own to the output.
+fn put_line(
+    alloc: Global,
+    out: Vec<u8>,
+    name: &str,
+    file: &[u8],
+    region: Region,
+    drift: Drift,
+) -> Result<Vec<u8>, AllocError>
+    ensures { IfOk result (λ v. v.items ≡ out.items ++ line_of (spec.drift name.now file.now region drift)) }
+{
+    let mut writer = Writer::new(out);
+    put_drift(alloc, &mut writer, name, file, region, drift)?;
+    let mut out = writer.into_inner();
+    out.push(b'\n')?;
+    Ok(out)
+}
+
+/// A line for each drift, in their order.
+fn lines_of(alloc: Global, name: &str, file: &[u8], drifts: &[Drift]) -> Result<Vec<u8>, AllocError>
+    ensures { IfOk result (λ v. v.items ≡ spec.lines_of name.now file.now drifts.now) }
+{
+    let lines = Lines::of(alloc, file)?;
+    let mut out = Vec::new(alloc);
+    for drift in drifts {
+        let region = region_of(&lines, *drift);
+        out = put_line(alloc, out, name, file, region, *drift)?;
+    }
+    Ok(out)
+}
+
+/// The drifts of the C file of a name, a JSON object a line, in their order. docs/FORMATS.md says how they are written. Notes alone have no
+/// line.
+///
+/// # Errors
+///
+/// `AllocError` if a growth is refused.
+pub fn drift_objects(
+    alloc: Global,
+    name: &str,
+    file: &[u8],
+    drifts: &[Drift],
+) -> Result<Vec<u8>, AllocError>
+    ensures { IfOk result (λ lines. lines.items ≡ spec.drift_objects name.now file.now drifts.now) }
+{
+    if has_difference(drifts) {
+        lines_of(alloc, name, file, drifts)
+    } else {
+        Ok(Vec::new(alloc))
+    }
+}
+
+// ---- the status
+
+/// Whether code and annotations differ in one of some files.
+fn is_drifted(drifted: &[DriftedFile<'_>]) -> bool
+    ensures { result ≡ spec.is_drifted drifted.now }
+{
+    drifted
+        .iter()
+        .any(|file| has_difference(file.drifts.as_slice()))
+}
+
+/// The exit status that results from the drifts of C files: 1 if warnings count and code and annotations differ in one of the files; else
+/// 0.
+pub fn drift_status(is_strict: bool, drifted: &[DriftedFile<'_>]) -> u8
+    ensures { result ≡ spec.drift_status is_strict drifted.now }
+{
+    if is_strict && is_drifted(drifted) {
+        1
+    } else {
+        0
+    }
+}

@@ -1,0 +1,170 @@
+//! The kinds of words that appear in like places.
+
+ghost use Rattle.std.specs.Prelude.{◌≡◌};
+ghost use Rattle.flt_explain_hints.specs.Kinds as spec;
+
+use flt_syntax::Kind;
+
+pub(crate) fn is_fallible(kind: Kind) -> bool
+    ensures { result ≡ spec.is_fallible kind }
+{
+    matches!(
+        kind,
+        Kind::AllocateContext
+            | Kind::GetStreamContext
+            | Kind::GetInstanceContext
+            | Kind::SetStreamContext
+            | Kind::SetInstanceContext
+            | Kind::DeleteStreamContext
+            | Kind::DeleteInstanceContext
+            | Kind::InsertIo
+            | Kind::RemoveNextIo
+            | Kind::QueueDeferredIoWorkItem
+            | Kind::QueueGenericWorkItem
+    )
+}
+
+pub(crate) fn is_plain(kind: Kind) -> bool
+    ensures { result ≡ spec.is_plain kind }
+{
+    matches!(
+        kind,
+        Kind::DeleteContext
+            | Kind::ReferenceContext
+            | Kind::ReleaseContext
+            | Kind::AcquireSpinLock
+            | Kind::ReleaseSpinLock
+            | Kind::AcquireFastMutex
+            | Kind::ReleaseFastMutex
+            | Kind::AcquirePushLock
+            | Kind::AcquirePushLockShared
+            | Kind::ReleasePushLock
+            | Kind::CompletePendedPreOperation
+            | Kind::CompletePendedPostOperation
+    )
+}
+
+pub(crate) fn is_call(kind: Kind) -> bool
+    ensures { result ≡ spec.is_call kind }
+{
+    is_fallible(kind) || is_plain(kind)
+}
+
+/// Whether it is a word that appears among the operands of calls and isn't a variable's or a status.
+pub(crate) fn is_operand_word(kind: Kind) -> bool
+    ensures { result ≡ spec.is_operand_word kind }
+{
+    matches!(
+        kind,
+        Kind::Name
+            | Kind::Data
+            | Kind::As
+            | Kind::Old
+            | Kind::Context
+            | Kind::KeepIfExists
+            | Kind::ReplaceIfExists
+    )
+}
+
+pub(crate) fn is_final_status(kind: Kind) -> bool
+    ensures { result ≡ spec.is_final_status kind }
+{
+    matches!(
+        kind,
+        Kind::StatusSuccess
+            | Kind::StatusAccessDenied
+            | Kind::StatusCancelled
+            | Kind::StatusInsufficientResources
+            | Kind::StatusInvalidParameter
+            | Kind::StatusPending
+    )
+}
+
+pub(crate) fn takes_spin_lock(kind: Kind) -> bool
+    ensures { result ≡ spec.takes_spin_lock kind }
+{
+    matches!(kind, Kind::AcquireSpinLock | Kind::ReleaseSpinLock)
+}
+
+pub(crate) fn takes_fast_mutex(kind: Kind) -> bool
+    ensures { result ≡ spec.takes_fast_mutex kind }
+{
+    matches!(kind, Kind::AcquireFastMutex | Kind::ReleaseFastMutex)
+}
+
+pub(crate) fn takes_push_lock(kind: Kind) -> bool
+    ensures { result ≡ spec.takes_push_lock kind }
+{
+    matches!(
+        kind,
+        Kind::AcquirePushLock | Kind::AcquirePushLockShared | Kind::ReleasePushLock
+    )
+}
+
+pub(crate) fn begins_callback(kind: Kind) -> bool
+    ensures { result ≡ spec.begins_callback kind }
+{
+    matches!(
+        kind,
+        Kind::Pre
+            | Kind::Post
+            | Kind::Canceled
+            | Kind::DeferredPre
+            | Kind::DeferredPost
+            | Kind::Generic
+    )
+}
+
+pub(crate) fn is_number_variable(kind: Kind) -> bool
+    ensures { result ≡ spec.is_number_variable kind }
+{
+    matches!(
+        kind,
+        Kind::N0 | Kind::N1 | Kind::N2 | Kind::N3 | Kind::N4 | Kind::N5 | Kind::N6 | Kind::N7
+    )
+}
+
+pub(crate) fn is_context_variable(kind: Kind) -> bool
+    ensures { result ≡ spec.is_context_variable kind }
+{
+    matches!(
+        kind,
+        Kind::C0
+            | Kind::C1
+            | Kind::C2
+            | Kind::C3
+            | Kind::C4
+            | Kind::C5
+            | Kind::C6
+            | Kind::C7
+            | Kind::Arg
+    )
+}
+
+pub(crate) fn is_operation_variable(kind: Kind) -> bool
+    ensures { result ≡ spec.is_operation_variable kind }
+{
+    matches!(kind, Kind::O0 | Kind::O1 | Kind::O2 | Kind::O3)
+}
+
+pub(crate) fn is_variable(kind: Kind) -> bool
+    ensures { result ≡ spec.is_variable kind }
+{
+    is_number_variable(kind) || is_context_variable(kind) || is_operation_variable(kind)
+}
+
+pub(crate) fn is_status(kind: Kind) -> bool
+    ensures { result ≡ spec.is_status kind }
+{
+    matches!(
+        kind,
+        Kind::WithCallback
+            | Kind::Synchronize
+            | Kind::NoCallback
+            | Kind::Pending
+            | Kind::DisallowFastIo
+            | Kind::Complete
+            | Kind::FinishedProcessing
+            | Kind::MoreProcessingRequired
+    )
+}

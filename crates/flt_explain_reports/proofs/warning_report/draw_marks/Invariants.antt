@@ -1,0 +1,14 @@
+use Rattle.std.proofs.Common.{◌≡◌, ◌++◌, drop}
+use Rattle.flt_explain_reports.specs.WarningReport.{all_drawn}
+use Rattle.flt_explain_reports.proofs.warning_report.draw_marks.Given as goal
+
+abbrev pub invariant-loop-mark : goal.invariant-loop-mark
+invariant-loop-mark l = record {
+  coloured : l.drawing.coloured ≡ l.initial.drawing.coloured;
+  margin : l.drawing.margin ≡ l.initial.drawing.margin;
+  drawn :
+      l.page.out.items ++ all_drawn l.initial.drawing.coloured l.initial.drawing.margin l.files l.drawing.file l.lines l.related
+      l.drawing.last (drop l.mark-index l.marks)
+      ≡ l.initial.page.out.items ++ all_drawn l.initial.drawing.coloured l.initial.drawing.margin l.files l.initial.drawing.file l.lines
+      l.related l.initial.drawing.last l.marks;
+}

@@ -1,0 +1,269 @@
+//! The details of all warnings of a text.
+
+ghost use Rattle.std.specs.Prelude.{◌≡◌, ◌<◌, ◌++◌, flat_map, length, slice_get, IfOk, OnOk, Some};
+ghost use Rattle.flt_explain_warning_details.specs.Details as spec;
+ghost use Rattle.flt_explain_warning_details.specs.Parsed.{of_parsed};
+
+use crate::allowing::{is_needed, reason_for};
+use crate::comments::idle_detail;
+use crate::detail::WarningDetail;
+use crate::parsed::ParsedText;
+use crate::saying::{circle_of, head_of, help_of, marks_of, note_of, related_of, title_of};
+use flt_analyse::{AnalyseFault, Ticks, analyse};
+use flt_cert::FullCert;
+use flt_explain::Finding;
+use flt_explain_allowances::{Allowance, allowances};
+use flt_explain_details::{Scene, Source, tokens_of};
+use flt_explain_warnings::{AllowedKinds, Kind, Warning, warnings};
+use flt_graph::Graph;
+use flt_places::Lines;
+use flt_syntax::Tree;
+use sqlite_items::Items;
+use std::alloc::{AllocError, Global};
+use std::marker::Brand;
+use std::sync::ledger::{Blank, Ledger};
+
+// ---- the certificate
+
+/// The least certificate of a graph; `None` if no certificate covers it.
+fn certificate_with<L: Ledger>(
+    alloc: Global,
+    graph: &Graph,
+    blank: Blank,
+) -> Result<Option<FullCert>, AllocError>
+    requires name { blank.name ≡ L.name }
+    requires parts { blank.parts ≡ L.parts }
+    requires some { 0 < blank.parts }
+    ensures { IfOk result (spec.IsLeastOf graph.now) }
+{
+    let mut ticks = Ticks::<L, 0, 0>::new(blank);
+    match analyse(alloc, graph, &mut ticks) {
+        Ok(cert) => Ok(Some(cert)),
+        Err(AnalyseFault::Refused(_)) => Ok(None),
+        Err(AnalyseFault::OutOfMemory) => Err(AllocError),
+    }
+}
+
+fn certificate(alloc: Global, graph: &Graph) -> Result<Option<FullCert>, AllocError>
+    ensures { IfOk result (spec.IsLeastOf graph.now) }
+{
+    certificate_with::<Brand>(alloc, graph, Blank::new(1))
+}
+
+// ---- what is said
+
+/// The details of a warning.
+fn detail_of(
+    alloc: Global,
+    text: &ParsedText<'_>,
+    comments: &[Allowance],
+    warning: &Warning,
+) -> Result<WarningDetail, AllocError>
+    ensures { IfOk result (λ d. d ≡ spec.detail_of (of_parsed text.now) comments.now warning.now) }
+{
+    let marks = marks_of(alloc, text, warning)?;
+    let head = Items::from_slice(alloc, head_of(text, warning))?;
+    let title = title_of(alloc, text, warning)?;
+    let help = help_of(alloc, text, warning)?;
+    let note = note_of(alloc, text, warning)?;
+    let related = related_of(alloc, text, warning)?;
+    let circle = Items::from_slice(alloc, circle_of(warning))?;
+    let reason = reason_for(alloc, text, comments, warning)?;
+    Ok(WarningDetail {
+        kind: warning.kind(),
+        site: warning.site(),
+        marks,
+        head,
+        title,
+        help,
+        note,
+        related,
+        circle,
+        reason,
+    })
+}
+
+/// Adds the details of a warning, unless its kind is left out.
+fn add_detail(
+    alloc: Global,
+    all: &mut Items<WarningDetail>,
+    text: &ParsedText<'_>,
+    allowed: AllowedKinds,
+    comments: &[Allowance],
+    warning: &Warning,
+) -> Result<(), AllocError>
+    ensures { OnOk result (all.new ≡ all.old ++ spec.detail_by (of_parsed text.now) allowed comments.now warning.now) }
+{
+    if !allowed.allows(warning.kind()) {
+        all.push(detail_of(alloc, text, comments, warning)?)?;
+    }
+    Ok(())
+}
+
+/// The details of some warnings.
+fn warned(
+    alloc: Global,
+    text: &ParsedText<'_>,
+    allowed: AllowedKinds,
+    comments: &[Allowance],
+    warnings: &[Warning],
+) -> Result<Items<WarningDetail>, AllocError>
+    ensures { IfOk result (λ all. all ≡ flat_map (spec.detail_by (of_parsed text.now) allowed comments.now) warnings.now) }
+{
+    let mut all = Items::new(alloc);
+    for warning in warnings {
+        add_detail(alloc, &mut all, text, allowed, comments, warning)?;
+    }
+    Ok(all)
+}
+
+/// The comment of a number, from 0.
+fn comment_at(comments: &[Allowance], number: usize) -> &Allowance
+    requires within { number < length comments.now }
+    ensures { slice_get comments.now number ≡ Some result.now }
+{
+    &comments[number]
+}
+
+/// Adds the details of a comment that comes after some others, if it allows nothing.
+fn add_unneeded(
+    alloc: Global,
+    all: &mut Items<WarningDetail>,
+    text: &ParsedText<'_>,
+    warnings: &[Warning],
+    before: &[Allowance],
+    comment: &Allowance,
+) -> Result<(), AllocError>
+    ensures { OnOk result (all.new ≡ all.old ++ spec.idle_by (of_parsed text.now) warnings.now before.now (Some comment.now)) }
+{
+    if !is_needed(text, warnings, before, comment) {
+        all.push(idle_detail(alloc, text.scene.files, comment)?)?;
+    }
+    Ok(())
+}
+
+/// Adds the details of the comment of a number, if it allows nothing.
+fn add_idle(
+    alloc: Global,
+    all: &mut Items<WarningDetail>,
+    text: &ParsedText<'_>,
+    comments: &[Allowance],
+    warnings: &[Warning],
+    number: usize,
+) -> Result<(), AllocError>
+    requires within { number < length comments.now }
+    ensures { OnOk result (all.new ≡ all.old ++ spec.idle_at (of_parsed text.now) comments.now warnings.now number) }
+{
+    let comment = comment_at(comments, number);
+    add_unneeded(alloc, all, text, warnings, &comments[..number], comment)
+}
+
+/// The details of the comments that allow nothing.
+#[tactic(auto, using(crate::proofs::IdleComments::one_comment, crate::proofs::IdleComments::no_comment))]
+fn idle(
+    alloc: Global,
+    text: &ParsedText<'_>,
+    comments: &[Allowance],
+    warnings: &[Warning],
+) -> Result<Items<WarningDetail>, AllocError>
+    ensures { IfOk result (λ all. all ≡ spec.idle (of_parsed text.now) comments.now warnings.now) }
+{
+    let mut all = Items::new(alloc);
+    for number in 0..comments.len() {
+        add_idle(alloc, &mut all, text, comments, warnings, number)?;
+    }
+    Ok(all)
+}
+
+/// The same, unless W00 is left out.
+fn idle_unless(
+    alloc: Global,
+    text: &ParsedText<'_>,
+    allowed: AllowedKinds,
+    comments: &[Allowance],
+    warnings: &[Warning],
+) -> Result<Items<WarningDetail>, AllocError>
+    ensures { IfOk result (λ all. all ≡ spec.idle_unless (of_parsed text.now) allowed comments.now warnings.now) }
+{
+    if allowed.allows(Kind::W00) {
+        Ok(Items::new(alloc))
+    } else {
+        idle(alloc, text, comments, warnings)
+    }
+}
+
+/// The details of the warnings of a text and of its comments that allow nothing.
+#[tactic(auto, unfolding(crate::specs::Details::details))]
+fn details(
+    alloc: Global,
+    text: &ParsedText<'_>,
+    allowed: AllowedKinds,
+    comments: &[Allowance],
+    warnings: &[Warning],
+) -> Result<Items<WarningDetail>, AllocError>
+    ensures { IfOk result (λ all. all ≡ spec.details (of_parsed text.now) allowed comments.now warnings.now) }
+{
+    let mut all = warned(alloc, text, allowed, comments, warnings)?;
+    let others = idle_unless(alloc, text, allowed, comments, warnings)?;
+    all.append(others)?;
+    Ok(all)
+}
+
+/// The details of the warnings of a text that a certificate covers.
+fn certified(
+    alloc: Global,
+    source: Source<'_>,
+    tree: &Tree,
+    graph: &Graph,
+    cert: &FullCert,
+    allowed: AllowedKinds,
+) -> Result<Items<WarningDetail>, AllocError>
+    ensures { IfOk result (spec.AreDetailsBy source.entry.files source.entry.text.now tree.now.filter graph.now cert.now allowed) }
+{
+    let lines = Lines::of(alloc, source.text)?;
+    let tokens = tokens_of(alloc, source.text)?;
+    let parsed = ParsedText {
+        scene: Scene {
+            lines: &lines,
+            files: source.files,
+            tree,
+            graph,
+        },
+        tokens: tokens.as_slice(),
+    };
+    let comments = allowances(alloc, source.text)?;
+    let found = warnings(alloc, graph, cert)?;
+    details(
+        alloc,
+        &parsed,
+        allowed,
+        comments.as_slice(),
+        found.as_slice(),
+    )
+}
+
+/// The details of the warnings of a text without findings, by its least certificate: in the order of `flt_explain_warnings::warnings`, and after
+/// them those of each comment that allows nothing, in the order of the text. Kinds that are `allowed` are left out. A text with findings
+/// has none.
+///
+/// # Errors
+///
+/// `AllocError` if a growth is refused.
+pub fn warning_details(
+    alloc: Global,
+    source: Source<'_>,
+    tree: &Tree,
+    graph: &Graph,
+    found: &[Finding],
+    allowed: AllowedKinds,
+) -> Result<Items<WarningDetail>, AllocError>
+    ensures { IfOk result (spec.AreWarningDetails source.entry.files source.entry.text.now tree.now.filter graph.now found.now allowed) }
+{
+    if let [_, ..] = found {
+        return Ok(Items::new(alloc));
+    }
+    match certificate(alloc, graph)? {
+        Some(cert) => certified(alloc, source, tree, graph, &cert, allowed),
+        None => Ok(Items::new(alloc)),
+    }
+}

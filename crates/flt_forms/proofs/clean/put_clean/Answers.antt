@@ -1,5 +1,0 @@
-use Rattle.flt_forms.proofs.Adding.{behind}
-use Rattle.flt_forms.proofs.clean.put_clean.Goals as goal
-
-pub returns : goal.returns
-returns c = behind c.in_ok-open_object.ensures.ok (behind c.in_ok-put_preface.ensures.ok c.close_object.ensures)

@@ -1,7 +1,0 @@
-use Rattle.flt_forms.proofs.Adding.{behind}
-use Rattle.flt_forms.proofs.run_member.put_activations.Goals as goal
-
-pub returns : goal.returns
-returns c =
-    behind c.in_ok-put_key.ensures.ok (behind c.in_ok-open_array.ensures.ok
-    (behind c.in_ok-put_each_activation.ensures.ok c.close_array.ensures))

@@ -1,9 +1,0 @@
-use Rattle.std.proofs.Common.{arith}
-use Rattle.flt_forms.specs.Short.{warning_line}
-use Rattle.flt_forms.proofs.Adding.{one_line_more}
-use Rattle.flt_forms.proofs.short.put_short_warnings.Goals as goal
-
-pub loop-detail-preserved : goal.loop-detail-preserved
-loop-detail-preserved c =
-    one_line_more (warning_line c.args.files.now) c.args.warned.now c.loop-detail.detail-index c.detail-item.result _ _ _
-    (omega (arith, c.loop-detail-test.true)) c.detail-item.is c.loop-detail.invariant c.in_ok-out.ensures

@@ -1,6 +1,0 @@
-use Rattle.flt_forms.proofs.Adding.{behind}
-use Rattle.flt_forms.proofs.warning.put_related_place.Goals as goal
-
-pub returns : goal.returns
-returns c =
-    behind c.in_ok-open_object.ensures.ok (behind c.in_ok-put_marks.ensures.ok (behind c.in_ok-put_items.ensures.ok c.close_object.ensures))

@@ -1,0 +1,29 @@
+use Rattle.std.proofs.Common.{◌≡◌, [], ◌∷◌, ◌++◌, sym, refl, arith}
+use Rattle.flt_tree.specs.declared.variable.OperationVariable.TheVariants.{Data}
+use Rattle.flt_model.specs.Effects.{uses, empties, operation}
+use Rattle.flt_model.specs.Reads as reads
+use Rattle.flt_model.specs.Variables.{operation_in}
+use Rattle.flt_model.specs.World.{activation_at}
+use Rattle.flt_machine_calls.proofs.Called.{plans_read, of_events}
+use Rattle.flt_machine_calls.proofs.Owned.{own_read, test_irp_up_to}
+use Rattle.flt_machine_calls.specs.Own.{AreOwn}
+use Rattle.flt_machine_calls.proofs.reads.test_irp.Goals as goal
+
+pub returns-clause-planned : goal.returns-clause-planned
+returns-clause-planned c =
+    let a = c.args.caller.now.activation in
+    let x = c.operation-visit.result in
+    let told : c.need.new.events.items ≡ uses a (operation x ∷ []) ++ empties a (operation x ∷ []) =
+    rw (c.in_ok-need.ensures.told, c.new-events.ensures.items, c.operation.ensures) refl in
+    plans_read c.args.store.now c.args.caller.now c.irp_tested.result c.need.new.events.items x (λ act. operation_in act Data)
+    (λ y. operation y ∷ [])
+    (λ w y granted refused. reads.test_irp_of w a granted refused y) (λ rest. sym c.operation-visit.ensures) told
+    (λ actors activations granted refused h. c.irp_tested.ensures.planned actors activations granted refused)
+
+pub returns-clause-own : goal.returns-clause-own
+returns-clause-own c =
+    let a = c.args.caller.now.activation in
+    of_events (AreOwn a) c.args.store.now c.args.caller.now c.irp_tested.result (λ w granted refused. reads.test_irp w a granted refused)
+    (returns-clause-planned c)
+    (λ w. let act = activation_at w a in let y = operation_in act Data in
+    own_read w a (operation y ∷ []) (reads.test_irp_of w a [] [] y) (omega arith) (test_irp_up_to w a [] [] y))

@@ -1,7 +1,0 @@
-use Rattle.std.proofs.Common.{◌≡◌, ◌≤◌, ℕ, ◌+◌, take}
-use Rattle.flt_records.specs.Counts.{count, occurs}
-use Rattle.flt_records.proofs.counts.Counts.take_each.Given as goal
-
-abbrev pub invariant-loop-number : goal.invariant-loop-number
-invariant-loop-number l = ((n : ℕ) → occurs n l.numbers ≤ count l.initial.self n) → (n : ℕ) →
-    count l.initial.self n ≡ count l.self n + occurs n (take l.number-index l.numbers)

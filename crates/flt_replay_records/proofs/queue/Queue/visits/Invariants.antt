@@ -1,0 +1,7 @@
+use Rattle.std.proofs.Common.{◌≡◌, map, take}
+use Rattle.flt_model.specs.World.{Entry}
+use Rattle.flt_replay_records.specs.Tickets.{present}
+use Rattle.flt_replay_records.proofs.queue.Queue.visits.Given as goal
+
+abbrev pub invariant-loop-ticket : goal.invariant-loop-ticket
+invariant-loop-ticket l = l.visits.items ≡ map (λ (e : Entry). e.visit) (present (take l.ticket l.self-inside.entries.items))

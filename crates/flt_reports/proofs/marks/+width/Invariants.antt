@@ -1,4 +1,0 @@
-use Rattle.flt_reports.proofs.marks.+width.Given as goal
-
-abbrev pub decreases-width : goal.decreases-width
-decreases-width l = l.number

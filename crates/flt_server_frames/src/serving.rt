@@ -1,0 +1,91 @@
+//! The loop of a server: it reads a frame, has its body answered, and sends the answer.
+
+ghost use Rattle.flt_server_frames.specs.Frames.{framed};
+ghost use Rattle.flt_server_frames.specs.Handling as spec;
+ghost use Rattle.std.specs.Io.KnownBytes.{Appends};
+ghost use Rattle.std.specs.List.{flat_map};
+ghost use Rattle.std.specs.Prelude.{◌≡◌, ◌≢◌, ◌⊎◌, ◌++◌, IfErr, IfOk, OnErr, OnOk, map};
+
+use crate::fault::ServeFault;
+use crate::frame::{Frame, push_frame, read_frame};
+use crate::handler::{Answered, Handler};
+use crate::incoming::Incoming;
+use flt_model::{Sink, put_all};
+use std::alloc::{AllocError, Global};
+
+/// Appends bodies as frames, in order.
+fn push_frames(alloc: Global, out: &mut Vec<u8>, bodies: &[Vec<u8>]) -> Result<(), AllocError>
+    ensures { OnOk result (out.new.items ≡ out.old.items ++ flat_map framed (map (λ body. body.items) bodies.now)) }
+{
+    for body in bodies {
+        push_frame(alloc, out, body.as_slice())?;
+    }
+    Ok(())
+}
+
+/// The messages of an answer as frames.
+fn frames_of(alloc: Global, answered: &Answered) -> Result<Vec<u8>, AllocError>
+    ensures { IfOk result (λ v. v.items ≡ flat_map framed (spec.messages_of (spec.reply_of answered.now))) }
+{
+    let mut out = Vec::new(alloc);
+    if let Some(response) = &answered.response {
+        push_frame(alloc, &mut out, response.as_slice())?;
+    }
+    push_frames(alloc, &mut out, answered.notifications.as_slice())?;
+    Ok(out)
+}
+
+/// Has a body answered, and sends the answer. The exit status, if the server ends now.
+fn answer<O: Sink, H: Handler>(
+    alloc: Global,
+    body: &[u8],
+    out: &mut O,
+    handler: &mut H,
+) -> Result<Option<u8>, ServeFault>
+    ensures answered { IfOk result (λ ends. (reply : spec.Reply) × H.answers handler.old body.now reply handler.new × (reply.ends ≡ ends)
+        × Appends (O.taken out.old) (O.taken out.new) (flat_map framed (spec.messages_of reply))) }
+    ensures fine { OnOk result (O.failures out.new ≡ O.failures out.old) }
+    ensures write { IfErr result (λ e. e ≡ ServeFault.Write → O.failures out.new ≢ O.failures out.old) }
+    ensures memory { IfErr result (λ e. e ≢ ServeFault.Write → out.new ≡ out.old) }
+    ensures read { IfErr result (λ e. e ≢ ServeFault.Read) }
+{
+    let answered = handler.answer(alloc, body)?;
+    let frames = frames_of(alloc, &answered)?;
+    put_all(out, frames.as_slice())?;
+    Ok(answered.ends)
+}
+
+/// Reads frames one after the other, has the body of each answered by a handler, and sends the messages of the answer as frames: the
+/// response, if there is one, and the notifications after it. It ends with the exit status of the handler, once that ends; and with 1 if
+/// no frame comes: at the end of the stream, in a frame that the stream's end cuts short, and at bytes that aren't a frame's header.
+/// Nothing is read after the last frame, and an answer goes out before the next frame is read.
+///
+/// # Errors
+///
+/// `OutOfMemory` if memory is refused, `Read` if a read fails: the whole answers to some first frames were sent then, and nothing else.
+/// `Write` if a write fails: how much of an answer was sent then isn't known.
+pub fn serve<R: Incoming, O: Sink, H: Handler>(
+    alloc: Global,
+    reader: &mut R,
+    out: &mut O,
+    handler: &mut H,
+) -> Result<u8, ServeFault>
+    ensures served { IfOk result (spec.IsServed H.answers handler.old handler.new (R.left reader.old) (R.left reader.new)
+        (O.taken out.old) (O.taken out.new)) }
+    ensures so_far { IfErr result (λ e. e ≢ ServeFault.Write →
+        spec.IsServedSoFar H.answers handler.old (R.left reader.old) (O.taken out.old) (O.taken out.new)) }
+    ensures write { IfErr result (λ e. e ≡ ServeFault.Write → O.failures out.new ≢ O.failures out.old) }
+    ensures read { IfErr result (λ e. e ≡ ServeFault.Read → R.failures reader.new ≢ R.failures reader.old) }
+    ensures fine { IfOk result (λ _. O.failures out.new ≡ O.failures out.old) }
+    ensures readable { IfOk result (λ _. R.failures reader.new ≡ R.failures reader.old) }
+{
+    for _ in 0..u64::MAX {
+        let Frame::Body(body) = read_frame(alloc, reader)? else {
+            return Ok(1);
+        };
+        if let Some(status) = answer(alloc, body.as_slice(), out, handler)? {
+            return Ok(status);
+        }
+    }
+    Ok(1)
+}

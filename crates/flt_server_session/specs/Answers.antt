@@ -1,0 +1,191 @@
+-- What a session answers to the body of a message. The Language Server Protocol, version 3.17, and JSON-RPC 2.0.
+use Rattle.std.specs.Prelude.{◌≡◌, ℕ, List, [], ◌∷◌, Bool, codes, if◌then◌else◌, Option, Some, None, ⊤, option_map}
+use Rattle.std.specs.List.{list_any}
+use Rattle.std.specs.Str.{IsUtf8, bytes_eq}
+use Rattle.json.specs.Find.{get}
+use Rattle.json.specs.Json.{Json, document}
+use Rattle.json.specs.Print.{print}
+use Rattle.json.specs.Tree.{json_tokens}
+use Rattle.flt_server_frames.specs.Handling as handling
+use Rattle.flt_server_frames.specs.declared.handler.Answered.{Answered}
+use Rattle.flt_server_session.specs.Commands.{Report, report_asked}
+use Rattle.flt_server_session.specs.Messages.{Message, malformed, reply, notification, request, message_of}
+use Rattle.flt_server_session.specs.Replies as replies
+use Rattle.flt_server_session.specs.declared.document.Document.{Document}
+use Rattle.flt_server_session.specs.declared.reply.Refusal.{Refusal}
+use Rattle.flt_server_session.specs.declared.reply.Refusal.TheVariants.{NotJson, NoRequest, UnknownMethod, BadParams, NotInitialized}
+use Rattle.flt_server_session.specs.declared.phase.Phase.{Phase}
+use Rattle.flt_server_session.specs.declared.phase.Phase.TheVariants.{Fresh, Ready, Stopped}
+use Rattle.flt_server_session.specs.declared.session.Session.{Session}
+
+-- ---- methods
+
+abbrev pub is : List ℕ → List ℕ → Bool
+is method name = bytes_eq method name
+
+-- the methods that ask about a document
+abbrev pub questions : List (List ℕ)
+questions =
+    codes "textDocument/hover" ∷ codes "textDocument/completion" ∷ codes "textDocument/definition"
+    ∷ codes "textDocument/references" ∷ codes "textDocument/documentSymbol" ∷ codes "textDocument/foldingRange"
+    ∷ codes "textDocument/codeAction" ∷ []
+
+abbrev pub is_question : List ℕ → Bool
+is_question method = list_any (λ name. bytes_eq method name) questions
+
+-- ---- responses
+
+-- what response there is: none, the error of a message of an id, or some result for a request of an id
+pub data Expected : Type 0 where
+  no_response : Expected
+  an_error : List ℕ → Refusal → Expected
+  a_result : List ℕ → Expected
+
+-- a response is as it must be
+abbrev pub IsResponse : Expected → Option (List ℕ) → Type 0
+IsResponse no_response r = r ≡ None
+IsResponse (an_error id why) r = r ≡ Some (replies.refused id why)
+IsResponse (a_result id) r = (text : List ℕ) × (r ≡ Some (replies.answered id text))
+
+-- before `initialize`
+abbrev pub of_first : List ℕ → List ℕ → Expected
+of_first id method = if is method (codes "initialize") then a_result id else an_error id NotInitialized
+
+-- of a question, or of what isn't known
+abbrev pub of_question : List ℕ → List ℕ → Expected
+of_question id method = if is_question method then a_result id else an_error id UnknownMethod
+
+-- of a command, by the report that it asks for
+abbrev pub of_report : List ℕ → Option Report → Expected
+of_report id None = an_error id BadParams
+of_report id (Some report) = a_result id
+
+abbrev pub is_command : List ℕ → Bool
+is_command method = is method (codes "workspace/executeCommand")
+
+-- of a command, a question, or what isn't known
+abbrev pub of_other : List Document → List ℕ → List ℕ → Option Json → Expected
+of_other documents id method params =
+    if is_command method then of_report id (report_asked documents id params) else of_question id method
+
+-- in a session
+abbrev pub of_asked : List Document → List ℕ → List ℕ → Option Json → Expected
+of_asked documents id method params =
+    if is method (codes "initialize") then an_error id NoRequest
+    else (if is method (codes "shutdown") then a_result id else of_other documents id method params)
+
+-- of a request
+abbrev pub of_request_in : Phase → List Document → List ℕ → List ℕ → Option Json → Expected
+of_request_in Fresh documents id method params = of_first id method
+of_request_in Ready documents id method params = of_asked documents id method params
+of_request_in Stopped documents id method params = an_error id NoRequest
+
+abbrev pub of_request : Session → List ℕ → List ℕ → Option Json → Expected
+of_request session id method params = of_request_in session.phase session.documents id method params
+
+abbrev pub no_id : List ℕ
+no_id = codes "null"
+
+-- the id of a request as it is written
+abbrev pub id_text : Json → List ℕ
+id_text id = print (json_tokens id)
+
+-- of a message with these parameters
+abbrev pub of_message : Session → Message → Option Json → Expected
+of_message session malformed params = an_error no_id NoRequest
+of_message session reply params = no_response
+of_message session (notification method) params = no_response
+of_message session (request id method) params = of_request session (id_text id) method params
+
+abbrev pub params_of : Json → Option Json
+params_of = get (codes "params")
+
+-- of a body, where that is JSON
+abbrev pub of_body : Session → Option Json → Expected
+of_body session None = an_error no_id NotJson
+of_body session (Some j) = of_message session (message_of j) (params_of j)
+
+-- ---- reports
+
+-- the report that a request asks for
+abbrev pub report_of_request : Phase → List Document → List ℕ → List ℕ → Option Json → Option Report
+report_of_request Fresh documents id method params = None
+report_of_request Ready documents id method params = if is_command method then report_asked documents id params else None
+report_of_request Stopped documents id method params = None
+
+abbrev pub report_of_message : Session → Message → Option Json → Option Report
+report_of_message session malformed params = None
+report_of_message session reply params = None
+report_of_message session (notification method) params = None
+report_of_message session (request id method) params = report_of_request session.phase session.documents (id_text id) method params
+
+-- the report that a body asks for
+abbrev pub report_of_body : Session → Option Json → Option Report
+report_of_body session None = None
+report_of_body session (Some j) = report_of_message session (message_of j) (params_of j)
+
+-- the result of a response is the report that is asked for, if one is: of a document of a name and a text it may be written so
+abbrev pub IsReported : (List ℕ → List ℕ → List ℕ → Type 0) → Option Report → Option (List ℕ) → Type 0
+IsReported reports None r = ⊤
+IsReported reports (Some report) r = (text : List ℕ) × reports report.uri report.text text × (r ≡ Some (replies.answered report.id text))
+
+-- ---- the end
+
+-- the exit status: 0 after `shutdown`
+abbrev pub exit_status : Phase → ℕ
+exit_status Fresh = 1
+exit_status Ready = 1
+exit_status Stopped = 0
+
+abbrev pub end_of_notification : Phase → List ℕ → Option ℕ
+end_of_notification phase method = if is method (codes "exit") then Some (exit_status phase) else None
+
+-- the server ends by the notification `exit` alone
+abbrev pub end_of_message : Phase → Message → Option ℕ
+end_of_message phase malformed = None
+end_of_message phase reply = None
+end_of_message phase (notification method) = end_of_notification phase method
+end_of_message phase (request id method) = None
+
+abbrev pub end_of_body : Phase → Option Json → Option ℕ
+end_of_body phase None = None
+end_of_body phase (Some j) = end_of_message phase (message_of j)
+
+-- ---- how far the session is afterwards
+
+abbrev pub after_request : Phase → List ℕ → Phase
+after_request Fresh method = if is method (codes "initialize") then Ready else Fresh
+after_request Ready method =
+    if is method (codes "initialize") then Ready else (if is method (codes "shutdown") then Stopped else Ready)
+after_request Stopped method = Stopped
+
+abbrev pub after_message : Phase → Message → Phase
+after_message phase malformed = phase
+after_message phase reply = phase
+after_message phase (notification method) = phase
+after_message phase (request id method) = after_request phase method
+
+abbrev pub after_body : Phase → Option Json → Phase
+after_body phase None = phase
+after_body phase (Some j) = after_message phase (message_of j)
+
+-- ---- answers
+
+-- an answer has the response that is expected, and ends the server so
+pub record Answers (e : Expected) (end : Option ℕ) (a : Answered) : Type 0 where
+  pub response : IsResponse e (option_map (λ v. v.items) a.response)
+  pub ends : a.ends ≡ end
+
+-- a body is this JSON value, or none
+abbrev pub IsRead : List ℕ → Option Json → Type 0
+IsRead body (Some j) = IsUtf8 body × (document body ≡ Some j)
+IsRead body None = IsUtf8 body → document body ≡ None
+
+-- from the first session a body may be answered so, and the second is the session afterwards
+pub record IsAnswered (reports : List ℕ → List ℕ → List ℕ → Type 0) (old : Session) (body : List ℕ) (answer : handling.Reply) (new : Session) : Type 0 where
+  pub read : Option Json
+  pub is_read : IsRead body read
+  pub response : IsResponse (of_body old read) answer.response
+  pub report : IsReported reports (report_of_body old read) answer.response
+  pub ends : answer.ends ≡ end_of_body old.phase read
+  pub phase : new.phase ≡ after_body old.phase read

@@ -1,0 +1,25 @@
+-- Responses to requests, as JSON-RPC 2.0 has them.
+use Rattle.std.specs.Prelude.{ℕ, List, ◌++◌, codes}
+use Rattle.flt_server_session.specs.declared.reply.Refusal.{Refusal}
+use Rattle.flt_server_session.specs.declared.reply.Refusal.TheVariants.{NotJson, NoRequest, UnknownMethod, BadParams, NotInitialized}
+
+-- what each response begins with
+abbrev pub head : List ℕ
+head = codes "{\"jsonrpc\":\"2.0\",\"id\":"
+
+-- what comes after the id of a message that is refused: the codes of JSON-RPC 2.0, and that of the Language Server Protocol
+abbrev pub refusal_tail : Refusal → List ℕ
+refusal_tail NotJson = codes ",\"error\":{\"code\":-32700,\"message\":\"the body isn't JSON\"}}"
+refusal_tail NoRequest = codes ",\"error\":{\"code\":-32600,\"message\":\"this is no request that may be made now\"}}"
+refusal_tail UnknownMethod = codes ",\"error\":{\"code\":-32601,\"message\":\"the server doesn't know this method\"}}"
+refusal_tail BadParams =
+    codes ",\"error\":{\"code\":-32602,\"message\":\"the server doesn't know this command, or its argument is no open document\"}}"
+refusal_tail NotInitialized = codes ",\"error\":{\"code\":-32002,\"message\":\"the server isn't initialized\"}}"
+
+-- the response that refuses the message of an id
+abbrev pub refused : List ℕ → Refusal → List ℕ
+refused id refusal = head ++ (id ++ refusal_tail refusal)
+
+-- the response to the request of an id with this result
+abbrev pub answered : List ℕ → List ℕ → List ℕ
+answered id text = (head ++ (id ++ codes ",\"result\":")) ++ (text ++ codes "}")

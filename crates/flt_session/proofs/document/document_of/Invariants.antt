@@ -1,6 +1,0 @@
-use Rattle.std.proofs.Common.{◌≡◌, drop, find}
-use Rattle.flt_session.specs.Commands.{is_named}
-use Rattle.flt_session.proofs.document.document_of.Given as goal
-
-abbrev pub invariant-loop-document : goal.invariant-loop-document
-invariant-loop-document l = find (is_named l.uri) (drop l.document-index l.documents) ≡ find (is_named l.uri) l.documents

@@ -1,7 +1,0 @@
-use Rattle.flt_session.proofs.session.resulting.Goals as goal
-
-pub returns-clause-answers : goal.returns-clause-answers
-returns-clause-answers c = record {
-  response = (c.args.text.now, rw c.in_ok-response.ensures at c.responding.ensures.response);
-  ends = c.responding.ensures.ends;
-}

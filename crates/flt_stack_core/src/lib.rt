@@ -1,0 +1,20 @@
+//! The state that the running stack's lock guards: a board of the loaded filters and the system's choices, with two books that count the
+//! entries of the journal, and one that counts refusals for lack of room.
+//!
+//! A stack has a name, a type: it names the loaded filters and three ledgers. A caller's arrivals count in its receipts' share of the first
+//! ledger, a worker's moves in its share of the second. So the books say of the journal the same as the shares together. The third counts
+//! nothing unless the journal is full, and a full journal stays full. Nothing here waits or starts a thread.
+#![tactic(auto)]
+
+mod board;
+mod fault;
+mod names;
+mod receipts;
+mod turns;
+
+pub use board::Core;
+pub use fault::{ArriveFault, DetachFault};
+pub use flt_stack_receipts::Receipt;
+pub use names::{CallerEntries, Counts, Fulls, OtherEntries, StackName};
+pub use receipts::Receipts;
+pub use turns::Turned;

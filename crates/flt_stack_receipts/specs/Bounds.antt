@@ -1,0 +1,8 @@
+-- How much a journal holds. This project's own rule.
+use Rattle.std.specs.Prelude.{◌≡◌, ◌⊎◌, List, length, count_by}
+use Rattle.flt_model.specs.declared.moves.JournalEntry.{JournalEntry}
+use Rattle.flt_stack_receipts.specs.Receipts.{is_arrival}
+
+-- there are as many entries as may be, or as many operations
+abbrev pub IsFull : List JournalEntry → Type 0
+IsFull entries = (length entries ≡ 1000000) ⊎ (count_by is_arrival entries ≡ 65536)

@@ -1,9 +1,0 @@
-use Rattle.std.proofs.Common.{◌≡◌, replicate}
-use Rattle.flt_model.specs.World.{Attached}
-use Rattle.flt_store.proofs.store.all_attached.Given as goal
-
-abbrev pub invariant-loop : goal.invariant-loop
-invariant-loop l = record {
-  presences : l.presences.items ≡ replicate l.counter Attached;
-  granted : l.heap ≡ l.fn.heap;
-}

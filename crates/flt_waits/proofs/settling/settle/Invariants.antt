@@ -1,6 +1,0 @@
-use Rattle.std.proofs.Common.{◌≡◌, Some}
-use Rattle.flt_steps.specs.Unseen.{unseen}
-use Rattle.flt_waits.proofs.settling.settle.Given as goal
-
-abbrev pub invariant-loop-made : goal.invariant-loop-made
-invariant-loop-made l = unseen l._made l.fn.world l.a ≡ Some l.world

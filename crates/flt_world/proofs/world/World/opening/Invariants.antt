@@ -1,6 +1,0 @@
-use Rattle.std.proofs.Common.{◌≡◌}
-use Rattle.flt_world.specs.Opening.{opened}
-use Rattle.flt_world.proofs.world.World.opening.Given as goal
-
-abbrev pub invariant-loop-number : goal.invariant-loop-number
-invariant-loop-number l = l.world ≡ opened l.number
