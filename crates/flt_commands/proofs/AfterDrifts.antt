@@ -10,9 +10,9 @@ use Rattle.flt_explain_forms.specs.declared.as_lines.Style.{Style}
 use Rattle.flt_explain_forms.specs.declared.as_lines.Style.TheVariants.{Object, Sentence}
 use Rattle.flt_explain_forms.specs.declared.unread.UnreadFile.{UnreadFile}
 use Rattle.flt_explain_forms.specs.Lines.{AreLines}
-use Rattle.flt_explain_notes.specs.Reported.{AreWhole, IsAllButLast}
-use Rattle.flt_explain_notes.specs.Whole.{Look}
-use Rattle.flt_explain_notes.specs.declared.explaining.Told.{Told}
+use Rattle.flt_explain_runs.specs.Reported.{AreWhole, IsAllButLast}
+use Rattle.flt_explain_runs.specs.Whole.{Look}
+use Rattle.flt_explain_runs.specs.declared.explaining.Told.{Told}
 use Rattle.flt_explain_warning_details.specs.declared.options.WarningOptions.{WarningOptions}
 use Rattle.flt_words.specs.declared.request.Form.{Form}
 use Rattle.flt_words.specs.declared.request.Form.TheVariants.{Html, Human, Lines, LinesWithRuns, Sarif, SarifWithRuns, Short}

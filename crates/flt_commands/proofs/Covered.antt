@@ -23,11 +23,11 @@ use Rattle.flt_explain_forms.specs.Warned.{status_of as status_of_warned}
 use Rattle.flt_explain_forms.specs.declared.as_lines.Style.{Style}
 use Rattle.flt_explain_forms.specs.declared.unread.UnreadFile.{UnreadFile}
 use Rattle.flt_explain_forms.specs.declared.as_lines.Style.TheVariants.{Object, Sentence}
-use Rattle.flt_explain_notes.specs.Reported.{AreAllReports, AreParts, IsNoticeReport, IsStatus, IsText, IsTextReport}
-use Rattle.flt_explain_notes.specs.Reported as reports
-use Rattle.flt_explain_notes.specs.Whole.{Look}
+use Rattle.flt_explain_runs.specs.Reported.{AreAllReports, AreParts, IsNoticeReport, IsStatus, IsText, IsTextReport}
+use Rattle.flt_explain_runs.specs.Reported as reports
+use Rattle.flt_explain_runs.specs.Whole.{Look}
 use Rattle.flt_explain_details.specs.Reports.{IsJudged, IsKnown, texts_of}
-use Rattle.flt_explain_notes.specs.declared.explaining.Told.{Told}
+use Rattle.flt_explain_runs.specs.declared.explaining.Told.{Told}
 use Rattle.flt_explain_details.specs.declared.sources.Source.{Source}
 use Rattle.flt_explain_warning_details.specs.Options.{warned_status}
 use Rattle.flt_explain_warning_details.specs.declared.detail.WarningDetail.{WarningDetail}

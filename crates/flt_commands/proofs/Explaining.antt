@@ -11,10 +11,10 @@ use Rattle.flt_joined.specs.Texts.{AreNamed, Given, Refused, given_of, givens, r
 use Rattle.flt_joined.specs.declared.given.GivenFile.{GivenFile}
 use Rattle.flt_joined.specs.declared.joined.Joined.{Joined}
 use Rattle.flt_places.specs.declared.files.SourceFile.{SourceFile}
-use Rattle.flt_explain_notes.specs.Whole.{IsPrint, Look, look_for}
-use Rattle.flt_explain_notes.specs.declared.explaining.Asking.{Asking}
-use Rattle.flt_explain_notes.specs.declared.explaining.Told.{Told}
-use Rattle.flt_explain_notes.specs.declared.noted.Noted.{Noted}
+use Rattle.flt_explain_runs.specs.Whole.{IsPrint, Look, look_for}
+use Rattle.flt_explain_runs.specs.declared.explaining.Asking.{Asking}
+use Rattle.flt_explain_runs.specs.declared.explaining.Told.{Told}
+use Rattle.flt_explain_runs.specs.declared.noted.Noted.{Noted}
 use Rattle.flt_explain_warning_details.specs.declared.options.WarningOptions.{WarningOptions}
 use Rattle.flt_words.specs.declared.request.Form.{Form}
 use Rattle.flt_commands.proofs.Firsts.{mapped_twice}

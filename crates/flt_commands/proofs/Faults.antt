@@ -1,7 +1,7 @@
 -- Why reports for people end early, as the command says it.
 use Rattle.std.proofs.Common.{◌≡◌, ◌≢◌, ℕ, ap, refl}
-use Rattle.flt_explain_notes.specs.declared.fault.ExplainFault.{ExplainFault}
-use Rattle.flt_explain_notes.specs.declared.fault.ExplainFault.TheVariants as notes
+use Rattle.flt_explain_runs.specs.declared.fault.ExplainFault.{ExplainFault}
+use Rattle.flt_explain_runs.specs.declared.fault.ExplainFault.TheVariants as notes
 use Rattle.flt_commands.specs.Fault.{of_explain}
 use Rattle.flt_commands.specs.declared.fault.CommandFault.{CommandFault}
 use Rattle.flt_commands.specs.declared.fault.CommandFault.TheVariants.{OutOfMemory, Write}

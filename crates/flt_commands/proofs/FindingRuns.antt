@@ -9,9 +9,9 @@ use Rattle.flt_explain_flows.specs.Flows.{IsFlow}
 use Rattle.flt_explain_flows.specs.Running.{run_of}
 use Rattle.flt_explain_flows.specs.declared.flows.Flow.{Flow}
 use Rattle.flt_model.specs.Program.{by_altitude, filters_of}
-use Rattle.flt_explain_notes.specs.Noted.{own_of}
-use Rattle.flt_explain_notes.specs.declared.noted.Noted.{Noted}
-use Rattle.flt_explain_notes.specs.Rows.{own_files}
+use Rattle.flt_explain_runs.specs.Noted.{own_of}
+use Rattle.flt_explain_runs.specs.declared.noted.Noted.{Noted}
+use Rattle.flt_explain_runs.specs.Rows.{own_files}
 use Rattle.flt_places.specs.declared.files.Files.{Files}
 use Rattle.flt_search.specs.declared.judging.Broken.{Broken}
 use Rattle.flt_tree.specs.declared.tree.Tree.{Tree}

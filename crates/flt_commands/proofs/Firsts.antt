@@ -13,7 +13,7 @@ use Rattle.flt_syntax.specs.declared.fault.SyntaxFault.{SyntaxFault}
 use Rattle.flt_tree.specs.declared.filter.Filter.{Filter}
 use Rattle.flt_tree.specs.declared.tree.Tree.{Tree}
 use Rattle.flt_commands.specs.Inputs.{Giving, Text, AreGiven, AreGivenBehind, IsUnreadable, NamesFail, NamesFailBehind, is_standard}
-use Rattle.flt_stack_driven.specs.Texts.{AreSpelled, IsSyntaxFault}
+use Rattle.flt_stack_prepare.specs.Texts.{AreSpelled, IsSyntaxFault}
 use Rattle.flt_commands.specs.declared.failure.Failure.{Failure}
 use Rattle.flt_commands.specs.declared.failure.Failure.TheVariants.{CannotRead}
 

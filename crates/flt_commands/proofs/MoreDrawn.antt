@@ -2,7 +2,7 @@
 use Rattle.std.proofs.Common.{◌≡◌, List, [], ◌∷◌, ◌++◌, Some, Result, Ok, Err, OnOk}
 use Rattle.flt_tree.specs.declared.tree.Tree.{Tree}
 use Rattle.flt_search.specs.declared.judging.Broken.{Broken}
-use Rattle.flt_explain_notes.specs.declared.noted.Noted.{Noted}
+use Rattle.flt_explain_runs.specs.declared.noted.Noted.{Noted}
 use Rattle.flt_commands.specs.Html.{AreDrawn, IsDrawn, run_of}
 use Rattle.flt_commands.specs.Html as spec
 use Rattle.flt_commands.specs.Inputs.{Text}

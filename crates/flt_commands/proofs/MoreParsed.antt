@@ -7,8 +7,8 @@ use Rattle.flt_syntax.specs.declared.fault.SyntaxFault.{SyntaxFault}
 use Rattle.flt_model.specs.Program.{filters_of}
 use Rattle.flt_tree.specs.declared.filter.Filter.{Filter}
 use Rattle.flt_tree.specs.declared.tree.Tree.{Tree}
-use Rattle.flt_explain_notes.specs.Parsed.{AreParsed}
-use Rattle.flt_explain_notes.specs.Parsed.AreParsed.{none, parses, fails}
+use Rattle.flt_explain_runs.specs.Parsed.{AreParsed}
+use Rattle.flt_explain_runs.specs.Parsed.AreParsed.{none, parses, fails}
 use Rattle.flt_commands.specs.Inputs.{Text}
 
 -- one more text parses

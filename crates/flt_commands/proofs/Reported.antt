@@ -9,7 +9,7 @@ use Rattle.flt_commands.specs.Drawn.{IsDrawnFor}
 use Rattle.flt_commands.specs.EmitInto.{ArePut}
 use Rattle.flt_commands.specs.Explain.{ArePaged, IsSpelledAs, IsWritten}
 use Rattle.flt_commands.specs.Format.{AreChanged}
-use Rattle.flt_explain_notes.specs.Noted.{first_journal}
+use Rattle.flt_explain_runs.specs.Noted.{first_journal}
 use Rattle.std.specs.Prelude.{⊤}
 use Rattle.flt_commands.specs.Inputs.{Giving, Says, Text, given}
 use Rattle.flt_commands.specs.Remarks.{IsFound, unread_in, unread_lines}

@@ -5,8 +5,8 @@ use Rattle.flt_explain_details.specs.declared.sources.Source.{Source}
 use Rattle.flt_joined.specs.Made.{IsOwn}
 use Rattle.flt_joined.specs.Texts.{AreAnnotations, file_in, file_of, given_of}
 use Rattle.flt_joined.specs.declared.given.GivenFile.{GivenFile}
-use Rattle.flt_explain_notes.specs.Whole.{IsPrint}
-use Rattle.flt_explain_notes.specs.declared.noted.Noted.{Noted}
+use Rattle.flt_explain_runs.specs.Whole.{IsPrint}
+use Rattle.flt_explain_runs.specs.declared.noted.Noted.{Noted}
 use Rattle.flt_places.specs.declared.files.SourceFile.{SourceFile}
 use Rattle.flt_commands.specs.Annotated.{AreFlawed}
 use Rattle.flt_commands.specs.Inputs.{Text}

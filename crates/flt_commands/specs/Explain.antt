@@ -14,12 +14,12 @@ use Rattle.flt_explain_forms.specs.declared.unread.UnreadFile.{UnreadFile}
 use Rattle.flt_explain_forms.specs.declared.as_lines.Style.TheVariants.{Object, Sentence}
 use Rattle.flt_joined.specs.Texts.{Given}
 use Rattle.flt_model.specs.JournalText.{Entries, spelling}
-use Rattle.flt_explain_notes.specs.Noted.{AreNotes, first_journal}
-use Rattle.flt_explain_notes.specs.Reported.{AreReports, IsAllButLast, IsCut}
-use Rattle.flt_explain_notes.specs.Told.{Tells}
-use Rattle.flt_explain_notes.specs.Whole.{IsPrint, Look}
-use Rattle.flt_explain_notes.specs.declared.noted.Noted.{Noted}
-use Rattle.flt_explain_notes.specs.declared.explaining.Told.{Told}
+use Rattle.flt_explain_runs.specs.Noted.{AreNotes, first_journal}
+use Rattle.flt_explain_runs.specs.Reported.{AreReports, IsAllButLast, IsCut}
+use Rattle.flt_explain_runs.specs.Told.{Tells}
+use Rattle.flt_explain_runs.specs.Whole.{IsPrint, Look}
+use Rattle.flt_explain_runs.specs.declared.noted.Noted.{Noted}
+use Rattle.flt_explain_runs.specs.declared.explaining.Told.{Told}
 use Rattle.flt_explain_details.specs.Reports.{texts_of}
 use Rattle.flt_explain_details.specs.declared.sources.Source.{Source}
 use Rattle.flt_commands.specs.Sources.{AreSources}

@@ -1,6 +1,6 @@
 -- Why a command ended without its answer. This project's own program.
-use Rattle.flt_explain_notes.specs.declared.fault.ExplainFault.{ExplainFault}
-use Rattle.flt_explain_notes.specs.declared.fault.ExplainFault.TheVariants as notes
+use Rattle.flt_explain_runs.specs.declared.fault.ExplainFault.{ExplainFault}
+use Rattle.flt_explain_runs.specs.declared.fault.ExplainFault.TheVariants as notes
 use Rattle.flt_commands.specs.declared.fault.CommandFault.{CommandFault}
 use Rattle.flt_commands.specs.declared.fault.CommandFault.TheVariants.{OutOfMemory, Write}
 

@@ -11,13 +11,13 @@ use Rattle.flt_explain_flows.specs.declared.flows.Flow.{Flow}
 use Rattle.flt_explain_details.specs.declared.sources.Source.{Source}
 use Rattle.flt_explain_forms.specs.declared.run.FindingRun.{FindingRun}
 use Rattle.flt_model.specs.Program.{by_altitude, filters_of}
-use Rattle.flt_explain_notes.specs.Noted.{own_of, schedule_of}
-use Rattle.flt_explain_notes.specs.Rows.{own_files}
-use Rattle.flt_explain_notes.specs.declared.noted.Noted.{Noted}
-use Rattle.flt_search_schedules.specs.declared.schedules.Schedule.{Schedule}
-use Rattle.flt_search_schedules.specs.declared.schedules.Schedule.TheVariants.{Breaks}
-use Rattle.flt_search_schedules.specs.declared.schedules.Scheduled.{Scheduled}
-use Rattle.flt_search_schedules.specs.declared.schedules.Scheduled.TheVariants.{Together, Alone}
+use Rattle.flt_explain_runs.specs.Noted.{own_of, schedule_of}
+use Rattle.flt_explain_runs.specs.Rows.{own_files}
+use Rattle.flt_explain_runs.specs.declared.noted.Noted.{Noted}
+use Rattle.flt_explain_runs.specs.declared.schedules.Schedule.{Schedule}
+use Rattle.flt_explain_runs.specs.declared.schedules.Schedule.TheVariants.{Breaks}
+use Rattle.flt_explain_runs.specs.declared.schedules.Scheduled.{Scheduled}
+use Rattle.flt_explain_runs.specs.declared.schedules.Scheduled.TheVariants.{Together, Alone}
 use Rattle.flt_search.specs.declared.judging.Broken.{Broken}
 
 -- ---- trees

@@ -5,8 +5,8 @@ use Rattle.flt_tree.specs.declared.tree.Tree.{Tree}
 use Rattle.flt_model.specs.Program.{filters_of}
 use Rattle.flt_model.specs.declared.verdict.Verdict.TheVariants as verdicts
 use Rattle.flt_search.specs.declared.judging.Broken.{Broken}
-use Rattle.flt_search_schedules.specs.declared.schedules.Schedule.{Schedule}
-use Rattle.flt_search_schedules.specs.declared.schedules.Schedule.TheVariants.{Breaks}
+use Rattle.flt_explain_runs.specs.declared.schedules.Schedule.{Schedule}
+use Rattle.flt_explain_runs.specs.declared.schedules.Schedule.TheVariants.{Breaks}
 use Rattle.flt_explain_details.specs.Page.{shown}
 use Rattle.flt_explain_warning_details.specs.declared.options.WarningOptions.{WarningOptions}
 use Rattle.flt_explain_picture.specs.Pictures.{IsPicture}
@@ -14,11 +14,11 @@ use Rattle.flt_explain_picture.specs.Titles.{title_of}
 use Rattle.flt_explain_details.specs.Reports.{texts_of}
 use Rattle.flt_places.specs.declared.files.SourceFile.{SourceFile}
 use Rattle.flt_explain_details.specs.declared.sources.Source.{Source}
-use Rattle.flt_explain_notes.specs.Noted.{own_of, schedule_of}
-use Rattle.flt_explain_notes.specs.Parsed.{AreParsed}
-use Rattle.flt_explain_notes.specs.Reported.{AreReports}
-use Rattle.flt_explain_notes.specs.Whole.{IsPrint, Look}
-use Rattle.flt_explain_notes.specs.declared.noted.Noted.{Noted}
+use Rattle.flt_explain_runs.specs.Noted.{own_of, schedule_of}
+use Rattle.flt_explain_runs.specs.Parsed.{AreParsed}
+use Rattle.flt_explain_runs.specs.Reported.{AreReports}
+use Rattle.flt_explain_runs.specs.Whole.{IsPrint, Look}
+use Rattle.flt_explain_runs.specs.declared.noted.Noted.{Noted}
 use Rattle.flt_explain_html.specs.Page.{IsPage}
 use Rattle.flt_explain_html.specs.declared.texts.ShownText.{ShownText}
 use Rattle.flt_commands.specs.Inputs.{Text}

@@ -2,7 +2,7 @@
 -- program.
 use Rattle.std.specs.Prelude.{◌≡◌, ℕ, List, [], ◌∷◌, ◌++◌, codes, flat_map, string_bytes, Option, Some, None, Result, Ok, Err}
 use Rattle.flt_model.specs.JournalText.{Entries}
-use Rattle.flt_explain_notes.specs.Noted.{first_journal}
+use Rattle.flt_explain_runs.specs.Noted.{first_journal}
 use Rattle.flt_explain_forms.specs.declared.unread.UnreadFile.{UnreadFile}
 use Rattle.flt_words.specs.Shown.{visible}
 use Rattle.flt_commands.specs.Inputs.{Text}

@@ -1,6 +1,6 @@
 -- What `replay` says. This project's own program.
 use Rattle.std.specs.Prelude.{◌≡◌, ℕ, ◌≤◌, ◌<◌, List, ◌∷◌, length, Result, Ok, Err, [], Bool, false, Option, Some}
-use Rattle.flt_stack_driven.specs.Texts.{AreSpelled, IsSyntaxFault}
+use Rattle.flt_stack_prepare.specs.Texts.{AreSpelled, IsSyntaxFault}
 use Rattle.flt_tree.specs.declared.filter.Filter.{Filter}
 use Rattle.flt_model.specs.Expansion.{verdict}
 use Rattle.flt_model.specs.JournalText.{Entries, IsJournal, IsFirstFault, spelling}

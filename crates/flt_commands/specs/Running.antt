@@ -1,8 +1,8 @@
 -- What `run` says. This project's own program.
 use Rattle.std.specs.Prelude.{◌≡◌, ◌<◌, List, [], ◌∷◌, length, Result, Ok, Err}
 use Rattle.flt_stack_crew.specs.Running.{IsRun}
-use Rattle.flt_stack_driven.specs.Preparing.{Fails}
-use Rattle.flt_stack_driven.specs.declared.fault.RunFault.TheVariants as fault
+use Rattle.flt_stack_prepare.specs.Preparing.{Fails}
+use Rattle.flt_stack_prepare.specs.declared.fault.RunFault.TheVariants as fault
 use Rattle.flt_commands.specs.Inputs.{Text}
 use Rattle.flt_commands.specs.Replay.{max_filters}
 use Rattle.flt_commands.specs.declared.answer.Answer.{Answer}

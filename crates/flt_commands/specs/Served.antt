@@ -8,8 +8,8 @@ use Rattle.flt_c_files.specs.Names.{is_c_file}
 use Rattle.flt_explain_forms.specs.declared.drifted.DriftedFile.{DriftedFile}
 use Rattle.flt_explain_forms.specs.declared.unread.UnreadFile.{UnreadFile}
 use Rattle.flt_server_frames.specs.Handling.{IsServed, IsServedSoFar, Reply}
-use Rattle.flt_explain_notes.specs.Whole.{IsPrint, Look}
-use Rattle.flt_explain_notes.specs.declared.noted.Noted.{Noted}
+use Rattle.flt_explain_runs.specs.Whole.{IsPrint, Look}
+use Rattle.flt_explain_runs.specs.declared.noted.Noted.{Noted}
 use Rattle.flt_explain_details.specs.declared.sources.Source.{Source}
 use Rattle.flt_joined.specs.Texts.{AreAnnotations, Given}
 use Rattle.flt_commands.specs.Sources.{IsSourceOf}

@@ -9,7 +9,7 @@ use crate::explain::{Asked, told};
 use crate::fault::CommandFault;
 use flt_explain_details::{Explained, Source};
 use flt_explain_forms::{DriftedFile, UnreadFile, drift_status};
-use flt_explain_notes::{SearchWatch, Told};
+use flt_explain_runs::{SearchWatch, Told};
 use flt_model::{Sink, put_all};
 use flt_words::Form;
 use std::alloc::{AllocError, Global};

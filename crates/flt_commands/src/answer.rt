@@ -8,7 +8,7 @@ use crate::emit::Unemitted;
 use crate::outcomes::{Outcomes, files_status, printed_files};
 use flt_check::Refusal;
 use flt_explain_forms::UnreadFile;
-use flt_explain_notes::Told;
+use flt_explain_runs::Told;
 use flt_model::{Verdict, Violation};
 use flt_rules::{Rule, number, text};
 use flt_stack_crew::{Ending, Ran};

@@ -15,7 +15,7 @@ use crate::fault::CommandFault;
 use crate::inputs::{Inputs, Pictures};
 use crate::remarks::explain_remark;
 use crate::report::{Contents, Report, report_on_explanation};
-use flt_explain_notes::SearchWatch;
+use flt_explain_runs::SearchWatch;
 use flt_model::Sink;
 use flt_syntax::fails_exactly_where_nothing_is_spelled;
 use std::alloc::Global;

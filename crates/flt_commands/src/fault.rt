@@ -1,6 +1,6 @@
 //! Why a command ended without its answer.
 
-use flt_explain_notes::ExplainFault;
+use flt_explain_runs::ExplainFault;
 use flt_model::WriteFault;
 use std::alloc::{AllocError, AllocFailed};
 use thiserror::Error;

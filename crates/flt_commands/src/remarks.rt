@@ -3,14 +3,14 @@
 ghost use Rattle.std.specs.Prelude.{◌≡◌, ◌≢◌, [], IfOk, None, OnErr, OnOk, Some, flat_map, option_map, string_bytes};
 ghost use Rattle.flt_commands.specs.Explain.{said_of};
 ghost use Rattle.flt_commands.specs.Remarks as spec;
-ghost use Rattle.flt_explain_notes.specs.Noted.{first_journal};
+ghost use Rattle.flt_explain_runs.specs.Noted.{first_journal};
 
 use crate::answer::Answer;
 use crate::explain::Explanation;
 use crate::failure::Failure;
 use crate::unwritten::unwritten_lines;
 use flt_explain_forms::UnreadFile;
-use flt_explain_notes::{Noted, first_journal};
+use flt_explain_runs::{Noted, first_journal};
 use flt_words::visible;
 use std::alloc::{AllocError, Global};
 use std::fmt;

@@ -2,7 +2,7 @@
 
 ghost use Rattle.std.specs.Prelude.{◌≡◌, ◌∷◌, List, ℕ, None, IfOk, IfErr, map};
 ghost use Rattle.flt_model.specs.JournalText.{IsJournal, spelling};
-ghost use Rattle.flt_stack_driven.specs.Texts.{AreSpelled};
+ghost use Rattle.flt_stack_prepare.specs.Texts.{AreSpelled};
 ghost use Rattle.flt_replay.specs.Judging.{filters_of};
 ghost use Rattle.flt_commands.specs.Commands.{IsKeptAs};
 ghost use Rattle.flt_commands.specs.Inputs.{Says};

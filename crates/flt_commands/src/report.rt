@@ -11,7 +11,7 @@ use crate::explain::Explanation;
 use crate::failure::Failure;
 use crate::fault::CommandFault;
 use flt_explain_forms::UnreadFile;
-use flt_explain_notes::Told;
+use flt_explain_runs::Told;
 use flt_model::Journal;
 use flt_stack_crew::Ending;
 use std::alloc::{AllocError, Global};

@@ -1,6 +1,6 @@
 //! The progress of searches for runs.
 
-use flt_explain_notes::SearchWatch;
+use flt_explain_runs::SearchWatch;
 use flt_stack_crew::Unwatched;
 use flt_words::DEFAULT_STATES;
 

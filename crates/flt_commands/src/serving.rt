@@ -4,7 +4,7 @@ ghost use Rattle.std.specs.Prelude.{◌≡◌, ◌≢◌, None, IfErr, IfOk, tru
 ghost use Rattle.flt_joined.specs.Made.{IsOwn};
 ghost use Rattle.flt_joined.specs.Texts.{given_of};
 ghost use Rattle.flt_commands.specs.Served as spec;
-ghost use Rattle.flt_explain_notes.specs.Whole.{look_for};
+ghost use Rattle.flt_explain_runs.specs.Whole.{look_for};
 
 use crate::annotated::annotated;
 use crate::drifts::{drifted_files, tell_drifts};
@@ -12,7 +12,7 @@ use crate::remarks::lines_on_file;
 use crate::unread::Unread;
 use flt_c_files::is_c_file;
 use flt_explain_details::Source;
-use flt_explain_notes::{Asking, UnwatchedSearch, explain};
+use flt_explain_runs::{Asking, UnwatchedSearch, explain};
 use flt_explain_warning_details::WarningOptions;
 use flt_explain_warnings::AllowedKinds;
 use flt_joined::{GivenFile, source_file};

@@ -23,10 +23,10 @@ use Rattle.flt_graph.specs.declared.instruction.Invocation.{Invocation}
 use Rattle.flt_explain.specs.declared.finding.Finding.{Finding}
 use Rattle.flt_explain.specs.declared.finding.Subject.{Subject}
 use Rattle.flt_explain.specs.declared.finding.Subject.TheVariants as about
-use Rattle.flt_explain_origins.specs.declared.facts.VariableStatus.{VariableStatus}
-use Rattle.flt_explain_origins.specs.declared.facts.VariableStatus.TheVariants.{Null, Held, Stale}
-use Rattle.flt_explain_origins.specs.declared.origin.Cause.{Cause}
-use Rattle.flt_explain_origins.specs.declared.origin.Cause.TheVariants.{Entry, Made}
+use Rattle.flt_explain_ways.specs.declared.facts.VariableStatus.{VariableStatus}
+use Rattle.flt_explain_ways.specs.declared.facts.VariableStatus.TheVariants.{Null, Held, Stale}
+use Rattle.flt_explain_ways.specs.declared.origin.Cause.{Cause}
+use Rattle.flt_explain_ways.specs.declared.origin.Cause.TheVariants.{Entry, Made}
 use Rattle.flt_explain_ways.specs.Alone.{alone}
 use Rattle.flt_explain_ways.specs.declared.answer.Step.{Step}
 use Rattle.flt_explain_ways.specs.declared.answer.Way.{Way}

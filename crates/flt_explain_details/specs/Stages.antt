@@ -5,8 +5,8 @@ use Rattle.flt_explain.specs.declared.finding.Finding.{Finding}
 use Rattle.flt_explain.specs.declared.finding.Subject.{Subject}
 use Rattle.flt_graph.specs.Graph.{span_at}
 use Rattle.flt_graph.specs.declared.graph.Graph.{Graph}
-use Rattle.flt_explain_origins.specs.declared.origin.Cause.{Cause}
-use Rattle.flt_explain_origins.specs.declared.origin.Cause.TheVariants as cause
+use Rattle.flt_explain_ways.specs.declared.origin.Cause.{Cause}
+use Rattle.flt_explain_ways.specs.declared.origin.Cause.TheVariants as cause
 use Rattle.flt_places.specs.Places.{place_in}
 use Rattle.flt_places.specs.declared.files.Files.{Files}
 use Rattle.flt_tree.specs.Names.{Text}

@@ -11,10 +11,10 @@ use Rattle.flt_abs.specs.Sets.{StatusSet, status_bits, mode_bits, draining_bits}
 use Rattle.flt_abs.specs.State.{State}
 use Rattle.flt_explain.specs.declared.finding.Subject.{Subject}
 use Rattle.flt_explain.specs.declared.finding.Subject.TheVariants as about
-use Rattle.flt_explain_origins.specs.declared.facts.Fact.{Fact}
-use Rattle.flt_explain_origins.specs.declared.facts.Fact.TheVariants as fact
-use Rattle.flt_explain_origins.specs.declared.facts.VariableStatus.{VariableStatus}
-use Rattle.flt_explain_origins.specs.declared.facts.VariableStatus.TheVariants as is
+use Rattle.flt_explain_ways.specs.declared.facts.Fact.{Fact}
+use Rattle.flt_explain_ways.specs.declared.facts.Fact.TheVariants as fact
+use Rattle.flt_explain_ways.specs.declared.facts.VariableStatus.{VariableStatus}
+use Rattle.flt_explain_ways.specs.declared.facts.VariableStatus.TheVariants as is
 use Rattle.flt_explain_ways.specs.Alone.{alone}
 use Rattle.flt_explain_ways.specs.declared.answer.Way.{Way}
 use Rattle.flt_explain_details.specs.Operands.{word_of}

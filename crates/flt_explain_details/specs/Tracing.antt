@@ -8,15 +8,15 @@ use Rattle.flt_abs.specs.State.{Situation}
 use Rattle.flt_explain.specs.declared.finding.Finding.{Finding}
 use Rattle.flt_explain.specs.declared.finding.Subject.{Subject}
 use Rattle.flt_explain.specs.declared.finding.Subject.TheVariants as about
-use Rattle.flt_explain_origins.specs.Grouping.{groups_of}
-use Rattle.flt_explain_origins.specs.Origins.{fact_about, origin_on, IsOrigin, IsOnPath, HasNoneAt}
-use Rattle.flt_explain_origins.specs.declared.facts.Fact.{Fact}
-use Rattle.flt_explain_origins.specs.declared.facts.Fact.TheVariants as fact
-use Rattle.flt_explain_origins.specs.declared.facts.VariableStatus.{VariableStatus}
-use Rattle.flt_explain_origins.specs.declared.facts.VariableStatus.TheVariants as is
-use Rattle.flt_explain_origins.specs.declared.grouping.Traced.{Traced}
-use Rattle.flt_explain_origins.specs.declared.origin.Cause.{Cause}
-use Rattle.flt_explain_origins.specs.declared.origin.Origin.{Origin}
+use Rattle.flt_explain_ways.specs.Grouping.{groups_of}
+use Rattle.flt_explain_ways.specs.Origins.{fact_about, origin_on, IsOrigin, IsOnPath, HasNoneAt}
+use Rattle.flt_explain_ways.specs.declared.facts.Fact.{Fact}
+use Rattle.flt_explain_ways.specs.declared.facts.Fact.TheVariants as fact
+use Rattle.flt_explain_ways.specs.declared.facts.VariableStatus.{VariableStatus}
+use Rattle.flt_explain_ways.specs.declared.facts.VariableStatus.TheVariants as is
+use Rattle.flt_explain_ways.specs.declared.grouping.Traced.{Traced}
+use Rattle.flt_explain_ways.specs.declared.origin.Cause.{Cause}
+use Rattle.flt_explain_ways.specs.declared.origin.Origin.{Origin}
 use Rattle.flt_explain_ways.specs.Told.{IsAnswer}
 use Rattle.flt_explain_ways.specs.declared.answer.Answer.{Answer}
 use Rattle.flt_explain_ways.specs.declared.answer.Answer.TheVariants as answer

@@ -11,8 +11,7 @@ use crate::subjects::subject_words;
 use crate::tracing::Shown;
 use flt_abs::Abs;
 use flt_explain::{Finding, Subject};
-use flt_explain_origins::{Cause, VariableStatus};
-use flt_explain_ways::{Step, Way};
+use flt_explain_ways::{Cause, Step, VariableStatus, Way};
 use flt_graph::{Instruction, Invocation, Status};
 use flt_rules::{LockKind, LockNumber, Operation, Place};
 

@@ -7,7 +7,7 @@ ghost use Rattle.flt_explain_details.specs.Subjects as spec;
 use crate::operands::word_of;
 use flt_abs::{Abs, Statuses};
 use flt_explain::Subject;
-use flt_explain_origins::{Fact, VariableStatus};
+use flt_explain_ways::{Fact, VariableStatus};
 use flt_rules::Mode;
 use flt_syntax::Tree;
 

@@ -3,14 +3,11 @@
 ghost use Rattle.std.specs.List.{AllZip};
 ghost use Rattle.std.specs.Prelude.{◌≡◌, ◌<◌, Some, length, option_copied, slice_get, IfOk};
 ghost use Rattle.flt_explain_details.specs.Tracing as spec;
-ghost use Rattle.flt_explain_origins.specs.Grouping.{groups_of};
+ghost use Rattle.flt_explain_ways.specs.Grouping.{groups_of};
 ghost use Rattle.flt_explain_ways.specs.Told.{IsAnswer};
 
 use flt_explain::{Finding, Subject};
-use flt_explain_origins::{
-    Cause, Fact, Group, Origin, Traced, VariableStatus, fact_about, groups, origin_at, origin_on,
-};
-use flt_explain_ways::{Answer, Situation, Way, Ways, ways};
+use flt_explain_ways::{Answer, Cause, Fact, Group, Origin, Situation, Traced, VariableStatus, Way, Ways, fact_about, groups, origin_at, origin_on, ways};
 use flt_graph::Graph;
 use flt_rules::Rule;
 use sqlite_items::Items;

@@ -7,9 +7,9 @@ use Rattle.std.proofs.lemmas.Option.{same_Some}
 use Rattle.flt_rules.specs.Rule.{number}
 use Rattle.flt_explain.specs.Subjects.{place}
 use Rattle.flt_explain.specs.declared.finding.Finding.{Finding}
-use Rattle.flt_explain_origins.specs.Grouping.{group, groups_in, groups_of, is_like, is_unlike, share}
-use Rattle.flt_explain_origins.specs.declared.grouping.Group.{Group}
-use Rattle.flt_explain_origins.specs.declared.grouping.Traced.{Traced}
+use Rattle.flt_explain_ways.specs.Grouping.{group, groups_in, groups_of, is_like, is_unlike, share}
+use Rattle.flt_explain_ways.specs.declared.grouping.Group.{Group}
+use Rattle.flt_explain_ways.specs.declared.grouping.Traced.{Traced}
 use Rattle.flt_explain_details.specs.Tracing.{traced, traced_from}
 use Rattle.flt_explain_details.specs.declared.tracing.Shown.{Shown}
 use Rattle.flt_explain_reports.specs.Covering.{is_akin, AreFirsts, Covers, Rises}

@@ -3,7 +3,7 @@ use Rattle.std.proofs.Common.{◌≡◌, ◌<◌, ◌+◌, Bool, ℕ, zero, suc,
 use Rattle.std.specs.List.{AllZip}
 use Rattle.flt_explain.specs.declared.finding.Finding.{Finding}
 use Rattle.flt_graph.specs.declared.graph.Graph.{Graph}
-use Rattle.flt_explain_origins.specs.declared.grouping.Group.{Group}
+use Rattle.flt_explain_ways.specs.declared.grouping.Group.{Group}
 use Rattle.flt_places.specs.declared.files.Files.{Files}
 use Rattle.flt_tree.specs.Names.{Text}
 use Rattle.flt_tree.specs.declared.filter.Filter.{Filter}

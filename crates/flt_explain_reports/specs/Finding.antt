@@ -5,7 +5,7 @@ use Rattle.std.specs.List.{slice_split}
 use Rattle.flt_explain.specs.declared.finding.Finding.{Finding}
 use Rattle.flt_graph.specs.Graph.{span_at}
 use Rattle.flt_graph.specs.declared.graph.Graph.{Graph}
-use Rattle.flt_explain_origins.specs.declared.grouping.Traced.{Traced}
+use Rattle.flt_explain_ways.specs.declared.grouping.Traced.{Traced}
 use Rattle.flt_places.specs.Files.{file_at, file_line}
 use Rattle.flt_places.specs.Places.{place_in}
 use Rattle.flt_places.specs.declared.files.Files.{Files}

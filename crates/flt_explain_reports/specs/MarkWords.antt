@@ -8,9 +8,9 @@ use Rattle.flt_graph.specs.Graph.{instruction_at}
 use Rattle.flt_graph.specs.declared.graph.Graph.{Graph}
 use Rattle.flt_graph.specs.declared.instruction.Instruction.{Instruction}
 use Rattle.flt_graph.specs.declared.instruction.Instruction.TheVariants as instruction
-use Rattle.flt_explain_origins.specs.declared.facts.Fact.{Fact}
-use Rattle.flt_explain_origins.specs.declared.facts.Fact.TheVariants as fact
-use Rattle.flt_explain_origins.specs.declared.facts.VariableStatus.TheVariants as is
+use Rattle.flt_explain_ways.specs.declared.facts.Fact.{Fact}
+use Rattle.flt_explain_ways.specs.declared.facts.Fact.TheVariants as fact
+use Rattle.flt_explain_ways.specs.declared.facts.VariableStatus.TheVariants as is
 use Rattle.flt_rules.specs.declared.call.Call.{Call}
 use Rattle.flt_rules.specs.declared.call.Call.TheVariants as call
 use Rattle.flt_rules.specs.declared.rule.Rule.{Rule}

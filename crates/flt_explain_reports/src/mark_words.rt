@@ -7,8 +7,7 @@ ghost use Rattle.flt_explain_reports.specs.MarkWords as spec;
 
 use flt_explain::{Finding, Subject};
 use flt_explain_details::{Page, Scene, Shown, fact_word, state_at_end, step_call_outcome};
-use flt_explain_origins::{Fact, VariableStatus};
-use flt_explain_ways::{Step, Way};
+use flt_explain_ways::{Fact, Step, VariableStatus, Way};
 use flt_graph::{Call, Instruction};
 use flt_rules::Rule;
 use std::alloc::AllocError;

@@ -12,7 +12,7 @@ use crate::fault_report::report_fault;
 use crate::finding_report::report_finding;
 use flt_explain::Finding;
 use flt_explain_details::{Page, Scene, Source, Traces, Words, words_of};
-use flt_explain_origins::Group;
+use flt_explain_ways::Group;
 use flt_graph::Graph;
 use flt_places::{Files, Lines, SourceFile};
 use flt_syntax::Tree;

@@ -12,7 +12,7 @@ use crate::mark_words::{Sign, tell_mark};
 use crate::marks::{Drawing, Stroke};
 use flt_explain::Finding;
 use flt_explain_details::{Page, Scene, Shown};
-use flt_explain_origins::{Cause, Origin};
+use flt_explain_ways::{Cause, Origin};
 use std::alloc::{AllocError, Global};
 
 // ---- which marks

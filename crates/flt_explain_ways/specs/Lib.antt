@@ -1,4 +1,9 @@
 pub mod Alone
+pub mod Facts
+pub mod Gathering
+pub mod Grouping
 pub mod NoWay
+pub mod Origins
+pub mod Search
 pub mod Told
 pub mod Ways

@@ -6,7 +6,7 @@ use crate::texts;
 use flt_machine::ApplyFault;
 use flt_model::{JournalEntry, Move, Subject};
 use flt_rules::{Mode, Operation};
-use flt_stack_run::{Choices, TurnFault};
+use flt_stack_core::{Choices, TurnFault};
 use std::alloc::{AllocError, Global};
 use std::collections::VecDeque;
 use std::test::Fail;

@@ -12,8 +12,8 @@ use flt_machine::{Advanced, ApplyFault, Board, Commit, Loaded, Outcome, advance}
 use flt_model::{Journal, JournalEntry, Move, Subject, Verdict, Violation, read};
 use flt_replay::replay;
 use flt_rules::FinalStatus;
-use flt_stack_run::one::turn;
-use flt_stack_run::{Choices, TurnFault};
+use flt_stack_core::one::turn;
+use flt_stack_core::{Choices, TurnFault};
 use flt_syntax::{Tree, parse};
 use std::alloc::Global;
 use std::collections::VecDeque;

@@ -96,7 +96,7 @@ impl<'a> Monitor<'a> {
     {
         locks_stay_exclusive();
         room.events.clear();
-        if !flt_replay_moves::make(&mut self.world, alloc, stack, next, &mut room.events)? {
+        if !flt_replay_steps::make(&mut self.world, alloc, stack, next, &mut room.events)? {
             return Ok(Course::Stops);
         }
         self.judged(alloc, room, None)

@@ -26,7 +26,7 @@ pub fn make_move<'a>(
     ensures { IfOk result (λ made. (t : List Event) → spec.LeadsTo (spec.after_step stack.now world.old t (Make step)) made world.new) }
 {
     let mut events = Vec::new(alloc);
-    flt_replay_moves::make(world, alloc, stack, step, &mut events)
+    flt_replay_steps::make(world, alloc, stack, step, &mut events)
 }
 
 /// Makes so many steps of an activation that nobody else sees, up to one that isn't such a step, and returns how many it made.

@@ -1,3 +1,4 @@
 pub mod Boards
+pub mod Moving
 pub mod Queues
 pub mod Together

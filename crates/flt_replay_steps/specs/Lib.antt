@@ -1,4 +1,5 @@
 pub mod Boards
 pub mod Queueing
+pub mod Starting
 pub mod Unseen
 pub mod Ways

@@ -1,3 +1,5 @@
+mod Following
+mod Gone
 pub mod Counted
 pub mod Detached
 pub mod Enabled

@@ -11,8 +11,8 @@ use Rattle.flt_machine.specs.Tickets.{after_go}
 use Rattle.flt_model.specs.declared.event.Event.{Event}
 use Rattle.flt_model.specs.declared.moves.Move.TheVariants.{Cancel}
 use Rattle.flt_model.specs.declared.subject.Subject.{Subject}
-use Rattle.flt_stack_run.specs.Turns.{HasMade, counted, is_granted, named_by}
-use Rattle.flt_stack_run.specs.declared.choices.Choices.{Choices}
+use Rattle.flt_stack_core.specs.Turns.{HasMade, counted, is_granted, named_by}
+use Rattle.flt_stack_core.specs.declared.choices.Choices.{Choices}
 
 module _ (l : Loaded) (b : Situation) (c : Choices) (advanced : Advanced) where
   abbrev Had : Situation → Choices → Bool → Bool → List Subject → Type 0

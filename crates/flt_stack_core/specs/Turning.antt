@@ -8,10 +8,10 @@ use Rattle.flt_machine.specs.Situations.{Situation, Now}
 use Rattle.flt_model.specs.declared.event.Event.{Event}
 use Rattle.flt_model.specs.declared.moves.Move.TheVariants.{Cancel}
 use Rattle.flt_model.specs.declared.subject.Subject.{Subject}
-use Rattle.flt_stack_run.specs.Turns.{HasMade, counted, is_granted, named_by, named_by_step}
-use Rattle.flt_stack_run.specs.declared.choices.Choices.{Choices}
-use Rattle.flt_stack_run.specs.declared.fault.TurnFault.{TurnFault}
-use Rattle.flt_stack_run.specs.declared.fault.TurnFault.TheVariants as fault
+use Rattle.flt_stack_core.specs.Turns.{HasMade, counted, is_granted, named_by, named_by_step}
+use Rattle.flt_stack_core.specs.declared.choices.Choices.{Choices}
+use Rattle.flt_stack_core.specs.declared.turn_fault.TurnFault.{TurnFault}
+use Rattle.flt_stack_core.specs.declared.turn_fault.TurnFault.TheVariants as fault
 
 -- by how many entries the journal grows, where something is made
 abbrev pub grows : Bool → ℕ

@@ -18,6 +18,7 @@ ghost use Rattle.flt_model.specs.Steps.{Make};
 ghost use Rattle.flt_model.specs.declared.moves.JournalEntry.TheVariants as journal_entry;
 ghost use Rattle.flt_model.specs.declared.moves.Move.TheVariants as moves;
 
+use crate::choices::Choices;
 use crate::fault::{ArriveFault, DetachFault};
 use crate::names::{CallerEntries, Fulls, OtherEntries, StackName};
 use crate::receipts::Receipts;
@@ -27,7 +28,6 @@ use flt_model::{Journal, Move, Subject};
 use flt_ops::MAX_OPERATIONS;
 use flt_rules::{Mode, Operation};
 use flt_stack_receipts::{Receipt, arrivals_are_operations};
-use flt_stack_run::Choices;
 use std::alloc::Global;
 use std::marker::Model;
 use std::sync::ledger::{Book, Share};

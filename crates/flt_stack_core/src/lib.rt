@@ -4,17 +4,25 @@
 //! A stack has a name, a type: it names the loaded filters and three ledgers. A caller's arrivals count in its receipts' share of the first
 //! ledger, a worker's moves in its share of the second. So the books say of the journal the same as the shares together. The third counts
 //! nothing unless the journal is full, and a full journal stays full. Nothing here waits or starts a thread.
+//!
+//! A board is driven by tickets, one turn at a time. A ticket is a subject, which the next move may be about. `one::turn` makes the move of
+//! the first subject of a list, and puts the subjects that this move names at the list's end.
 #![tactic(auto)]
 
 mod board;
+mod choices;
 mod fault;
 mod names;
+pub mod one;
 mod receipts;
+mod turn_fault;
 mod turns;
 
 pub use board::Core;
+pub use choices::Choices;
 pub use fault::{ArriveFault, DetachFault};
 pub use flt_stack_receipts::Receipt;
 pub use names::{CallerEntries, Counts, Fulls, OtherEntries, StackName};
 pub use receipts::Receipts;
+pub use turn_fault::TurnFault;
 pub use turns::Turned;

@@ -5,16 +5,16 @@ ghost use Rattle.std.specs.Ordering.{nat_cmp};
 ghost use Rattle.flt_stack_core.specs.Turning.{HasCommitted, IsCancel, IsCounted, grows};
 ghost use Rattle.flt_machine_frames.specs.Loading.{AreLoaded};
 ghost use Rattle.flt_machine.specs.Calls.{IsAdvanced};
-ghost use Rattle.flt_stack_run.specs.Turns as spec;
-ghost use Rattle.flt_stack_run.specs.declared.fault.TurnFault.TheVariants as fault;
+ghost use Rattle.flt_stack_core.specs.Turns as spec;
+ghost use Rattle.flt_stack_core.specs.declared.turn_fault.TurnFault.TheVariants as fault;
 
 use crate::board::Core;
 use crate::names::{Fulls, OtherEntries, StackName};
+use crate::one::{asked_by, is_teardown, stays_after};
+use crate::turn_fault::TurnFault;
 use counted_heap::Heap;
 use flt_machine::{Advanced, ApplyFault, Commit, Loaded, OutOfMemory};
 use flt_model::{Move, Subject};
-use flt_stack_run::TurnFault;
-use flt_stack_run::one::{asked_by, is_teardown, stays_after};
 use std::alloc::Global;
 use std::sync::ledger::Share;
 

@@ -10,8 +10,8 @@ use Rattle.flt_stack_crew.specs.declared.ending.Ending.TheVariants.{Whole, Full,
 use Rattle.flt_model.specs.declared.moves.JournalEntry.{JournalEntry}
 use Rattle.flt_stack_receipts.specs.Bounds.{IsFull}
 use Rattle.flt_stack_receipts.specs.Receipts.{receipts_in, together}
-use Rattle.flt_stack_script.specs.ScriptText.{Commands}
-use Rattle.flt_stack_script.specs.declared.command.Command.TheVariants.{Detach}
+use Rattle.flt_stack_prepare.specs.ScriptText.{Commands}
+use Rattle.flt_stack_prepare.specs.declared.command.Command.TheVariants.{Detach}
 
 -- there are no more entries of others than entries
 others_few : (entries : List JournalEntry) → others_in entries ≤ length entries

@@ -6,9 +6,9 @@ use Rattle.flt_stack_crew.specs.Giving.{AreMade}
 use Rattle.flt_stack_crew.specs.declared.ending.Ending.{Ending}
 use Rattle.flt_stack_crew.specs.declared.ending.Ending.TheVariants.{Whole, Full, Already, Differ}
 use Rattle.flt_stack_crew.specs.declared.running.Ran.{Ran}
-use Rattle.flt_stack_driven.specs.Preparing.{Fails, IsScript}
-use Rattle.flt_stack_driven.specs.Texts.{AreSpelled, HaveCertificates}
-use Rattle.flt_stack_driven.specs.declared.fault.RunFault.{RunFault}
+use Rattle.flt_stack_prepare.specs.Preparing.{Fails, IsScript}
+use Rattle.flt_stack_prepare.specs.Texts.{AreSpelled, HaveCertificates}
+use Rattle.flt_stack_prepare.specs.declared.fault.RunFault.{RunFault}
 use Rattle.flt_model.specs.Expansion.{IsCleanRun, verdict}
 use Rattle.flt_model.specs.JournalText as journal
 use Rattle.flt_model.specs.Program.{HasDistinctAltitudes, by_altitude}
@@ -19,8 +19,8 @@ use Rattle.flt_model.specs.declared.moves.JournalEntry.{JournalEntry}
 use Rattle.flt_model.specs.declared.verdict.Verdict.TheVariants.{Legal}
 use Rattle.flt_stack_receipts.specs.Bounds.{IsFull}
 use Rattle.flt_stack_receipts.specs.Receipts.{receipts_in}
-use Rattle.flt_stack_script.specs.ScriptText.{Commands}
-use Rattle.flt_stack_script.specs.declared.command.Command.TheVariants.{Detach}
+use Rattle.flt_stack_prepare.specs.ScriptText.{Commands}
+use Rattle.flt_stack_prepare.specs.declared.command.Command.TheVariants.{Detach}
 use Rattle.flt_stack.specs.Loading.{IsCount}
 use Rattle.flt_tree.specs.declared.filter.Filter.{Filter}
 

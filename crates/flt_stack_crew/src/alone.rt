@@ -3,14 +3,14 @@
 ghost use Rattle.std.specs.Prelude.{◌≡◌, ◌≤◌, ◌<◌, ◌+◌, [], All, length, Err, OnOk};
 ghost use Rattle.flt_stack_crew.specs.Following.{IsSum};
 ghost use Rattle.flt_stack_crew.specs.Giving as spec;
-ghost use Rattle.flt_stack_workers.specs.Places.{IsCallerOf, IsWorkerOf, asked_by};
+ghost use Rattle.flt_stack_threads.specs.Places.{IsCallerOf, IsWorkerOf, asked_by};
 
 use crate::giving::give;
 use crate::stopping::Stop;
 use crate::watch::Watch;
 use crate::working::Ungated;
-use flt_stack_running::{CallerSeat, Stack, StackName, WorkerSeat};
-use flt_stack_script::Script;
+use flt_stack_threads::{CallerSeat, Stack, StackName, WorkerSeat};
+use flt_stack_prepare::Script;
 use std::alloc::Global;
 use std::sync::Wait;
 

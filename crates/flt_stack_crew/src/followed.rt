@@ -3,7 +3,7 @@
 ghost use Rattle.std.specs.Prelude.{◌≡◌, true, false, Err, IfOk, IsTrue, Ok};
 
 use crate::stopping::Stop;
-use flt_stack_running::{CallerSeat, StackName, TurnFault, WorkerSeat};
+use flt_stack_threads::{CallerSeat, StackName, TurnFault, WorkerSeat};
 use std::alloc::AllocError;
 
 /// The seats once a script was followed, how many entries the workers were answered that they made, whether the journal was found full, and

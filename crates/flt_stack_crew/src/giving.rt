@@ -4,13 +4,13 @@ ghost use Rattle.std.specs.Prelude.{◌≡◌, ◌≢◌, ◌<◌, ◌++◌, tru
 ghost use Rattle.flt_stack_core.specs.Refusals.{has_altitude};
 ghost use Rattle.flt_stack_crew.specs.Giving as spec;
 ghost use Rattle.flt_model.specs.Moves.{fits_mode};
-ghost use Rattle.flt_stack_script.specs.ScriptText.{is_command};
-ghost use Rattle.flt_stack_workers.specs.Places.{IsCallerOf, asked_by};
+ghost use Rattle.flt_stack_prepare.specs.ScriptText.{is_command};
+ghost use Rattle.flt_stack_threads.specs.Places.{IsCallerOf, asked_by};
 
 use crate::stopping::Stop;
 use flt_rules::{Mode, Operation};
-use flt_stack_running::{ArriveFault, CallerSeat, DetachFault, Stack, StackName};
-use flt_stack_script::Command;
+use flt_stack_threads::{ArriveFault, CallerSeat, DetachFault, Stack, StackName};
+use flt_stack_prepare::Command;
 use std::alloc::Global;
 use std::sync::Wait;
 

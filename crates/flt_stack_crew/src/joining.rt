@@ -3,7 +3,7 @@
 ghost use Rattle.std.specs.Prelude.{◌≡◌, ◌≤◌, ◌<◌, ◌+◌, [], true, false, All, Err, IfOk, OnOk, length, map, sum_by};
 ghost use Rattle.flt_stack_crew.specs.Following.{IsFollowed, IsSum};
 ghost use Rattle.flt_stack_crew.specs.Giving as spec;
-ghost use Rattle.flt_stack_workers.specs.Places.{IsCallerOf, IsWorkerOf, asked_by};
+ghost use Rattle.flt_stack_threads.specs.Places.{IsCallerOf, IsWorkerOf, asked_by};
 
 use crate::followed::{Cut, Followed, cut_by, is_full_by};
 use crate::giving::give;
@@ -12,10 +12,9 @@ use crate::stopping::Stop;
 use crate::watch::Watch;
 use crate::working::{Ungated, Worked, work_in};
 use flt_stack_core::{CallerEntries, Core, Fulls, OtherEntries};
-use flt_stack_running::sharing::{loaded_is_shared, sent, shared};
-use flt_stack_running::{CallerSeat, Stack, StackName, TurnFault, WorkerSeat};
-use flt_stack_script::Script;
-use flt_stack_workers::Exchange;
+use flt_stack_threads::sharing::{loaded_is_shared, sent, shared};
+use flt_stack_threads::{CallerSeat, Exchange, Stack, StackName, TurnFault, WorkerSeat};
+use flt_stack_prepare::Script;
 use std::alloc::{AllocError, Global};
 use std::sync::ledger::Share;
 use std::sync::{Mutex, Wait};

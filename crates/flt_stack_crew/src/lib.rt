@@ -16,6 +16,6 @@ mod watch;
 mod working;
 
 pub use ending::Ending;
-pub use flt_stack_driven::RunFault;
+pub use flt_stack_prepare::RunFault;
 pub use running::{Ran, run};
 pub use watch::{Unwatched, Watch};

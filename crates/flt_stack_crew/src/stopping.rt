@@ -2,9 +2,9 @@
 
 ghost use Rattle.std.specs.Prelude.{◌≡◌, ◌≢◌};
 ghost use Rattle.flt_stack_crew.specs.declared.stopping.Stop.TheVariants as stop;
-ghost use Rattle.flt_stack_run.specs.declared.fault.TurnFault.TheVariants as turn_fault;
+ghost use Rattle.flt_stack_core.specs.declared.turn_fault.TurnFault.TheVariants as turn_fault;
 
-use flt_stack_running::TurnFault;
+use flt_stack_threads::TurnFault;
 use std::alloc::AllocError;
 
 /// Why a script is broken off.

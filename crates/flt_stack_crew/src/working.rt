@@ -2,11 +2,11 @@
 
 ghost use Rattle.std.specs.Prelude.{◌≡◌, ◌≤◌, ◌<◌, Err, Ok};
 ghost use Rattle.flt_stack_crew.specs.Following.{IsSum};
-ghost use Rattle.flt_stack_run.specs.declared.fault.TurnFault.TheVariants as turn_fault;
-ghost use Rattle.flt_stack_workers.specs.Places.{IsWorkerOf};
+ghost use Rattle.flt_stack_core.specs.declared.turn_fault.TurnFault.TheVariants as turn_fault;
+ghost use Rattle.flt_stack_threads.specs.Places.{IsWorkerOf};
 
 use crate::progress::Progress;
-use flt_stack_running::{Gate, Stack, StackName, TurnFault, WorkerSeat};
+use flt_stack_threads::{Gate, Stack, StackName, TurnFault, WorkerSeat};
 use std::alloc::Global;
 use std::sync::Wait;
 use std::thread;

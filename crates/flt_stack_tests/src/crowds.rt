@@ -1,6 +1,6 @@
 //! Stacks that several threads share.
 ghost use Rattle.std.specs.Prelude.{◌≡◌, ◌+◌, ◌<◌, ◌≤◌, All};
-ghost use Rattle.flt_stack_workers.specs.Places.{IsCallerOf, IsFreshCaller, IsFreshWorker, IsWorkerOf};
+ghost use Rattle.flt_stack_threads.specs.Places.{IsCallerOf, IsFreshCaller, IsFreshWorker, IsWorkerOf};
 
 use crate::dice::Dice;
 use crate::filters::{
@@ -12,9 +12,8 @@ use crate::journals::{Tally, is_legal, tally_of};
 use flt_rules::{Mode, Operation};
 use flt_stack::Loaded;
 use flt_stack_core::{CallerEntries, Core, Fulls, OtherEntries};
-use flt_stack_running::sharing::{loaded_is_shared, sent, shared};
-use flt_stack_running::{Blanks, CallerSeat, Gate, Stack, StackName, WorkerSeat};
-use flt_stack_workers::Exchange;
+use flt_stack_threads::sharing::{loaded_is_shared, sent, shared};
+use flt_stack_threads::{Blanks, CallerSeat, Exchange, Gate, Stack, StackName, WorkerSeat};
 use std::alloc::{AllocError, Global};
 use std::marker::Brand;
 use std::sync::atomic::{AtomicBool, AtomicU64, Ordering};

@@ -1,11 +1,11 @@
 //! A stack with one caller and one worker, which takes steps.
 ghost use Rattle.std.specs.Prelude.{◌≡◌};
-ghost use Rattle.flt_stack_workers.specs.Places.{IsCallerOf, IsWorkerOf};
+ghost use Rattle.flt_stack_threads.specs.Places.{IsCallerOf, IsWorkerOf};
 
 use flt_model::Journal;
 use flt_rules::{Mode, Operation};
 use flt_stack::Loaded;
-use flt_stack_running::{
+use flt_stack_threads::{
     ArriveFault, Blanks, CallerSeat, DetachFault, Differ, Gate, Stack, StackName, TurnFault,
     WorkerSeat,
 };

@@ -3,7 +3,7 @@
 use flt_explain::findings;
 use flt_graph::{Graph, lower};
 use flt_search::SearchWatch;
-use flt_search_schedules::{Outlook, Suspect, Suspects, outcomes_among};
+use flt_explain_runs::{Outlook, Suspect, Suspects, outcomes_among};
 use flt_syntax::{Tree, parse};
 use std::alloc::{AllocError, Global};
 use std::test::Fail;

@@ -7,8 +7,8 @@ use Rattle.flt_tree.specs.Names.{Text}
 use Rattle.flt_graph.specs.declared.instruction.Invocation.{Invocation}
 use Rattle.flt_explain.specs.declared.finding.Subject.{Subject}
 use Rattle.flt_explain.specs.declared.finding.Subject.TheVariants as about
-use Rattle.flt_explain_origins.specs.declared.facts.VariableStatus.{VariableStatus}
-use Rattle.flt_explain_origins.specs.declared.facts.VariableStatus.TheVariants as is
+use Rattle.flt_explain_ways.specs.declared.facts.VariableStatus.{VariableStatus}
+use Rattle.flt_explain_ways.specs.declared.facts.VariableStatus.TheVariants as is
 use Rattle.flt_explain_ways.specs.declared.answer.Step.{Step}
 use Rattle.flt_explain_details.specs.Advice.Sentences.{in_line, on_line, since}
 use Rattle.flt_explain_details.specs.Case.{Circumstances, call_at, cause, line_named, line_of, subject, variable_status}

@@ -11,8 +11,8 @@ use Rattle.flt_tree.specs.declared.variable.OperationVariable.TheVariants.{Data}
 use Rattle.flt_graph.specs.declared.instruction.Invocation.{Invocation}
 use Rattle.flt_explain.specs.declared.finding.Subject.{Subject}
 use Rattle.flt_explain.specs.declared.finding.Subject.TheVariants as about
-use Rattle.flt_explain_origins.specs.declared.facts.VariableStatus.{VariableStatus}
-use Rattle.flt_explain_origins.specs.declared.facts.VariableStatus.TheVariants.{Stale}
+use Rattle.flt_explain_ways.specs.declared.facts.VariableStatus.{VariableStatus}
+use Rattle.flt_explain_ways.specs.declared.facts.VariableStatus.TheVariants.{Stale}
 use Rattle.flt_explain_details.specs.Advice.Reasons.{new_owner, reason, reason_told}
 use Rattle.flt_explain_details.specs.Advice.Sentences.{around, at_end}
 use Rattle.flt_explain_details.specs.Case.{Circumstances, call_at, call_in, cause, instruction, place, variable_status}

@@ -10,8 +10,7 @@ use crate::case::Case;
 use crate::names::call_name;
 use crate::page::{Page, Part};
 use flt_explain::Subject;
-use flt_explain_origins::VariableStatus;
-use flt_explain_ways::Step;
+use flt_explain_ways::{Step, VariableStatus};
 use flt_graph::Call;
 use std::alloc::AllocError;
 

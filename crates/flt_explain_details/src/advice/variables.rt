@@ -10,7 +10,7 @@ use crate::advice::sentences::{around, at_end};
 use crate::case::Case;
 use crate::page::Page;
 use flt_explain::Subject;
-use flt_explain_origins::VariableStatus;
+use flt_explain_ways::VariableStatus;
 use flt_graph::{Call, ContextVariable, Invocation, OperationVariable, Place};
 use std::alloc::AllocError;
 

@@ -1,6 +1,6 @@
 use Rattle.std.proofs.Common.{map, take}
 use Rattle.flt_replay.specs.Judging.{filters_of}
-use Rattle.flt_stack_driven.specs.Texts.{AreSpelled}
+use Rattle.flt_stack_prepare.specs.Texts.{AreSpelled}
 use Rattle.flt_commands.proofs.replay.parse_all.Given as goal
 
 abbrev pub invariant-loop-number : goal.invariant-loop-number

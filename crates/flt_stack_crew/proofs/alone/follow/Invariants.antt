@@ -1,7 +1,7 @@
 use Rattle.std.proofs.Common.{◌≡◌, length, take}
 use Rattle.flt_stack_crew.specs.Following.{IsSum}
 use Rattle.flt_stack_crew.specs.Giving.{AreMade}
-use Rattle.flt_stack_workers.specs.Places.{IsCallerOf, IsWorkerOf, asked_by}
+use Rattle.flt_stack_threads.specs.Places.{IsCallerOf, IsWorkerOf, asked_by}
 use Rattle.flt_stack_crew.proofs.alone.follow.Given as goal
 
 abbrev pub invariant-loop-command : goal.invariant-loop-command

@@ -1,8 +1,8 @@
 use denote.Param.Send.{IsSend, IsSync, sendable}
 use denote.Param.SendFields.{declared_send, declared_sync}
 use Rattle.std.proofs.Crossing.{crosses}
-use Rattle.flt_stack_running.specs.contracts.stack.Stack as stack
-use Rattle.flt_stack_running.specs.contracts.stack.Spare as spare
+use Rattle.flt_stack_threads.specs.contracts.stack.Stack as stack
+use Rattle.flt_stack_threads.specs.contracts.stack.Spare as spare
 use Rattle.flt_stack_crew.proofs.joining.follow.Goals as goal
 
 pub shared-requires-3-sync-T : goal.shared-requires-3-sync-T

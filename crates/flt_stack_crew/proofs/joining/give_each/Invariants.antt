@@ -1,6 +1,6 @@
 use Rattle.std.proofs.Common.{◌≡◌, length, take}
 use Rattle.flt_stack_crew.specs.Giving.{AreMade}
-use Rattle.flt_stack_workers.specs.Places.{IsCallerOf, asked_by}
+use Rattle.flt_stack_threads.specs.Places.{IsCallerOf, asked_by}
 use Rattle.flt_stack_crew.proofs.joining.give_each.Given as goal
 
 abbrev pub invariant-loop-command : goal.invariant-loop-command

@@ -1,5 +1,5 @@
 use Rattle.std.proofs.Common.{◌≡◌}
-use Rattle.flt_stack_workers.specs.Places.{IsWorkerOf}
+use Rattle.flt_stack_threads.specs.Places.{IsWorkerOf}
 use Rattle.flt_stack_crew.proofs.Elements.{as_many, each_value}
 use Rattle.flt_stack_crew.proofs.joining.seats_of.Goals as goal
 

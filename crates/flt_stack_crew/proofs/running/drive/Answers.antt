@@ -1,6 +1,6 @@
 use Rattle.std.proofs.Common.{◌≡◌, List, [], All, refl, subst, sym, ◌∙◌}
 use Rattle.flt_tree.specs.declared.filter.Filter.{Filter}
-use Rattle.flt_stack_workers.specs.Places.{IsCallerOf, IsFreshCaller}
+use Rattle.flt_stack_threads.specs.Places.{IsCallerOf, IsFreshCaller}
 use Rattle.flt_stack_crew.specs.Giving.{IsAimed}
 use Rattle.flt_stack_crew.proofs.Driving.{driven, ended_by}
 use Rattle.flt_stack_crew.proofs.Elements.{of_popped, sum_of_ones}

@@ -1,6 +1,6 @@
 use Rattle.std.proofs.Common.{◌≡◌}
 use Rattle.flt_stack_crew.specs.Following.{IsSum}
-use Rattle.flt_stack_workers.specs.Places.{IsWorkerOf}
+use Rattle.flt_stack_threads.specs.Places.{IsWorkerOf}
 use Rattle.flt_stack_crew.proofs.working.work_in.Given as goal
 
 abbrev pub invariant-loop : goal.invariant-loop

@@ -1,4 +1,4 @@
-use Rattle.flt_stack_workers.specs.Places.{IsCallerOf}
+use Rattle.flt_stack_threads.specs.Places.{IsCallerOf}
 use Rattle.flt_stack_tests.proofs.crowds.call.Given as goal
 
 abbrev pub invariant-loop-k : goal.invariant-loop-k

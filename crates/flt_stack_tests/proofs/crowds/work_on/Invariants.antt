@@ -1,4 +1,4 @@
-use Rattle.flt_stack_workers.specs.Places.{IsWorkerOf}
+use Rattle.flt_stack_threads.specs.Places.{IsWorkerOf}
 use Rattle.flt_stack_tests.proofs.crowds.work_on.Given as goal
 
 abbrev pub invariant-loop : goal.invariant-loop

@@ -1,4 +1,4 @@
-use Rattle.flt_explain_notes.specs.Parsed.AreParsed.{none}
+use Rattle.flt_explain_runs.specs.Parsed.AreParsed.{none}
 use Rattle.flt_commands.proofs.html.Parsed.of.Goals as goal
 
 pub loop-source-init : goal.loop-source-init

@@ -1,7 +1,7 @@
 use Rattle.std.proofs.Common.{take}
 use Rattle.flt_explain_details.specs.Reports.{texts_of}
 use Rattle.flt_model.specs.Program.{filters_of}
-use Rattle.flt_explain_notes.specs.Parsed.{AreParsed}
+use Rattle.flt_explain_runs.specs.Parsed.{AreParsed}
 use Rattle.flt_commands.proofs.html.Parsed.of.Given as goal
 
 abbrev pub invariant-loop-source : goal.invariant-loop-source

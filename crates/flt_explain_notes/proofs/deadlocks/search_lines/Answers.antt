@@ -1,8 +1,0 @@
-use Rattle.flt_explain_notes.proofs.deadlocks.search_lines.Goals as goal
-
-pub returns : goal.returns
-returns g c = record {
-  answer = c.in_ok-answer.answer;
-  is = c.in_ok-answer.ensures;
-  are = c.in_ok-lines.ensures;
-}

@@ -1,8 +1,0 @@
-use Rattle.std.proofs.Common.{◌≡◌, ◌++◌, drop}
-use Rattle.std.specs.Prelude.{codes}
-use Rattle.flt_explain_notes.specs.Lines.{names}
-use Rattle.flt_explain_notes.proofs.lines.put_names.Given as goal
-
-abbrev pub invariant-loop-tree : goal.invariant-loop-tree
-invariant-loop-tree l =
-    l.out.items ++ names l.word (drop l.tree-index l.own) ≡ l.fn.out.items ++ names (codes ", on ") l.own

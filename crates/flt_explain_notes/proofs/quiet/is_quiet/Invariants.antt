@@ -1,6 +1,0 @@
-use Rattle.std.proofs.Common.{◌≡◌, drop}
-use Rattle.flt_explain_notes.specs.Quiet.{is_quiet, is_quiet_from}
-use Rattle.flt_explain_notes.proofs.quiet.is_quiet.Given as goal
-
-abbrev pub invariant-loop-at : goal.invariant-loop-at
-invariant-loop-at l = is_quiet_from l.begins (drop l.at l.lines) ≡ is_quiet l.lines

@@ -1,5 +1,0 @@
-pub mod Facts
-pub mod Gathering
-pub mod Grouping
-pub mod Origins
-pub mod Search

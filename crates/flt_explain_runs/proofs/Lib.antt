@@ -1,0 +1,12 @@
+pub mod Answers
+pub mod Closing
+pub mod Parts
+pub mod QuietLines
+pub mod Runs
+pub mod Said
+pub mod Several
+pub mod ShownWarnings
+pub mod Studied
+pub mod Surveys
+pub mod Variables
+pub mod Whole

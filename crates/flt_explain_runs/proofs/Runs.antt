@@ -1,0 +1,219 @@
+-- What comes of findings in runs, with one more callback and without it.
+use Rattle.std.proofs.Common.{◌≡◌, ◌<◌, ℕ, zero, suc, List, [], ◌∷◌, ◌++◌, Option, Some, None, IfSome, sym, ap, arith, subst, ◌∙◌, ◌+◌, All, append_assoc, drop, get_or, length, length-drop, map, reverse, slice_get, string_bytes, take}
+use Rattle.std.specs.Prelude.{◌≢◌}
+use Rattle.std.proofs.lemmas.List.{drop_more, map_more, reverse-append, take_more}
+use Rattle.std.proofs.lemmas.Slice.Zip.{AllZip-long}
+use Rattle.flt_explain_details.specs.Reports.{IsJudged}
+use Rattle.flt_explain_details.specs.declared.judged.Judged.{Judged}
+use Rattle.flt_explain_details.specs.declared.judged.Judged.TheVariants.{Unread, Known as Found}
+use Rattle.flt_explain_runs.specs.declared.setters.Setter.{Setter}
+use Rattle.std.specs.Prelude.{Contains}
+use Rattle.std.specs.List.{AllZip}
+use Rattle.std.proofs.lemmas.List.Elements.{All-nil, All-cons, All-head, All-tail}
+use Rattle.flt_syntax.specs.Spelling.{Spells}
+use Rattle.flt_tree.specs.Names.{Text}
+use Rattle.flt_tree.specs.declared.filter.Callback.{Callback}
+use Rattle.flt_tree.specs.declared.filter.Filter.{Filter}
+use Rattle.flt_tree.specs.declared.tree.Tree.{Tree}
+use Rattle.flt_graph.specs.declared.graph.Graph.{Graph}
+use Rattle.flt_explain.specs.declared.finding.Finding.{Finding}
+use Rattle.flt_model.specs.Program.{filters_of}
+use Rattle.flt_explain_reports.specs.declared.reports.Report.{Report}
+use Rattle.flt_search.specs.Found.{IsFound}
+use Rattle.flt_search.specs.declared.judging.Broken.{Broken}
+use Rattle.flt_explain_runs.specs.Schedules.{AreOutcomes, IsSchedule, IsScheduled}
+use Rattle.flt_explain_runs.specs.Violations.{violations_of}
+use Rattle.flt_explain_runs.specs.declared.schedules.Outcome.{Outcome}
+use Rattle.flt_explain_runs.specs.declared.schedules.Schedule.{Schedule}
+use Rattle.flt_explain_runs.specs.declared.schedules.Schedule.TheVariants.{Breaks}
+use Rattle.flt_explain_runs.specs.declared.schedules.Scheduled.{Scheduled}
+use Rattle.flt_explain_runs.specs.declared.schedules.Scheduled.TheVariants.{Together, Alone}
+use Rattle.flt_explain_runs.specs.declared.schedules.Suspect.{Suspect}
+use Rattle.flt_explain_runs.specs.Again.{GoesOn, IsAgainBy, IsAlone, IsOfJudged, IsSetter, IsOutcomeAgain, IsOutcomeOf as IsOutcomeIn, IsSetting, IsSuspectAgain, ended, line_ends}
+use Rattle.flt_model.specs.declared.verdict.Violation.{Violation}
+use Rattle.flt_explain_runs.specs.Noted.{IsAgain, IsAlso, IsBrokenBy, IsNear, schedule_of}
+use Rattle.flt_explain_runs.specs.declared.noted.Noted.{Noted}
+use Rattle.flt_explain_runs.specs.Printing.{IsOutcomeOf, IsSuspectOf}
+use Rattle.flt_explain_runs.specs.declared.again.Setting.{Setting}
+use Rattle.flt_explain_runs.specs.declared.noted.Again.{Again}
+use Rattle.flt_explain_runs.specs.declared.noted.Again.TheVariants.{Runs, RunsNowhere}
+use Rattle.flt_explain_runs.specs.declared.printing.Known.{Known}
+
+-- what comes of suspects is what comes of the findings that reports are of
+pub outcomes_of : (trees : List Tree) (k : Known) (g : Graph) (reports : List Report) (found : List Suspect) (all : List Outcome) →
+    g ≡ k.graph.now → AllZip (IsSuspectOf k.found.now) reports found → AreOutcomes trees k.place g found all →
+    AllZip (IsOutcomeOf trees k) reports all
+outcomes_of trees k g [] [] [] same suspects are = tt
+outcomes_of trees k g [] [] (o ∷ all) same suspects are = absurd are
+outcomes_of trees k g [] (s ∷ found) all same suspects are = absurd suspects
+outcomes_of trees k g (r ∷ reports) [] all same suspects are = absurd suspects
+outcomes_of trees k g (r ∷ reports) (s ∷ found) [] same suspects are = absurd are
+outcomes_of trees k g (r ∷ reports) (s ∷ found) (o ∷ all) same suspects are =
+    let first : IsOutcomeOf trees k r o = record {
+      number = are.0.number ∙ suspects.0.number;
+      finding = s.finding;
+      numbered = suspects.0.is;
+      scheduled = subst (λ h. IsScheduled trees k.place h s.finding o.scheduled) same are.0.scheduled;
+    } in
+    (first, outcomes_of trees k g reports found all same suspects.1 are.1)
+
+found_by : (p : List Filter) (cs : List Callback) (g : Graph) (f : Finding) (a : Schedule) (b : Broken) →
+    IsSchedule p cs g f a → a ≡ Breaks b →
+    IsFound p (violations_of f.rule) b
+found_by p cs g f a b is same = (subst (λ x. IsSchedule p cs g f x) same is).0
+
+-- in runs of one filter alone
+found_alone : (tree : Tree) (g : Graph) (f : Finding) (s : Scheduled) (b : Broken) →
+    IsScheduled (tree ∷ []) 0 g f s → schedule_of s ≡ Breaks b →
+    IsFound (tree.filter ∷ []) (violations_of f.rule) b
+found_alone tree g f (Together a) b is same = found_by (tree.filter ∷ []) _ g f a b is.0 same
+found_alone tree g f (Alone a) b is same = found_by (tree.filter ∷ []) _ g f a b is same
+
+same_finding : (found : List Finding) (n : ℕ) (f h : Finding) → slice_get found n ≡ Some f → slice_get found n ≡ Some h → f ≡ h
+same_finding found n f h one other = cc
+
+outcome_again : (tree : Tree) (g : Graph) (found : List Finding) (s : Suspect) (o : Outcome) →
+    IsSuspectAgain found s → o.number ≡ s.number →
+    IsScheduled (tree ∷ []) 0 g s.finding o.scheduled → IsOutcomeAgain (tree ∷ []) found o
+outcome_again tree g found s o suspect number scheduled =
+    λ f b numbered breaks.
+    let same : suspect.finding ≡ f = same_finding found s.number suspect.finding f suspect.numbered
+    (subst (λ n. slice_get found n ≡ Some f) number numbered) in
+    subst (λ r. IsFound (tree.filter ∷ []) (violations_of r) b) (suspect.rule ∙ ap (λ (h : Finding). h.rule) same)
+    (found_alone tree g s.finding o.scheduled b scheduled breaks)
+
+each_again : (tree : Tree) (g : Graph) (found : List Finding) (suspects : List Suspect) (all : List Outcome) →
+    All (IsSuspectAgain found) suspects → AreOutcomes (tree ∷ []) 0 g suspects all → All (IsOutcomeAgain (tree ∷ []) found) all
+each_again tree g found [] [] those are = All-nil (IsOutcomeAgain (tree ∷ []) found)
+each_again tree g found [] (o ∷ all) those are = absurd are
+each_again tree g found (s ∷ suspects) [] those are = absurd are
+each_again tree g found (s ∷ suspects) (o ∷ all) those are =
+    All-cons (IsOutcomeAgain (tree ∷ []) found) o all
+    (outcome_again tree g found s o (All-head (IsSuspectAgain found) s suspects those) are.0.number are.0.scheduled)
+    (each_again tree g found suspects all (All-tail (IsSuspectAgain found) s suspects those) are.1)
+
+-- what comes of findings in runs of the text with one more callback
+pub outcomes_again : (trees : List Tree) (g : Graph) (found : List Finding) (suspects : List Suspect) (all : List Outcome) → IsAlone trees →
+    All (IsSuspectAgain found) suspects → AreOutcomes trees 0 g suspects all → All (IsOutcomeAgain trees found) all
+outcomes_again trees g found suspects all alone those are =
+    subst (λ ts. All (IsOutcomeAgain ts found) all) (sym alone.is)
+    (each_again alone.tree g found suspects all those (subst (λ ts. AreOutcomes ts 0 g suspects all) alone.is are))
+
+all_at : (P : Outcome → Type 0) (all : List Outcome) (n : ℕ) (o : Outcome) → All P all → slice_get all n ≡ Some o → P o
+all_at P [] n o each at = absurd (cc at)
+all_at P (x ∷ all) zero o each at = let same : x ≡ o = cc in subst P same (All-head P x all each)
+all_at P (x ∷ all) (suc n) o each at = all_at P all n o (All-tail P x all each) at
+
+-- what comes of a finding there
+pub again_is : (text : Text) (found : List Finding) (s : Setting) (number : ℕ) (o : Outcome) (a : Again) → IsSetting text found s →
+    IsOutcomeIn s number o → IsAgainBy o a → (f : Finding) → slice_get found number ≡ Some f → IsAgain text f a
+again_is text found s number o RunsNowhere setting its by f numbered = tt
+again_is text found s number o (Runs b) setting its by f numbered =
+    let trees = s.setter.trees in
+    let setter = setting.setter in
+    let found_there : IsFound (filters_of trees) (violations_of f.rule) b =
+    all_at (IsOutcomeAgain trees found) s.outcomes.items its.place o setting.outcomes its.at f b
+    (subst (λ n. slice_get found n ≡ Some f) (sym its.same) numbered) by in
+    record {
+      more = setter.on.more;
+      filter = setter.tree.filter;
+      spelled = subst (λ t. Spells t setter.tree.filter) setter.on.is setter.spelled;
+      found = subst (λ ts. IsFound (filters_of ts) (violations_of f.rule) b) setter.alone found_there;
+    }
+
+-- what the run of an earlier note at the same point breaks too
+pub also_is : (trees : List Tree) (place : ℕ) (found : List Finding) (earlier : List Noted) (finding : Finding) (number : ℕ) (n : Noted)
+    (o : Option Violation) → slice_get earlier number ≡ Some n → IsNear place found finding n →
+    IfSome o (λ v. IsBrokenBy trees n v × Contains (violations_of finding.rule) v) → IfSome o (IsAlso trees place found earlier finding)
+also_is trees place found earlier finding number n None noted near both = tt
+also_is trees place found earlier finding number n (Some v) noted near both =
+    record { number = number; note = n; noted = noted; near = near; broken = both.0; prevented = both.1 }
+
+-- what is looked for among two lists, place by place
+pub zip_more : {A B : Type 0} (R : A → B → Type 0) (xs : List A) (ys : List B) (x : A) (y : B) → AllZip R xs ys → R x y →
+    AllZip R (xs ++ x ∷ []) (ys ++ y ∷ [])
+zip_more R [] [] x y are is = (is, tt)
+zip_more R [] (b ∷ ys) x y are is = absurd are
+zip_more R (a ∷ xs) [] x y are is = absurd are
+zip_more R (a ∷ xs) (b ∷ ys) x y are is = (are.0, zip_more R xs ys x y are.1 is)
+
+-- a report's number is below the count of findings
+pub within_at : (count : ℕ) (reports : List Report) (i : ℕ) (r : Report) →
+    All (λ (r : Report). r.finding < count) reports → i < length reports →
+    r ≡ get_or reports i r → r.finding < count
+within_at count [] i r all h is = absurd (omega (arith, h))
+within_at count (x ∷ reports) zero r all h is = rw is (All-head (λ (r : Report). r.finding < count) x reports all)
+within_at count (x ∷ reports) (suc i) r all h is =
+    within_at count reports i r (All-tail (λ (r : Report). r.finding < count) x reports all) (omega (arith, h)) is
+
+-- one more report has its suspect
+pub suspects_more : (found : List Finding) (reports : List Report) (i : ℕ) (r : Report) (old new : List Suspect) (s : Suspect) →
+    i < length reports → r ≡ get_or reports i r → AllZip (IsSuspectOf found) (take i reports) old → IsSuspectOf found r s →
+    new ≡ old ++ s ∷ [] → AllZip (IsSuspectOf found) (take (i + 1) reports) new
+suspects_more found reports i r old new s h is are it added =
+    let more : take (i + 1) reports ≡ take i reports ++ r ∷ [] = take_more reports i r h ∙ ap (λ x. take i reports ++ x ∷ []) (sym is) in
+    rw (more, added) (zip_more (IsSuspectOf found) (take i reports) old r s are it)
+
+-- what is there has a number below the count
+pub get_within : (found : List Finding) (n : ℕ) (f : Finding) → slice_get found n ≡ Some f → n < length found
+get_within [] n f is = absurd (cc is)
+get_within (x ∷ found) zero f is = omega arith
+get_within (x ∷ found) (suc n) f is = let more = get_within found n f is in omega (arith, more)
+
+-- a text that goes on
+pub goes_more : (text whole new more : Text) → GoesOn text whole → new ≡ whole ++ more → GoesOn text new
+goes_more text whole new more on added = record {
+  more = on.more ++ more;
+  is = added ∙ ap (λ z. z ++ more) on.is ∙ append_assoc text on.more more;
+}
+
+-- a setter that is found where the text goes on with what is added, at the line after its end, is one of this text
+pub setter_is : (text whole : Text) (added : List ℕ) (line : ℕ) (judged : Judged) (s : Option Setter) → GoesOn text whole →
+    whole ≡ ended text ++ added → line ≡ line_ends (ended text) + 1 → IsJudged whole judged → IfSome s (IsOfJudged judged) →
+    IfSome s (λ s. (string_bytes s.added ≡ added) × (s.line ≡ line)) → IfSome s (IsSetter text)
+setter_is text whole added line judged None on ends counted is of same = tt
+setter_is text whole added line (Unread fault) (Some s) on ends counted is of same = absurd of
+setter_is text whole added line (Found tree graph found) (Some s) on ends counted is of same = record {
+  whole = whole;
+  on = on;
+  added = rw same.0 ends;
+  line = same.1 ∙ counted;
+  tree = tree;
+  alone = of;
+  spelled = is.spelled;
+}
+
+-- something came of each report's finding
+pub some_left : (trees : List Tree) (k : Known) (reports : List Report) (i : ℕ) (all : List Outcome) → i < length reports →
+    AllZip (IsOutcomeOf trees k) (drop i reports) (reverse all) → all ≢ []
+some_left trees k reports i [] h are none =
+    let long = AllZip-long (IsOutcomeOf trees k) (drop i reports) [] are in
+    let left = length-drop i reports in omega (arith, h, long, left)
+some_left trees k reports i (o ∷ all) h are none = cc
+
+-- the last outcome that is left is that of the next report
+pub next_outcome : (trees : List Tree) (k : Known) (reports : List Report) (i : ℕ) (r : Report) (old rest : List Outcome) (o : Outcome) →
+    i < length reports → r ≡ get_or reports i r → AllZip (IsOutcomeOf trees k) (drop i reports) (reverse old) → old ≡ rest ++ o ∷ [] →
+    IsOutcomeOf trees k r o × AllZip (IsOutcomeOf trees k) (drop (i + 1) reports) (reverse rest)
+next_outcome trees k reports i r old rest o h is are last =
+    let front : drop i reports ≡ r ∷ drop (i + 1) reports =
+    drop_more reports i r h ∙ ap (λ x. x ∷ drop (i + 1) reports) (sym is) in
+    let back : reverse old ≡ o ∷ reverse rest = ap reverse last ∙ reverse-append rest (o ∷ []) in
+    subst (λ os. AllZip (IsOutcomeOf trees k) (r ∷ drop (i + 1) reports) os) back
+    (subst (λ rs. AllZip (IsOutcomeOf trees k) rs (reverse old)) front are)
+
+-- the numbers of reports
+pub within_all : (count : ℕ) (reports : List Report) → All (λ n. n < count) (map (λ (r : Report). r.finding) reports) →
+    All (λ (r : Report). r.finding < count) reports
+within_all count [] all = All-nil (λ (r : Report). r.finding < count)
+within_all count (r ∷ reports) all =
+    All-cons (λ (r : Report). r.finding < count) r reports
+    (All-head (λ n. n < count) r.finding (map (λ (r : Report). r.finding) reports) all)
+    (within_all count reports (All-tail (λ n. n < count) r.finding (map (λ (r : Report). r.finding) reports) all))
+
+-- one more report has its finding's number last
+pub numbers_taken : (reports : List Report) (i : ℕ) (r : Report) → i < length reports → r ≡ get_or reports i r →
+    map (λ (r : Report). r.finding) (take (i + 1) reports) ≡ map (λ (r : Report). r.finding) (take i reports) ++ r.finding ∷ []
+numbers_taken reports i r h is =
+    map_more (λ (r : Report). r.finding) reports i r h
+    ∙ ap (λ (x : Report). map (λ (r : Report). r.finding) (take i reports) ++ x.finding ∷ []) (sym is)

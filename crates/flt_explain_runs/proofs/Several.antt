@@ -1,0 +1,446 @@
+-- The reports of several texts, one behind the other, and what of them is put out.
+use Rattle.std.proofs.Common.{inl, inr, ◌≡◌, ◌<◌, ◌≤◌, ◌+◌, ◌-◌, ℕ, zero, suc, Bool, true, false, List, [], ◌∷◌, ◌++◌, IfOk, Result, Ok, Err, Option, Some, None, refl, ap, sym, subst, arith, ◌∙◌, append_assoc, drop, take, get_or, length, length-append}
+use Rattle.std.specs.Io.KnownBytes.{Appends}
+use Rattle.std.proofs.lemmas.List.{append-nil, take-append-drop, take_all}
+use Rattle.flt_places.specs.declared.files.Files.{Files}
+use Rattle.flt_tree.specs.Names.{Text}
+use Rattle.flt_tree.specs.declared.tree.Tree.{Tree}
+use Rattle.flt_explain_details.specs.Reports.{texts_of}
+use Rattle.flt_explain_details.specs.declared.sources.Source.{Source}
+use Rattle.flt_model.specs.Program.{filters_of}
+use Rattle.flt_explain_warning_details.specs.declared.options.WarningOptions.{WarningOptions}
+use Rattle.flt_explain_runs.specs.Noted.{AreNotesIn, AreNotesOf, no_text as notes_none, fails as notes_fails, parses as notes_parses}
+use Rattle.flt_explain_runs.specs.Parsed.{AreParsed}
+use Rattle.flt_explain_runs.specs.Printing.{AreNotesFor, ArePrinted, HoldsBack, IsMore, IsPart, IsPrintOf, IsPutOut, part_of}
+use Rattle.flt_explain_runs.specs.Readings.{AreStudied, IsPlaced, IsReading, IsStudied, known, known_in, sources_read, texts_read}
+use Rattle.flt_explain_runs.specs.Reported.{AreFirst, AreWhole, IsAllButLast, IsCut, none as parts_none, one_more as parts_more}
+use Rattle.flt_explain_runs.specs.Told.{nothing, others}
+use Rattle.flt_explain_runs.specs.Whole.{AreSeveralPrinted, IsKnownPrint, IsOnePrinted, IsPrintOfAll, Look, no_print}
+use Rattle.flt_explain_runs.specs.declared.fault.ExplainFault.{ExplainFault}
+use Rattle.flt_explain_runs.specs.declared.noted.Noted.{Noted}
+use Rattle.flt_explain_runs.specs.declared.readings.Reading.{Reading}
+use Rattle.flt_explain_runs.specs.declared.readings.Reading.TheVariants.{Unread, Other, Known}
+use Rattle.flt_explain_runs.specs.declared.readings.Studied.{Studied}
+use Rattle.flt_explain_runs.specs.declared.output.Output.{Output}
+use Rattle.flt_explain_runs.specs.declared.together.Printed.{Printed}
+use Rattle.flt_explain_runs.specs.declared.totals.Total.{Total}
+use Rattle.flt_explain_runs.specs.Quiet.{quieted}
+use Rattle.flt_explain_runs.specs.Totals.{summary}
+use Rattle.flt_explain_runs.proofs.Closing.{quiet_summary}
+use Rattle.flt_explain_runs.proofs.QuietLines.{quieted_same}
+use Rattle.flt_explain_runs.proofs.Said.{said_both, said_none}
+use Rattle.flt_explain_runs.proofs.Studied.{here, known_push, last_placed, last_studied, sources_both, sources_push, texts_push, with_last}
+use Rattle.flt_explain_runs.proofs.Whole.{prints_more}
+
+-- ---- what is printed
+
+-- the notes of a text more
+notes_more : (trees : List Tree) (place : ℕ) (ts : List Text) (notes : List Noted) (text : Text) (r : Reading) (own : List Noted) →
+    AreNotesIn trees place ts notes → IsReading trees text r → IsPlaced place r → AreNotesFor trees text r own →
+    AreNotesIn trees (place + known r) (ts ++ text ∷ []) (notes ++ own)
+notes_more trees place ts notes text (Unread f) own are is placed none =
+    let same : place + 0 ≡ place = omega arith in rw (same, none, append-nil notes) (notes_fails are is.fault)
+notes_more trees place ts notes text (Other kind) own are is placed none =
+    let same : place + 0 ≡ place = omega arith in rw (same, none, append-nil notes) (notes_fails are is.unread)
+notes_more trees place ts notes text (Known at) own are is placed its =
+    notes_parses are (subst (λ n. AreNotesOf trees text n own) placed its)
+
+-- nothing at first
+pub printed_none : (look : Look) (trees : List Tree) (files : List Files) (p : Printed) → p.output.bytes.items ≡ [] → p.output.noted ≡ [] →
+    p.total.status ≡ 0 →
+    p.total.findings ≡ 0 → p.total.files ≡ 0 → ArePrinted look trees files [] p
+printed_none look trees files p bytes noted status findings many = record {
+  parts = rw (bytes, status, findings, many) parts_none;
+  notes = rw noted notes_none;
+  said = said_none trees look.states p.output bytes noted;
+  prints = rw (bytes, noted, status, findings, many) no_print;
+}
+
+unnoted : (trees : List Tree) (text : Text) (r : Reading) (notes : List Noted) → AreNotesFor trees text r notes → known r ≡ 0 → notes ≡ []
+unnoted trees text (Unread f) notes are none = are
+unnoted trees text (Other kind) notes are none = are
+unnoted trees text (Known place) notes are none = absurd (omega (arith, none))
+
+-- with the report of a text more
+pub printed_more : (look : Look) (trees : List Tree) (files : List Files) (each : List Studied) (s : Studied) (old new : Printed) →
+    ArePrinted look trees files each old →
+    IsStudied trees s → IsPlaced (known_in each) s.reading → IsMore look trees files s old new → ArePrinted look trees files
+    (each ++ s ∷ []) new
+printed_more look trees files each s old new are is placed more = record {
+  parts = rw (sources_push each s, more.bytes, more.status, more.findings, more.counted) (parts_more are.parts more.is.report);
+  notes = rw (texts_push each s, known_push each s, more.noted)
+      (notes_more trees (known_in each) (texts_read each) old.output.noted s.source.text.now s.reading
+      more.part.output.noted are.notes is placed more.is.notes);
+  said = rw (more.noted, more.bytes)
+      (others (old.output.noted ++ more.part.output.noted) (old.output.bytes.items ++ more.part.output.bytes.items) (10 ∷ [])
+      (said_both trees look.states old.output.noted old.output.bytes.items are.said more.is.said) refl);
+  prints = rw (sources_push each s, known_push each s, more.noted, more.bytes, more.status, more.findings, more.counted)
+      (prints_more look trees files (known_in each) (sources_read each) old.output.noted old.output.bytes.items
+      old.total.status old.total.findings old.total.files s.source s.reading more.part are.prints placed
+      (unnoted trees s.source.text.now s.reading more.part.output.noted more.is.notes) more.is.print);
+}
+
+-- ---- what is put out
+
+-- nothing
+pub appends_none : (old : Option (List ℕ)) → Appends old old []
+appends_none None = tt
+appends_none (Some xs) = sym (append-nil xs)
+
+-- the rest behind the first
+pub appends_rest : (a b c : Option (List ℕ)) (xs ys rest : List ℕ) → Appends a b xs → Appends b c rest → ys ≡ xs ++ rest → Appends a c ys
+appends_rest None b c xs ys rest first second is = tt
+appends_rest (Some xa) None c xs ys rest first second is = absurd first
+appends_rest (Some xa) (Some bs) None xs ys rest first second is = absurd second
+appends_rest (Some xa) (Some bs) (Some cs) xs ys rest first second is =
+    second ∙ ap (λ z. z ++ rest) first ∙ append_assoc xa xs rest ∙ ap (λ z. xa ++ z) (sym is)
+
+drop_first : (xs rest : List ℕ) → drop (length xs) (xs ++ rest) ≡ rest
+drop_first [] rest = refl
+drop_first (x ∷ xs) rest = drop_first xs rest
+
+take_first : (xs rest : List ℕ) → take (length xs) (xs ++ rest) ≡ xs
+take_first [] rest = refl
+take_first (x ∷ xs) rest = ap (λ z. x ∷ z) (take_first xs rest)
+
+take_within : (n : ℕ) (xs rest : List ℕ) → n ≤ length xs → take n (xs ++ rest) ≡ take n xs
+take_within zero xs rest within = refl
+take_within (suc n) [] rest within = absurd (omega (arith, within))
+take_within (suc n) (x ∷ xs) rest within = ap (λ z. x ∷ z) (take_within n xs rest (omega (arith, within)))
+
+-- what isn't put out yet is what is more
+pub rest_out : (look : Look) (trees : List Tree) (files : List Files) (s : Studied) (old new : Printed) (a b c : Option (List ℕ)) →
+    IsMore look trees files s old new →
+    old.sent ≡ length old.output.bytes.items → Appends a b old.output.bytes.items → Appends b c (drop old.sent new.output.bytes.items) →
+    Appends a c new.output.bytes.items
+rest_out look trees files s old new a b c more all first second =
+    let report = more.part.output.bytes.items in
+    let is : new.output.bytes.items ≡ old.output.bytes.items ++ (report ++ 10 ∷ []) =
+    more.bytes ∙ append_assoc old.output.bytes.items report (10 ∷ []) in
+    let rest : drop old.sent new.output.bytes.items ≡ report ++ 10 ∷ [] =
+    rw (all, is) (drop_first old.output.bytes.items (report ++ 10 ∷ [])) in
+    appends_rest a b c old.output.bytes.items new.output.bytes.items (report ++ 10 ∷ []) first (subst (λ z. Appends b c z) rest second) is
+
+-- whole reports of the first of some texts
+pub first_of : (look : Look) (trees : List Tree) (files : List Files) (each : List Studied) (further : List Source) (p : Printed) →
+    ArePrinted look trees files each p → AreParsed (texts_of (sources_read each ++ further)) (filters_of trees) →
+    AreFirst look.options (sources_read each) further look.states p.output.bytes.items
+first_of look trees files each further p are parsed = record {
+  trees = trees;
+  parsed = parsed;
+  status = p.total.status;
+  findings = p.total.findings;
+  files = p.total.files;
+  reports = are.parts;
+  place = known_in each;
+  notes = p.output.noted;
+  noted = are.notes;
+  said = are.said;
+}
+
+-- where it ends before all is known, so much is put out
+pub cut_none : (options : WarningOptions) (sources : List Source) (states : ℕ) (old : Option (List ℕ)) → IsCut options sources states old
+    old
+cut_none options sources states old = record { printed = []; added = appends_none old; are = inl refl }
+
+pub cut_at : (look : Look) (trees : List Tree) (files : List Files) (all each rest : List Studied) (p : Printed) (held : Bool)
+    (old new : Option (List ℕ)) →
+    AreParsed (texts_read all) (filters_of trees) → all ≡ each ++ rest → ArePrinted look trees files each p → (held ≡ true → new ≡ old) →
+    (held ≡ false → Appends old new p.output.bytes.items) → IsCut look.options (sources_read all) look.states old new
+cut_at look trees files all each rest p true old new parsed is are none some =
+    rw (none refl) (cut_none look.options (sources_read all) look.states old)
+cut_at look trees files all each rest p false old new parsed is are none some =
+    let whole : sources_read all ≡ sources_read each ++ sources_read rest = ap sources_read is ∙ sources_both each rest in
+    record {
+      printed = p.output.bytes.items;
+      added = some refl;
+      are = inr (record {
+        before = sources_read each;
+        others = sources_read rest;
+        whole = whole;
+        are = first_of look trees files each (sources_read rest) p are
+            (subst (λ ss. AreParsed (texts_of ss) (filters_of trees)) whole parsed);
+      });
+    }
+
+-- there is a last text
+all_but_last : (options : WarningOptions) (sources before : List Source) (last : Source) (states : ℕ) (printed : List ℕ) →
+    sources ≡ before ++ last ∷ [] → AreFirst options before (last ∷ []) states printed → IsAllButLast options sources states printed
+all_but_last options [] [] last states printed is are = absurd (cc is)
+all_but_last options [] (t ∷ before) last states printed is are = absurd (cc is)
+all_but_last options (s ∷ sources) before last states printed is are = record { before = before; last = last; whole = is; are = are }
+
+-- the reports of all texts but the last are put out, and the last one's stands behind them
+pub put_out : (look : Look) (trees : List Tree) (files : List Files) (all each : List Studied) (s : Studied) (old new : Printed)
+    (held : Bool)
+    (a b : Option (List ℕ)) →
+    AreParsed (texts_read all) (filters_of trees) → all ≡ each ++ s ∷ [] → ArePrinted look trees files each old → IsMore look trees files s
+    old new →
+    new.sent ≡ old.sent → HoldsBack held old → (held ≡ true → b ≡ a) → (held ≡ false → Appends a b old.output.bytes.items) →
+    IsPutOut look.options (sources_read all) look.states held a b new
+put_out look trees files all each s old new true a b parsed is are more kept holds none some =
+    let sent : new.sent ≡ 0 = kept ∙ holds.none refl in
+    record {
+      within = rw sent (omega arith);
+      added = rw (sent, none refl) (appends_none a);
+      early = λ h. absurd (cc h);
+      late = λ h. sent;
+    }
+put_out look trees files all each s old new false a b parsed is are more kept holds none some =
+    let bytes = old.output.bytes.items in
+    let rest = more.part.output.bytes.items ++ 10 ∷ [] in
+    let sent : new.sent ≡ length bytes = kept ∙ holds.all refl in
+    let whole : new.output.bytes.items ≡ bytes ++ rest = more.bytes ∙ append_assoc bytes more.part.output.bytes.items (10 ∷ []) in
+    let first : take new.sent new.output.bytes.items ≡ bytes = rw (sent, whole) (take_first bytes rest) in
+    let sources : sources_read all ≡ sources_read each ++ s.source ∷ [] = ap sources_read is ∙ sources_push each s in
+    record {
+      within = rw (sent, whole) (omega (arith, length-append bytes rest));
+      added = rw first (some refl);
+      early = λ h. rw first (all_but_last look.options (sources_read all) (sources_read each) s.source look.states bytes sources
+          (first_of look trees files each (s.source ∷ []) old are
+          (subst (λ ss. AreParsed (texts_of ss) (filters_of trees)) sources parsed)));
+      late = λ h. absurd (cc h);
+    }
+
+-- with more behind it
+pub put_out_more : (options : WarningOptions) (sources : List Source) (states : ℕ) (held : Bool) (a b : Option (List ℕ)) (old new : Printed)
+    (more : List ℕ) → IsPutOut options sources states held a b old → new.sent ≡ old.sent →
+    new.output.bytes.items ≡ old.output.bytes.items ++ more → IsPutOut options sources states held a b new
+put_out_more options sources states held a b old new more is same added =
+    let bytes = old.output.bytes.items in
+    let within = is.within in
+    let first : take old.sent bytes ≡ take new.sent new.output.bytes.items =
+    rw (same, added) (sym (take_within old.sent bytes more within)) in
+    record {
+      within = rw (same, added) (omega (arith, length-append bytes more, within));
+      added = subst (λ z. Appends a b z) first is.added;
+      early = λ h. subst (λ z. IsAllButLast options sources states z) first (is.early h);
+      late = λ h. same ∙ is.late h;
+    }
+
+-- the reports of all texts but the last, or nothing, are whole reports of the first of them
+whole_of_all_but_last : (options : WarningOptions) (sources : List Source) (states : ℕ) (printed : List ℕ) →
+    IsAllButLast options sources states printed →
+    AreWhole options sources states printed
+whole_of_all_but_last options [] states printed none = inl none
+whole_of_all_but_last options (s ∷ ss) states printed all =
+    inr (record { before = all.before; others = all.last ∷ []; whole = all.whole; are = all.are })
+
+-- where it ends after all is known, so much is put out
+pub cut_after : (options : WarningOptions) (sources : List Source) (states : ℕ) (held : Bool) (a b : Option (List ℕ)) (p : Printed) →
+    IsPutOut options sources states held a b p → IsCut options sources states a b
+cut_after options sources states true a b p is = record {
+  printed = take p.sent p.output.bytes.items;
+  added = is.added;
+  are = inl (ap (λ n. take n p.output.bytes.items) (is.late refl));
+}
+cut_after options sources states false a b p is = record {
+  printed = take p.sent p.output.bytes.items;
+  added = is.added;
+  are = whole_of_all_but_last options sources states (take p.sent p.output.bytes.items) (is.early refl);
+}
+
+-- nothing is put out of nothing
+pub put_out_none : (options : WarningOptions) (states : ℕ) (held : Bool) (a : Option (List ℕ)) (p : Printed) →
+    p.output.bytes.items ≡ [] → p.sent ≡ 0 →
+    IsPutOut options [] states held a a p
+put_out_none options states held a p bytes sent = record {
+  within = rw (sent, bytes) (omega arith);
+  added = rw sent (appends_none a);
+  early = λ h. rw sent refl;
+  late = λ h. sent;
+}
+
+-- nor of the only text
+pub put_out_only : (options : WarningOptions) (trees : List Tree) (s : Source) (states : ℕ) (held : Bool)
+    (a : Option (List ℕ)) (p : Printed) →
+    AreParsed (s.text.now ∷ []) (filters_of trees) → p.sent ≡ 0 → IsPutOut options (s ∷ []) states held a a p
+put_out_only options trees s states held a p parsed sent = record {
+  within = rw sent (omega arith);
+  added = rw sent (appends_none a);
+  early = λ h. rw sent (record {
+    before = [];
+    last = s;
+    whole = refl;
+    are = record {
+      trees = trees;
+      parsed = parsed;
+      status = 0;
+      findings = 0;
+      files = 0;
+      reports = parts_none;
+      place = 0;
+      notes = [];
+      noted = notes_none;
+      said = nothing;
+    };
+  });
+  late = λ h. sent;
+}
+
+-- the notes of the only text
+pub only_notes : (trees : List Tree) (s : Studied) (own : List Noted) → IsStudied trees s → IsPlaced 0 s.reading →
+    AreNotesFor trees s.source.text.now s.reading own → AreNotesIn trees (known s.reading + 0) (s.source.text.now ∷ []) own
+only_notes trees s own is placed its =
+    let same : known s.reading + 0 ≡ 0 + known s.reading = omega arith in
+    rw same (notes_more trees 0 [] [] s.source.text.now s.reading own notes_none is placed its)
+
+-- the line that says how much is found stands behind the reports
+pub summed : (reports line new : List ℕ) (findings files count many : ℕ) → new ≡ reports ++ quieted line →
+    line ≡ summary findings files count ++ 10 ∷ [] → count ≡ many → new ≡ reports ++ summary findings files many ++ 10 ∷ []
+summed reports line new findings files count many added is same =
+    added ∙ ap (λ z. reports ++ quieted z) is
+    ∙ ap (λ z. reports ++ z) (quieted_same (summary findings files count ++ 10 ∷ []) (quiet_summary findings files count))
+    ∙ sym (append_assoc reports (summary findings files count) (10 ∷ [])) ∙ ap (λ n. reports ++ summary findings files n ++ 10 ∷ []) same
+
+-- the same where only that differs which is put out
+pub more_same : (look : Look) (trees : List Tree) (files : List Files) (s : Studied) (old mid new : Printed) →
+    IsMore look trees files s old mid → new.output ≡ mid.output →
+    new.total ≡ mid.total → IsMore look trees files s old new
+more_same look trees files s old mid new more output total = record {
+  part = more.part;
+  is = more.is;
+  bytes = ap (λ (o : Output). o.bytes.items) output ∙ more.bytes;
+  noted = ap (λ (o : Output). o.noted) output ∙ more.noted;
+  status = ap (λ (t : Total). t.status) total ∙ more.status;
+  findings = ap (λ (t : Total). t.findings) total ∙ more.findings;
+  counted = ap (λ (t : Total). t.files) total ∙ more.counted;
+}
+
+-- of no text there are no notes
+pub empty_notes : (trees : List Tree) (each : List Studied) (notes : List Noted) → length each < 1 → notes ≡ [] →
+    AreNotesIn trees (known_in each) (texts_read each) notes
+empty_notes trees [] notes few none = rw none notes_none
+empty_notes trees (s ∷ each) notes few none = absurd (omega (arith, few))
+
+-- where there is one text, what was noted of it are the notes of all
+pub only_noted : (look : Look) (trees : List Tree) (files : List Files) (each : List Studied) (d : Studied) (p : Printed) →
+    1 ≤ length each → length each < 2 →
+    AreStudied trees 0 each → IsPart look trees files (get_or each 0 d) (part_of p) →
+    AreNotesIn trees (known_in each) (texts_read each) p.output.noted
+only_noted look trees files [] d p some few are part = absurd (omega (arith, some))
+only_noted look trees files (s ∷ []) d p some few are part = only_notes trees s p.output.noted are.0 are.1 part.notes
+only_noted look trees files (s ∷ (t ∷ each)) d p some few are part = absurd (omega (arith, few))
+
+-- where there is one text, and nothing was sent early, it is put out as a whole
+pub only_sent : (options : WarningOptions) (trees : List Tree) (states : ℕ) (held : Bool) (a : Option (List ℕ)) (each : List Studied)
+    (p : Printed) → 1 ≤ length each → length each < 2 → AreParsed (texts_read each) (filters_of trees) → p.sent ≡ 0 →
+    IsPutOut options (sources_read each) states held a a p
+only_sent options trees states held a [] p some few parsed sent = absurd (omega (arith, some))
+only_sent options trees states held a (s ∷ []) p some few parsed sent =
+    put_out_only options trees s.source states held a p parsed sent
+only_sent options trees states held a (s ∷ (t ∷ each)) p some few parsed sent = absurd (omega (arith, few))
+
+-- where there is no text, nothing printed is what is printed of all
+pub printed_empty : (look : Look) (trees : List Tree) (files : List Files) (each : List Studied) (p : Printed) → length each < 1 →
+    p.output.bytes.items ≡ [] →
+    p.output.noted ≡ [] → p.total.status ≡ 0 → p.total.findings ≡ 0 → p.total.files ≡ 0 → ArePrinted look trees files each p
+printed_empty look trees files [] p few bytes noted status findings many = printed_none look trees files p bytes noted status findings many
+printed_empty look trees files (s ∷ each) p few bytes noted status findings many = absurd (omega (arith, few))
+
+-- with the last one, all of them
+module _ (look : Look) (trees : List Tree) (files : List Files) (each : List Studied) (i : ℕ) (d : Studied) (old new : Printed) where
+  -- where all texts but the last are printed, the last one's report completes what is printed of all
+  pub whole_printed : 1 ≤ length each → AreStudied trees 0 each → length (take (length each - 1) each) ≤ i →
+      ArePrinted look trees files (take i (take (length each - 1) each)) old → IsMore look trees files (get_or each (length each - 1) d)
+      old new →
+      ArePrinted look trees files each new
+  whole_printed some are past printed more =
+      let within : length each - 1 < length each = omega (arith, some) in
+      let last = here each (length each - 1) d within in
+      let front : take i (take (length each - 1) each) ≡ take (length each - 1) each = take_all i (take (length each - 1) each) past in
+      subst (λ e. ArePrinted look trees files e new) (sym (with_last each (get_or each (length each - 1) d) some last))
+      (printed_more look trees files (take (length each - 1) each) (get_or each (length each - 1) d) old new
+      (subst (λ e. ArePrinted look trees files e old) front printed)
+      (last_studied trees each (get_or each (length each - 1) d) are some last)
+      (last_placed trees each (get_or each (length each - 1) d) are some last) more)
+
+  -- where all texts but the last were put out, the last one's report completes what is put out
+  pub whole_sent : (held : Bool) (a b : Option (List ℕ)) → 1 ≤ length each → AreParsed (texts_read each) (filters_of trees) →
+      length (take (length each - 1) each) ≤ i → ArePrinted look trees files (take i (take (length each - 1) each)) old →
+      IsMore look trees files (get_or each (length each - 1) d) old new → new.sent ≡ old.sent → HoldsBack held old → (held ≡ true → b ≡ a) →
+      (held ≡ false → Appends a b old.output.bytes.items) →
+      IsPutOut look.options (sources_read each) look.states held a b new
+  whole_sent held a b some parsed past printed more kept holds none out =
+      let within : length each - 1 < length each = omega (arith, some) in
+      let front : take i (take (length each - 1) each) ≡ take (length each - 1) each = take_all i (take (length each - 1) each) past in
+      put_out look trees files each (take (length each - 1) each) (get_or each (length each - 1) d) old new held a b parsed
+      (with_last each (get_or each (length each - 1) d) some (here each (length each - 1) d within))
+      (subst (λ e. ArePrinted look trees files e old) front printed) more kept holds none out
+
+-- where it ends before, the reports of the first are put out
+pub cut_here : (look : Look) (trees : List Tree) (files : List Files) (each : List Studied) (n i : ℕ) (p : Printed) (held : Bool)
+    (old new : Option (List ℕ)) →
+    AreParsed (texts_read each) (filters_of trees) → ArePrinted look trees files (take i (take n each)) p → (held ≡ true → new ≡ old) →
+    (held ≡ false → Appends old new p.output.bytes.items) →
+    IsCut look.options (sources_read each) look.states old new
+cut_here look trees files each n i p held old new parsed are none some =
+    let before = take n each in
+    let whole : each ≡ take i before ++ (drop i before ++ drop n each) =
+    sym (take-append-drop n each) ∙ ap (λ e. e ++ drop n each) (sym (take-append-drop i before))
+    ∙ append_assoc (take i before) (drop i before) (drop n each) in
+    cut_at look trees files each (take i before) (drop i before ++ drop n each) p held old new parsed whole are none some
+
+-- ---- all of it
+
+-- of the only text
+print_of_only : (look : Look) (trees : List Tree) (files : List Files) (s : Source) (r : Reading) (p : Printed) → IsPlaced 0 r →
+    (known r ≡ 0 → p.output.noted ≡ []) → IsPrintOf look trees files s r (part_of p) →
+    IsOnePrinted look trees files s p.output.noted p.output.bytes.items p.total.status
+print_of_only look trees files s (Unread f) p placed none is = record { count = p.total.findings; is = inr (none refl, inl is) }
+print_of_only look trees files s (Other kind) p placed none is = record { count = p.total.findings; is = inr (none refl, inr is) }
+print_of_only look trees files s (Known place) p placed none is = record {
+  count = p.total.findings;
+  is = inl (subst (λ n. IsKnownPrint look trees files n s p.output.noted p.output.bytes.items p.total.status p.total.findings) placed is);
+}
+
+-- where there is one text, its report is what is printed of all
+pub only_print : (look : Look) (trees : List Tree) (files : List Files) (each : List Studied) (d : Studied) (p : Printed) →
+    1 ≤ length each → length each < 2 →
+    AreStudied trees 0 each → IsPart look trees files (get_or each 0 d) (part_of p) →
+    IsPrintOfAll look trees files (sources_read each) p.output.noted p.output.bytes.items p.total.status
+only_print look trees files [] d p some few are part = absurd (omega (arith, some))
+only_print look trees files (s ∷ []) d p some few are part =
+    print_of_only look trees files s.source s.reading p are.1 (unnoted trees s.source.text.now s.reading p.output.noted part.notes)
+    part.print
+only_print look trees files (s ∷ (t ∷ each)) d p some few are part = absurd (omega (arith, few))
+
+-- where there is no text, nothing is printed of all
+pub empty_print : (look : Look) (trees : List Tree) (files : List Files) (each : List Studied) (p : Printed) → length each < 1 →
+    p.output.noted ≡ [] →
+    p.output.bytes.items ≡ [] → p.total.status ≡ 0 →
+    IsPrintOfAll look trees files (sources_read each) p.output.noted p.output.bytes.items p.total.status
+empty_print look trees files [] p few noted bytes status = (noted, bytes, status)
+empty_print look trees files (s ∷ each) p few noted bytes status = absurd (omega (arith, few))
+
+-- of several, with the line that says how much is found
+pub several_print : (look : Look) (trees : List Tree) (files : List Files) (each : List Studied) (old : Printed) (notes : List Noted)
+    (line printed : List ℕ) (count : ℕ) →
+    ArePrinted look trees files each old → notes ≡ old.output.noted → printed ≡ old.output.bytes.items ++ quieted line →
+    line ≡ summary old.total.findings old.total.files count ++ 10 ∷ [] → count ≡ length (sources_read each) →
+    AreSeveralPrinted look trees files (sources_read each) notes printed old.total.status
+several_print look trees files each old notes line printed count are same added is many = record {
+  place = known_in each;
+  prints = old.output.bytes.items;
+  findings = old.total.findings;
+  many = old.total.files;
+  are = rw same are.prints;
+  whole = summed old.output.bytes.items line printed old.total.findings old.total.files count (length (sources_read each)) added is many;
+}
+
+some_print : (look : Look) (trees : List Tree) (files : List Files) (each : List Studied) (notes : List Noted) (printed : List ℕ)
+    (status : ℕ) →
+    2 ≤ length each → AreSeveralPrinted look trees files (sources_read each) notes printed status →
+    IsPrintOfAll look trees files (sources_read each) notes printed status
+some_print look trees files [] notes printed status some are = absurd (omega (arith, some))
+some_print look trees files (s ∷ []) notes printed status some are = absurd (omega (arith, some))
+some_print look trees files (s ∷ (t ∷ each)) notes printed status some are = are
+
+-- where there are two texts or more, what is printed of several is what is printed of all
+pub some_printed : (look : Look) (trees : List Tree) (files : List Files) (each : List Studied) (result : Result Printed ExplainFault) →
+    2 ≤ length each →
+    IfOk result (λ p. AreSeveralPrinted look trees files (sources_read each) p.output.noted p.output.bytes.items p.total.status) →
+    IfOk result (λ p. IsPrintOfAll look trees files (sources_read each) p.output.noted p.output.bytes.items p.total.status)
+some_printed look trees files each (Ok p) some are =
+    some_print look trees files each p.output.noted p.output.bytes.items p.total.status some are
+some_printed look trees files each (Err e) some are = tt

@@ -1,0 +1,73 @@
+//! The outcomes of the findings of texts in runs.
+
+ghost use Rattle.std.specs.Prelude.{◌≡◌};
+ghost use Rattle.std.specs.Option.{option_copied};
+ghost use Rattle.flt_explain_runs.specs.Noted as spec;
+
+use crate::schedules::{Schedule, Scheduled};
+use flt_graph::Place;
+use flt_model::{Journal, Violation};
+use flt_search::Broken;
+
+/// The outcome of a finding if one more callback sets the contexts that nothing in its text sets.
+#[derive(Drop)]
+pub enum Again {
+    /// This is a run of the text with that callback.
+    Runs(Broken),
+    /// No run was found there either.
+    RunsNowhere,
+}
+
+/// A note on a finding: its outcome in runs.
+#[derive(Drop)]
+pub struct Noted {
+    /// The number of its filter among those of the texts that parse, from 0.
+    pub filter: usize,
+    /// The number of the finding among those of its text, from 0.
+    pub finding: usize,
+    /// The place of its callback.
+    pub place: Place,
+    /// Whether each known path to it breaks another rule before.
+    pub is_behind: bool,
+    pub scheduled: Scheduled,
+    /// The further violation of the run of a finding that was noted before, at the same point, if this one has no run.
+    pub also: Option<Violation>,
+    /// Its outcome if one more callback sets what nothing in its text sets, if that was looked for.
+    pub again: Option<Again>,
+}
+
+/// The outcome of a finding, in whichever runs.
+pub fn schedule_of(scheduled: &Scheduled) -> &Schedule
+    ensures { result.now ≡ spec.schedule_of scheduled.now }
+{
+    match scheduled {
+        Scheduled::Together(schedule) | Scheduled::Alone(schedule) => schedule,
+    }
+}
+
+/// The journal that breaks something, if there is one.
+fn journal_of(noted: &Noted) -> Option<&Journal>
+    ensures { option_copied result ≡ spec.journal_of noted.now }
+{
+    match schedule_of(&noted.scheduled) {
+        Schedule::Breaks(broken) => Some(&broken.journal),
+        Schedule::NotWithin
+        | Schedule::Cut
+        | Schedule::NeverHanded
+        | Schedule::NeverStarted
+        | Schedule::NeverGot(_) => None,
+    }
+}
+
+/// The journal of the first finding that has one.
+pub fn first_journal(noted: &[Noted]) -> Option<&Journal>
+    ensures { option_copied result ≡ spec.first_journal noted.now }
+{
+    for one in noted {
+        let journal = journal_of(one);
+        if journal.is_some() {
+            return journal;
+        }
+    }
+    None
+}

@@ -1,3 +1,0 @@
-pub mod Certified
-pub mod Preparing
-pub mod Texts

@@ -1,0 +1,5 @@
+mod CommandLaws
+mod ScriptLaws
+pub mod Answered
+pub mod Firsts
+pub mod Preparation

@@ -1,0 +1,4 @@
+pub mod Certified
+pub mod Preparing
+pub mod ScriptText
+pub mod Texts

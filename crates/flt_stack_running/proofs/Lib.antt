@@ -1,4 +1,0 @@
-mod Bits
-mod Leaving
-mod Lists
-mod Sweeping

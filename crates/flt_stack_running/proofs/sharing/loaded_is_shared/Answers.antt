@@ -1,4 +1,0 @@
-use Rattle.flt_stack_running.proofs.sharing.loaded_is_shared.Goals as goal
-
-pub returns : goal.returns
-returns c = record { shared = c.shared-3.ensures.shared }

@@ -1,4 +1,0 @@
-pub mod Left
-pub mod Requests
-pub mod Waiting
-pub mod Working

@@ -1,2 +1,0 @@
-mod CommandLaws
-mod ScriptLaws

@@ -1,0 +1,5 @@
+mod Bits
+mod Leaving
+mod Lists
+mod Sweeping
+pub mod TakenFirst

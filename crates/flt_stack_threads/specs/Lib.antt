@@ -1,0 +1,5 @@
+pub mod Left
+pub mod Places
+pub mod Requests
+pub mod Waiting
+pub mod Working
