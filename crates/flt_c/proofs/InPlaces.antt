@@ -19,6 +19,7 @@ use Rattle.flt_c.specs.Locks.{after as after_byte, plain, plain_byte, plain_from
 use Rattle.flt_c.specs.Places.{first_place, past, place_from, place_of}
 use Rattle.flt_c.specs.Scan.{annotations}
 use Rattle.flt_c.specs.Texts.{Text, after, empty, plain_text, put, put_all}
+use Rattle.flt_rules.specs.Limits.{max_text}
 
 -- ---- places of a file
 
@@ -260,7 +261,7 @@ read_laid : (file text : List ℕ) (r : Result (List Placed) Fault) →
     AreInC file first_place text
 read_laid file text (Err f) a e = elim (differ (ap is_ok e)) [ ]
 read_laid file text (Ok ps) a e =
-    grown_laid file text ps a (length (put_all 0 empty ps).bytes == length empty.bytes) (nat_lt 65536 (length (put_all 0 empty ps).bytes)) e
+    grown_laid file text ps a (length (put_all 0 empty ps).bytes == length empty.bytes) (nat_lt max_text (length (put_all 0 empty ps).bytes)) e
 
 size_laid : (file text : List ℕ) (x : Bool) →
     laid_after (if x then flawed 0 Large else grown 0 empty (after 0 empty (annotations file))) ≡ Ok text →

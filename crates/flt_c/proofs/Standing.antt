@@ -16,6 +16,7 @@ use Rattle.flt_c.specs.Locks.{plain}
 use Rattle.flt_c.specs.Places.{first_place}
 use Rattle.flt_c.specs.Scan.{annotations}
 use Rattle.flt_c.specs.Texts.{Text, after, empty, plain_text, put, put_all}
+use Rattle.flt_rules.specs.Limits.{max_text}
 
 -- ---- results
 
@@ -113,7 +114,7 @@ read_front files number text file there fresh front (Err f) a more e = elim (not
 read_front files number text file there fresh front (Ok ps) a more e =
     let chain = subst (λ (x : Bool). Chain file first_place x ps) (sym fresh) (chained file ps a) in
     subst (IsGrown files number)
-    (grown_by (length (put_all number text ps).bytes == length text.bytes) (nat_lt 65536 (length (put_all number text ps).bytes))
+    (grown_by (length (put_all number text ps).bytes == length text.bytes) (nat_lt max_text (length (put_all number text ps).bytes))
     (record { file = number; flaw = Bare }) (record { file = number; flaw = Long }) (put_all number text ps) more e)
     (put_all_front files number ps text first_place front (subst (λ z. Chain z first_place text.fresh ps) (sym there) chain))
 

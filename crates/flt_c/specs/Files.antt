@@ -6,6 +6,7 @@ use Rattle.flt_c.specs.declared.files.Flaw.{Flaw}
 use Rattle.flt_c.specs.declared.files.Flaw.TheVariants.{Faulty, Large, Bare, Long}
 use Rattle.flt_c.specs.Scan.{annotations}
 use Rattle.flt_c.specs.Texts.{Text, empty, after, plain_text}
+use Rattle.flt_rules.specs.Limits.{max_text}
 
 -- a flaw of the file of this number
 abbrev pub flawed : ℕ → Flaw → Result Text FileFlaw
@@ -16,7 +17,7 @@ abbrev pub grown : ℕ → Text → Result Text Fault → Result Text FileFlaw
 grown file before (Err f) = flawed file (Faulty f)
 grown file before (Ok text) =
     if length text.bytes == length before.bytes then flawed file Bare
-    else (if nat_lt 65536 (length text.bytes) then flawed file Long else Ok text)
+    else (if nat_lt max_text (length text.bytes) then flawed file Long else Ok text)
 
 -- one file more, which is no larger than 16 MB
 abbrev pub with_file : ℕ → Text → List ℕ → Result Text FileFlaw

@@ -6,6 +6,7 @@ ghost use Rattle.flt_c.specs.Texts.{text_in};
 
 use crate::fault::Fault;
 use crate::text::Annotations;
+use flt_rules::MAX_TEXT;
 use std::alloc::{AllocError, Global};
 
 /// A flaw of a file: why its annotations make no text.
@@ -30,9 +31,6 @@ pub struct FileFlaw {
 
 /// The most bytes a C file may have.
 pub(crate) const MAX_FILE: usize = 16_777_216;
-
-/// The most bytes the text may have: as many as a filter's text.
-const MAX_TEXT: usize = 65_536;
 
 /// Adds the annotations of one more file.
 fn take_file(

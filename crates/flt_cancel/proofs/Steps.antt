@@ -15,13 +15,14 @@ use Rattle.flt_cancel.specs.Steps.{newcomer, having_asked, having_collected, vie
 use Rattle.flt_cancel.specs.declared.seat.View.{View}
 use Rattle.flt_cancel.specs.declared.step.Step.{Step}
 use Rattle.flt_cancel.specs.declared.step.Step.TheVariants.{Split, Ask, Collect}
+use Rattle.flt_rules.specs.Limits.{max_operations}
 
 -- the rule at the start
 pub begins : (words : List ℕ) → words ≡ replicate 1024 0 → Kept (record { words = words; homes = []; views = newcomer ∷ [] })
 begins words e = ([], tt, e, refl)
 
 -- a seat may ask for a serial, and then has asked for it
-pub asks : (slots id x : ℕ) (me : Me ℕ View) → x < 65536 →
+pub asks : (slots id x : ℕ) (me : Me ℕ View) → x < max_operations →
     Allows Kept slots id me (word_of x) (λ n. bit_or n (mask_of x)) (Asked (step slots (word_of x) (mask_of x) 0 none) me)
 asks slots id x me lt s kept size at fits =
     let steps : List Step = kept.0 in

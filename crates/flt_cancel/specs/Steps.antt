@@ -5,6 +5,7 @@ use Rattle.flt_cancel.specs.Serials.{word_of, mask_of, serials}
 use Rattle.flt_cancel.specs.declared.seat.View.{View}
 use Rattle.flt_cancel.specs.declared.step.Step.{Step}
 use Rattle.flt_cancel.specs.declared.step.Step.TheVariants.{Split, Ask, Collect}
+use Rattle.flt_rules.specs.Limits.{max_operations}
 
 -- the view of a seat that has done nothing
 abbrev pub newcomer : View
@@ -47,7 +48,7 @@ views_after (step ∷ earlier) = views_then (step ∷ earlier) step (views_after
 -- what can be done after these steps: seats that are there ask for serials and collect words, and who collects finds what the word is
 abbrev pub CanFollow : List Step → Step → Type 0
 CanFollow earlier Split = Unit {0}
-CanFollow earlier (Ask by serial) = (by < length (views_after earlier)) × (serial < 65536)
+CanFollow earlier (Ask by serial) = (by < length (views_after earlier)) × (serial < max_operations)
 CanFollow earlier (Collect by word found) = (by < length (views_after earlier)) × (word < 1024)
     × (found ≡ slice_index (words_after earlier) word)
 

@@ -4,6 +4,7 @@ ghost use Rattle.flt_cancel.specs.Seats.{marks, view, IsSeatOf};
 ghost use Rattle.flt_cancel.specs.Serials.{group_of, serials, IsPresent};
 ghost use Rattle.flt_cancel.specs.Steps.{newcomer, words_after, IsNext, WasAsked};
 ghost use Rattle.flt_cancel.specs.declared.step.Step.TheVariants.{Ask, Collect};
+ghost use Rattle.flt_rules.specs.Limits.{max_operations};
 
 use crate::rule::SplitsOff;
 use crate::words::{RuledTable, Words};
@@ -57,7 +58,7 @@ impl Pads {
     /// Asks for a serial, in one step, and then sets its group's mark, in another. The serial stays asked until some seat collects it,
     /// however often it is asked before that. Whoever collects the mark finds the request in its word, unless it was collected before.
     pub fn ask(&self, seat: &mut Seat, serial: u32)
-        requires serial { serial < 65536 }
+        requires serial { serial < max_operations }
         requires seat { IsSeatOf self.now seat.old }
         ensures seat { IsSeatOf self.now seat.new }
         ensures asked { (view seat.new).asked ≡ (view seat.old).asked ++ serial ∷ [] }

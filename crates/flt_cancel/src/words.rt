@@ -3,6 +3,7 @@ ghost use Rattle.std.specs.Prelude.{◌≡◌, ℕ, ◌<◌, ◌++◌, ◌∷◌
 ghost use Rattle.flt_cancel.specs.Serials.{serials, IsPresent};
 ghost use Rattle.flt_cancel.specs.Steps.{words_after, IsNext, WasAsked};
 ghost use Rattle.flt_cancel.specs.declared.step.Step.TheVariants.{Ask, Collect};
+ghost use Rattle.flt_rules.specs.Limits.{max_operations};
 
 use crate::View;
 use crate::rule::{Asks, Collects, Recorded};
@@ -25,7 +26,7 @@ pub(crate) struct Words {
 impl Words {
     /// Asks for a serial, in one step.
     pub(crate) fn ask(&self, token: &mut Token, serial: u32)
-        requires serial { serial < 65536 }
+        requires serial { serial < max_operations }
         requires token { token.old.table_id ≡ self.now.table.shared.table_id }
         ensures token { token.new.table_id ≡ self.now.table.shared.table_id }
         ensures asked { token.new.me.0.asked ≡ token.old.me.0.asked ++ serial ∷ [] }

@@ -12,7 +12,7 @@ ghost use Rattle.flt_cert.specs.ThinFormat.{first_thin_line};
 ghost use Rattle.flt_cert.specs.ThinReading as thin_spec;
 
 use flt_abs::{Abs, CONTEXTS, Draining, LockList, Modes, OPERATIONS, Statuses};
-use flt_rules::{Access, LockNumber};
+use flt_rules::{Access, LockNumber, MAX_LOCKS};
 use std::alloc::Global;
 
 const LAST_LINE: &[u8] = b"end\n";
@@ -22,9 +22,6 @@ const FIRST_LINE: &[u8] = b"fltcert 1\n";
 const FIRST_THIN_LINE: &[u8] = b"fltcert 2\n";
 
 const CALLBACK: &[u8] = b"callback ";
-
-/// The most locks of a filter.
-const MAX_LOCKS: usize = 8;
 
 /// The rest of a text that begins with `front`.
 fn after<'a>(front: &[u8], text: &'a [u8]) -> Option<&'a [u8]>

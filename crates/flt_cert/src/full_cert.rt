@@ -6,14 +6,9 @@ ghost use Rattle.std.specs.Option.{option_copied};
 ghost use Rattle.flt_cert.specs.Format as spec;
 
 use flt_abs::Abs;
+use flt_rules::{MAX_CALLBACKS, MAX_POINTS};
 use sqlite_items::Items;
 use std::marker::Model;
-
-/// The most callbacks of a certificate.
-pub const MAX_CALLBACKS: usize = 16;
-
-/// The most points of a callback.
-pub const MAX_POINTS: usize = 512;
 
 /// The abstract state at each point of each callback, or none if the point isn't reached. It has 1 to 16 callbacks, and each of them 1 to
 /// 512 points.

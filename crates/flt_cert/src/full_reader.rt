@@ -6,9 +6,10 @@ ghost use Rattle.flt_cert.specs.Reading as spec;
 
 use crate::fault::CertFault;
 use crate::fields::{head_of, is_end, is_first, point_of};
-use crate::full_cert::{FullCert, MAX_CALLBACKS};
+use crate::full_cert::FullCert;
 use crate::lines::Lines;
 use flt_abs::Abs;
+use flt_rules::MAX_CALLBACKS;
 use sqlite_items::Items;
 use std::alloc::Global;
 

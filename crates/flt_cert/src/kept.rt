@@ -5,9 +5,8 @@ ghost use Rattle.flt_cert.specs.Counts.{AreCounts};
 ghost use Rattle.flt_graph.specs.Graph.{instruction_at};
 ghost use Rattle.flt_graph.specs.Kept as spec;
 
-use crate::full_cert::MAX_POINTS;
 use flt_graph::{Graph, Instruction};
-use flt_rules::row;
+use flt_rules::{MAX_POINTS, row};
 
 /// Counts one more edge into a point, two at most.
 #[inline(always)]

@@ -19,7 +19,7 @@ mod writer;
 
 pub use cert::Cert;
 pub use fault::CertFault;
-pub use full_cert::{FullCert, MAX_CALLBACKS, MAX_POINTS};
+pub use full_cert::FullCert;
 pub use kept::kept_points;
 pub use laws::{one_certificate_is_spelled, one_fault_is_first, thin_certificates_are_left};
 pub use reader::read;

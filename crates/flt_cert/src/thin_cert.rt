@@ -4,8 +4,8 @@ ghost use Rattle.std.specs.Prelude.{◌≡◌, ◌<◌, ◌↔◌, length, [], g
 ghost use Rattle.std.specs.List.{list_all};
 ghost use Rattle.flt_cert.specs.Thin as spec;
 
-use crate::full_cert::{MAX_CALLBACKS, MAX_POINTS};
 use flt_abs::Abs;
+use flt_rules::{MAX_CALLBACKS, MAX_POINTS};
 use sqlite_items::Items;
 use std::marker::Model;
 

@@ -8,10 +8,10 @@ ghost use Rattle.flt_cert.specs.ThinReading as spec;
 
 use crate::fault::CertFault;
 use crate::fields::{given_at, head_of, is_end, is_first_thin};
-use crate::full_cert::MAX_CALLBACKS;
 use crate::full_reader::point;
 use crate::lines::Lines;
 use crate::thin_cert::{Slot, ThinCert};
+use flt_rules::MAX_CALLBACKS;
 use sqlite_items::Items;
 use std::alloc::{AllocError, Global};
 

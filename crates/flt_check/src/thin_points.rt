@@ -12,9 +12,9 @@ ghost use Rattle.flt_check.specs.Ready as spec;
 
 use crate::checker::{entry_by, lead_fault, lesser};
 use flt_abs::{Abs, Leads, joins_are_least, transfer_into};
-use flt_cert::{MAX_POINTS, Slot, kept_points};
+use flt_cert::{Slot, kept_points};
 use flt_graph::Graph;
-use flt_rules::Rule;
+use flt_rules::{MAX_POINTS, Rule};
 use std::array;
 
 /// How many points a short callback has at most. Places for their states are set to none in few instructions.

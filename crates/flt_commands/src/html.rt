@@ -16,8 +16,8 @@ ghost use Rattle.flt_commands.specs.Html as spec;
 
 use flt_explain_details::{Page, Source};
 use flt_explain_html::{ShownText, html_page};
-use flt_explain_runs::{Noted, Schedule, Scheduled, only, own_files};
 use flt_explain_picture::picture;
+use flt_explain_runs::{Noted, Schedule, Scheduled, only, own_files};
 use flt_explain_timeline::Timeline;
 use flt_model::Verdict;
 use flt_places::{Files, SourceFile, lines_of};

@@ -17,11 +17,9 @@ use crate::pieces::{PieceReader, Pieces};
 use crate::report::Contents;
 use flt_model::{Journal, JournalFault, Verdict, first_repeated, read};
 use flt_replay::replay;
+use flt_rules::MAX_FILTERS;
 use flt_syntax::{ParseError, Tree, parse};
 use std::alloc::Global;
-
-/// The greatest number of filters of a stack.
-const MAX_FILTERS: usize = 16;
 
 // ---- the filters
 

@@ -7,7 +7,8 @@ use Rattle.std.proofs.lemmas.List.{length-append, length-set}
 use Rattle.std.specs.Bool.{IsTrue}
 use Rattle.std.specs.List.{list_all}
 use Rattle.std.specs.Prelude.{nat_le, replicate, option_map, option_and_then}
-use Rattle.flt_tree.specs.Measures.{cost, points, is_small, are_small, max_cost, max_points}
+use Rattle.flt_tree.specs.Measures.{cost, points, is_small, are_small}
+use Rattle.flt_rules.specs.Limits.{max_cost, max_points}
 use Rattle.flt_tree.specs.declared.filter.Callback.{Callback}
 use Rattle.flt_tree.specs.declared.filter.Filter.{Filter}
 use Rattle.flt_tree.specs.declared.filter.Statement.{Statement}

@@ -9,7 +9,8 @@ ghost use Rattle.flt_model.specs.Steps.{board, local};
 ghost use Rattle.flt_model.specs.World.{World};
 ghost use Rattle.flt_model.specs.declared.event.Event.{Event};
 ghost use Rattle.flt_model.specs.declared.moves.JournalEntry.{JournalEntry};
-ghost use Rattle.flt_tree.specs.Measures.{are_small, max_cost};
+ghost use Rattle.flt_tree.specs.Measures.{are_small};
+ghost use Rattle.flt_rules.specs.Limits.{max_cost};
 ghost use Rattle.flt_tree.specs.declared.filter.Filter.{Filter};
 
 /// A journal that is a run gives each activation at most as many steps as the callback costs with which it started: its body, and 1 for its

@@ -5,7 +5,7 @@ use Rattle.std.proofs.lemmas.List.{length-append}
 use Rattle.std.specs.Prelude.{Option, Some, None, codes, decimal}
 use Rattle.flt_rules.specs.declared.place.Place.{Place}
 use Rattle.flt_tree.specs.Filter.{no_span}
-use Rattle.flt_tree.specs.Limits.{max_turns}
+use Rattle.flt_rules.specs.Limits.{max_turns}
 use Rattle.flt_tree.specs.Measures.{points_of, points, points_step}
 use Rattle.flt_tree.specs.Names.{Text}
 use Rattle.flt_tree.specs.WellFormed as w

@@ -13,7 +13,7 @@ use Rattle.flt_rules.specs.declared.place.Place.{Place}
 use Rattle.flt_rules.specs.declared.place.Place.TheVariants as place
 use Rattle.flt_tree.specs.Declarations.{same_event}
 use Rattle.flt_tree.specs.Filter.{head_place}
-use Rattle.flt_tree.specs.Limits.{max_locks, max_callbacks, max_depth, max_repeats}
+use Rattle.flt_rules.specs.Limits.{max_locks, max_callbacks, max_depth, max_repeats}
 use Rattle.flt_tree.specs.Measures.{points}
 use Rattle.flt_tree.specs.Names.{Text, is_word, is_name}
 use Rattle.flt_tree.specs.WellFormed.{IsHead, AreStatements, AreCallbacks}

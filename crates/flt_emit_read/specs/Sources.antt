@@ -7,7 +7,7 @@ use Rattle.flt_rules.specs.declared.call.LockKind.TheVariants.{Spin, Fast, Push}
 use Rattle.flt_rules.specs.declared.place.Operation.{Operation}
 use Rattle.flt_rules.specs.declared.place.Operation.TheVariants as operating
 use Rattle.flt_tree.specs.Filter.{head_place, no_span}
-use Rattle.flt_tree.specs.Limits.{max_locks, max_callbacks}
+use Rattle.flt_rules.specs.Limits.{max_locks, max_callbacks}
 use Rattle.flt_tree.specs.Names.{Text}
 use Rattle.flt_tree.specs.declared.filter.Callback.{Callback}
 use Rattle.flt_tree.specs.declared.filter.Filter.{Filter}

@@ -10,16 +10,11 @@ use crate::globals::{locks, queue, title};
 use crate::heads::heads;
 use crate::parts::past;
 use flt_emit::{Part, emit_part};
+use flt_rules::{MAX_CALLBACKS, MAX_LOCKS};
 use flt_same::is_without_places;
 use flt_tree::{Filter, Head, Lock, Position};
 use sqlite_items::Items;
 use std::alloc::{AllocError, Global};
-
-/// The most locks that a filter has.
-const MAX_LOCKS: usize = 8;
-
-/// The most callbacks that a filter has.
-const MAX_CALLBACKS: usize = 16;
 
 /// The place of a queue.
 fn queue_of(queue: bool) -> Option<Position>

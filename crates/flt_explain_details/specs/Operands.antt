@@ -4,7 +4,7 @@ use Rattle.std.specs.List.{find}
 use Rattle.std.specs.Str.{bytes_eq}
 use Rattle.flt_tree.specs.Declarations.{lock_name}
 use Rattle.flt_tree.specs.Filter.{named_context}
-use Rattle.flt_tree.specs.Limits.{max_text}
+use Rattle.flt_rules.specs.Limits.{max_text}
 use Rattle.flt_tree.specs.Names.{Text}
 use Rattle.flt_tree.specs.declared.filter.Filter.{Filter}
 use Rattle.flt_tree.specs.declared.filter.Span.{Span}

@@ -10,16 +10,13 @@ use crate::scene::Scene;
 use flt_explain::Subject;
 use flt_graph::{Instruction, Invocation};
 use flt_places::{Lines, Region};
-use flt_rules::LockNumber;
+use flt_rules::{LockNumber, MAX_TEXT};
 use flt_syntax::{Token, Tree, bytes_of, tokens};
 use flt_tree::{
     Action, ContextVariable, OperationVariable, RemovedVariable, Span, Status, Test, named_context,
 };
 use sqlite_items::Items;
 use std::alloc::{AllocError, Global};
-
-/// The greatest number of bytes of a text.
-const MAX_TEXT: usize = 65_536;
 
 /// The place of a finding's statement, and of its subject in it.
 #[derive(Clone, Copy)]

@@ -7,7 +7,10 @@ ghost use Rattle.flt_explain_ways.specs.Grouping.{groups_of};
 ghost use Rattle.flt_explain_ways.specs.Told.{IsAnswer};
 
 use flt_explain::{Finding, Subject};
-use flt_explain_ways::{Answer, Cause, Fact, Group, Origin, Situation, Traced, VariableStatus, Way, Ways, fact_about, groups, origin_at, origin_on, ways};
+use flt_explain_ways::{
+    Answer, Cause, Fact, Group, Origin, Situation, Traced, VariableStatus, Way, Ways, fact_about,
+    groups, origin_at, origin_on, ways,
+};
 use flt_graph::Graph;
 use flt_rules::Rule;
 use sqlite_items::Items;

@@ -4,7 +4,7 @@ use Rattle.std.proofs.lemmas.Bool.Decides.{nat_tests}
 use Rattle.std.specs.Prelude.{nat_lt}
 use Rattle.std.specs.List.{find}
 use Rattle.flt_syntax.specs.declared.token.Token.{Token}
-use Rattle.flt_tree.specs.Limits.{max_text}
+use Rattle.flt_rules.specs.Limits.{max_text}
 use Rattle.flt_tree.specs.Names.{Text}
 use Rattle.flt_explain_hints.specs.Spot.{IsSpot, stands_at, tokens_of}
 use Rattle.flt_explain_hints.specs.declared.spot.Spot.{Spot}

@@ -11,6 +11,7 @@ use Rattle.flt_syntax.specs.Vocabulary.{vocabulary}
 use Rattle.flt_syntax.specs.declared.token.Kind.TheVariants as k
 use Rattle.flt_tree.specs.Names.{Text, is_name, is_word}
 use Rattle.flt_explain_hints.specs.Names.{IsNew, IsRarer, occurrences}
+use Rattle.flt_rules.specs.Limits.{max_text}
 
 -- ---- where bytes stand
 
@@ -58,7 +59,7 @@ as_often word (b ∷ z) =
     [ true ↦ omega arith | false ↦ omega arith ]
 
 -- the first is `_` alone
-pub begins : (text : Text) → length text ≤ 65536 → IsRare text (95 ∷ [])
+pub begins : (text : Text) → length text ≤ max_text → IsRare text (95 ∷ [])
 begins text few = record {
   begun = record { rest = []; whole = refl; words = refl };
   short = omega arith;

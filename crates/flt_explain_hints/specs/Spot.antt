@@ -6,7 +6,7 @@ use Rattle.flt_syntax.specs.Lex.{tokens}
 use Rattle.flt_syntax.specs.TextFails.{Fails}
 use Rattle.flt_syntax.specs.declared.fault.SyntaxFault.{SyntaxFault}
 use Rattle.flt_syntax.specs.declared.token.Token.{Token}
-use Rattle.flt_tree.specs.Limits.{max_text}
+use Rattle.flt_rules.specs.Limits.{max_text}
 use Rattle.flt_tree.specs.Names.{Text}
 use Rattle.flt_explain_hints.specs.declared.spot.Spot.{Spot}
 

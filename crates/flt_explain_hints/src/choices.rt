@@ -5,7 +5,7 @@ ghost use Rattle.flt_explain_hints.specs.Choices as spec;
 ghost use Rattle.flt_explain_hints.specs.Trial.{gap_of};
 ghost use Rattle.flt_explain_hints.specs.Names as declared;
 ghost use Rattle.flt_syntax.specs.Vocabulary.{vocabulary};
-ghost use Rattle.flt_tree.specs.Limits.{max_text};
+ghost use Rattle.flt_rules.specs.Limits.{max_text};
 
 use crate::new_name::new_name;
 use crate::trial::{Gap, may_stand};

@@ -2,7 +2,7 @@
 
 ghost use Rattle.std.specs.Prelude.{◌≡◌, ◌≤◌, [], ◌∷◌, ◌++◌, length, IfOk};
 ghost use Rattle.flt_explain_hints.specs.Names as spec;
-ghost use Rattle.flt_tree.specs.Limits.{max_text};
+ghost use Rattle.flt_rules.specs.Limits.{max_text};
 
 use std::alloc::{AllocError, Global};
 

@@ -5,12 +5,10 @@ ghost use Rattle.std.specs.List.{find};
 ghost use Rattle.flt_syntax.specs.TextFails.{Fails};
 ghost use Rattle.flt_explain_hints.specs.Spot as spec;
 
+use flt_rules::MAX_TEXT;
 use flt_syntax::{SyntaxFault, Token, bytes_of, tokens};
 use sqlite_items::Items;
 use std::alloc::{AllocError, Global};
-
-/// The greatest number of bytes of a text.
-const MAX_TEXT: usize = 65_536;
 
 /// The place where a text is refused, and the token there.
 #[derive(Clone, Copy)]

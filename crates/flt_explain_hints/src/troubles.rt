@@ -6,7 +6,7 @@ ghost use Rattle.flt_explain_hints.specs.Spot.{tokens_of};
 ghost use Rattle.flt_explain_hints.specs.Trial as trial;
 ghost use Rattle.flt_explain_hints.specs.Trouble as spec;
 ghost use Rattle.flt_syntax.specs.TextFails.{Fails};
-ghost use Rattle.flt_tree.specs.Limits.{max_text};
+ghost use Rattle.flt_rules.specs.Limits.{max_text};
 
 use crate::choices::{Choices, choices_in};
 use crate::hint::Hint;

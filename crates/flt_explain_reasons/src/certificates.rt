@@ -4,13 +4,11 @@ use crate::cursor::{Cursor, is_decimal, last_number};
 use crate::lines::{Line, Lines};
 use crate::trouble::{Subject, Trouble, asked, bytes_of, exact, found, line_end};
 use crate::wanted::Wanted;
+use flt_rules::MAX_CALLBACKS;
 
 const CONTEXTS: [&str; 8] = ["c1", "c2", "c3", "c4", "c5", "c6", "c7", "arg"];
 
 const OPERATIONS: [&str; 5] = ["o0", "o1", "o2", "o3", "data"];
-
-/// The greatest number of callbacks.
-const MAX_CALLBACKS: usize = 16;
 
 /// The state of the reader after the lines so far.
 #[derive(Clone, Copy)]

@@ -6,9 +6,7 @@ use crate::trouble::{
     Subject, Trouble, asked, bytes_of, exact, found, line_end, number_below, word,
 };
 use crate::wanted::Wanted;
-
-/// The greatest number of entries.
-const MAX_ENTRIES: usize = 1_000_000;
+use flt_rules::MAX_ENTRIES;
 
 /// A field after an entry's word.
 #[derive(Clone, Copy)]

@@ -4,13 +4,14 @@ use crate::cursor::{Cursor, last_number};
 use crate::lines::Lines;
 use crate::trouble::{Subject, Trouble, asked, bytes_of, found, line_end, number_below, word};
 use crate::wanted::Wanted;
+use flt_rules::MAX_OPERATIONS;
 use flt_tree::Tree;
 
 /// The number of files.
 const FILES: u64 = 1024;
 
 /// The greatest number of operations of a stack.
-const OPERATIONS: u64 = 65_536;
+const OPERATIONS: u64 = MAX_OPERATIONS as u64;
 
 /// The part of the input that decides which filters a line may detach.
 #[derive(Clone, Copy)]

@@ -16,14 +16,11 @@ use crate::unset::Unset;
 use crate::violations::violations_of;
 use flt_explain::Finding;
 use flt_model::{Violation, first_repeated};
-use flt_rules::Rule;
+use flt_rules::{MAX_FILTERS, Rule};
 use flt_search::{Answer, Bounds, Broken, Goal, SearchWatch, Watched, search};
 use flt_search_started::Started;
 use flt_tree::{Callback, Tree};
 use std::alloc::{AllocError, Global};
-
-/// How many filters a stack has at most.
-const MAX_FILTERS: usize = 16;
 
 /// A finding, by its number among those of its text.
 #[derive(Clone, Copy)]

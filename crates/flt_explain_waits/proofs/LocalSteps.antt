@@ -8,6 +8,7 @@ use Rattle.flt_model.specs.World.{World, activation_at, actor_at}
 use Rattle.flt_replay_steps.specs.Unseen.{unseen}
 use Rattle.flt_explain_waits.specs.Waiting.{IsSettled}
 use Rattle.flt_replay_world.specs.Happening.{ComesOf}
+use Rattle.flt_rules.specs.Limits.{max_cost}
 
 some_map : {A B : Type 0} (f : A → B) (x : Option A) → is_some (option_map f x) ≡ is_some x
 some_map f None = refl
@@ -53,5 +54,5 @@ pub settled_at : (n : ℕ) (w v u : World) (a : ℕ) → unseen n w a ≡ Some v
 settled_at n w v u a led same last = record { steps = n; led = rw same led; last = inr last }
 
 -- or after 1,000,000 of them
-pub settled_after : (n : ℕ) (w v u : World) (a : ℕ) → unseen n w a ≡ Some v → u ≡ v → n ≡ 1000000 → IsSettled w a u
+pub settled_after : (n : ℕ) (w v u : World) (a : ℕ) → unseen n w a ≡ Some v → u ≡ v → n ≡ max_cost → IsSettled w a u
 settled_after n w v u a led same all = record { steps = n; led = rw same led; last = inl all }

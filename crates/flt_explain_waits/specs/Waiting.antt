@@ -9,12 +9,13 @@ use Rattle.flt_tree.specs.declared.filter.Statement.{Statement, out-Statement}
 use Rattle.flt_explain_waits.specs.Asking.{asked}
 use Rattle.flt_explain_waits.specs.declared.asking.Request.{Request}
 use Rattle.flt_explain_waits.specs.declared.waits.Blocked.{Blocked}
+use Rattle.flt_rules.specs.Limits.{max_cost}
 
 -- the activation's local steps, as many as come one after another, or 1,000,000 of them
 pub record IsSettled (w : World) (a : ℕ) (u : World) : Type 0 where
   pub steps : ℕ
   pub led : unseen steps w a ≡ Some u
-  pub last : (steps ≡ 1000000) ⊎ (is_some (local [] [] u a) ≡ false)
+  pub last : (steps ≡ max_cost) ⊎ (is_some (local [] [] u a) ≡ false)
 
 -- whether an activation holds a lock that another of the same filter asks for
 abbrev pub holds : World → ℕ → LockNumber → ℕ → Bool

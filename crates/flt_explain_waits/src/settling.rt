@@ -11,10 +11,8 @@ use flt_replay_course::{is_local, upcoming};
 use flt_replay_records::Upcoming;
 use flt_replay_steps::step_unseen;
 use flt_replay_world::World;
+use flt_rules::MAX_COST;
 use std::alloc::AllocError;
-
-/// No callback makes as many steps.
-const MAX_STEPS: u32 = 1_000_000;
 
 /// Whether an activation's next step is one that nobody else sees, given its upcoming statement.
 #[tactic(auto, using(crate::proofs::LocalSteps::none_of_ended, crate::proofs::LocalSteps::local_of_list))]
@@ -38,7 +36,7 @@ pub(crate) fn settle<'a>(
     ensures next { IfOk result (λ next. MatchOption next ((activation_at world.new a).rest ≡ [])
         (λ u. (activation_at world.new a).rest ≡ statement_of u ∷ later world.new a)) }
 {
-    for _made in 0..MAX_STEPS {
+    for _made in 0..MAX_COST {
         let next = upcoming(world, a)?;
         if !goes_locally(world, a, next) {
             return Ok(next);

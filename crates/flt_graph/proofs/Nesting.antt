@@ -1,7 +1,7 @@
 -- Repeats nest no deeper in a well-formed body than the limit, so that few turns are left round a remaining list.
 use Rattle.std.proofs.Common.{◌≡◌, ℕ, ◌+◌, ◌<◌, ◌≤◌, Bool, List, ◌∷◌, length, Some, subst, arith}
 use Rattle.std.specs.Prelude.{slice_get, is_some}
-use Rattle.flt_tree.specs.Limits.{max_repeats}
+use Rattle.flt_rules.specs.Limits.{max_repeats}
 use Rattle.flt_tree.specs.WellFormed as fine
 use Rattle.flt_tree.specs.WellFormed.{IsWellFormed, IsStatement, IsElse, AreStatements}
 use Rattle.flt_tree.specs.declared.filter.Callback.{Callback}

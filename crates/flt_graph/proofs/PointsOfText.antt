@@ -8,7 +8,7 @@ use Rattle.flt_rules.specs.declared.call.LockKind.{LockKind}
 use Rattle.flt_rules.specs.declared.place.Place.{Place}
 use Rattle.flt_tree.specs.Filter.{head_place}
 use Rattle.flt_tree.specs.Declarations.{has_event, AreNewCallbacks, AreWhole, IsServed, finds_routine, test_finds, finds_step, statement_finds, finds_routines}
-use Rattle.flt_tree.specs.Limits.{max_depth, max_repeats}
+use Rattle.flt_rules.specs.Limits.{max_depth, max_repeats}
 use Rattle.flt_tree.specs.Measures.{points_of, points, points_step}
 use Rattle.flt_tree.specs.WellFormed as fine
 use Rattle.flt_tree.specs.WellFormed.{IsWellFormed, IsCondition, IsFallible, IsStatement, IsElse, AreStatements, AreCallbacks}

@@ -1,7 +1,8 @@
 //! From a tree to its points.
 
 ghost use Rattle.std.specs.Prelude.{◌≡◌, ◌≤◌, ◌+◌, [], ◌∷◌, ◌++◌, length, map, IsTrue, OnOk, IfOk};
-ghost use Rattle.flt_tree.specs.Measures.{points_of, points, max_points, is_small};
+ghost use Rattle.flt_tree.specs.Measures.{points_of, points, is_small};
+ghost use Rattle.flt_rules.specs.Limits.{max_points};
 ghost use Rattle.flt_tree.specs.declared.filter.Statement.{out-Statement};
 ghost use Rattle.flt_graph.specs.Codes as code;
 ghost use Rattle.flt_graph.specs.Lowering as spec;

@@ -6,7 +6,7 @@ ghost use Rattle.flt_graph.specs.Lowering.{IsGraphOf};
 ghost use Rattle.flt_graph.specs.Points.{remaining, successor};
 ghost use Rattle.flt_graph.specs.Turns as spec;
 ghost use Rattle.flt_graph.specs.declared.graph.CallbackGraph.{CallbackGraph};
-ghost use Rattle.flt_tree.specs.Limits.{max_repeats};
+ghost use Rattle.flt_rules.specs.Limits.{max_repeats};
 ghost use Rattle.flt_tree.specs.Measures.{cost};
 ghost use Rattle.flt_tree.specs.WellFormed.{IsWellFormed};
 ghost use Rattle.flt_tree.specs.declared.filter.Callback.{Callback};

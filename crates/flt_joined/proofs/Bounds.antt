@@ -10,6 +10,7 @@ use Rattle.flt_c.specs.declared.files.FileFlaw.{FileFlaw}
 use Rattle.flt_c.specs.declared.files.Flaw.{Flaw}
 use Rattle.flt_c.specs.declared.files.Flaw.TheVariants.{Bare, Large, Long}
 use Rattle.flt_joined.specs.Texts.{Given, Text, code_by, own_code, text_by, text_of}
+use Rattle.flt_rules.specs.Limits.{max_text}
 
 -- the number of the file that has a flaw, or this one
 abbrev file_by : Result c.Text FileFlaw → ℕ → ℕ
@@ -29,7 +30,7 @@ chosen false flaw y number right = right
 grown_here : (number : ℕ) (before : c.Text) (r : Result c.Text Fault) → file_by (grown number before r) number ≡ number
 grown_here number before (Err f) = refl
 grown_here number before (Ok text) =
-    chosen (length text.bytes == length before.bytes) Bare _ number (chosen (nat_lt 65536 (length text.bytes)) Long (Ok text) number refl)
+    chosen (length text.bytes == length before.bytes) Bare _ number (chosen (nat_lt max_text (length text.bytes)) Long (Ok text) number refl)
 
 -- a flaw of a file has its number
 file_here : (number : ℕ) (text : c.Text) (file : Text) → file_by (with_file number text file) number ≡ number

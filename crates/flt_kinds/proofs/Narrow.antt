@@ -9,6 +9,7 @@ use Rattle.flt_graph.specs.Lowering.{AreGraphsOf, IsLowered}
 use Rattle.flt_graph.specs.declared.graph.CallbackGraph.{CallbackGraph}
 use Rattle.flt_graph.specs.declared.graph.Graph.{Graph}
 use Rattle.flt_kinds.specs.Rounds.{IsNarrow}
+use Rattle.flt_rules.specs.Limits.{max_cost, max_points}
 
 left_true : (x y : Bool) → (x && y) ≡ true → x ≡ true
 left_true true y e = refl
@@ -19,7 +20,7 @@ right_true true y e = e
 right_true false y e = absurd (true≢false (sym e))
 
 few : (c : Callback) → is_small c ≡ true → points c.body + 1 ≤ 512
-few c e = leb-true (points c.body + 1) 512 (left_true (nat_le (points c.body + 1) 512) (nat_le (cost c.body + 1) 1000000) e)
+few c e = leb-true (points c.body + 1) max_points (left_true (nat_le (points c.body + 1) 512) (nat_le (cost c.body + 1) max_cost) e)
 
 narrow_in : (all cs : List Callback) (gs : List CallbackGraph) → AreGraphsOf all cs gs → list_all is_small cs ≡ true → (k : ℕ) →
     length (slice_index_or gs k no_callback).points ≤ 513

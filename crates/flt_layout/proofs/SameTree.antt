@@ -20,7 +20,7 @@ use Rattle.flt_syntax.specs.declared.token.Kind.{Kind}
 use Rattle.flt_syntax.specs.declared.token.Token.{Token}
 use Rattle.flt_syntax.specs.declared.token.Word.{Word}
 use Rattle.flt_tree.specs.Declarations.{AreNewLocks}
-use Rattle.flt_tree.specs.Limits.{max_text, max_altitude, max_locks, max_callbacks}
+use Rattle.flt_rules.specs.Limits.{max_text, max_altitude, max_locks, max_callbacks}
 use Rattle.flt_tree.specs.Names.{Text}
 use Rattle.flt_tree.specs.declared.filter.Action.{Action}
 use Rattle.flt_tree.specs.declared.filter.Callback.{Callback}

@@ -1,6 +1,6 @@
 -- What a text is laid out as, or why it isn't. This project's own program.
 use Rattle.std.specs.Prelude.{◌≡◌, ◌≤◌, ◌<◌, length}
-use Rattle.flt_tree.specs.Limits.{max_text}
+use Rattle.flt_rules.specs.Limits.{max_text}
 use Rattle.flt_tree.specs.Names.{Text}
 use Rattle.flt_tree.specs.declared.filter.Filter.{Filter}
 use Rattle.flt_syntax.specs.Spelling.{Spells}

@@ -1,7 +1,7 @@
 -- The laws of the layout.
 use Rattle.std.specs.Prelude.{◌≡◌, ◌≤◌, Bool, false, if◌then◌else◌, List, [], ◌∷◌, map, length}
 use Rattle.flt_tree.specs.Names.{Text}
-use Rattle.flt_tree.specs.Limits.{max_text}
+use Rattle.flt_rules.specs.Limits.{max_text}
 use Rattle.flt_tree.specs.declared.filter.Filter.{Filter}
 use Rattle.flt_syntax.specs.Cursor.{bytes_of}
 use Rattle.flt_syntax.specs.Lex.{word, is_fault, tokens}

@@ -4,11 +4,9 @@ ghost use Rattle.std.specs.Prelude.{◌≡◌, ◌≤◌, IfErr, IfOk, length};
 ghost use Rattle.flt_layout.specs.Formatted as spec;
 
 use crate::writer::lay_out;
+use flt_rules::MAX_TEXT;
 use flt_syntax::{ParseError, SyntaxFault, parse};
 use std::alloc::{AllocError, Global};
-
-/// The greatest number of bytes of a text.
-const MAX_TEXT: usize = 65_536;
 
 /// Why a text isn't laid out.
 #[derive(Clone, Copy, Debug)]

@@ -13,9 +13,10 @@ use Rattle.flt_machine.specs.Counted.{AreAtMost, IsBounded, IsSmall}
 use Rattle.flt_machine.specs.Situations.{Situation}
 use Rattle.flt_machine.proofs.Counting.{references_after, arrivals_after, items_after, queues_after}
 use Rattle.flt_machine.proofs.Small.{stays_small}
+use Rattle.flt_rules.specs.Limits.{max_entries}
 
 -- a change is made, and one entry more is written
-pub written_bounded : (b : Situation) (e : JournalEntry) (c : Change) → IsPossible b.store c → length b.entries < 1000000 → IsBounded b →
+pub written_bounded : (b : Situation) (e : JournalEntry) (c : Change) → IsPossible b.store c → length b.entries < max_entries → IsBounded b →
     IsBounded (record b { store = after_change b.store c; entries = b.entries ++ e ∷ [] })
 written_bounded b e c can room bounded = record {
   both = bounded.both;
@@ -34,13 +35,13 @@ written_bounded b e c can room bounded = record {
 
 -- the same of a store and entries that are these
 pub written_so : (b old : Situation) (e : JournalEntry) (c : Change) (store : Store) (entries : List JournalEntry) →
-    b ≡ old → IsPossible old.store c → length old.entries < 1000000 → IsBounded b →
+    b ≡ old → IsPossible old.store c → length old.entries < max_entries → IsBounded b →
     store ≡ after_change b.store c → entries ≡ b.entries ++ e ∷ [] → IsBounded (record b { store = store; entries = entries })
 written_so b old e c store entries same can room bounded changed more =
     subst (λ (x : Store). IsBounded (record b { store = x; entries = entries })) (sym changed)
     (subst (λ (es : List JournalEntry). IsBounded (record b { store = after_change b.store c; entries = es })) (sym more)
     (written_bounded b e c (subst (λ (x : Situation). IsPossible x.store c) (sym same) can)
-    (subst (λ (x : Situation). length x.entries < 1000000) (sym same) room) bounded))
+    (subst (λ (x : Situation). length x.entries < max_entries) (sym same) room) bounded))
 
 found : (n : ℕ) (later : Option Standing) (s : Standing) → IfSome later (λ t. IsSmall n t) → later ≡ Some s → IsSmall n s
 found n None s small is = absurd (cc)

@@ -6,7 +6,8 @@ use Rattle.std.specs.List.{list_all}
 use Rattle.flt_costs.specs.Costs.{IsRunTo, steps_of}
 use Rattle.flt_machine_frames.specs.Loading.{AreGraphsOfFilters}
 use Rattle.flt_graph.specs.declared.graph.Graph.{Graph}
-use Rattle.flt_tree.specs.Measures.{are_small, max_cost}
+use Rattle.flt_tree.specs.Measures.{are_small}
+use Rattle.flt_rules.specs.Limits.{max_cost}
 use Rattle.flt_tree.specs.declared.filter.Filter.{Filter}
 use Rattle.flt_model.specs.Runs.{Moment}
 use Rattle.flt_model.specs.declared.moves.JournalEntry.{JournalEntry}

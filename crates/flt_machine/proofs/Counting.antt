@@ -16,6 +16,7 @@ use Rattle.flt_machine_store.specs.Changes.{after_change, IsPossible}
 use Rattle.flt_machine_store.specs.declared.change.Change.{Change}
 use Rattle.flt_machine_store.specs.declared.change.Change.TheVariants as change
 use Rattle.flt_machine.specs.Counted.{AreAtMost}
+use Rattle.flt_rules.specs.Limits.{max_operations}
 
 -- ---- references
 
@@ -135,17 +136,17 @@ unlinked_same s y None = refl
 unlinked_same s y (Some d) = refl
 
 -- a change that can be made leaves no more operations than may be
-pub arrivals_after : (s : Store) (c : Change) → IsPossible s c → length s.arrivals ≤ 65536 → length (after_change s c).arrivals ≤ 65536
+pub arrivals_after : (s : Store) (c : Change) → IsPossible s c → length s.arrivals ≤ max_operations → length (after_change s c).arrivals ≤ max_operations
 arrivals_after s change.Nothing can few = few
 arrivals_after s (change.Allocate owner) can few = few
 arrivals_after s (change.AddReference x) can few = few
 arrivals_after s (change.DropReference x) can few = few
 arrivals_after s (change.Write x value) can few =
-    subst (λ (n : ℕ). n ≤ 65536) (sym (either_same (length s.arrivals) (is_freed (context_at s x)) s
+    subst (λ (n : ℕ). n ≤ max_operations) (sym (either_same (length s.arrivals) (is_freed (context_at s x)) s
     (with_context s x (record (context_at s x) { value = value })) refl refl)) few
 arrivals_after s (change.Link x f k None old) can few = few
-arrivals_after s (change.Link x f k (Some y) old) can few = subst (λ (n : ℕ). n ≤ 65536) (sym (unlinked_same s y old)) few
-arrivals_after s (change.Unlink x old) can few = subst (λ (n : ℕ). n ≤ 65536) (sym (unlinked_same s x old)) few
+arrivals_after s (change.Link x f k (Some y) old) can few = subst (λ (n : ℕ). n ≤ max_operations) (sym (unlinked_same s y old)) few
+arrivals_after s (change.Unlink x old) can few = subst (λ (n : ℕ). n ≤ max_operations) (sym (unlinked_same s x old)) few
 arrivals_after s (change.TakeLock f l a access) can few = few
 arrivals_after s (change.GiveUpLock f l a) can few = few
 arrivals_after s (change.Insert f v x) can few = few
@@ -153,7 +154,7 @@ arrivals_after s (change.RemoveNext f) can few = few
 arrivals_after s (change.RemoveOf f o v) can few = few
 arrivals_after s (change.Queue f r v x) can few = few
 arrivals_after s (change.Start i) can few = few
-arrivals_after s (change.Settle v x way) can few = subst (λ (n : ℕ). n ≤ 65536) (sym (settled_same s v x (way_of way))) few
+arrivals_after s (change.Settle v x way) can few = subst (λ (n : ℕ). n ≤ max_operations) (sym (settled_same s v x (way_of way))) few
 arrivals_after s (change.Arrive kind mode file) can few =
     omega (arith, can, length-append s.arrivals (record { kind = kind; mode = mode; file = file } ∷ []))
 arrivals_after s (change.StartPre o f) can few = few

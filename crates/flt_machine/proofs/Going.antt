@@ -36,6 +36,7 @@ use Rattle.flt_machine.proofs.Committed.{there, middle, caller_is, stands_there,
 use Rattle.flt_machine.proofs.Local.{goes_there, kept_there}
 use Rattle.flt_machine.proofs.Read.{refused_is, choice_is}
 use Rattle.flt_machine.proofs.Leading.{leads}
+use Rattle.flt_rules.specs.Limits.{max_entries}
 
 -- the law of standings: what remains is what the instruction says
 abbrev pub Law : Type 0
@@ -154,8 +155,8 @@ module _ (l : Loaded) (b : Situation) (advanced : Advanced) (grant : Bool) (c : 
       (bounded.standings advanced.frame.activation advanced.frame.standing fresh.standing))
 
   -- and no larger than any may be
-  pub small_ever : IsBounded b → IsSmall 1000000 c.standing
-  small_ever bounded = larger (length b.entries) 1000000 c.standing bounded.entries (small_before bounded)
+  pub small_ever : IsBounded b → IsSmall max_entries c.standing
+  small_ever bounded = larger (length b.entries) max_entries c.standing bounded.entries (small_before bounded)
 
   -- a lock that others hold so refuses the step
   pub blocked_is : is_refused_lock b.store c i ≡ true → IsBlocked l b advanced grant
@@ -251,6 +252,6 @@ module _ (l : Loaded) (b : Situation) (advanced : Advanced) (grant : Bool) (c : 
 
 -- a board with no room has as many entries as may be
 pub all_entries : (b inside : Situation) (n : ℕ) →
-    inside ≡ b → IsBounded inside → n ≡ length inside.entries → 1000000 ≤ n → length b.entries ≡ 1000000
+    inside ≡ b → IsBounded inside → n ≡ length inside.entries → max_entries ≤ n → length b.entries ≡ max_entries
 all_entries b inside n same bounded counted full =
     sym (ap (λ (x : Situation). length x.entries) same) ∙ omega (arith, bounded.entries, counted, full)

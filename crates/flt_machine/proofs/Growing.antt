@@ -19,6 +19,7 @@ use Rattle.flt_machine.specs.Moving.{gained_by, Begins, standings_by, moved_by, 
 use Rattle.flt_machine.specs.Situations.{Situation}
 use Rattle.flt_machine.proofs.Counting.{arrivals_after, items_after, queues_after, references_after}
 use Rattle.flt_machine.proofs.Small.{stays_small}
+use Rattle.flt_rules.specs.Limits.{max_entries}
 
 -- an activation that starts counts one gain at most, and holds no lock
 begun_small : (n : ℕ) (p : List Filter) (start : Start) (s : Standing) → Begins p (Some start) (Some s) → IsSmall (n + 1) s
@@ -66,7 +67,7 @@ grown_small n p o s standings k t begins small is = elim (cases_lt k (length sta
 
 -- a board after a move that can be made is bounded
 pub moved_bounded : (p : List Filter) (b : Situation) (d : Decision) (s : Option Standing) (e : JournalEntry) →
-    IsBounded b → length b.entries < 1000000 →
+    IsBounded b → length b.entries < max_entries →
     IsPossible b.store d.change → Begins p d.start s → IsBounded (moved_by b d s (b.entries ++ e ∷ []))
 moved_bounded p b d s e bounded room can begins = record {
   both = length-append b.actors (actors_by d.start) ∙ both ∙ sym (length-append b.standings (standings_by s));
@@ -123,6 +124,6 @@ seen b now later move d same moved = subst (λ (x : Situation). HasMoved x later
 
 -- the board after it is bounded
 pub bounded_after : (b later : Situation) (move : Move) (d : Decision) →
-    IsBounded b → length b.entries < 1000000 → IsPossible b.store d.change → HasMoved b later move d → IsBounded later
+    IsBounded b → length b.entries < max_entries → IsPossible b.store d.change → HasMoved b later move d → IsBounded later
 bounded_after b later move d bounded room can moved =
     subst IsBounded (sym moved.same) (moved_bounded [] b d moved.standing (journal_entry.Move move) bounded room can (moved.begins []))

@@ -20,6 +20,7 @@ use Rattle.flt_machine_frames.specs.Standings.{activation_with}
 use Rattle.flt_machine_frames.specs.declared.standing.Standing.{Standing}
 use Rattle.flt_model.specs.World.{Activation}
 use Rattle.flt_machine.specs.Counted.{AreApart, AreDistinct, IsSmall}
+use Rattle.flt_rules.specs.Limits.{max_entries, max_filters}
 
 -- ---- locks
 
@@ -150,7 +151,7 @@ has_room s (write.GiveUp l) free distinct = tt
 has_room s write.End free distinct = tt
 
 -- counts that are so small grow
-pub counts_on : (n : ℕ) → n ≤ 16 * 1000000 → n + 16 < 2 ^ 64
+pub counts_on : (n : ℕ) → n ≤ max_filters * max_entries → n + 16 < 2 ^ 64
 counts_on n few = omega (arith, few)
 
 -- what isn't the end doesn't end

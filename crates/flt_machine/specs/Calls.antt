@@ -28,6 +28,7 @@ use Rattle.flt_model.specs.Runs.{Moment, after, next, run_from}
 use Rattle.flt_model.specs.Steps.{Transition, Make, Local, Board}
 use Rattle.flt_model.specs.World.{Store, activation_at}
 use Rattle.flt_machine.specs.Situations.{Situation, IsAt, Now, actor_of, standing_of}
+use Rattle.flt_rules.specs.Limits.{max_cost, max_entries, max_operations}
 
 -- transitions lead from where one board stands to where another stands, the last with these events
 pub record Makes (p : List Filter) (later : Situation) (before : List Transition) (last : Transition) (events : List Event)
@@ -52,13 +53,13 @@ is_arrival _ = false
 
 -- there are as many entries as may be, or as many operations where one more arrives
 abbrev pub IsFullFor : Situation → Move → Type 0
-IsFullFor b move = (length b.entries ≡ 1000000) ⊎ ((is_arrival move ≡ true) × (length b.store.arrivals ≡ 65536))
+IsFullFor b move = (length b.entries ≡ max_entries) ⊎ ((is_arrival move ≡ true) × (length b.store.arrivals ≡ max_operations))
 
 -- ---- steps of activations
 
 -- what is advanced was advanced on what is loaded, as by `advance`
 pub record IsAdvanced (l : Loaded) (advanced : Advanced) : Type 0 where
-  pub few : advanced.steps ≤ 1000000
+  pub few : advanced.steps ≤ max_cost
   pub advance : (p : List Filter) → AreLoaded p l → IsAdvance p advanced
 
 -- the activation is in the state that the frame was taken from

@@ -5,6 +5,7 @@ use Rattle.flt_rules.specs.declared.held.HeldLock.{HeldLock}
 use Rattle.flt_machine_frames.specs.declared.standing.Standing.{Standing}
 use Rattle.flt_model.specs.World.{Store, context_at}
 use Rattle.flt_machine.specs.Situations.{Situation, standing_of}
+use Rattle.flt_rules.specs.Limits.{max_entries, max_operations}
 
 -- each lock of a list is at another place
 abbrev pub AreApart : ℕ → List HeldLock → Type 0
@@ -31,8 +32,8 @@ AreAtMost n s = (x : ℕ) → (context_at s x).references ≤ n
 pub record IsBounded (b : Situation) : Type 0 where
   pub both : length b.actors ≡ length b.standings
   pub queues : length b.store.queues ≡ length b.store.presences
-  pub entries : length b.entries ≤ 1000000
-  pub arrivals : length b.store.arrivals ≤ 65536
+  pub entries : length b.entries ≤ max_entries
+  pub arrivals : length b.store.arrivals ≤ max_operations
   pub started : length b.standings ≤ length b.entries
   pub items : length b.store.items ≤ length b.entries
   pub references : AreAtMost (length b.entries) b.store

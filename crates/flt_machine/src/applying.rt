@@ -18,10 +18,11 @@ ghost use Rattle.flt_model.specs.declared.moves.JournalEntry.TheVariants as jour
 ghost use Rattle.flt_model.specs.declared.subject.Subject.TheVariants as subject;
 ghost use Rattle.flt_machine_store.specs.Changes.{after_change, cancels_entries, IsPossible};
 ghost use Rattle.flt_tree.specs.declared.filter.Filter.{Filter};
+ghost use Rattle.flt_rules.specs.Limits.{max_entries};
 
 use crate::active::{count_start, make_room};
 use crate::actor::Actor;
-use crate::board::{Board, MAX_ENTRIES};
+use crate::board::Board;
 use crate::events::{Events, events_of};
 use crate::fault::ApplyFault;
 use crate::kept::Kept;
@@ -31,7 +32,7 @@ use counted_heap::Heap;
 use flt_machine_dispatch::{Decision, Start, decide};
 use flt_machine_frames::{Loaded, Standing};
 use flt_model::{JournalEntry, Move, Subject};
-use flt_ops::MAX_OPERATIONS;
+use flt_rules::{MAX_ENTRIES, MAX_OPERATIONS};
 use std::alloc::AllocError;
 
 impl Board {
@@ -173,7 +174,7 @@ impl Board {
         step: Move,
         decision: &Decision,
     ) -> Result<Events, AllocError>
-        requires room { length self.old.entries < 1000000 }
+        requires room { length self.old.entries < max_entries }
         requires possible { IsPossible self.old.store decision.now.change }
         ensures events { IfOk result (λ events.
             events.list ≡ gains_by (length self.old.standings) decision.now.start ++ frees_by decision.now.freed) }
@@ -216,7 +217,7 @@ impl Board {
         start: Start,
     ) -> Result<(), AllocError>
         requires start { decision.now.start ≡ Some start }
-        requires room { length self.old.entries < 1000000 }
+        requires room { length self.old.entries < max_entries }
         requires possible { IsPossible self.old.store decision.now.change }
         ensures made { OnOk result (HasMoved self.old self.new step decision.now) }
         ensures refused { OnErr result (self.new ≡ self.old) }

@@ -15,7 +15,7 @@ ghost use Rattle.flt_model.specs.Program.{callbacks_at};
 ghost use Rattle.flt_model.specs.Runs.{Moment};
 ghost use Rattle.flt_model.specs.World as machine;
 ghost use Rattle.flt_ops.specs.Parts.{outcome_of};
-ghost use Rattle.flt_tree.specs.Measures.{max_cost};
+ghost use Rattle.flt_rules.specs.Limits.{max_cost, max_operations};
 ghost use Rattle.flt_tree.specs.declared.filter.Filter.{Filter};
 
 use crate::active::has_any;
@@ -26,12 +26,9 @@ use flt_costs::journals_stay_within_costs;
 use flt_machine_frames::{Frame, Loaded, Standing};
 use flt_machine_store::{Outcome, Store};
 use flt_model::{Journal, Move};
-use flt_rules::Place;
+use flt_rules::{MAX_ENTRIES, Place};
 use std::alloc::AllocError;
 use std::marker::Model;
-
-/// How many entries a journal may have.
-pub const MAX_ENTRIES: usize = 1_000_000;
 
 /// A machine of one thread, with its journal. It holds no texts: each call that needs the filters is lent the loaded ones, and its
 /// condition is that these are the board's own.
@@ -145,7 +142,7 @@ impl Board {
     /// How many operations have arrived. The next one gets this as its serial number.
     pub fn operations(&self) -> usize
         ensures arrived { result ≡ length self.now.store.arrivals }
-        ensures few { result ≤ 65536 }
+        ensures few { result ≤ max_operations }
     {
         self.store.operations()
     }

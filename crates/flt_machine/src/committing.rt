@@ -19,9 +19,10 @@ ghost use Rattle.flt_machine_store.specs.Changes.{after_change, IsPossible};
 ghost use Rattle.flt_tree.specs.declared.filter.Callback.{Callback};
 ghost use Rattle.flt_tree.specs.declared.filter.Filter.{Filter};
 ghost use Rattle.flt_tree.specs.declared.filter.Statement.{Statement};
+ghost use Rattle.flt_rules.specs.Limits.{max_cost, max_entries};
 
 use crate::active::count_end;
-use crate::board::{Board, MAX_ENTRIES};
+use crate::board::Board;
 use crate::events::Events;
 use crate::kept::Kept;
 use crate::tickets::subjects_by;
@@ -32,7 +33,7 @@ use flt_machine_calls::{Caller, Plan, Write, continued, plan_step};
 use flt_machine_frames::{Advanced, Loaded, Standing, standings_have_points};
 use flt_machine_store::Change;
 use flt_model::{JournalEntry, Subject};
-use flt_rules::{Access, Call};
+use flt_rules::{Access, Call, MAX_ENTRIES};
 use std::alloc::AllocError;
 
 /// The answer of a commit. After any but `Committed` the board and its journal are unchanged.
@@ -72,7 +73,7 @@ impl Board {
         ensures stale { (result ≡ answer.Stale) ↔ (IsFresh self.old advanced.now → ⊥) }
         ensures blocked { (result ≡ answer.Blocked) ↔ (IsFresh self.old advanced.now × IsBlocked loaded.now self.old advanced.now grant) }
         ensures full { (result ≡ answer.Full) ↔ (IsFresh self.old advanced.now
-            × ((IsBlocked loaded.now self.old advanced.now grant → ⊥) × (length self.old.entries ≡ 1000000))) }
+            × ((IsBlocked loaded.now self.old advanced.now grant → ⊥) × (length self.old.entries ≡ max_entries))) }
         ensures refused { ((events : Events) → result ≢ answer.Committed events) → self.new ≡ self.old }
         ensures granted { result ≢ answer.OutOfMemory → heap.new ≡ heap.old }
         ensures memory { result ≡ answer.OutOfMemory → heap.new ≢ heap.old }
@@ -164,7 +165,7 @@ impl Board {
         requires caller { caller.now ≡ spec.caller_of self.old advanced.now }
         requires instruction { instruction ≡ spec.instruction_for loaded.now advanced.now }
         requires free { spec.is_refused_lock self.old.store caller.now instruction ≡ false }
-        requires room { length self.old.entries < 1000000 }
+        requires room { length self.old.entries < max_entries }
         ensures committed { IfOk result (λ events.
             Now loaded.now self.old (λ p m. spec.Commits p self.old self.new advanced.now grant events.list m)) }
         ensures next { IfOk result (λ events. events.next.items ≡ tickets.after_go loaded.now.altitudes self.old.store self.new.store
@@ -195,7 +196,7 @@ impl Board {
         change: Change,
     ) -> Result<(), AllocError>
         requires possible { IsPossible self.old.store change }
-        requires room { length self.old.entries < 1000000 }
+        requires room { length self.old.entries < max_entries }
         ensures ok { OnOk result (self.new ≡
             record self.old { store = after_change self.old.store change; entries = self.old.entries ++ entry ∷ [] }) }
         ensures refused { OnErr result (self.new ≡ self.old) }
@@ -242,7 +243,7 @@ fn going(activation: u32, goes: bool) -> Option<Subject>
 
 /// The entry that says what a commit does.
 fn entry_of(advanced: &Advanced, instruction: Instruction, grant: bool) -> JournalEntry
-    requires { advanced.now.steps ≤ 1000000 }
+    requires { advanced.now.steps ≤ max_cost }
     ensures { result ≡ Go advanced.now.frame.activation (advanced.now.steps + 1) (grant || not (spec.leaves_choice_at instruction)) }
 {
     JournalEntry::Go {
@@ -256,7 +257,7 @@ fn entry_of(advanced: &Advanced, instruction: Instruction, grant: bool) -> Journ
 fn standing_after(caller: &Caller, instruction: Instruction, plan: &Plan) -> Option<Standing>
     requires leads { is_end plan.now.write ≡ false → leads_on instruction ≡ true }
     requires free { TakesNone caller.now.standing.locks plan.now.write }
-    requires small { IsSmall 1000000 caller.now.standing }
+    requires small { IsSmall max_entries caller.now.standing }
     requires few { length plan.now.events ≤ 16 }
     ensures later { (cs : List Callback) (a : ℕ) (rest : List Statement) → Remains cs caller.now.standing rest instruction →
         AreOf a plan.now.events → spec.IsLater cs a caller.now.standing rest plan.now result }

@@ -15,7 +15,7 @@ mod kept;
 mod tickets;
 mod writing;
 
-pub use board::{Board, MAX_ENTRIES};
+pub use board::Board;
 pub use committing::Commit;
 pub use events::Events;
 pub use fault::ApplyFault;

@@ -10,6 +10,7 @@ ghost use Rattle.flt_model.specs.declared.subject.Subject.TheVariants as subject
 ghost use Rattle.flt_ops.specs.Parts.{position_of, way_of};
 ghost use Rattle.flt_machine_store.specs.Changes.{after_change, cancels_entries, IsPossible};
 ghost use Rattle.flt_machine_store.specs.declared.change.Change.TheVariants as change;
+ghost use Rattle.flt_rules.specs.Limits.{max_entries, max_operations};
 
 use counted_heap::Heap;
 use flt_machine_frames::Loaded;
@@ -26,8 +27,8 @@ pub(crate) fn subjects_by(
     activation: Option<Subject>,
 ) -> Result<Vec<Subject>, AllocError>
     requires possible { IsPossible store.now change }
-    requires few { length store.now.arrivals ≤ 65536 }
-    requires items { length store.now.items ≤ 1000000 }
+    requires few { length store.now.arrivals ≤ max_operations }
+    requires items { length store.now.items ≤ max_entries }
     requires queues { length store.now.queues ≡ length store.now.presences }
     ensures next { IfOk result (λ next. next.items ≡ spec.subjects loaded.now.altitudes store.now (after_change store.now change)
         (spec.one_of activation)) }
@@ -63,7 +64,7 @@ fn push_one(
 /// The operation that a change leaves neither in a visit nor done.
 fn operation_by(store: &Store, change: Change) -> Option<Subject>
     requires possible { IsPossible store.now change }
-    requires few { length store.now.arrivals ≤ 65536 }
+    requires few { length store.now.arrivals ≤ max_operations }
     ensures { spec.operations store.now (after_change store.now change) ≡ spec.one_of result }
 {
     match change {
@@ -83,7 +84,7 @@ fn operation_by(store: &Store, change: Change) -> Option<Subject>
 
 /// The work item that a change queues.
 fn item_by(store: &Store, change: Change) -> Option<Subject>
-    requires items { length store.now.items ≤ 1000000 }
+    requires items { length store.now.items ≤ max_entries }
     ensures { spec.newcomer subject.Item (length store.now.items) (length (after_change store.now change).items) ≡ spec.one_of result }
 {
     match change {
@@ -150,7 +151,7 @@ fn push_entries(
     next: &mut Vec<Subject>,
 ) -> Result<(), AllocError>
     requires possible { IsPossible store.now change }
-    requires few { length store.now.arrivals ≤ 65536 }
+    requires few { length store.now.arrivals ≤ max_operations }
     requires queues { length store.now.queues ≡ length store.now.presences }
     ensures next { OnOk result (next.new.items ≡ next.old.items
         ++ spec.by_altitude (spec.entries_of store.now (after_change store.now change)) 0 loaded.now.altitudes) }
@@ -270,7 +271,7 @@ fn push_detached(
     next: &mut Vec<Subject>,
 ) -> Result<(), AllocError>
     requires possible { machine.is_attached (machine.presence_at store.now filter) ≡ true }
-    requires few { length store.now.arrivals ≤ 65536 }
+    requires few { length store.now.arrivals ≤ max_operations }
     ensures next { OnOk result (next.new.items ≡ next.old.items
         ++ spec.by_altitude (spec.entries_of store.now (after_change store.now (change.Detach filter))) 0 loaded.now.altitudes) }
     ensures granted { OnOk result (heap.new ≡ heap.old) }
@@ -291,7 +292,7 @@ fn push_marked(
     marks: &[bool],
     next: &mut Vec<Subject>,
 ) -> Result<(), AllocError>
-    requires few { length marks.now ≤ 65536 }
+    requires few { length marks.now ≤ max_operations }
     ensures next { OnOk result (next.new.items ≡ next.old.items ++ map (subject.Entry altitude)
         (spec.passing (λ o. get_or marks.now o false && not (machine.route_at store.now o).cancelled) (length marks.now))) }
     ensures granted { OnOk result (heap.new ≡ heap.old) }

@@ -16,6 +16,7 @@ use Rattle.flt_machine_store.specs.Changes.{after_change}
 use Rattle.flt_machine_store.specs.Stores.{world_of}
 use Rattle.flt_machine_dispatch.specs.declared.decision.Decision.{Decision}
 use Rattle.flt_machine_dispatch.specs.declared.decision.Start.{Start}
+use Rattle.flt_rules.specs.Limits.{max_operations}
 
 -- ---- an activation that starts
 
@@ -83,7 +84,7 @@ IsActive p _ active actors activations = Unit {0}
 
 -- where one operation more arrives: there is room for it. This project's own limit
 abbrev pub HasRoom : Store → Move → Type 0
-HasRoom s (Arrive kind mode file) = length s.arrivals < 65536
+HasRoom s (Arrive kind mode file) = length s.arrivals < max_operations
 HasRoom s _ = Unit {0}
 
 -- any number of entries come to wait by the move: an operation is cancelled, or a teardown begins

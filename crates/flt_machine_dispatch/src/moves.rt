@@ -10,6 +10,7 @@ ghost use Rattle.flt_model.specs.World as world;
 ghost use Rattle.flt_model.specs.World.{Actor, Activation};
 ghost use Rattle.flt_machine_store.specs.Changes.{IsPossible, cancels_entries};
 ghost use Rattle.flt_tree.specs.declared.filter.Filter.{Filter};
+ghost use Rattle.flt_rules.specs.Limits.{max_operations};
 
 use crate::decision::{Decision, Start};
 use crate::{teardown, waiting};
@@ -21,7 +22,7 @@ use flt_rules::{Mode, Operation, Place};
 /// There are 1,024 files.
 fn arrive(kind: Operation, mode: Mode, file: u32) -> Option<Decision>
     ensures decided { (s : world.Store) → DecidesAnywhere s result (λ w. moves.arrive w kind mode file) }
-    ensures possible { IfSome result (λ d. (s : world.Store) → length s.arrivals < 65536 → IsPossible s d.change) }
+    ensures possible { IfSome result (λ d. (s : world.Store) → length s.arrivals < max_operations → IsPossible s d.change) }
     ensures few { IfSome result (λ d. cancels_entries d.change ≡ false) }
 {
     if fits_mode(kind, mode) && file < 1024 {

@@ -2,7 +2,7 @@
 use Rattle.std.proofs.Common.{◌≡◌, ℕ, zero, suc, ◌+◌, ◌-◌, ◌≤◌, Bool, true, false, nat_lt, List, [], ◌∷◌, ◌++◌, length, Option, Some, None, refl, sym, ap, subst, arith}
 use Rattle.std.specs.Prelude.{slice_get, option_map, if◌then◌else◌}
 use Rattle.std.proofs.lemmas.Bool.{lt-ltb}
-use Rattle.flt_tree.specs.Limits.{max_repeats}
+use Rattle.flt_rules.specs.Limits.{max_repeats}
 use Rattle.flt_tree.specs.Measures.{cost}
 use Rattle.flt_tree.specs.WellFormed.{IsWellFormed}
 use Rattle.flt_tree.specs.declared.filter.Action.{Action}

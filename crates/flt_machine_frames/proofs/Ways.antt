@@ -5,7 +5,8 @@ use Rattle.std.specs.List.{list_all}
 use Rattle.std.specs.Option.{unwrap_or}
 use Rattle.std.proofs.lemmas.Bool.{and_parts, leb-true}
 use Rattle.std.proofs.lemmas.Option.{none-some, same_Some}
-use Rattle.flt_tree.specs.Measures.{cost, points, is_small, max_points, max_cost}
+use Rattle.flt_tree.specs.Measures.{cost, points, is_small}
+use Rattle.flt_rules.specs.Limits.{max_points, max_cost}
 use Rattle.flt_tree.specs.declared.filter.Action.{Action}
 use Rattle.flt_tree.specs.declared.filter.Action.TheVariants as action
 use Rattle.flt_tree.specs.declared.filter.Callback.{Callback}

@@ -1,6 +1,6 @@
 -- The repeats in progress round a point, the innermost first. This project's own representation.
 use Rattle.std.specs.Prelude.{ℕ, Bool, false, ◌&&◌, ◌==◌, ◌++◌, nat_lt, if◌then◌else◌, List, [], ◌∷◌, drop, length, Option, Some, None}
-use Rattle.flt_tree.specs.Limits.{max_repeats}
+use Rattle.flt_rules.specs.Limits.{max_repeats}
 use Rattle.flt_graph.specs.declared.turns.Turn.{Turn}
 
 -- what stands in an unused place

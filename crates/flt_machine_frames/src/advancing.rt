@@ -7,14 +7,13 @@ ghost use Rattle.flt_machine_frames.specs.Loading.{AreLoaded, IsLoaded};
 ghost use Rattle.flt_machine_frames.specs.Steps.{stepped};
 ghost use Rattle.flt_graph.specs.Graph.{instruction_at};
 ghost use Rattle.flt_tree.specs.declared.filter.Filter.{Filter};
+ghost use Rattle.flt_rules.specs.Limits.{max_cost};
 
 use crate::frame::{Advanced, Frame};
 use crate::loaded::Loaded;
 use crate::standing::Standing;
 use flt_graph::{Graph, callbacks_have_graphs, lists_have_points, lists_have_turns};
-
-/// No callback costs as much, and each local step costs one at least.
-const MAX_COST: u32 = 1_000_000;
+use flt_rules::MAX_COST;
 
 /// Makes one local step of a `Standing`, and answers whether it did: if others see the next step, nothing is changed.
 fn go_further(graph: &Graph, draining: bool, after: &mut Standing) -> bool
@@ -29,7 +28,7 @@ fn go_further(graph: &Graph, draining: bool, after: &mut Standing) -> bool
 /// Makes a frame's local steps on the points of its filter, and answers how many. The `Standing` that is lent is the frame's before them.
 fn go_locally(graph: &Graph, frame: &Frame, after: &mut Standing) -> u32
     requires { after.old ≡ frame.now.standing }
-    ensures few { result ≤ 1000000 }
+    ensures few { result ≤ max_cost }
     ensures advance { (f : Filter) → IsLoaded f graph.now →
         IsAdvanceOn f.callbacks (record { frame = frame.now; after = after.new; steps = result }) }
 {
@@ -47,7 +46,7 @@ fn go_locally(graph: &Graph, frame: &Frame, after: &mut Standing) -> u32
 /// Makes the local steps of a frame, up to the next step that others see. The machine isn't needed for it, and nothing is gained or lost.
 pub fn advance(loaded: &Loaded, frame: Frame) -> Advanced
     ensures frame { result.frame ≡ frame }
-    ensures few { result.steps ≤ 1000000 }
+    ensures few { result.steps ≤ max_cost }
     ensures advance { (p : List Filter) → AreLoaded p loaded.now → IsAdvance p result }
 {
     let mut advanced = Advanced {

@@ -7,10 +7,8 @@ ghost use Rattle.flt_graph.specs.Turns as graph;
 ghost use Rattle.flt_machine_frames.specs.Turns as spec;
 
 use flt_graph::Turn;
+use flt_rules::MAX_REPEATS;
 use std::marker::Model;
-
-/// How deep repeats may nest.
-const MAX_REPEATS: usize = 4;
 
 /// The value of an unused place.
 const NO_TURN: Turn = Turn { point: 0, left: 0 };

@@ -12,6 +12,7 @@ use Rattle.flt_ops.specs.Operating as operating
 use Rattle.flt_ops.specs.Parts.{way_of}
 use Rattle.flt_machine_store.specs.declared.change.Change.{Change}
 use Rattle.flt_machine_store.specs.declared.change.Change.TheVariants as change
+use Rattle.flt_rules.specs.Limits.{max_operations}
 
 -- the store after a change
 abbrev pub after_change : Store → Change → Store
@@ -65,7 +66,7 @@ IsPossible s (change.AddReference x) = (context_at s x).references < 2 ^ 64 - 1
 IsPossible s (change.Link x f k over old) = CanBeLinked s x f k over
 IsPossible s (change.Insert f v x) = is_attached (presence_at s f) ≡ true
 IsPossible s (change.RemoveOf f o v) = IsFirstOf s f o v (find (is_entry_of s o) (queue_at s f))
-IsPossible s (change.Arrive kind mode file) = length s.arrivals < 65536
+IsPossible s (change.Arrive kind mode file) = length s.arrivals < max_operations
 IsPossible s (change.StartPre o f) = operating.filter_in (length s.presences) (route_at s o).position ≡ Some f
 IsPossible s (change.Skip o f) = operating.filter_in (length s.presences) (route_at s o).position ≡ Some f
 IsPossible s (change.Lower o) = operating.is_below (length s.presences) (route_at s o).position ≡ true

@@ -7,6 +7,7 @@ use Rattle.flt_model.specs.JournalTextReading.{Reads, byte, exactly, digits, num
 use Rattle.flt_model.specs.declared.scanner.Stop.{Stop}
 use Rattle.flt_model.specs.declared.scanner.Stop.TheVariants.{Wrong, Failed}
 use Rattle.flt_model.specs.declared.moves.JournalEntry.{JournalEntry}
+use Rattle.flt_rules.specs.Limits.{max_entries}
 
 -- ---- these bytes
 
@@ -107,7 +108,7 @@ number_goes_on bytes left i end n b m few low is other digit =
 -- ---- entries
 
 -- a journal has at most 1000000 entries
-pub most_entries_is : most_entries ≡ 1000000
+pub most_entries_is : most_entries ≡ max_entries
 unfolding most_entries
 most_entries_is = refl
 

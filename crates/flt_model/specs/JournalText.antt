@@ -14,6 +14,7 @@ use Rattle.flt_model.specs.declared.moves.Key.{Key}
 use Rattle.flt_model.specs.declared.moves.Key.TheVariants.{Stream, Instance}
 use Rattle.flt_model.specs.declared.moves.Move.{Move}
 use Rattle.flt_model.specs.declared.moves.Move.TheVariants as moves
+use Rattle.flt_rules.specs.Limits.{max_entries}
 
 -- the entries, the first one first
 abbrev pub Entries : Type 0
@@ -21,7 +22,7 @@ Entries = List JournalEntry
 
 -- how many entries a journal that is read has at most
 unfoldable pub most_entries : ℕ
-most_entries = 1000000
+most_entries = max_entries
 
 -- ---- entries that have a spelling
 

@@ -29,7 +29,7 @@ pub use laws::{
 pub use line_parts::{read_move, read_number};
 pub use moves::{JournalEntry, Key, Move, fits_mode};
 pub use program::{filters_have_places, first_repeated};
-pub use reader::{MAX_ENTRIES, read};
+pub use reader::read;
 pub use scanner::Stop;
 pub use spelled::one_journal_is_spelled;
 pub use std_streams::{Reading, Writing};

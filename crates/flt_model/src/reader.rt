@@ -4,6 +4,7 @@ ghost use Rattle.std.specs.Prelude.{◌≡◌, ◌<◌, ◌≤◌, ◌+◌, [], 
 ghost use Rattle.flt_model.specs.JournalText.{most_entries};
 ghost use Rattle.flt_model.specs.JournalText as format;
 ghost use Rattle.flt_model.specs.JournalTextReading as spec;
+ghost use Rattle.flt_rules.specs.Limits.{max_entries};
 
 use crate::fault::JournalFault;
 use crate::journal::Journal;
@@ -11,10 +12,8 @@ use crate::lines::line;
 use crate::scanner::{Stop, exactly};
 use crate::streams::Source;
 use counted_heap::Heap;
+use flt_rules::MAX_ENTRIES;
 use std::alloc::Global;
-
-/// The most entries of a journal that is read.
-pub const MAX_ENTRIES: usize = 1_000_000;
 
 const FIRST_LINE: &[u8] = b"fltjournal 1\n";
 
@@ -22,7 +21,7 @@ const LAST_LINE: &[u8] = b"end\n";
 
 /// The entries, if nothing follows the last line.
 fn closed<R: Source>(reader: &mut R, found: Journal) -> Result<Journal, JournalFault>
-    requires { length found ≤ 1000000 }
+    requires { length found ≤ max_entries }
     ensures read { spec.ReadsAll (spec.closed found (R.coming reader.old)) result (R.coming reader.new) }
     ensures fails { spec.CountsAll result (R.failures reader.old) (R.failures reader.new) }
     ensures reads { R.reads reader.new ≤ R.reads reader.old + 1 }
@@ -36,7 +35,7 @@ fn closed<R: Source>(reader: &mut R, found: Journal) -> Result<Journal, JournalF
 
 /// The entries, if the last line follows and nothing after it.
 fn ending<R: Source>(reader: &mut R, found: Journal) -> Result<Journal, JournalFault>
-    requires { length found ≤ 1000000 }
+    requires { length found ≤ max_entries }
     ensures read { spec.ReadsAll (spec.ending found (R.coming reader.old)) result (R.coming reader.new) }
     ensures fails { spec.CountsAll result (R.failures reader.old) (R.failures reader.new) }
     ensures reads { R.reads reader.new ≤ R.reads reader.old + 5 }

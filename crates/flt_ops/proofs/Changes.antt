@@ -10,6 +10,7 @@ use Rattle.flt_ops.specs.Kept.{AreOperations, IsWithin}
 use Rattle.flt_ops.specs.Operating.{frame_in}
 use Rattle.flt_ops.specs.Unsettled.{VisitRows}
 use Rattle.flt_ops.proofs.OtherFrames.{any_front, any_left, any_last, found_of, led_within, led_framed}
+use Rattle.flt_rules.specs.Limits.{max_operations}
 
 -- one that isn't there is up, so what isn't up is there
 pub is_there : (rs : List Route) (o : ℕ) → ((get_or rs o no_route).position ≡ Up → ⊥) → o < length rs
@@ -92,7 +93,7 @@ module _ (n : ℕ) (arrivals : List Arrival) (rs : List Route) (seen : VisitRows
   }
 
   -- an operation more, where there is room for it and its visits
-  pub with_arrival_pushed : (a : Arrival) (r : Route) (room : ℕ) → length arrivals < 65536 → length arrivals < room →
+  pub with_arrival_pushed : (a : Arrival) (r : Route) (room : ℕ) → length arrivals < max_operations → length arrivals < room →
       seen.room ≤ room → IsWithin n r.position → r.frames ≡ [] →
       AreOperations n (arrivals ++ a ∷ []) (rs ++ r ∷ []) (record { room = room; visits = seen.visits; settled = seen.settled })
   with_arrival_pushed a r room few here more within none = record {

@@ -5,6 +5,7 @@ use Rattle.flt_model.specs.Moves.{has_frame}
 use Rattle.flt_model.specs.World.{Arrival, Down, Position, Route, no_route, no_visit}
 use Rattle.pair_set.specs.Pairs.{has}
 use Rattle.flt_ops.specs.Unsettled.{VisitRows}
+use Rattle.flt_rules.specs.Limits.{max_operations}
 
 -- the set has the filter and the operation of each frame
 pub record AreFramed (routes : List Route) (framed : BTreeSet (ℕ × ℕ)) : Type 0 where
@@ -18,7 +19,7 @@ IsWithin n _ = Unit {0}
 -- there are as many arrivals as routes, no more than allowed, each counted, and positions, frames and visits are at filters
 pub record AreOperations (filters : ℕ) (arrivals : List Arrival) (routes : List Route) (seen : VisitRows) : Type 0 where
   pub as_many : length arrivals ≡ length routes
-  pub few : length routes ≤ 65536
+  pub few : length routes ≤ max_operations
   pub room : length routes ≤ seen.room
   pub down : (o : ℕ) → IsWithin filters (get_or routes o no_route).position
   pub framed : (f o : ℕ) → has_frame f (get_or routes o no_route) ≡ true → f < filters

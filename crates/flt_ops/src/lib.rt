@@ -17,7 +17,7 @@ mod route_rows;
 mod visit_rows;
 
 pub use fault::ArriveFault;
-pub use operations::{MAX_OPERATIONS, Operations};
+pub use operations::Operations;
 pub use parts::{Arrival, Frame, Outcome, Position, Started, Visit, Way};
 /// The answer of a call that was refused memory.
 pub use std::alloc::AllocError as OutOfMemory;

@@ -8,6 +8,7 @@ ghost use Rattle.flt_ops.specs.Operating.{store_of, after, no_operations, route_
 ghost use Rattle.flt_ops.specs.Numbered.{numbers_of};
 ghost use Rattle.flt_ops.specs.Parts.{position_of, outcome_of, way_of};
 ghost use Rattle.flt_ops.specs.declared.fault.ArriveFault.TheVariants as fault;
+ghost use Rattle.flt_rules.specs.Limits.{max_operations};
 
 use crate::OutOfMemory;
 use crate::fault::ArriveFault;
@@ -15,12 +16,9 @@ use crate::parts::{Arrival, Frame, Outcome, Position, Started, Visit, Way};
 use crate::route_rows::Routes;
 use crate::visit_rows::Visits;
 use counted_heap::Heap;
-use flt_rules::{FinalStatus, Mode, Operation, Stage};
+use flt_rules::{FinalStatus, MAX_OPERATIONS, Mode, Operation, Stage};
 use std::alloc::Global;
 use std::marker::Model;
-
-/// How many operations there may be.
-pub const MAX_OPERATIONS: usize = 65_536;
 
 /// Operations by serial number, from 0, with their frames and visits. No number is used again.
 ///
@@ -227,7 +225,7 @@ impl Operations {
     ) -> Result<u32, ArriveFault>
         ensures arrived { IfOk result (λ serial. (serial ≡ length self.old.arrivals)
             × (self.new ≡ after (λ s. moves.with_arrival s (record { kind = kind; mode = mode; file = file })) self.old)) }
-        ensures full { (result ≡ Err fault.Full) ↔ (65536 ≤ length self.old.arrivals) }
+        ensures full { (result ≡ Err fault.Full) ↔ (max_operations ≤ length self.old.arrivals) }
         ensures refused { OnErr result (self.new ≡ self.old) }
         ensures granted { result ≢ Err fault.OutOfMemory → heap.new ≡ heap.old }
         ensures memory { result ≡ Err fault.OutOfMemory → heap.new ≢ heap.old }

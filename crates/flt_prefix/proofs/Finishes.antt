@@ -11,7 +11,7 @@ use Rattle.flt_syntax.specs.declared.shape.ContextSource.TheVariants as sources
 use Rattle.flt_syntax.specs.declared.token.Kind.{Kind}
 use Rattle.flt_syntax.specs.declared.token.Kind.TheVariants as k
 use Rattle.flt_syntax.specs.declared.token.Token.{Token}
-use Rattle.flt_tree.specs.Limits.{max_turns}
+use Rattle.flt_rules.specs.Limits.{max_turns}
 use Rattle.flt_tree.specs.declared.filter.Action.TheVariants as actions
 use Rattle.flt_tree.specs.declared.filter.Condition.TheVariants as conditions
 use Rattle.flt_tree.specs.declared.filter.FallibleCall.TheVariants as fallible

@@ -6,7 +6,7 @@ use Rattle.flt_syntax.specs.declared.fault.FaultKind.TheVariants.{E03}
 use Rattle.flt_syntax.specs.declared.fault.SyntaxFault.{SyntaxFault}
 use Rattle.flt_syntax.specs.declared.token.Kind.TheVariants as k
 use Rattle.flt_syntax.specs.declared.token.Token.{Token}
-use Rattle.flt_tree.specs.Limits.{max_altitude}
+use Rattle.flt_rules.specs.Limits.{max_altitude}
 use Rattle.flt_tree.specs.Names.{Text}
 use Rattle.flt_tree.specs.declared.filter.Lock.{Lock}
 use Rattle.flt_syntax.specs.Grammar as grammar

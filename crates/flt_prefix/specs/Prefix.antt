@@ -16,7 +16,7 @@ use Rattle.flt_syntax.specs.declared.shape.PlainShape.TheVariants as shapes
 use Rattle.flt_syntax.specs.declared.token.Kind.{Kind}
 use Rattle.flt_syntax.specs.declared.token.Kind.TheVariants as k
 use Rattle.flt_syntax.specs.declared.token.Token.{Token}
-use Rattle.flt_tree.specs.Limits.{max_altitude, max_repeats}
+use Rattle.flt_rules.specs.Limits.{max_altitude, max_repeats}
 use Rattle.flt_tree.specs.declared.filter.Callback.{Callback}
 use Rattle.flt_tree.specs.declared.filter.Head.{Head}
 use Rattle.flt_tree.specs.declared.filter.Lock.{Lock}

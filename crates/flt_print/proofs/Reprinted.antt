@@ -3,7 +3,7 @@ use Rattle.std.proofs.Common.{◌≡◌, ◌≤◌, [], length, sym, ap, subst, 
 use Rattle.std.specs.Prelude.{IsTrue}
 use Rattle.flt_syntax.specs.Grammar.{FileAt}
 use Rattle.flt_syntax.specs.Lex.{tokens}
-use Rattle.flt_tree.specs.Limits.{max_text, max_altitude, max_locks, max_callbacks}
+use Rattle.flt_rules.specs.Limits.{max_text, max_altitude, max_locks, max_callbacks}
 use Rattle.flt_print.specs.Line.{lines_text}
 use Rattle.flt_print.specs.Printing.{filter_lines, canonical_text}
 use Rattle.flt_print.specs.Reprinting.{without_places, ParsesAgain, PrintAndParse, PrintsAtMostOne}

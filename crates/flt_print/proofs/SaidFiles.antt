@@ -8,7 +8,7 @@ use Rattle.flt_syntax.specs.Grammar as g
 use Rattle.flt_syntax.specs.Grammar.{HeadAt, CallbackAt, CallbacksAt, LocksAt, QueueAt, FileAt}
 use Rattle.flt_tree.specs.Names.{Text, is_name}
 use Rattle.flt_syntax.specs.Lex.{keyword, same_kind}
-use Rattle.flt_tree.specs.Limits.{max_altitude}
+use Rattle.flt_rules.specs.Limits.{max_altitude}
 use Rattle.flt_print.specs.Printing.{closing, body_lines, head_words, callback_lines, lock_line, queue_lines, filter_lines}
 use Rattle.flt_print.specs.Vocabulary.{spelling}
 use Rattle.flt_tree.specs.WellFormed as fine

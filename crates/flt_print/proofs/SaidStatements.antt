@@ -9,7 +9,7 @@ use Rattle.flt_syntax.specs.Grammar as g
 use Rattle.flt_syntax.specs.Grammar.{StatementAt, ElseAt, BlockAt, StatementsAt}
 use Rattle.flt_tree.specs.Names.{Text}
 use Rattle.flt_syntax.specs.Lex.{keyword, same_kind}
-use Rattle.flt_tree.specs.Limits.{max_turns}
+use Rattle.flt_rules.specs.Limits.{max_turns}
 use Rattle.flt_print.specs.Line.{Line}
 use Rattle.flt_print.specs.Printing.{Lines, lines_step, in_turn, inside, closing, otherwise, statement_lines}
 use Rattle.flt_print.specs.Vocabulary.{spelling}

@@ -6,7 +6,8 @@ use Rattle.std.specs.Prelude.{◌&&◌, ◌||◌, not, sum, nat_le, Option, Some
 use Rattle.flt_tree.specs.Declarations.{same_event, has_event, has_routine, is_declared, AreNewCallbacks, finds_routine, test_finds, finds_step, finds_routines, AreWhole, IsServed, runs_deferred, runs_generic, has_deferred, has_generic, lacks_pre}
 use Rattle.flt_tree.specs.Filter.{is_named, no_span}
 use Rattle.flt_tree.specs.Names.{Text}
-use Rattle.flt_tree.specs.Measures.{points_step, points, cost_step, cost, max_points, max_cost, is_small}
+use Rattle.flt_tree.specs.Measures.{points_step, points, cost_step, cost, is_small}
+use Rattle.flt_rules.specs.Limits.{max_points, max_cost}
 use Rattle.flt_print.specs.Reprinting.{nowhere, call_without, condition_without, step_without, statement_without, callback_without, without_places}
 use Rattle.flt_tree.specs.declared.filter.Action.{Action}
 use Rattle.flt_tree.specs.declared.filter.Callback.{Callback}

@@ -1,7 +1,8 @@
 //! Writes a filter in the canonical layout.
 
 ghost use Rattle.flt_print.specs.Line.{begun, line_text, lines_text};
-ghost use Rattle.flt_tree.specs.Measures.{points, points_of, max_points, is_small};
+ghost use Rattle.flt_tree.specs.Measures.{points, points_of, is_small};
+ghost use Rattle.flt_rules.specs.Limits.{max_points};
 ghost use Rattle.flt_print.specs.Printing as spec;
 ghost use Rattle.flt_print.specs.Reprinting.{ParsesAgain, PrintAndParse, PrintsAtMostOne};
 ghost use Rattle.std.specs.Prelude.{◌≡◌, ◌≤◌, ◌+◌, [], ◌∷◌, ◌++◌, map, flat_map, IfOk, OnOk, IsTrue};

@@ -1,6 +1,7 @@
 pub mod Call
 pub mod Columns
 pub mod Held
+pub mod Limits
 pub mod Parsing
 pub mod Place
 pub mod Rule

@@ -9,6 +9,7 @@ use crate::goal::{Bounds, Goal};
 use crate::judging::{is_same, judge};
 use crate::shortening::shorten;
 use flt_model::{JournalEntry, Violation};
+use flt_rules::MAX_FILTERS;
 use flt_search_plan::Plan;
 use flt_search_rounds::{
     Firsts, Found, Left, ROUNDS, Round, Search, SearchWatch, Stand, Targets, Watched, explore,
@@ -16,9 +17,6 @@ use flt_search_rounds::{
 use flt_search_world::Violations;
 use flt_tree::Tree;
 use std::alloc::{AllocError, Global};
-
-/// How many filters a stack has at most.
-const MAX_FILTERS: usize = 16;
 
 /// How many entries are replayed in all, and how many more to leave some out.
 const MAX_JUDGED: usize = 400_000;

@@ -3,14 +3,12 @@
 use crate::activation::{Activation, Named};
 use crate::laps::{Laps, NO_LAPS};
 use flt_graph::{Action, Instruction, OperationVariable, Test, Turn};
+use flt_rules::MAX_COST;
 use flt_search_plan::{NUMBERS, Plan};
 use flt_tree::{Atom, Expression};
 
 /// How many steps an entry of a journal has at most.
 const MAX_JOURNALED: u32 = 4_000_000;
-
-/// How many local steps an activation makes one after another, at most, but for turns that are made at once.
-const MAX_STEPS: u32 = 1_000_000;
 
 impl Activation {
     /// The value of an atom.
@@ -114,7 +112,7 @@ impl Activation {
     pub fn go_on(&mut self, plan: &Plan, left: &mut u32) -> bool {
         self.steps = 0;
         let mut laps = NO_LAPS;
-        for made in 0..MAX_STEPS {
+        for made in 0..MAX_COST {
             let instruction = plan.instruction(self.filter, self.callback, self.point);
             if let Instruction::Repeat(text, _, _) = instruction {
                 self.leap(plan, &mut laps, *text);

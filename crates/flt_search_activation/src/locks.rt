@@ -1,8 +1,6 @@
 //! The locks that an activation holds.
 
-use flt_rules::{Access, HeldLock, LockNumber};
-
-const MAX_LOCKS: usize = 8;
+use flt_rules::{Access, HeldLock, LockNumber, MAX_LOCKS};
 
 /// The locks of an activation, the oldest first.
 #[derive(Clone, Copy)]

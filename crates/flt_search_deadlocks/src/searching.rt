@@ -6,14 +6,12 @@ ghost use Rattle.flt_search_deadlocks.specs.Deadlocks as spec;
 
 use crate::judging::{Deadlock, judge};
 use flt_order::Acquisition;
+use flt_rules::MAX_FILTERS;
 use flt_search::{Bounds, journal_of};
 use flt_search_plan::Plan;
 use flt_search_rounds::{Left, MEETINGS, Search, SearchWatch, Stand, Targets, Watched, explore};
 use flt_tree::Tree;
 use std::alloc::{AllocError, Global};
-
-/// How many filters a stack has at most.
-const MAX_FILTERS: usize = 16;
 
 /// The answer of a search for a deadlock.
 #[derive(Drop)]

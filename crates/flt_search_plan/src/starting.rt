@@ -1,11 +1,8 @@
 //! Which callbacks start which.
 
 use flt_graph::{Graph, Instruction};
-use flt_rules::{Call, Operation, Place};
+use flt_rules::{Call, MAX_CALLBACKS, Operation, Place};
 use std::alloc::{AllocError, Global};
-
-/// How many callbacks a filter has at most.
-const MAX_CALLBACKS: usize = 16;
 
 /// The kinds of operations.
 pub const KINDS: [Operation; 4] = [

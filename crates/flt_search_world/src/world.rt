@@ -21,7 +21,7 @@ pub const MAX_CONTEXTS: u8 = 16;
 pub const MAX_ACTIVATIONS: u8 = 4;
 
 /// How many filters there may be.
-pub const MAX_FILTERS: u8 = 16;
+pub const MAX_FILTERS: u8 = flt_rules::MAX_FILTERS as u8;
 
 /// How many work items there may be.
 pub const MAX_ITEMS: u8 = 6;

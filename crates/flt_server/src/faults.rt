@@ -6,14 +6,12 @@ use crate::trial::trial_text;
 use flt_explain_details::{fault_name, line_words};
 use flt_explain_hints::{Told, Trouble, describe, tell};
 use flt_places::{Region, lines_of};
+use flt_rules::MAX_TEXT;
 use flt_server_outline::Part;
 use flt_syntax::SyntaxFault;
 use flt_tree::Position;
 use json::Writer;
 use std::alloc::{AllocError, Global};
-
-/// The greatest number of bytes of a text that is read.
-const MAX_TEXT: usize = 65_536;
 
 /// The marks with which further lines of a report begin.
 const NOTE: &[u8] = b"   = note: ";

@@ -19,12 +19,10 @@ use flt_cert::Cert;
 use flt_check::{Refusal, accepted_certificates_fill_up, check};
 use flt_graph::{Graph, one_graph_at_most};
 use flt_model::first_repeated;
+use flt_rules::MAX_FILTERS;
 use flt_sound::{accepted_journals_break_nothing, orderly_filters_come_to_rest};
 use flt_syntax::Tree;
 use std::alloc::{AllocError, Global};
-
-/// How many filters can be loaded.
-pub(crate) const MAX_FILTERS: usize = 16;
 
 /// The first certificate that doesn't cover the points beside it, by its number from 0, and its first fault.
 pub(crate) fn first_refusal(graphs: &[Graph], certificates: &[Cert]) -> Option<(usize, Refusal)>

@@ -26,6 +26,7 @@ use Rattle.flt_model.specs.declared.moves.Move.TheVariants as moves
 use Rattle.flt_stack_receipts.specs.Bounds.{IsFull}
 use Rattle.flt_stack_receipts.specs.Receipts.{is_arrival}
 use Rattle.flt_tree.specs.declared.filter.Filter.{Filter}
+use Rattle.flt_rules.specs.Limits.{max_entries, max_operations}
 
 -- ---- arrivals
 
@@ -77,8 +78,8 @@ full_for p b step own law (inr many) = inr (sym (operations_are p b own law) ∙
 -- ---- an entry more
 
 -- a full journal stays so where an entry is written that there was room for
-stays_full : (es : List JournalEntry) (e : JournalEntry) → (length es ≡ 1000000 → ⊥) →
-    (is_arrival e ≡ true → count_by is_arrival es ≡ 65536 → ⊥) → IsFull es → IsFull (es ++ e ∷ [])
+stays_full : (es : List JournalEntry) (e : JournalEntry) → (length es ≡ max_entries → ⊥) →
+    (is_arrival e ≡ true → count_by is_arrival es ≡ max_operations → ⊥) → IsFull es → IsFull (es ++ e ∷ [])
 stays_full es e room few (inl long) = absurd (room long)
 stays_full es e room few (inr many) = by (is_arrival e) refl
   where
@@ -113,12 +114,12 @@ module _ (l : Loaded) (b : Situation) (step : Move) (r : Result Events ApplyFaul
 -- the step after an advance leaves it full, too
 pub commit_full : (p : List Filter) (l : Loaded) (b later : Situation) (advanced : Advanced) (grant : Bool) (list : List Event)
     (r : Commit) (events : Events) (F B : Type 0) → r ≡ answer.Committed events → ((r ≡ answer.Stale) ↔ (F → ⊥)) →
-    ((r ≡ answer.Blocked) ↔ (F × B)) → ((r ≡ answer.Full) ↔ (F × ((B → ⊥) × (length b.entries ≡ 1000000)))) → AreLoaded p l → IsBoard p b →
+    ((r ≡ answer.Blocked) ↔ (F × B)) → ((r ≡ answer.Full) ↔ (F × ((B → ⊥) × (length b.entries ≡ max_entries)))) → AreLoaded p l → IsBoard p b →
     Now l b (λ p m. Commits p b later advanced grant list m) → IsFull b.entries → IsFull later.entries
 commit_full p l b later advanced grant list r events F B made stale blocked full loaded own commits before =
     let committed = commits p loaded own.moment own.at in
-    let not_fresh : length b.entries ≡ 1000000 → F → ⊥ = λ long fresh.
+    let not_fresh : length b.entries ≡ max_entries → F → ⊥ = λ long fresh.
     let refused : r ≡ answer.Full =
     full.1 (fresh, ((λ waits. let that : r ≡ answer.Blocked = blocked.1 (fresh, waits) in cc), long)) in cc in
-    let room : length b.entries ≡ 1000000 → ⊥ = λ long. let that : r ≡ answer.Stale = stale.1 (not_fresh long) in cc in
+    let room : length b.entries ≡ max_entries → ⊥ = λ long. let that : r ≡ answer.Stale = stale.1 (not_fresh long) in cc in
     subst IsFull (sym committed.written) (stays_full b.entries _ room (λ is many. cc) before)

@@ -8,6 +8,7 @@ use Rattle.flt_model.specs.declared.moves.Move.{Move}
 use Rattle.flt_model.specs.declared.moves.Move.TheVariants.{Arrive, Pre, Skip, Lower, Post, Cancel, Canceled, Work, Detach, Drain, Unlink, Detached}
 use Rattle.flt_stack_core.specs.Turns.{IsFollowing}
 use Rattle.flt_tree.specs.declared.filter.Filter.{Filter}
+use Rattle.flt_rules.specs.Limits.{max_entries}
 
 -- a move that is this one
 is_good : (x m : Move) → IsFollowing x → Some x ≡ Some m → IsFollowing m
@@ -95,6 +96,6 @@ no_arrival (Unlink at key) following arrives = cc
 no_arrival (Detached at) following arrives = cc
 
 -- such a move finds the board full only where the journal is
-pub full_journal : (b : Situation) (m : Move) → IsFollowing m → IsFullFor b m → length b.entries ≡ 1000000
+pub full_journal : (b : Situation) (m : Move) → IsFollowing m → IsFullFor b m → length b.entries ≡ max_entries
 full_journal b m following (inl entries) = entries
 full_journal b m following (inr arrives) = absurd (no_arrival m following arrives.0)

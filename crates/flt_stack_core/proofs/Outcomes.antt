@@ -13,6 +13,7 @@ use Rattle.flt_model.specs.declared.moves.Move.TheVariants.{Cancel}
 use Rattle.flt_model.specs.declared.subject.Subject.{Subject}
 use Rattle.flt_stack_core.specs.Turns.{HasMade, counted, is_granted, named_by}
 use Rattle.flt_stack_core.specs.declared.choices.Choices.{Choices}
+use Rattle.flt_rules.specs.Limits.{max_entries}
 
 module _ (l : Loaded) (b : Situation) (c : Choices) (advanced : Advanced) where
   abbrev Had : Situation → Choices → Bool → Bool → List Subject → Type 0
@@ -62,6 +63,6 @@ module _ (l : Loaded) (b : Situation) (serial : ℕ) where
       (subst (λ s. IsCancel l b later serial false s []) (sym goes) (disabled off same)))
 
   -- a cancel finds the board full only where the journal is
-  pub full_for_cancel : IsFullFor b (Cancel serial) → length b.entries ≡ 1000000
+  pub full_for_cancel : IsFullFor b (Cancel serial) → length b.entries ≡ max_entries
   full_for_cancel (inl entries) = entries
   full_for_cancel (inr arrives) = absurd (let e = arrives.0 in cc)

@@ -6,6 +6,7 @@ use Rattle.flt_machine.specs.Situations.{Situation}
 use Rattle.flt_model.specs.Program.{filter_of}
 use Rattle.flt_model.specs.World.{is_attached, presence_at}
 use Rattle.flt_tree.specs.declared.filter.Filter.{Filter}
+use Rattle.flt_rules.specs.Limits.{max_entries}
 
 -- some filter has the altitude
 abbrev pub has_altitude : List Filter → ℕ → Bool
@@ -21,4 +22,4 @@ abbrev pub detach_fault : List Filter → Situation → ℕ → Option DetachFau
 detach_fault p b altitude =
     if not (has_altitude p altitude) then Some fault.NoSuch
     else (if not (is_attached_at p b altitude) then Some fault.Already
-    else (if length b.entries == 1000000 then Some fault.Full else None))
+    else (if length b.entries == max_entries then Some fault.Full else None))

@@ -17,16 +17,16 @@ ghost use Rattle.flt_model.specs.Moves.{fits_mode, make};
 ghost use Rattle.flt_model.specs.Steps.{Make};
 ghost use Rattle.flt_model.specs.declared.moves.JournalEntry.TheVariants as journal_entry;
 ghost use Rattle.flt_model.specs.declared.moves.Move.TheVariants as moves;
+ghost use Rattle.flt_rules.specs.Limits.{max_entries, max_operations};
 
 use crate::choices::Choices;
 use crate::fault::{ArriveFault, DetachFault};
 use crate::names::{CallerEntries, Fulls, OtherEntries, StackName};
 use crate::receipts::Receipts;
 use counted_heap::Heap;
-use flt_machine::{ApplyFault, Board, Events, Loaded, MAX_ENTRIES, OutOfMemory};
+use flt_machine::{ApplyFault, Board, Events, Loaded, OutOfMemory};
 use flt_model::{Journal, Move, Subject};
-use flt_ops::MAX_OPERATIONS;
-use flt_rules::{Mode, Operation};
+use flt_rules::{MAX_ENTRIES, MAX_OPERATIONS, Mode, Operation};
 use flt_stack_receipts::{Receipt, arrivals_are_operations};
 use std::alloc::Global;
 use std::marker::Model;
@@ -159,7 +159,7 @@ impl<N: StackName> Core<N> {
         ensures share { OnOk result (receipts.new.share.amount ≡ receipts.old.share.amount + 1) }
         ensures parts { receipts.new.share.parts ≡ receipts.old.share.parts }
         ensures full { (result ≡ Err arrive_fault.Full)
-            ↔ ((length self.old.board.entries ≡ 1000000) ⊎ (length self.old.board.store.arrivals ≡ 65536)) }
+            ↔ ((length self.old.board.entries ≡ max_entries) ⊎ (length self.old.board.store.arrivals ≡ max_operations)) }
         ensures choices { self.new.choices ≡ self.old.choices }
         ensures refused { OnErr result ((self.new ≡ self.old) × (receipts.new.list.items ≡ receipts.old.list.items)
             × (receipts.new.share.amount ≡ receipts.old.share.amount)) }

@@ -6,6 +6,7 @@ ghost use Rattle.flt_machine_dispatch.specs.Decisions.{is_cancelling};
 ghost use Rattle.flt_machine.specs.Situations.{IsOwn, Now};
 ghost use Rattle.flt_stack_core.specs.Turns as spec;
 ghost use Rattle.flt_stack_core.specs.declared.turn_fault.TurnFault.TheVariants as fault;
+ghost use Rattle.flt_rules.specs.Limits.{max_entries};
 
 use crate::choices::Choices;
 use crate::turn_fault::TurnFault;
@@ -86,7 +87,7 @@ fn move_on(
     ensures entries { spec.GoesOn board.old board.new }
     ensures moved { IfOk result (λ t. spec.HasMoved loaded.now board.old board.new subject t.stays t.next.items) }
     ensures few { IfOk result (λ t. length t.next.items ≤ 2) }
-    ensures full { result ≡ Err fault.Full → length board.old.entries ≡ 1000000 }
+    ensures full { result ≡ Err fault.Full → length board.old.entries ≡ max_entries }
     ensures refused { OnErr result (board.new ≡ board.old) }
     ensures granted { result ≢ Err fault.OutOfMemory → heap.new ≡ heap.old }
     ensures memory { result ≡ Err fault.OutOfMemory → heap.new ≢ heap.old }
@@ -120,7 +121,7 @@ fn go_on(
     ensures gone { IfOk result
         (λ t. spec.HasGone loaded.now board.old board.new choices.old choices.new activation t.stays t.next.items) }
     ensures few { IfOk result (λ t. length t.next.items ≤ 2) }
-    ensures full { result ≡ Err fault.Full → length board.old.entries ≡ 1000000 }
+    ensures full { result ≡ Err fault.Full → length board.old.entries ≡ max_entries }
     ensures refused { OnErr result ((board.new ≡ board.old) × (choices.new ≡ choices.old)) }
     ensures granted { result ≢ Err fault.OutOfMemory → heap.new ≡ heap.old }
     ensures memory { result ≡ Err fault.OutOfMemory → heap.new ≢ heap.old }
@@ -159,7 +160,7 @@ fn go(
     ensures had { IfOk result
         (λ t. spec.HasHad loaded.now board.old board.new choices.old choices.new subject t.stays t.next.items) }
     ensures few { IfOk result (λ t. length t.next.items ≤ 2) }
-    ensures full { result ≡ Err fault.Full → length board.old.entries ≡ 1000000 }
+    ensures full { result ≡ Err fault.Full → length board.old.entries ≡ max_entries }
     ensures refused { OnErr result ((board.new ≡ board.old) × (choices.new ≡ choices.old)) }
     ensures granted { result ≢ Err fault.OutOfMemory → heap.new ≡ heap.old }
     ensures memory { result ≡ Err fault.OutOfMemory → heap.new ≢ heap.old }
@@ -215,7 +216,7 @@ pub fn turn(
     ensures empty { (result ≡ Ok false) ↔ (subjects.old.items ≡ []) }
     ensures idle { result ≡ Ok false →
         (board.new ≡ board.old) × ((subjects.new.items ≡ subjects.old.items) × (choices.new ≡ choices.old)) }
-    ensures full { result ≡ Err fault.Full → length board.old.entries ≡ 1000000 }
+    ensures full { result ≡ Err fault.Full → length board.old.entries ≡ max_entries }
     ensures refused { OnErr result ((board.new ≡ board.old) × ((subjects.new.items ≡ subjects.old.items) × (choices.new ≡ choices.old))) }
     ensures granted { result ≢ Err fault.OutOfMemory → heap.new ≡ heap.old }
     ensures memory { result ≡ Err fault.OutOfMemory → heap.new ≢ heap.old }

@@ -7,6 +7,7 @@ ghost use Rattle.flt_machine_frames.specs.Loading.{AreLoaded};
 ghost use Rattle.flt_machine.specs.Calls.{IsAdvanced};
 ghost use Rattle.flt_stack_core.specs.Turns as spec;
 ghost use Rattle.flt_stack_core.specs.declared.turn_fault.TurnFault.TheVariants as fault;
+ghost use Rattle.flt_rules.specs.Limits.{max_entries};
 
 use crate::board::Core;
 use crate::names::{Fulls, OtherEntries, StackName};
@@ -68,7 +69,7 @@ impl<N: StackName> Core<N> {
         ensures choices { self.new.choices ≡ self.old.choices }
         ensures entries { IfOk result (λ t. length self.new.board.entries ≡ length self.old.board.entries + grows t.made) }
         ensures counted { IsCounted mine.old mine.new fulls.old fulls.new (λ t. grows t.made) result }
-        ensures full { result ≡ Err fault.Full → length self.old.board.entries ≡ 1000000 }
+        ensures full { result ≡ Err fault.Full → length self.old.board.entries ≡ max_entries }
         ensures refused { OnErr result (self.new.board ≡ self.old.board) }
     {
         let teardown = is_teardown(self.board(), loaded, ticket);
@@ -107,7 +108,7 @@ impl<N: StackName> Core<N> {
             advanced.now t.made t.stays t.next.items) }
         ensures entries { IfOk result (λ t. length self.new.board.entries ≡ length self.old.board.entries + grows t.made) }
         ensures counted { IsCounted mine.old mine.new fulls.old fulls.new (λ t. grows t.made) result }
-        ensures full { result ≡ Err fault.Full → length self.old.board.entries ≡ 1000000 }
+        ensures full { result ≡ Err fault.Full → length self.old.board.entries ≡ max_entries }
         ensures refused { OnErr result ((self.new.board ≡ self.old.board) × (self.new.choices ≡ self.old.choices)) }
     {
         let grant = self.choices.next();
@@ -149,7 +150,7 @@ impl<N: StackName> Core<N> {
         ensures choices { self.new.choices ≡ self.old.choices }
         ensures entries { IfOk result (λ t. length self.new.board.entries ≡ length self.old.board.entries + grows t.made) }
         ensures counted { IsCounted mine.old mine.new fulls.old fulls.new (λ t. grows t.made) result }
-        ensures full { result ≡ Err fault.Full → length self.old.board.entries ≡ 1000000 }
+        ensures full { result ≡ Err fault.Full → length self.old.board.entries ≡ max_entries }
         ensures refused { OnErr result (self.new.board ≡ self.old.board) }
     {
         let step = Move::Cancel { serial };

@@ -9,8 +9,8 @@ use crate::giving::give;
 use crate::stopping::Stop;
 use crate::watch::Watch;
 use crate::working::Ungated;
-use flt_stack_threads::{CallerSeat, Stack, StackName, WorkerSeat};
 use flt_stack_prepare::Script;
+use flt_stack_threads::{CallerSeat, Stack, StackName, WorkerSeat};
 use std::alloc::Global;
 use std::sync::Wait;
 

@@ -9,8 +9,8 @@ ghost use Rattle.flt_stack_threads.specs.Places.{IsCallerOf, asked_by};
 
 use crate::stopping::Stop;
 use flt_rules::{Mode, Operation};
-use flt_stack_threads::{ArriveFault, CallerSeat, DetachFault, Stack, StackName};
 use flt_stack_prepare::Command;
+use flt_stack_threads::{ArriveFault, CallerSeat, DetachFault, Stack, StackName};
 use std::alloc::Global;
 use std::sync::Wait;
 

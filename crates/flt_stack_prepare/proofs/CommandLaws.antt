@@ -16,6 +16,7 @@ use Rattle.flt_model.specs.declared.scanner.Stop.TheVariants.{Wrong, Failed}
 use Rattle.flt_stack_prepare.specs.ScriptText.{is_command, command_line, command_of}
 use Rattle.flt_stack_prepare.specs.declared.command.Command.{Command}
 use Rattle.flt_stack_prepare.specs.declared.command.Command.TheVariants.{Arrive, Cancel, Detach, Refuse}
+use Rattle.flt_rules.specs.Limits.{max_operations}
 
 -- ---- the first byte of a line
 
@@ -37,7 +38,7 @@ made_of b others behind (Arrive operation mode file) other e h =
     let parts = and_parts (fits_mode operation mode) (nat_lt file 1024) h in
     let small : file < 1024 = ltb-true file 1024 parts.1 in
     (moves.Arrive operation mode file, refl, e, omega arith)
-made_of b others behind (Cancel serial) other e h = let small : serial < 65536 = ltb-true serial 65536 h in
+made_of b others behind (Cancel serial) other e h = let small : serial < max_operations = ltb-true serial max_operations h in
     (moves.Cancel serial, refl, e, omega arith)
 made_of b others behind (Detach altitude) other e h = (moves.Detach altitude, refl, e, ltb-true altitude (2 ^ 32) h)
 made_of b others behind (Refuse choice) other e h = absurd (other (ap (λ t. get_or t 0 0) e))

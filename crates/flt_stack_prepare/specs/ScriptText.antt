@@ -11,6 +11,7 @@ use Rattle.flt_stack_prepare.specs.declared.command.Command.{Command}
 use Rattle.flt_stack_prepare.specs.declared.command.Command.TheVariants.{Arrive, Cancel, Detach, Refuse}
 use Rattle.flt_stack_prepare.specs.declared.script_fault.ScriptFault.{ScriptFault}
 use Rattle.flt_stack_prepare.specs.declared.script_fault.ScriptFault.TheVariants.{Line, OutOfMemory}
+use Rattle.flt_rules.specs.Limits.{max_operations}
 
 -- ---- scripts
 
@@ -22,7 +23,7 @@ Commands = List Command
 -- files and 65,536 operations; other numbers have 32 bits
 abbrev pub is_command : Command → Bool
 is_command (Arrive operation mode file) = fits_mode operation mode && nat_lt file 1024
-is_command (Cancel serial) = nat_lt serial 65536
+is_command (Cancel serial) = nat_lt serial max_operations
 is_command (Detach altitude) = nat_lt altitude (2 ^ 32)
 is_command (Refuse choice) = nat_lt choice (2 ^ 32)
 

@@ -16,14 +16,12 @@ use crate::texts::parse_all;
 use flt_cert::Cert;
 use flt_check::accepted_certificates_fill_up;
 use flt_graph::Graph;
+use flt_rules::MAX_FILTERS;
 use flt_stack::{LoadFault, Loaded, load_lowered};
 use flt_syntax::spelled_is_well_formed;
 use flt_tree::Tree;
 use std::alloc::{AllocError, Global};
 use std::thread::Threads;
-
-/// How many filters a stack has at most.
-const MAX_FILTERS: usize = 16;
 
 /// The input of a run: a script, and the filters for which it is one.
 #[derive(Drop)]

@@ -7,13 +7,14 @@ ghost use Rattle.flt_stack_prepare.specs.ScriptText as spec;
 
 use crate::command::Command;
 use flt_model::fits_mode;
+use flt_rules::MAX_OPERATIONS;
 use flt_tree::Tree;
 
 /// How many files there are.
 const FILES: u32 = 1024;
 
 /// How many operations a stack takes.
-const OPERATIONS: u32 = 65536;
+const OPERATIONS: u32 = MAX_OPERATIONS as u32;
 
 /// Whether its mode and numbers are within their bounds.
 fn is_command(command: Command) -> bool

@@ -2,7 +2,8 @@
 use Rattle.std.specs.Prelude.{◌≡◌, ◌⊎◌, List, length, count_by}
 use Rattle.flt_model.specs.declared.moves.JournalEntry.{JournalEntry}
 use Rattle.flt_stack_receipts.specs.Receipts.{is_arrival}
+use Rattle.flt_rules.specs.Limits.{max_entries, max_operations}
 
 -- there are as many entries as may be, or as many operations
 abbrev pub IsFull : List JournalEntry → Type 0
-IsFull entries = (length entries ≡ 1000000) ⊎ (count_by is_arrival entries ≡ 65536)
+IsFull entries = (length entries ≡ max_entries) ⊎ (count_by is_arrival entries ≡ max_operations)

@@ -17,6 +17,7 @@ ghost use Rattle.flt_model.specs.declared.subject.Subject.{Subject};
 ghost use Rattle.flt_model.specs.declared.subject.Subject.TheVariants as ticket;
 ghost use Rattle.flt_pool.specs.Hands.{having_put};
 ghost use Rattle.flt_stack_threads.specs.Places.{IsCallerOf, asked_by, put_by};
+ghost use Rattle.flt_rules.specs.Limits.{max_entries, max_operations};
 
 use crate::seats::CallerSeat;
 use crate::{CallerPlace, Exchange, OutOfMemory, Ticket};
@@ -54,7 +55,7 @@ pub(crate) fn arrive_on<N: StackName, R: Wait>(
     ensures ticket { IfOk result (λ serial. put_by seat.new.place ≡ having_put (ticket.Operation serial) (put_by seat.old.place)) }
     ensures requests { asked_by seat.new.place ≡ asked_by seat.old.place }
     ensures full { (result ≡ Err arrive_fault.Full)
-        ↔ ((length core.old.board.entries ≡ 1000000) ⊎ (length core.old.board.store.arrivals ≡ 65536)) }
+        ↔ ((length core.old.board.entries ≡ max_entries) ⊎ (length core.old.board.store.arrivals ≡ max_operations)) }
     ensures refused { OnErr result ((core.new.board ≡ core.old.board)
         × ((seat.new.receipts.list.items ≡ seat.old.receipts.list.items)
         × (seat.new.receipts.share.amount ≡ seat.old.receipts.share.amount))) }

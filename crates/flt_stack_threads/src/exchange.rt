@@ -6,6 +6,7 @@ ghost use Rattle.flt_cancel.specs.declared.step.Step.TheVariants.{Ask, Collect};
 ghost use Rattle.flt_pool.specs.Hands.{having_put};
 ghost use Rattle.flt_pool.specs.Seats.{IsTakenOf};
 ghost use Rattle.flt_stack_threads.specs.Places.{asked_by, collected_by, hands_by, marked_by, marks_by, other_deques, own_deque, put_by, IsCallerOf, IsFreshCaller, IsFreshWorker, IsWorkerOf, LeadsToOthers};
+ghost use Rattle.flt_rules.specs.Limits.{max_operations};
 
 use crate::joining::{caller_places, worker_places};
 use crate::places::{CallerPlace, WorkerPlace};
@@ -66,7 +67,7 @@ impl Exchange {
     /// Requests that an operation be cancelled, by its serial number, and then sets the mark of the number's group. It waits for nobody,
     /// takes no memory and is never refused.
     pub fn ask(&self, place: &mut CallerPlace, serial: u32)
-        requires serial { serial < 65536 }
+        requires serial { serial < max_operations }
         requires place { IsCallerOf self.now place.old }
         ensures place { IsCallerOf self.now place.new }
         ensures asked { (asked_by place.new).asked ≡ (asked_by place.old).asked ++ serial ∷ [] }

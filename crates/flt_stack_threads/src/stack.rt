@@ -17,6 +17,7 @@ ghost use Rattle.flt_pool.specs.Hands.{having_put};
 ghost use Rattle.flt_stack_receipts.specs.Bounds.{IsFull};
 ghost use Rattle.flt_stack_receipts.specs.Receipts.{receipt, receipts_in, together};
 ghost use Rattle.flt_stack_threads.specs.Places.{IsCallerOf, IsFreshCaller, IsFreshWorker, IsWorkerOf, asked_by, put_by};
+ghost use Rattle.flt_rules.specs.Limits.{max_operations};
 
 use crate::asking::{arrive_on, detach_on, refuse_on};
 use crate::ending::{Differ, agrees, merge_callers, merge_workers};
@@ -242,7 +243,7 @@ impl<N: StackName> Stack<N> {
     /// Requests that an operation be cancelled, by its serial number, whether it has arrived or not. It waits for nobody, takes no memory
     /// and is never refused. The operation is cancelled once a worker collects the request, if it can be then.
     pub fn cancel(&self, seat: &mut CallerSeat<N>, serial: u32)
-        requires serial { serial < 65536 }
+        requires serial { serial < max_operations }
         requires seat { IsCallerOf self.now.exchange seat.old.place }
         ensures seat { IsCallerOf self.now.exchange seat.new.place }
         ensures asked { (asked_by seat.new.place).asked ≡ (asked_by seat.old.place).asked ++ serial ∷ [] }

@@ -8,6 +8,7 @@ ghost use Rattle.flt_stack_threads.specs.Waiting as waiting;
 ghost use Rattle.flt_stack_threads.specs.Working.{HasWorked};
 ghost use Rattle.flt_stack_core.specs.declared.turn_fault.TurnFault.TheVariants as fault;
 ghost use Rattle.flt_stack_threads.specs.Places.{IsWorkerOf, collected_by, hands_by, marks_by};
+ghost use Rattle.flt_rules.specs.Limits.{max_operations};
 
 use crate::Ticket;
 use crate::pace::Pace;
@@ -17,6 +18,7 @@ use crate::stack::Stack;
 use crate::word::{has_bit, has_none_from, lowest_bit};
 use flt_machine::{Frame, advance};
 use flt_pool::Gate;
+use flt_rules::MAX_ENTRIES;
 use flt_stack_core::{Fulls, OtherEntries, StackName, TurnFault, Turned};
 use std::alloc::Global;
 use std::sync::Wait;
@@ -29,7 +31,7 @@ const GROUPS: u32 = 64;
 const WORDS_OF_GROUP: usize = 16;
 
 /// How many tickets are taken in one call at most.
-const MAX_TICKETS: u32 = 1_000_000;
+const MAX_TICKETS: u32 = MAX_ENTRIES as u32;
 
 /// How often a worker looks for something to do in one call at most: for each ticket, for each entry that a request may add, and once
 /// more.
@@ -216,7 +218,7 @@ impl<N: StackName> Stack<N> {
         ensures tried { OnOk result (IsEmpty seat.new.requests.bits) }
         ensures swept { OnOk result (HasSwept seat.old.place.requests seat.new.place.requests) }
         ensures again { OnErr result (AreSetAgain seat.old.place.requests seat.new.place.requests) }
-        ensures few { IfOk result (λ made. made ≤ 65536) }
+        ensures few { IfOk result (λ made. made ≤ max_operations) }
     {
         let groups = self.exchange.unmark(&mut seat.place);
         match self.sweep(rt, alloc, seat, gate, groups) {
@@ -265,7 +267,7 @@ impl<N: StackName> Stack<N> {
         ensures tried { OnOk result (IsEmpty seat.new.requests.bits) }
         ensures swept { OnOk result (AreSwept groups 64 (collected_by seat.old.place).seen (collected_by seat.new.place).seen) }
         ensures marks { marks_by seat.new.place ≡ marks_by seat.old.place }
-        ensures few { IfOk result (λ made. made ≤ 65536) }
+        ensures few { IfOk result (λ made. made ≤ max_operations) }
     {
         let mut made: u64 = 0;
         for group in lowest_bit(groups)..GROUPS {

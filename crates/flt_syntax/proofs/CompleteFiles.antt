@@ -23,7 +23,7 @@ use Rattle.flt_syntax.specs.Spelling.{Spells}
 use Rattle.flt_syntax.specs.Words.{Next, Meant, NameAt}
 use Rattle.flt_syntax.specs.Scope.{Scope}
 use Rattle.flt_tree.specs.Measures.{is_small, are_small}
-use Rattle.flt_tree.specs.Limits.{max_callbacks, max_altitude, max_locks}
+use Rattle.flt_rules.specs.Limits.{max_callbacks, max_altitude, max_locks}
 use Rattle.flt_syntax.specs.Head.{operation_of, operation, event_by, event, new_event, new_name, new_routine, new_head_by, new_head, begins_head, head}
 use Rattle.flt_syntax.specs.Whole.{missing, callback_fault, first_fault, queue_fault, whole_fault}
 use Rattle.flt_syntax.specs.File.{lock_kind_of, lock_kind, lock, locks_from, locks, queue, callback, callbacks_from, callbacks, file, unless_fault, whole, filter_of}

@@ -34,7 +34,7 @@ use Rattle.flt_syntax.specs.Status.{optional_status}
 use Rattle.flt_syntax.specs.Action.{expression_by, expression, number_by, set_number, clear_context, clear_operation, write_value, spanned, word_statement_by, word_statement, simple_statement}
 use Rattle.flt_syntax.specs.Call.{fallible_call, plain_call}
 use Rattle.flt_syntax.specs.Condition.{context_test, operation_test, comparison_by, number_test, word_test_by, word_test, condition}
-use Rattle.flt_tree.specs.Limits.{max_turns}
+use Rattle.flt_rules.specs.Limits.{max_turns}
 use Rattle.flt_syntax.specs.Statement.{otherwise, choice, repetition, statement_by, statement, statements_from, statements, block}
 use Rattle.flt_syntax.specs.Cursor.{Input, Parser, and_then, ◌<$>◌, kind, span, next, refusal, unknown, expect, number_within}
 use Rattle.flt_syntax.specs.FirstWords.{begins_fallible, begins_plain, is_variable, is_test_word, begins_test, is_simple_word, has_blocks, begins_other}

@@ -23,7 +23,7 @@ use Rattle.flt_tree.specs.Declarations.{AreNewLocks, is_declared, AreNewCallback
 use Rattle.flt_syntax.specs.Words.{Next, Meant, NameAt}
 use Rattle.flt_syntax.specs.Scope.{Scope}
 use Rattle.flt_tree.specs.Measures.{is_small}
-use Rattle.flt_tree.specs.Limits.{max_callbacks, max_altitude, max_locks, max_depth, max_repeats}
+use Rattle.flt_rules.specs.Limits.{max_callbacks, max_altitude, max_locks, max_depth, max_repeats}
 use Rattle.flt_syntax.specs.Head.{operation_of, operation, event_by, event, new_event, new_routine, new_head_by, new_head, is_among, is_taken, begins_head, crowded, head}
 use Rattle.flt_syntax.specs.File.{lock_kind_of, lock_kind, lock, locks_from, locks, queue, callback, callbacks_from, callbacks, file}
 use Rattle.flt_syntax.specs.Cursor.{Input, ◌>>=◌, pure, kind, next, position, refusal, fault, fault_at, fail, sees}

@@ -28,7 +28,7 @@ use Rattle.flt_syntax.specs.Operand.{context_variable_of, removed_variable_of, n
 use Rattle.flt_syntax.specs.Scope.{Scope}
 use Rattle.flt_syntax.specs.Action.{expression_by, expression, number_by, set_number, clear_context, clear_operation, write_value, spanned, word_statement_by, word_statement, simple_statement}
 use Rattle.flt_syntax.specs.Condition.{context_test, operation_test, comparison_by, number_test, word_test_by, word_test, condition}
-use Rattle.flt_tree.specs.Limits.{max_turns}
+use Rattle.flt_rules.specs.Limits.{max_turns}
 use Rattle.flt_syntax.specs.Statement.{otherwise, choice, repetition, statement_by, statement, statements_from, statements, braced, block}
 use Rattle.flt_syntax.specs.Cursor.{Input, and_then, ◌>>=◌, ◌<$>◌, pure, front, kind, next, refusal, unknown, fault_at, sees, expect, given, too_deep}
 use Rattle.flt_syntax.proofs.TokenKinds.{suc_some, kind_same, apart_kinds, unseen, took, meant_at, number_at}

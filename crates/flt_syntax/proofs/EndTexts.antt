@@ -13,7 +13,7 @@ use Rattle.flt_syntax.specs.Whole.{first_of, missing, callback_fault, first_faul
 use Rattle.flt_syntax.specs.declared.fault.FaultKind.TheVariants.{E04, E06, E07}
 use Rattle.flt_syntax.specs.declared.fault.SyntaxFault.{SyntaxFault}
 use Rattle.flt_tree.specs.Declarations.{AreWhole, IsServed, has_event, lacks_pre}
-use Rattle.flt_tree.specs.Limits.{max_text}
+use Rattle.flt_rules.specs.Limits.{max_text}
 use Rattle.flt_tree.specs.Names.{Text}
 use Rattle.flt_tree.specs.declared.filter.Callback.{Callback}
 use Rattle.flt_tree.specs.declared.filter.Filter.{Filter}

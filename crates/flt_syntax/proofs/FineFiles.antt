@@ -7,7 +7,7 @@ use Rattle.flt_syntax.specs.Cursor.{Input}
 use Rattle.flt_syntax.specs.Grammar as g
 use Rattle.flt_syntax.specs.Grammar.{StatementAt, ElseAt, BlockAt, StatementsAt, HeadAt, CallbackAt, CallbacksAt, LocksAt, QueueAt, FileAt}
 use Rattle.flt_tree.specs.Names.{Text, is_name}
-use Rattle.flt_tree.specs.Limits.{max_depth, max_repeats}
+use Rattle.flt_rules.specs.Limits.{max_depth, max_repeats}
 use Rattle.flt_syntax.specs.Spelling.{SpelledIsWellFormed}
 use Rattle.flt_syntax.specs.Scope.{Scope}
 use Rattle.flt_tree.specs.WellFormed as fine

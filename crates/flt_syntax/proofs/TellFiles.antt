@@ -16,7 +16,7 @@ use Rattle.flt_syntax.specs.Grammar.{HeadAt}
 use Rattle.flt_tree.specs.Declarations.{has_event}
 use Rattle.flt_syntax.specs.Words.{Next}
 use Rattle.flt_syntax.specs.Scope.{Scope}
-use Rattle.flt_tree.specs.Limits.{max_callbacks, max_altitude}
+use Rattle.flt_rules.specs.Limits.{max_callbacks, max_altitude}
 use Rattle.flt_syntax.specs.Head.{operation_of, operation, event_by, event, new_event, new_name, new_routine, new_head_by, new_head, is_taken, begins_head, crowded, head}
 use Rattle.flt_syntax.specs.File.{lock_kind_of, lock_kind, lock, locks_from, locks, callback, callbacks_from, callbacks, file}
 use Rattle.flt_syntax.specs.Cursor.{Input, Outcome, and_then, kind, next, refusal, fault_at}

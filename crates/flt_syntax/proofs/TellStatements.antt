@@ -13,7 +13,7 @@ use Rattle.flt_syntax.specs.Scope.{Scope}
 use Rattle.flt_syntax.specs.Status.{optional_status}
 use Rattle.flt_syntax.specs.Action.{expression, set_number, clear_context, clear_operation, write_value, simple_statement}
 use Rattle.flt_syntax.specs.Condition.{context_test, operation_test, comparison_by, number_test, condition}
-use Rattle.flt_tree.specs.Limits.{max_turns}
+use Rattle.flt_rules.specs.Limits.{max_turns}
 use Rattle.flt_syntax.specs.Statement.{otherwise, choice, repetition, statement, statements_from, statements, block}
 use Rattle.flt_syntax.specs.Cursor.{Input, Parser, kind, refusal, unknown, fault_at, sees, expect, number_within, too_deep}
 use Rattle.flt_syntax.specs.FirstWords.{begins_plain, has_blocks, begins_other}

@@ -4,7 +4,7 @@ use Rattle.flt_rules.specs.declared.call.LockKind.{LockKind}
 use Rattle.flt_syntax.specs.Cursor.{Outcome, Parser, ◌>>=◌, ◌>>◌, pure, kind, position, span, place, here, refusal, refuse, fault, known_or, sees, eat, expect, number_within}
 use Rattle.flt_syntax.specs.Head.{head}
 use Rattle.flt_tree.specs.Declarations.{has_lock}
-use Rattle.flt_tree.specs.Limits.{max_text, max_altitude, max_locks, max_depth, max_repeats}
+use Rattle.flt_rules.specs.Limits.{max_text, max_altitude, max_locks, max_depth, max_repeats}
 use Rattle.flt_tree.specs.Names.{Text}
 use Rattle.flt_syntax.specs.Lex.{tokens}
 use Rattle.flt_tree.specs.Measures.{is_small}

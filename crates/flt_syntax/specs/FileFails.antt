@@ -15,7 +15,7 @@ use Rattle.flt_syntax.specs.declared.fault.FaultKind.TheVariants.{E05, E06}
 use Rattle.flt_syntax.specs.declared.fault.SyntaxFault.{SyntaxFault}
 use Rattle.flt_syntax.specs.declared.token.Kind.TheVariants as k
 use Rattle.flt_tree.specs.Declarations.{AreNewLocks, is_declared, has_event, has_routine, has_lock}
-use Rattle.flt_tree.specs.Limits.{max_altitude, max_locks, max_callbacks, max_depth, max_repeats}
+use Rattle.flt_rules.specs.Limits.{max_altitude, max_locks, max_callbacks, max_depth, max_repeats}
 use Rattle.flt_tree.specs.Measures.{is_small}
 use Rattle.flt_tree.specs.Names.{Text}
 use Rattle.flt_tree.specs.declared.filter.Callback.{Callback}

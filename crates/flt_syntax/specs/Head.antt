@@ -3,7 +3,7 @@ use Rattle.std.specs.Prelude.{Bool, false, if◌then◌else◌, nat_lt, List, le
 use Rattle.flt_rules.specs.declared.place.Operation.{Operation}
 use Rattle.flt_syntax.specs.Cursor.{Input, Parser, and_then, ◌>>=◌, ◌>>◌, pure, ◌<$>◌, kind, next, refusal, refuse, fault_at, fail, peek, take_token, known_or}
 use Rattle.flt_tree.specs.Declarations.{has_event, has_routine}
-use Rattle.flt_tree.specs.Limits.{max_callbacks}
+use Rattle.flt_rules.specs.Limits.{max_callbacks}
 use Rattle.flt_tree.specs.Names.{Text}
 use Rattle.flt_syntax.specs.Scope.{spelled}
 use Rattle.flt_syntax.specs.declared.fault.FaultKind.TheVariants.{E05, E06}

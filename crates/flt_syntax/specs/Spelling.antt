@@ -3,7 +3,7 @@ use Rattle.std.specs.Prelude.{◌≡◌, ◌≤◌, [], length, IsTrue}
 use Rattle.flt_syntax.specs.Grammar.{FileAt}
 use Rattle.flt_syntax.specs.Lex.{tokens}
 use Rattle.flt_tree.specs.Declarations.{AreNewLocks, AreNewCallbacks, AreWhole, IsServed}
-use Rattle.flt_tree.specs.Limits.{max_text, max_altitude, max_locks, max_callbacks}
+use Rattle.flt_rules.specs.Limits.{max_text, max_altitude, max_locks, max_callbacks}
 use Rattle.flt_tree.specs.Measures.{are_small}
 use Rattle.flt_tree.specs.Names.{Text}
 use Rattle.flt_tree.specs.WellFormed.{IsWellFormed}

@@ -9,7 +9,7 @@ use Rattle.flt_tree.specs.declared.filter.Statement.{Statement}
 use Rattle.flt_tree.specs.declared.filter.Statement.TheVariants.{If, Repeat}
 use Rattle.flt_syntax.specs.declared.token.Kind.{Kind}
 use Rattle.flt_syntax.specs.declared.token.Kind.TheVariants as k
-pub use Rattle.flt_tree.specs.Limits.{max_turns}
+pub use Rattle.flt_rules.specs.Limits.{max_turns}
 
 -- `inner` reads the blocks inside, given how many repeats may stand in one another there.
 module _ (scope : Scope) (inner : ℕ → Parser (List Statement)) where

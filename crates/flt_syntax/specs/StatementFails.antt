@@ -14,7 +14,7 @@ use Rattle.flt_syntax.specs.Words.{Next, NumberAt}
 use Rattle.flt_syntax.specs.declared.fault.FaultKind.TheVariants.{E06}
 use Rattle.flt_syntax.specs.declared.fault.SyntaxFault.{SyntaxFault}
 use Rattle.flt_syntax.specs.declared.token.Kind.TheVariants as k
-use Rattle.flt_tree.specs.Limits.{max_turns}
+use Rattle.flt_rules.specs.Limits.{max_turns}
 use Rattle.flt_tree.specs.declared.filter.Condition.{Condition}
 use Rattle.flt_tree.specs.declared.filter.Statement.{Statement}
 

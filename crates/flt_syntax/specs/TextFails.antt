@@ -12,7 +12,7 @@ use Rattle.flt_syntax.specs.declared.fault.ParseError.{ParseError}
 use Rattle.flt_syntax.specs.declared.fault.ParseError.TheVariants.{OutOfMemory, Syntax}
 use Rattle.flt_syntax.specs.declared.fault.SyntaxFault.{SyntaxFault}
 use Rattle.flt_tree.specs.Declarations.{AreNewLocks, AreNewCallbacks, IsServed, has_event, finds_routines, lacks_pre}
-use Rattle.flt_tree.specs.Limits.{max_text, max_altitude, max_locks, max_callbacks}
+use Rattle.flt_rules.specs.Limits.{max_text, max_altitude, max_locks, max_callbacks}
 use Rattle.flt_tree.specs.Measures.{are_small}
 use Rattle.flt_tree.specs.Names.{Text}
 use Rattle.flt_tree.specs.declared.filter.Callback.{Callback}

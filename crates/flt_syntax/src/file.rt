@@ -22,22 +22,10 @@ use crate::scope::Scope;
 use crate::statement::statements;
 use crate::token::Kind;
 use crate::whole::whole_fault;
-use flt_rules::LockKind;
+use flt_rules::{LockKind, MAX_ALTITUDE, MAX_DEPTH, MAX_LOCKS, MAX_REPEATS, MAX_TEXT};
 use flt_tree::{Callback, Filter, Lock, Position, Statement, Tree, is_small};
 use sqlite_items::Items;
 use std::alloc::Global;
-
-const MAX_TEXT: usize = 65_536;
-
-const MAX_ALTITUDE: u64 = 4_294_967_295;
-
-const MAX_LOCKS: usize = 8;
-
-/// How deep blocks nest, the callback's own counted.
-const MAX_DEPTH: usize = 32;
-
-/// How deep `repeat` nests.
-const MAX_REPEATS: usize = 4;
 
 fn lock_kind_of(kind: Kind) -> Option<LockKind>
     ensures { result ≡ spec.lock_kind_of kind }

@@ -10,12 +10,10 @@ use crate::cursor::{Tokens, bytes_of};
 use crate::fault::{FaultKind, ParseError};
 use crate::names::Names;
 use crate::token::Kind;
-use flt_rules::Operation;
+use flt_rules::{MAX_CALLBACKS, Operation};
 use flt_tree::{Callback, Head};
 use sqlite_items::Items;
 use std::alloc::Global;
-
-const MAX_CALLBACKS: usize = 16;
 
 fn operation_of(kind: Kind) -> Option<Operation>
     ensures { result ≡ spec.operation_of kind }

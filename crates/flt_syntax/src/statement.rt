@@ -13,12 +13,11 @@ use crate::cursor::{Tokens, span};
 use crate::fault::{FaultKind, ParseError};
 use crate::scope::Scope;
 use crate::token::Kind;
+use flt_rules::MAX_TURNS;
 use flt_tree::{Span, Statement};
 use sqlite_items::Items;
 use std::alloc::{AllocError, Global};
 use std::mem::replace;
-
-const MAX_TURNS: u64 = 1000;
 
 /// The statements from a place on, which leave the stack. If that is all of them, the stack itself is handed over, and an empty one with as
 /// much room takes its place.

@@ -1,9 +1,9 @@
 //! The reports to the watcher of a search for runs.
 
 use flt_explain::findings;
+use flt_explain_runs::{Outlook, Suspect, Suspects, outcomes_among};
 use flt_graph::{Graph, lower};
 use flt_search::SearchWatch;
-use flt_explain_runs::{Outlook, Suspect, Suspects, outcomes_among};
 use flt_syntax::{Tree, parse};
 use std::alloc::{AllocError, Global};
 use std::test::Fail;

@@ -1,6 +1,5 @@
 pub mod Declarations
 pub mod Filter
-pub mod Limits
 pub mod Measures
 pub mod Names
 pub mod Registered

@@ -1,4 +1,5 @@
 -- How many points a body has, and what it costs. This project's own measures, which bound every callback.
+use Rattle.flt_rules.specs.Limits.{max_points, max_cost}
 use Rattle.std.specs.Prelude.{ℕ, ◌+◌, ◌*◌, max, List, map, sum, Bool, ◌&&◌, nat_le}
 use Rattle.std.specs.List.{list_all}
 use Rattle.flt_tree.specs.declared.filter.Callback.{Callback}
@@ -36,12 +37,6 @@ abbrev pub cost : List Statement → ℕ
 cost body = sum (map cost_of body)
 
 -- a callback has one point and a cost of 1 more, for its end
-abbrev pub max_points : ℕ
-max_points = 512
-
-abbrev pub max_cost : ℕ
-max_cost = 1000000
-
 abbrev pub is_small : Callback → Bool
 is_small c = nat_le (points c.body + 1) max_points && nat_le (cost c.body + 1) max_cost
 

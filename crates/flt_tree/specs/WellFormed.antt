@@ -7,7 +7,7 @@ use Rattle.flt_rules.specs.declared.call.LockKind.TheVariants.{Push}
 use Rattle.flt_rules.specs.declared.call.LockNumber.{LockNumber}
 use Rattle.flt_tree.specs.Declarations.{lock_name, lock_number, AreNewLocks, AreNewCallbacks, AreWhole, IsServed}
 use Rattle.flt_tree.specs.Names.{is_name}
-use Rattle.flt_tree.specs.Limits.{max_altitude, max_locks, max_callbacks, max_depth, max_repeats, max_turns}
+use Rattle.flt_rules.specs.Limits.{max_altitude, max_locks, max_callbacks, max_depth, max_repeats, max_turns}
 use Rattle.flt_tree.specs.Measures.{are_small}
 use Rattle.flt_tree.specs.declared.filter.Action.{Action}
 use Rattle.flt_tree.specs.declared.filter.Action.TheVariants.{SetNumber, WriteValue}

@@ -1,18 +1,18 @@
 //! Measures bodies against the limits on points and cost.
 
+ghost use Rattle.flt_rules.specs.Limits.{max_points, max_cost};
 ghost use Rattle.flt_tree.specs.Measures as spec;
 ghost use Rattle.std.specs.Prelude.{◌≡◌, ◌≤◌, ◌+◌, ◌*◌, min};
 
 use crate::filter::{Callback, Statement};
+use flt_rules::MAX_POINTS;
 
-const MAX_POINTS: usize = 512;
-
-const MAX_COST: u64 = 1_000_000;
+const MAX_COST: u64 = flt_rules::MAX_COST as u64;
 
 /// The points of a body, or the limit if that is less.
 #[cycle(points)]
 fn points(body: &[Statement]) -> usize
-    ensures { result ≡ min (spec.points body.now) spec.max_points }
+    ensures { result ≡ min (spec.points body.now) max_points }
 {
     let mut total = 0;
     for statement in body {
@@ -23,7 +23,7 @@ fn points(body: &[Statement]) -> usize
 
 #[cycle(points)]
 fn points_of(statement: &Statement) -> usize
-    ensures { result ≡ min (spec.points_of statement.now) spec.max_points }
+    ensures { result ≡ min (spec.points_of statement.now) max_points }
 {
     match statement {
         Statement::Act(_, _) | Statement::Call(_, _) | Statement::Return(_, _) => 1,
@@ -37,7 +37,7 @@ fn points_of(statement: &Statement) -> usize
 /// The cost of a body, or the limit if that is less.
 #[cycle(cost)]
 fn cost(body: &[Statement]) -> u64
-    ensures { result ≡ min (spec.cost body.now) spec.max_cost }
+    ensures { result ≡ min (spec.cost body.now) max_cost }
 {
     let mut total = 0;
     for statement in body {
@@ -48,7 +48,7 @@ fn cost(body: &[Statement]) -> u64
 
 #[cycle(cost)]
 fn cost_of(statement: &Statement) -> u64
-    ensures { result ≡ min (spec.cost_of statement.now) spec.max_cost }
+    ensures { result ≡ min (spec.cost_of statement.now) max_cost }
 {
     match statement {
         Statement::Act(_, _) | Statement::Call(_, _) | Statement::Return(_, _) => 1,
@@ -61,8 +61,8 @@ fn cost_of(statement: &Statement) -> u64
 
 /// The cost of turns of a body, or the limit if that is less.
 fn repeated(turns: u64, body: u64) -> u64
-    requires { body ≤ spec.max_cost }
-    ensures { result ≡ min (1 + turns * (1 + body)) spec.max_cost }
+    requires { body ≤ max_cost }
+    ensures { result ≡ min (1 + turns * (1 + body)) max_cost }
 {
     MAX_COST.min(1 + turns.min(MAX_COST) * (1 + body))
 }

@@ -1,6 +1,6 @@
 use Rattle.std.proofs.Common.{◌≡◌, ℕ, ◌≤◌, Some, None, sym, subst, arith}
 use Rattle.flt_graph.specs.Graph.{instruction_at}
-use Rattle.flt_tree.specs.Measures.{max_cost}
+use Rattle.flt_rules.specs.Limits.{max_cost}
 use Rattle.flt_machine_frames.proofs.Stepping.{Laws}
 use Rattle.flt_machine_frames.proofs.Ways.{goes_further, ends, runs_out, made, unmade}
 use Rattle.flt_machine_frames.proofs.advancing.go_locally.Goals as goal
@@ -54,7 +54,7 @@ returns-clause-advance c =
       nested = c.lists_have_turns.ensures.nested;
     } in
     let most : max_cost ≤ c.loop-steps.steps = omega arith in
-    let all : c.loop-steps.steps ≡ 1000000 = omega (arith, c.loop-steps.auto.steps-end) in
+    let all : c.loop-steps.steps ≡ max_cost = omega (arith, c.loop-steps.auto.steps-end) in
     λ f loaded. subst (λ (n : ℕ).
     IsAdvanceOn f.callbacks (record { frame = c.args.frame.now; after = c.loop-steps.after; steps = n })) all
     (runs_out laws f c.args.graph.now loaded c.args.frame.now c.loop-steps.steps c.loop-steps.after (c.loop-steps.invariant f loaded) most)

@@ -1,5 +1,6 @@
 use Rattle.std.proofs.Common.{◌≡◌, ◌≤◌, ◌+◌, min, drop}
-use Rattle.flt_tree.specs.Measures.{cost, max_cost}
+use Rattle.flt_tree.specs.Measures.{cost}
+use Rattle.flt_rules.specs.Limits.{max_cost}
 use Rattle.flt_tree.proofs.measure.+cost.Given as goal
 
 abbrev pub invariant-cost-loop-statement : goal.invariant-cost-loop-statement

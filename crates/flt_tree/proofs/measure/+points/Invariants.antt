@@ -1,5 +1,6 @@
 use Rattle.std.proofs.Common.{◌≡◌, ◌≤◌, ◌+◌, min, drop}
-use Rattle.flt_tree.specs.Measures.{points, max_points}
+use Rattle.flt_tree.specs.Measures.{points}
+use Rattle.flt_rules.specs.Limits.{max_points}
 use Rattle.flt_tree.proofs.measure.+points.Given as goal
 
 abbrev pub invariant-points-loop-statement : goal.invariant-points-loop-statement

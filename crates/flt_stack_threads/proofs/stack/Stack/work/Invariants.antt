@@ -3,6 +3,7 @@ use Rattle.flt_stack_threads.specs.Requests.{IsEmpty}
 use Rattle.flt_stack_threads.specs.Waiting.{tickets}
 use Rattle.flt_stack_threads.specs.Places.{IsWorkerOf}
 use Rattle.flt_stack_threads.proofs.stack.Stack.work.Given as goal
+use Rattle.flt_rules.specs.Limits.{max_entries}
 
 abbrev pub invariant-loop : goal.invariant-loop
 invariant-loop g l = record {
@@ -11,7 +12,7 @@ invariant-loop g l = record {
   tried : IsEmpty l.fn.seat.requests.bits → IsEmpty l.seat.requests.bits;
   share : l.seat.share.amount ≡ l.fn.seat.share.amount + l.made;
   few : l.made ≤ 65600 * l.counter + 65600;
-  taken : l.taken ≤ 1000000;
+  taken : l.taken ≤ max_entries;
   parts : l.seat.share.parts ≡ l.fn.seat.share.parts;
   fulls : l.seat.fulls.amount ≡ l.fn.seat.fulls.amount;
   fulls_parts : l.seat.fulls.parts ≡ l.fn.seat.fulls.parts;

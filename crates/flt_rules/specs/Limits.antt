@@ -1,4 +1,4 @@
--- The limits on a text, which are this project's own.
+-- The limits on texts, on scripts and on journals, which are this project's own.
 use Rattle.std.specs.Prelude.{ℕ}
 
 -- how many bytes a text may have
@@ -28,3 +28,23 @@ max_repeats = 4
 -- the greatest number of turns
 abbrev pub max_turns : ℕ
 max_turns = 1000
+
+-- how many points a callback has at most, with the one for its end
+abbrev pub max_points : ℕ
+max_points = 512
+
+-- how much a callback costs at most, with 1 for its end
+abbrev pub max_cost : ℕ
+max_cost = 1000000
+
+-- how many filters are loaded at most
+abbrev pub max_filters : ℕ
+max_filters = 16
+
+-- how many entries a journal has at most
+abbrev pub max_entries : ℕ
+max_entries = 1000000
+
+-- how many operations arrive at most
+abbrev pub max_operations : ℕ
+max_operations = 65536
