@@ -473,9 +473,13 @@ end_is : {text : Text} {found : Input} {line from : ℕ} {end : Position} (r : I
     one_column_on r.at ≡ end_of line from end
 end_is {line = line} {from} {end} r = by (from == 0) refl
   where
-    by : (x : Bool) → (from == 0) ≡ x → one_column_on r.at ≡ (if x then end else record { line = line; column = from - 0 + 1 })
+    by : (x : Bool) → (from == 0) ≡ x → one_column_on r.at ≡ (if x then end else record { line = line; column = from + 1 })
     by true e = r.fresh (eqb-true from 0 e)
-    by false e = let other : from ≡ 0 → ⊥ = eqb-false from 0 e in r.inside (omega (arith, other)) ∙ here_is r
+    by false e =
+        let other : from ≡ 0 → ⊥ = eqb-false from 0 e in
+        let all : from - 0 ≡ from = omega arith in
+        r.inside (omega (arith, other)) ∙ here_is r
+        ∙ ap (λ n. record { line = line; column = n + 1 }) all
 
 -- the end of the text
 pub ends : {text : Text} {found : Input} {line from : ℕ} {end : Position} → IsCut text found line from end [] →

@@ -26,7 +26,7 @@ one_column_on at = record { line = at.line; column = at.column + 1 }
 
 -- where a text ends, by how many bytes its last line has: behind the last of them, or at `end` where there are none
 abbrev pub end_of : ℕ → ℕ → Position → Position
-end_of line from end = if from == 0 then end else record { line = line; column = from - 0 + 1 }
+end_of line last end = if last == 0 then end else record { line = line; column = last + 1 }
 
 -- ---- words and numbers
 

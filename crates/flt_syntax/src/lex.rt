@@ -83,7 +83,13 @@ fn end_of(line: usize, from: usize, end: Position) -> Position
     requires { from < 2 ^ 32 }
     ensures { result ≡ spec.end_of line from end }
 {
-    if from == 0 { end } else { place(line, from, 0) }
+    if from == 0 {
+        return end;
+    }
+    Position {
+        line,
+        column: from + 1,
+    }
 }
 
 fn is_blank(b: u8) -> bool
