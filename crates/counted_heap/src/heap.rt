@@ -1,6 +1,7 @@
 //! The heap, and each kind of growth.
 
-ghost use Rattle.std.specs.Prelude.{◌≡◌, ◌≢◌, ◌≤◌, ◌<◌, ◌+◌, ◌++◌, ◌∷◌, [], ℕ, true, false, IfOk, OnOk, OnErr, Some, None, is_ok, if◌then◌else◌, vec_len, vec_capacity, replicate, IsOk};
+ghost use Rattle.std.specs.Prelude.{◌≡◌, ◌≢◌, ◌≤◌, ◌<◌, ◌+◌, ◌++◌, ◌∷◌, [], ℕ, true, false, IfOk, OnOk, OnErr};
+ghost use Rattle.std.specs.Prelude.{Some, None, is_ok, if◌then◌else◌, vec_len, vec_capacity, replicate, IsOk};
 ghost use Rattle.std.specs.BTreeMap as map;
 ghost use Rattle.std.specs.BTreeSet as set;
 ghost use Rattle.std.specs.VecDeque.{deque_len, deque_capacity};

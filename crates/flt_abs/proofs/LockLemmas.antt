@@ -1,5 +1,6 @@
 -- A list of locks has eight at most, and stays one as locks are taken and released.
-use Rattle.std.proofs.Common.{◌≡◌, ◌<◌, ◌≤◌, ◌+◌, ◌-◌, ℕ, suc, Bool, true, false, List, [], ◌∷◌, ◌++◌, length, sym, refl, ap, subst, arith, ◌∙◌, length-append, Some, None}
+use Rattle.std.proofs.Common.{◌≡◌, ◌<◌, ◌≤◌, ◌+◌, ◌-◌, ℕ, suc, Bool, true, false, List, [], ◌∷◌, ◌++◌}
+use Rattle.std.proofs.Common.{length, sym, refl, ap, subst, arith, ◌∙◌, length-append, Some, None}
 use native.Mathlib.Numerals.{unary_clauses}
 use Rattle.std.specs.Prelude.{not, ◌&&◌, nat_lt, slice_index_or, if◌then◌else◌}
 use Rattle.std.specs.List.{position, position_or_len, remove}

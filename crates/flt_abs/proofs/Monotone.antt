@@ -1,5 +1,6 @@
 -- What follows from a state follows from each state above it: rules that are broken, and successors.
-use Rattle.std.proofs.Common.{◌≡◌, ℕ, zero, suc, Bool, true, false, List, [], ◌∷◌, take, get_or, Option, Some, None, refl, sym, ap, ◌∙◌, cond}
+use Rattle.std.proofs.Common.{◌≡◌, ℕ, zero, suc, Bool, true, false, List, [], ◌∷◌, take}
+use Rattle.std.proofs.Common.{get_or, Option, Some, None, refl, sym, ap, ◌∙◌, cond}
 use Rattle.std.proofs.Math.ListN.{set}
 use Rattle.std.specs.Prelude.{not, ◌||◌, ◌&&◌, if◌then◌else◌, find}
 use Rattle.std.specs.List.{list_all}
@@ -36,12 +37,19 @@ use Rattle.flt_graph.specs.declared.graph.Graph.{Graph}
 use Rattle.flt_graph.specs.declared.instruction.Instruction.{Instruction}
 use Rattle.flt_graph.specs.declared.instruction.Instruction.TheVariants as instruction
 use Rattle.flt_graph.specs.declared.instruction.Invocation.{Invocation}
-use Rattle.flt_abs.specs.Breaks.{is_empty, lacks_context, lacks_operation, may_hold_context, may_hold_operation, is_mode_alone, action_breaks, test_breaks, hands_illegally, is_need_held, is_need_handed_over, is_need_output, is_need_latest, is_need_not_held, releases_wrong_lock, takes_held_lock, row_breaks, is_possessed, is_of_mode, fits_setting, fits_state, returns_illegally, contexts_without, is_any_held, owes_data, return_breaks, breaks, first_broken, rules}
-use Rattle.flt_abs.specs.Sets.{StatusSet, ModeSet, null_alone, is_held, is_stale, statuses_within, modes_within, drainings_within, without_null, is_possible, is_mode_possible}
+use Rattle.flt_abs.specs.Breaks.{is_empty, lacks_context, lacks_operation, may_hold_context, may_hold_operation, is_mode_alone}
+use Rattle.flt_abs.specs.Breaks.{action_breaks, test_breaks, hands_illegally, is_need_held, is_need_handed_over, is_need_output}
+use Rattle.flt_abs.specs.Breaks.{is_need_latest, is_need_not_held, releases_wrong_lock, takes_held_lock, row_breaks, is_possessed}
+use Rattle.flt_abs.specs.Breaks.{is_of_mode, fits_setting, fits_state, returns_illegally, contexts_without, is_any_held}
+use Rattle.flt_abs.specs.Breaks.{owes_data, return_breaks, breaks, first_broken, rules}
+use Rattle.flt_abs.specs.Sets.{StatusSet, ModeSet, null_alone, is_held, is_stale, statuses_within, modes_within}
+use Rattle.flt_abs.specs.Sets.{drainings_within, without_null, is_possible, is_mode_possible}
 use Rattle.flt_abs.specs.LockLaws.{same_locks_decides}
 use Rattle.flt_abs.specs.Setting.{setting_of}
 use Rattle.flt_abs.specs.State.{Null, Held, Stale, State, is_below, is_proper, all_within}
-use Rattle.flt_abs.specs.Step.{changed, set_context, set_operation, changed_locks, set_locks, after_call, after_action, where_true, where_false, at, after_failure, leads_to, unless_broken, transfer, IsSuccessorBelow, AreBelow, IsOutcomeBelow}
+use Rattle.flt_abs.specs.Step.{changed, set_context, set_operation, changed_locks, set_locks, after_call, after_action, where_true}
+use Rattle.flt_abs.specs.Step.{where_false, at, after_failure, leads_to, unless_broken, transfer, IsSuccessorBelow, AreBelow}
+use Rattle.flt_abs.specs.Step.{IsOutcomeBelow}
 use Rattle.flt_abs.specs.Variables.{context_in, operation_in, with_context, with_operation}
 use Rattle.flt_abs.specs.declared.setting.Setting.{Setting}
 use Rattle.flt_abs.specs.declared.step.Successors.{Successors}

@@ -1,5 +1,6 @@
 -- What the order and the join of states, as they are computed, say of the situations.
-use Rattle.std.proofs.Common.{◌≡◌, ◌≢◌, ◌↔◌, ◌<◌, ℕ, zero, suc, Bool, true, false, List, [], ◌∷◌, ◌++◌, length, map, take, drop, get_or, sym, ap, refl, arith, ◌∙◌}
+use Rattle.std.proofs.Common.{◌≡◌, ◌≢◌, ◌↔◌, ◌<◌, ℕ, zero, suc, Bool, true, false, List, [], ◌∷◌}
+use Rattle.std.proofs.Common.{◌++◌, length, map, take, drop, get_or, sym, ap, refl, arith, ◌∙◌}
 use Rattle.std.proofs.Math.Bool.{and-false}
 use Rattle.std.proofs.Math.ListN.{set}
 use Rattle.std.specs.Prelude.{not, ◌||◌}
@@ -9,8 +10,10 @@ use Rattle.flt_rules.specs.Held.{same_locks}
 use Rattle.flt_rules.specs.declared.held.HeldLock.{HeldLock}
 use Rattle.flt_rules.specs.declared.place.Mode.{Mode}
 use Rattle.flt_rules.specs.declared.place.Mode.TheVariants.{Irp, Fast}
-use Rattle.flt_abs.specs.Sets.{StatusSet, ModeSet, DrainingSet, either_status, statuses_within, modes_within, drainings_within, is_possible, is_mode_possible, is_draining_possible}
-use Rattle.flt_abs.specs.State.{Status, Null, Held, Stale, Situation, State, IsBelow, IsJoin, has_status, has_mode, has_draining, have_statuses, is_proper, is_below, all_within, either_all, join_of}
+use Rattle.flt_abs.specs.Sets.{StatusSet, ModeSet, DrainingSet, either_status, statuses_within, modes_within}
+use Rattle.flt_abs.specs.Sets.{drainings_within, is_possible, is_mode_possible, is_draining_possible}
+use Rattle.flt_abs.specs.State.{Status, Null, Held, Stale, Situation, State, IsBelow, IsJoin, has_status, has_mode}
+use Rattle.flt_abs.specs.State.{has_draining, have_statuses, is_proper, is_below, all_within, either_all, join_of}
 use Rattle.flt_abs.specs.LockLaws.{same_locks_decides}
 use Rattle.flt_abs.specs.Locks.{are_locks}
 

@@ -1,5 +1,6 @@
 -- What an instruction makes of a situation lies where it leads.
-use Rattle.std.proofs.Common.{◌≡◌, ℕ, zero, suc, Bool, true, false, List, [], ◌∷◌, Option, Some, None, Ok, slice_index_or, ap, sym, subst, refl}
+use Rattle.std.proofs.Common.{◌≡◌, ℕ, zero, suc, Bool, true, false, List, [], ◌∷◌, Option}
+use Rattle.std.proofs.Common.{Some, None, Ok, slice_index_or, ap, sym, subst, refl}
 use Rattle.std.specs.Prelude.{slice_set, not, ◌||◌, if◌then◌else◌}
 use Rattle.std.proofs.lemmas.Bool.{and_parts, and_from, not-true}
 use Rattle.flt_rules.specs.Place.{is_irp}
@@ -27,11 +28,13 @@ use Rattle.flt_graph.specs.declared.instruction.Instruction.{Instruction}
 use Rattle.flt_graph.specs.declared.instruction.Instruction.TheVariants as instruction
 use Rattle.flt_graph.specs.declared.instruction.Invocation.{Invocation}
 use Rattle.flt_abs.specs.Breaks.{first_broken}
-use Rattle.flt_abs.specs.Outcome.{context_now, operation_now, put_context, put_operation, put_locks, left, called, failed, can_fail, acted, is_null, may_find, may_come_out, leaves, side, Reaches}
+use Rattle.flt_abs.specs.Outcome.{context_now, operation_now, put_context, put_operation, put_locks, left, called}
+use Rattle.flt_abs.specs.Outcome.{failed, can_fail, acted, is_null, may_find, may_come_out, leaves, side, Reaches}
 use Rattle.flt_abs.specs.Setting.{setting_of}
 use Rattle.flt_abs.specs.Sets.{StatusSet, null_alone, without_null, is_possible, irp_alone, fast_alone, no_alone, yes_alone}
 use Rattle.flt_abs.specs.State.{Status, Null, Held, Stale, Situation, State, Means, has_status, has_mode, has_draining, have_statuses}
-use Rattle.flt_abs.specs.Step.{changed, set_context, set_operation, set_locks, changed_locks, after_call, after_failure, after_action, where_true, where_false, if_possible, leads_to, unless_broken, transfer}
+use Rattle.flt_abs.specs.Step.{changed, set_context, set_operation, set_locks, changed_locks, after_call, after_failure}
+use Rattle.flt_abs.specs.Step.{after_action, where_true, where_false, if_possible, leads_to, unless_broken, transfer}
 use Rattle.flt_abs.specs.Step as step
 use Rattle.flt_abs.specs.Variables.{context_in, operation_in, with_context, with_operation}
 use Rattle.flt_abs.specs.declared.step.Successors.{Successors}

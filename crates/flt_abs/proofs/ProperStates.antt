@@ -30,10 +30,12 @@ use Rattle.flt_graph.specs.declared.instruction.Invocation.{Invocation}
 use Rattle.flt_abs.specs.Breaks.{first_broken}
 use Rattle.flt_abs.specs.Locks.{are_locks}
 use Rattle.flt_abs.specs.Proper.{IsSuccessorProper, AreProper}
-use Rattle.flt_abs.specs.Sets.{ModeSet, DrainingSet, null_alone, held_alone, stale_alone, null_or_held, without_null, is_possible, is_mode_possible, is_draining_possible, irp_alone, fast_alone, no_alone, yes_alone}
+use Rattle.flt_abs.specs.Sets.{ModeSet, DrainingSet, null_alone, held_alone, stale_alone, null_or_held, without_null, is_possible}
+use Rattle.flt_abs.specs.Sets.{is_mode_possible, is_draining_possible, irp_alone, fast_alone, no_alone, yes_alone}
 use Rattle.flt_abs.specs.Setting.{setting_of}
 use Rattle.flt_abs.specs.State.{State, is_proper}
-use Rattle.flt_abs.specs.Step.{changed, set_context, set_operation, changed_locks, set_locks, after_call, after_action, where_true, where_false, at, after_failure, leads_to, unless_broken, transfer}
+use Rattle.flt_abs.specs.Step.{changed, set_context, set_operation, changed_locks, set_locks, after_call, after_action}
+use Rattle.flt_abs.specs.Step.{where_true, where_false, at, after_failure, leads_to, unless_broken, transfer}
 use Rattle.flt_abs.specs.Variables.{context_in, operation_in, with_context, with_operation}
 use Rattle.flt_abs.specs.declared.step.Successors.{Successors}
 use Rattle.flt_abs.proofs.LockLemmas.{are_locks_more, are_locks_without}

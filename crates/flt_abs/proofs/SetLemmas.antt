@@ -2,7 +2,8 @@
 use Rattle.std.proofs.Common.{◌≡◌, ◌<◌, ℕ, refl, lit<, arith}
 use Rattle.std.proofs.lemmas.Nat.{and_assoc, and_le_r}
 use Rattle.std.specs.Prelude.{bit_and, bit_or, ◌==◌}
-use Rattle.flt_abs.specs.Sets.{statuses, statuses_within, either_status, without_null, modes, modes_within, either_mode, draining, drainings_within, either_draining}
+use Rattle.flt_abs.specs.Sets.{statuses, statuses_within, either_status, without_null, modes, modes_within}
+use Rattle.flt_abs.specs.Sets.{either_mode, draining, drainings_within, either_draining}
 use Rattle.flt_abs.specs.SetLaws.{below_eight, below_four}
 
 pub below_eight_twice : (P : ℕ → ℕ → Type 0) →

@@ -47,7 +47,8 @@ pub same_least : (r : Row) (s : Setting) (x : State) (c : Invocation) → r.need
     find (row_breaks r (unregistered s) x c) rules ≡ find (row_breaks r s x c) rules
 same_least r s x c e = same_found (row_breaks r (unregistered s) x c) (row_breaks r s x c) rules (λ rule. same_breaks r s x c rule e)
 
-pub same_least_of_test : (s : Setting) (x : State) (t : Test) → find (test_breaks (unregistered s) x t) rules ≡ find (test_breaks s x t) rules
+pub same_least_of_test : (s : Setting) (x : State) (t : Test) →
+    find (test_breaks (unregistered s) x t) rules ≡ find (test_breaks s x t) rules
 same_least_of_test s x (test.ContextIsSome variable) = refl
 same_least_of_test s x (test.OperationIsSome variable) = refl
 same_least_of_test s x (test.Equal variable atom) = refl

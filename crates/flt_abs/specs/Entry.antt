@@ -4,7 +4,8 @@ use Rattle.std.specs.Prelude.{List, [], ◌∷◌}
 use Rattle.flt_rules.specs.declared.place.Operation.TheVariants.{Read, Write}
 use Rattle.flt_rules.specs.declared.place.Place.{Place}
 use Rattle.flt_rules.specs.declared.place.Place.TheVariants.{Pre, Post, Generic}
-use Rattle.flt_abs.specs.Sets.{StatusSet, ModeSet, DrainingSet, null_alone, held_alone, null_or_held, irp_alone, fast_alone, no_alone, yes_alone, either_mode, either_draining}
+use Rattle.flt_abs.specs.Sets.{StatusSet, ModeSet, DrainingSet, null_alone, held_alone, null_or_held, irp_alone}
+use Rattle.flt_abs.specs.Sets.{fast_alone, no_alone, yes_alone, either_mode, either_draining}
 use Rattle.flt_abs.specs.State.{State, state_of}
 
 -- the context that a callback is given: none on the way down, elsewhere perhaps one

@@ -6,7 +6,8 @@ use Rattle.flt_rules.specs.declared.held.HeldLock.{HeldLock}
 use Rattle.flt_rules.specs.declared.place.Mode.{Mode}
 use Rattle.flt_rules.specs.declared.place.Mode.TheVariants.{Irp, Fast}
 use Rattle.flt_abs.specs.Locks.{are_locks}
-use Rattle.flt_abs.specs.Sets.{StatusSet, ModeSet, DrainingSet, either_status, either_mode, either_draining, statuses_within, modes_within, drainings_within, is_possible, is_mode_possible, is_draining_possible}
+use Rattle.flt_abs.specs.Sets.{StatusSet, ModeSet, DrainingSet, either_status, either_mode, either_draining, statuses_within}
+use Rattle.flt_abs.specs.Sets.{modes_within, drainings_within, is_possible, is_mode_possible, is_draining_possible}
 
 -- ---- situations
 

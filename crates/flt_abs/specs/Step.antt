@@ -23,7 +23,8 @@ use Rattle.flt_graph.specs.declared.instruction.Instruction.{Instruction}
 use Rattle.flt_graph.specs.declared.instruction.Instruction.TheVariants as instruction
 use Rattle.flt_graph.specs.declared.instruction.Invocation.{Invocation}
 use Rattle.flt_abs.specs.Breaks.{first_broken}
-use Rattle.flt_abs.specs.Sets.{StatusSet, null_alone, held_alone, stale_alone, null_or_held, without_null, is_possible, irp_alone, fast_alone, no_alone, yes_alone}
+use Rattle.flt_abs.specs.Sets.{StatusSet, null_alone, held_alone, stale_alone, null_or_held, without_null}
+use Rattle.flt_abs.specs.Sets.{is_possible, irp_alone, fast_alone, no_alone, yes_alone}
 use Rattle.flt_abs.specs.Setting.{setting_of}
 use Rattle.flt_abs.specs.State.{State, is_below}
 use Rattle.flt_abs.specs.Variables.{context_in, operation_in, with_context, with_operation}

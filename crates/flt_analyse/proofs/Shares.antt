@@ -1,5 +1,6 @@
 -- The answers of several workers, and how they come back into the order of the graphs.
-use Rattle.std.proofs.Common.{◌≡◌, ◌≢◌, ℕ, zero, suc, ◌+◌, ◌*◌, ◌/◌, ◌<◌, ◌≤◌, ◌%◌, List, [], ◌∷◌, ◌++◌, Option, Some, None, Result, length, map, drop, refl, sym, ap, ◌∙◌, arith, slice_get, slice_set}
+use Rattle.std.proofs.Common.{◌≡◌, ◌≢◌, ℕ, zero, suc, ◌+◌, ◌*◌, ◌/◌, ◌<◌, ◌≤◌, ◌%◌, List, [], ◌∷◌, ◌++◌, Option, Some}
+use Rattle.std.proofs.Common.{None, Result, length, map, drop, refl, sym, ap, ◌∙◌, arith, slice_get, slice_set}
 use Rattle.std.proofs.Math.Path.{subst}
 use Rattle.std.proofs.Math.Nat.{mod-add-div, mod-le, mod-eq_of_lt, add-mul-mod_self_left, lt_of_mul-lt-mul_left}
 use Rattle.std.proofs.lemmas.Option.{slice_get_within, same_Some}

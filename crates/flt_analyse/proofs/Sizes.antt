@@ -6,7 +6,8 @@ use Rattle.std.specs.List.{list_all}
 use Rattle.flt_rules.specs.Held.{same_locks}
 use Rattle.std.proofs.lemmas.Bool.{and_parts, and_cases, eqb-true, true≢false}
 use Rattle.flt_abs.specs.LockLaws.{same_locks_decides}
-use Rattle.flt_abs.specs.Sets.{StatusSet, statuses_within, modes_within, drainings_within, either_status, is_possible, is_mode_possible, is_draining_possible}
+use Rattle.flt_abs.specs.Sets.{StatusSet, statuses_within, modes_within, drainings_within, either_status}
+use Rattle.flt_abs.specs.Sets.{is_possible, is_mode_possible, is_draining_possible}
 use Rattle.flt_abs.specs.State.{State, is_below, is_proper, all_within, either_all, join_of}
 
 -- ---- one set

@@ -1,5 +1,6 @@
 -- Whole walks: what holds at each stage, and what it means where a walk ends or stops.
-use Rattle.std.proofs.Common.{◌≡◌, ◌<◌, ◌≤◌, ◌+◌, ℕ, zero, suc, Bool, true, false, List, [], ◌∷◌, ◌++◌, length, get_or, Option, Some, None, Result, Ok, Err, refl, sym, ap, ◌∙◌, arith, inl, inr}
+use Rattle.std.proofs.Common.{◌≡◌, ◌<◌, ◌≤◌, ◌+◌, ℕ, zero, suc, Bool, true, false, List, [], ◌∷◌, ◌++◌, length}
+use Rattle.std.proofs.Common.{get_or, Option, Some, None, Result, Ok, Err, refl, sym, ap, ◌∙◌, arith, inl, inr}
 use Rattle.std.proofs.Math.Path.{subst}
 use Rattle.std.proofs.Math.ListN.{set, get_or-eq_default}
 use Rattle.std.specs.Prelude.{◌⊎◌}
@@ -24,7 +25,8 @@ use Rattle.flt_analyse.specs.Walk.{look, taken, nones, opening, outcome_at, spre
 use Rattle.flt_analyse.specs.declared.walk.Walk.{Walk}
 use Rattle.flt_analyse.proofs.Order.{Laws}
 use Rattle.flt_analyse.proofs.Sizes.{bit, bit_one, bit_none}
-use Rattle.flt_analyse.proofs.Stages.{found, flagged, left, due, AllProper, IsAwake, Below, Kept, Looked, Looking, spread_looking, led_later, left_none, left_some}
+use Rattle.flt_analyse.proofs.Stages.{found, flagged, left, due, AllProper, IsAwake, Below, Kept, Looked}
+use Rattle.flt_analyse.proofs.Stages.{Looking, spread_looking, led_later, left_none, left_some}
 
 -- ---- the least flag
 

@@ -1,10 +1,14 @@
 -- A file that is read is a sequence of pieces.
-use Rattle.std.proofs.Common.{◌≡◌, inr, ℕ, zero, suc, ◌-◌, ◌≤◌, ◌<◌, Bool, true, false, List, [], ◌∷◌, ◌++◌, drop, map, refl, sym, ap, subst, ◌∙◌, arith}
+use Rattle.std.proofs.Common.{◌≡◌, inr, ℕ, zero, suc, ◌-◌, ◌≤◌, ◌<◌, Bool, true, false, List}
+use Rattle.std.proofs.Common.{[], ◌∷◌, ◌++◌, drop, map, refl, sym, ap, subst, ◌∙◌, arith}
 use Rattle.std.proofs.lemmas.Bool.{eqb-true, ltb-false}
 use Rattle.std.specs.Prelude.{◌==◌, ◌||◌, nat_lt, if◌then◌else◌, Result, Ok, Err, Some, None}
 use Rattle.flt_c.proofs.Follow.{Reads, ended, byte, joined, differ, joins, moved, reads}
-use Rattle.flt_c.proofs.Pieced.{InBlock, InLine, InQuotes, block_at, block_on, star_closes, star_passes, star_stays, marked, marker_ends, marker_from, marking, nothing, whole}
-use Rattle.flt_c.proofs.Rests.{Rest, block_blank, block_dash, block_mark_step, block_marked_star, block_star_step, block_step, AfterQuoted, AfterEscaped, escaped_step, in_code_step, line_blank, line_dash, line_mark_step, line_step, line_text_step, quoted_step, slash_step}
+use Rattle.flt_c.proofs.Pieced.{InBlock, InLine, InQuotes, block_at, block_on, star_closes, star_passes}
+use Rattle.flt_c.proofs.Pieced.{star_stays, marked, marker_ends, marker_from, marking, nothing, whole}
+use Rattle.flt_c.proofs.Rests.{Rest, block_blank, block_dash, block_mark_step, block_marked_star, block_star_step}
+use Rattle.flt_c.proofs.Rests.{block_step, AfterQuoted, AfterEscaped, escaped_step, in_code_step, line_blank, line_dash}
+use Rattle.flt_c.proofs.Rests.{line_mark_step, line_step, line_text_step, quoted_step, slash_step}
 use Rattle.flt_c.specs.declared.fault.FaultKind.{FaultKind}
 use Rattle.flt_c.specs.declared.fault.FaultKind.TheVariants as k
 use Rattle.flt_c.specs.declared.front.Front.{Front}

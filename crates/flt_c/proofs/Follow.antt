@@ -12,7 +12,8 @@ use Rattle.flt_c.specs.declared.scan.Scanner.{Scanner}
 use Rattle.flt_c.specs.Fronts.{is_lenient, next_depth, next_front}
 use Rattle.flt_c.specs.Modes.{is_note, turn}
 use Rattle.flt_c.specs.Places.{past, past_continuation}
-use Rattle.flt_c.specs.Scan.{added, begins, blamed, continuation, end_by, join, join_by, last_line, open_at_end, read, step, step_by, with_front, ◌>>=◌}
+use Rattle.flt_c.specs.Scan.{added, begins, blamed, continuation, end_by, join, join_by, last_line}
+use Rattle.flt_c.specs.Scan.{open_at_end, read, step, step_by, with_front, ◌>>=◌}
 
 -- false isn't true
 pub differ : false ≡ true → ⊥

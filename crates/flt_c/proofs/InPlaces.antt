@@ -1,5 +1,6 @@
 -- Each byte of the annotations of a file, where they are laid, is in the file at the same line and column.
-use Rattle.std.proofs.Common.{◌≡◌, ◌⊎◌, inl, inr, ℕ, zero, suc, ◌+◌, ◌-◌, ◌≤◌, ◌<◌, Bool, true, false, List, [], ◌∷◌, ◌++◌, length, refl, sym, ap, subst, ◌∙◌, arith, append_assoc, append-nil, eq-eqb}
+use Rattle.std.proofs.Common.{◌≡◌, ◌⊎◌, inl, inr, ℕ, zero, suc, ◌+◌, ◌-◌, ◌≤◌, ◌<◌, Bool, true, false, List, [], ◌∷◌}
+use Rattle.std.proofs.Common.{◌++◌, length, refl, sym, ap, subst, ◌∙◌, arith, append_assoc, append-nil, eq-eqb}
 use Rattle.std.specs.Prelude.{◌==◌, if◌then◌else◌, nat_lt, map, replicate, Option, Some, None, Result, Ok, Err}
 use Rattle.flt_c.proofs.Beside.{Chain, chained}
 use Rattle.flt_c.proofs.Follow.{differ}
@@ -90,14 +91,20 @@ Goes file z line column = (there : Place) → there.line ≡ line → there.colu
 feeds_on : (file : List ℕ) (k : ℕ) (here : Place) (z : List ℕ) →
     here.column ≡ 1 → Goes file z (here.line + k) 1 → AreInC file here (replicate k 10 ++ z)
 feeds_on file zero here z c f = let same : here.line ≡ here.line + 0 = omega arith in f here same c
-feeds_on file (suc k) here z c f =
-    (inl (inr refl), feeds_on file k (past here 10) z refl (λ there l d. let same : there.line ≡ here.line + suc k = omega (arith, l) in f there same d))
+feeds_on file (suc k) here z c f = (
+  inl (inr refl),
+  feeds_on file k (past here 10) z refl
+      (λ there l d. let same : there.line ≡ here.line + suc k = omega (arith, l) in f there same d),
+)
 
 blanks_on : (file : List ℕ) (k : ℕ) (here : Place) (z : List ℕ) →
     Goes file z here.line (here.column + k) → AreInC file here (replicate k 32 ++ z)
 blanks_on file zero here z f = let same : here.column ≡ here.column + 0 = omega arith in f here refl same
-blanks_on file (suc k) here z f =
-    (inl (inl refl), blanks_on file k (past here 32) z (λ there l d. let same : there.column ≡ here.column + suc k = omega (arith, d) in f there l same))
+blanks_on file (suc k) here z f = (
+  inl (inl refl),
+  blanks_on file k (past here 32) z
+      (λ there l d. let same : there.column ≡ here.column + suc k = omega (arith, d) in f there l same),
+)
 
 gap_on : (file : List ℕ) (last : ℕ) (at here : Place) (z : List ℕ) →
     here.line ≡ last + 1 → here.column ≡ 1 → last < at.line → 1 ≤ at.column →
@@ -174,7 +181,8 @@ past_by at x =
     else record { line = at.line; column = at.column + 1; start = at.start + 1 }
 
 -- a byte of the text, and what is laid after it
-plain_on : (file : List ℕ) (here : Place) (on : LockLine) (b last : ℕ) (z : List ℕ) (lines : List Line) → (plain_byte on b == 10) ≡ (b == 10) →
+plain_on : (file : List ℕ) (here : Place) (on : LockLine) (b last : ℕ) (z : List ℕ) (lines : List Line) →
+    (plain_byte on b == 10) ≡ (b == 10) →
     IsInC file here b → AreInC file (past here b) (laid last (b == 10) z lines) →
     AreInC file here (plain_byte on b ∷ laid last (plain_byte on b == 10) z lines)
 plain_on file here on b last z lines e i r = (
@@ -193,7 +201,8 @@ laid_on file (p ∷ ps) line false at here last c w on m =
     let l : here.line ≡ p.place.line = m.1.0 ∙ ap (λ (q : Place). q.line) same in
     let k : here.column ≡ p.place.column = m.1.1 ∙ ap (λ (q : Place). q.column) same in
     let s : at.start ≡ p.place.start = ap (λ (q : Place). q.start) same in
-    plain_on file here (after_byte line p.byte) p.byte last (plain_from (after_byte line p.byte) (bytes_of ps)) (lines_of 0 (p.byte == 10) ps)
+    plain_on file here (after_byte line p.byte) p.byte last (plain_from (after_byte line p.byte) (bytes_of ps))
+    (lines_of 0 (p.byte == 10) ps)
     (same_end line p.byte) (is_in file p here c.1.0 l k)
     (laid_on file ps (after_byte line p.byte) (p.byte == 10) (beside p.place) (past here p.byte) last c.1.1 w
     (λ n h. let there : at.start ≤ n = omega (arith, s, h) in on n there)
@@ -232,7 +241,8 @@ abbrev is_ok : Result (List ℕ) PlaceFlaw → Bool
 is_ok (Ok z) = true
 is_ok (Err flaw) = false
 
-text_laid : (file text : List ℕ) (ps : List Placed) → annotations file ≡ Ok ps → (o : Option Place) → crowded 0 (put_all 0 empty ps).lines ≡ o →
+text_laid : (file text : List ℕ) (ps : List Placed) → annotations file ≡ Ok ps →
+    (o : Option Place) → crowded 0 (put_all 0 empty ps).lines ≡ o →
     laid_unless o (plain_text (put_all 0 empty ps)) ≡ Ok text → AreInC file first_place text
 text_laid file text ps a (Some at) w e = elim (differ (ap is_ok e)) [ ]
 text_laid file text ps a None w e =
@@ -261,7 +271,8 @@ read_laid : (file text : List ℕ) (r : Result (List Placed) Fault) →
     AreInC file first_place text
 read_laid file text (Err f) a e = elim (differ (ap is_ok e)) [ ]
 read_laid file text (Ok ps) a e =
-    grown_laid file text ps a (length (put_all 0 empty ps).bytes == length empty.bytes) (nat_lt max_text (length (put_all 0 empty ps).bytes)) e
+    grown_laid file text ps a (length (put_all 0 empty ps).bytes == length empty.bytes)
+    (nat_lt max_text (length (put_all 0 empty ps).bytes)) e
 
 size_laid : (file text : List ℕ) (x : Bool) →
     laid_after (if x then flawed 0 Large else grown 0 empty (after 0 empty (annotations file))) ≡ Ok text →

@@ -1,5 +1,6 @@
 -- Where reading is in a file, and what is known of a `*` that waits for the byte after it.
-use Rattle.std.proofs.Common.{◌≡◌, ℕ, suc, ◌+◌, ◌<◌, Bool, true, false, List, ◌∷◌, drop, length, refl, sym, ap, subst, ◌∙◌, arith, length-drop}
+use Rattle.std.proofs.Common.{◌≡◌, ℕ, suc, ◌+◌, ◌<◌, Bool, true, false, List, ◌∷◌, drop}
+use Rattle.std.proofs.Common.{length, refl, sym, ap, subst, ◌∙◌, arith, length-drop}
 use Rattle.std.proofs.lemmas.Bool.{eqb-true}
 use Rattle.std.specs.Prelude.{◌==◌, ◌||◌, if◌then◌else◌, slice_index, Result, Ok, Err, Some, None}
 use Rattle.flt_c.proofs.Follow.{differ, moved, joins}

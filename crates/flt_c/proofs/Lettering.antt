@@ -1,6 +1,7 @@
 -- What the loop over a file's letters keeps: the letters so far and those of the rest are the file's;
 -- and that letters are the file's bytes.
-use Rattle.std.proofs.Common.{◌≡◌, ℕ, zero, suc, ◌+◌, ◌-◌, ◌≤◌, ◌<◌, Bool, true, false, List, [], ◌∷◌, ◌++◌, length, drop, take, map, refl, sym, ap, ◌∙◌, arith, length-drop, get_or, append_assoc, subst}
+use Rattle.std.proofs.Common.{◌≡◌, ℕ, zero, suc, ◌+◌, ◌-◌, ◌≤◌, ◌<◌, Bool, true, false, List, [], ◌∷◌, ◌++◌, length}
+use Rattle.std.proofs.Common.{drop, take, map, refl, sym, ap, ◌∙◌, arith, length-drop, get_or, append_assoc, subst}
 use Rattle.std.specs.Prelude.{◌==◌, if◌then◌else◌, nat_lt, Option, Some, None, Result, Ok, Err}
 use Rattle.flt_c.proofs.Follow.{differ}
 use Rattle.flt_c.proofs.Reading.{not_zero, past_start, past_line, past_column}

@@ -1,5 +1,6 @@
 -- What is read over the marker of an annotation is what is read byte by byte.
-use Rattle.std.proofs.Common.{◌≡◌, ℕ, zero, ◌≤◌, Bool, true, false, List, [], ◌∷◌, ◌++◌, length, drop, take, map, refl, sym, ap, ◌∙◌, arith, length-drop}
+use Rattle.std.proofs.Common.{◌≡◌, ℕ, zero, ◌≤◌, Bool, true, false, List, [], ◌∷◌, ◌++◌, length}
+use Rattle.std.proofs.Common.{drop, take, map, refl, sym, ap, ◌∙◌, arith, length-drop}
 use Rattle.std.proofs.lemmas.Bool.{eqb-true}
 use Rattle.std.specs.Prelude.{◌==◌, ◌&&◌, not, Option, Some, Result, Ok}
 use Rattle.flt_c.proofs.Follow.{differ}
@@ -156,7 +157,8 @@ third s = there s (m.LineMark 102) (front_after_space s.front) (beside (beside (
 
 abbrev fourth : Scanner → Scanner
 fourth s =
-    there s (m.LineMark 108) (front_after_space s.front) (beside (beside (beside (beside s.at)))) (beside (beside (beside s.at))) s.at s.noted
+    there s (m.LineMark 108) (front_after_space s.front) (beside (beside (beside (beside s.at))))
+    (beside (beside (beside s.at))) s.at s.noted
 
 abbrev fifth : Scanner → Scanner
 fifth s = there s (m.LineMark 116) (front_after_space s.front) (five s.at) (beside (beside (beside (beside s.at)))) s.at s.noted

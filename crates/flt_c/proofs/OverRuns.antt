@@ -1,5 +1,6 @@
 -- What is read over a run of plain bytes is what is read byte by byte.
-use Rattle.std.proofs.Common.{◌≡◌, ℕ, zero, suc, ◌+◌, ◌-◌, ◌≤◌, ◌<◌, Bool, true, false, List, [], ◌∷◌, ◌++◌, length, drop, take, map, refl, sym, ap, subst, ◌∙◌, arith, append_assoc, length-drop}
+use Rattle.std.proofs.Common.{◌≡◌, ℕ, zero, suc, ◌+◌, ◌-◌, ◌≤◌, ◌<◌, Bool, true, false, List, [], ◌∷◌, ◌++◌, length}
+use Rattle.std.proofs.Common.{drop, take, map, refl, sym, ap, subst, ◌∙◌, arith, append_assoc, length-drop}
 use Rattle.std.proofs.lemmas.Bool.{eqb-true}
 use Rattle.std.specs.Prelude.{◌==◌, ◌&&◌, ◌||◌, not, nat_lt, if◌then◌else◌, Ok}
 use Rattle.flt_c.proofs.Follow.{differ}
@@ -20,7 +21,8 @@ use Rattle.flt_c.specs.InPlace.{laid}
 use Rattle.flt_c.specs.Laws.{beside}
 use Rattle.flt_c.specs.Letters.{is_aside, is_plain_comment, letter_of, letters_from, with_letters}
 use Rattle.flt_c.specs.Modes.{is_note, turn}
-use Rattle.flt_c.specs.Runs.{add_run, further, is_end, is_plain, is_run_aside, is_special, lettered, passed, plain_count, plain_in, plain_in_code, run_in, run_part}
+use Rattle.flt_c.specs.Runs.{add_run, further, is_end, is_plain, is_run_aside, is_special, lettered}
+use Rattle.flt_c.specs.Runs.{passed, plain_count, plain_in, plain_in_code, run_in, run_part}
 use Rattle.flt_c.specs.Scan.{added, continuation, read, step, with_front}
 use Rattle.flt_c.specs.Texts.{Text, after, put_all}
 

@@ -7,7 +7,8 @@ use Rattle.flt_c.specs.declared.front.Front.{Front}
 use Rattle.flt_c.specs.declared.front.Front.TheVariants as f
 use Rattle.flt_c.specs.Fronts.{depth_after, is_lenient}
 use Rattle.flt_c.specs.Modes.{following}
-use Rattle.flt_c.specs.Pieces.{ArePieces, EndsLine, IsBlockBody, IsLineBody, after_marker, is_quoted, is_slash_next, line_feed, note_after, read_at}
+use Rattle.flt_c.specs.Pieces.{ArePieces, EndsLine, IsBlockBody, IsLineBody, after_marker}
+use Rattle.flt_c.specs.Pieces.{is_quoted, is_slash_next, line_feed, note_after, read_at}
 
 -- ---- the rest of a comment
 

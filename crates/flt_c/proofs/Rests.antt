@@ -3,7 +3,9 @@ use Rattle.std.proofs.Common.{◌≡◌, inl, inr, ℕ, Bool, true, false, List,
 use Rattle.std.proofs.lemmas.Bool.{eqb-true}
 use Rattle.std.specs.Prelude.{◌==◌, not, nat_lt, if◌then◌else◌}
 use Rattle.flt_c.proofs.Follow.{differ}
-use Rattle.flt_c.proofs.Pieced.{InBlock, InLine, InQuotes, IsOfMarker, block_at, block_on, is_star_first, line_ends, line_on, marked, marker_after, marker_ends, marker_fails, marker_from, marker_goes_on, marking, next_of_marker, nothing, quote_closes, quote_ends, quote_on, read_none, read_whole, star_closes, star_passes, star_stays, whole}
+use Rattle.flt_c.proofs.Pieced.{InBlock, InLine, InQuotes, IsOfMarker, block_at, block_on, is_star_first, line_ends, line_on, marked}
+use Rattle.flt_c.proofs.Pieced.{marker_after, marker_ends, marker_fails, marker_from, marker_goes_on, marking, next_of_marker, nothing}
+use Rattle.flt_c.proofs.Pieced.{quote_closes, quote_ends, quote_on, read_none, read_whole, star_closes, star_passes, star_stays, whole}
 use Rattle.flt_c.specs.declared.front.Front.{Front}
 use Rattle.flt_c.specs.declared.front.Front.TheVariants as f
 use Rattle.flt_c.specs.declared.mode.Mode.{Mode}

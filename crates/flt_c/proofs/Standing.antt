@@ -1,5 +1,6 @@
 -- Each byte of the text of some files stands in C.
-use Rattle.std.proofs.Common.{◌≡◌, inl, inr, ℕ, suc, ◌+◌, Bool, true, false, List, [], ◌∷◌, ◌++◌, drop, get_or, length, refl, sym, ap, subst, ◌∙◌, arith, append_assoc, append-nil}
+use Rattle.std.proofs.Common.{◌≡◌, inl, inr, ℕ, suc, ◌+◌, Bool, true, false, List, [], ◌∷◌, ◌++◌, drop}
+use Rattle.std.proofs.Common.{get_or, length, refl, sym, ap, subst, ◌∙◌, arith, append_assoc, append-nil}
 use Rattle.std.specs.Prelude.{◌==◌, if◌then◌else◌, nat_lt, Result, Ok, Err}
 use Rattle.flt_c.proofs.Beside.{Chain, Follows, chained}
 use Rattle.flt_c.proofs.Follow.{differ}
@@ -52,8 +53,10 @@ begun : (files : List (List ℕ)) (at : Line) (fresh : Bool) (b : ℕ) (z : List
     IsAt (get_or files at.file []) p b → Stands files (beside_in (line_at at.file p)) (b == 10) z lines →
     Stands files at fresh (b ∷ z) ((if fresh then line_at at.file p ∷ [] else []) ++ lines)
 begun files at true b z lines p f i r = (inr (refl, f), (i, r))
-begun files at false b z lines p f i r =
-    (subst (λ (p : Place). IsAt (get_or files at.file []) p b) (sym f) i, subst (λ (p : Place). Stands files (beside_in (line_at at.file p)) (b == 10) z lines) (sym f) r)
+begun files at false b z lines p f i r = (
+  subst (λ (p : Place). IsAt (get_or files at.file []) p b) (sym f) i,
+  subst (λ (p : Place). Stands files (beside_in (line_at at.file p)) (b == 10) z lines) (sym f) r,
+)
 
 lines_with : (fresh : Bool) (lines more : List Line) (line : Line) →
     lines ++ ((if fresh then line ∷ [] else []) ++ more) ≡ (if fresh then lines ++ (line ∷ []) else lines) ++ more
@@ -169,7 +172,8 @@ each_byte_stands files text e = by (gathered files) refl e
           raw.bytes,
           (
             sym (ap (λ (t : Text). t.bytes) same),
-            subst (λ (ls : List Line). Stands files first_line true raw.bytes ls) (ap (λ (t : Text). t.lines) same) (gathered_stand files raw g),
+            subst (λ (ls : List Line). Stands files first_line true raw.bytes ls)
+                (ap (λ (t : Text). t.lines) same) (gathered_stand files raw g),
           ),
         )
     by (Err f) g e = elim (not_ok f text e) [ ]

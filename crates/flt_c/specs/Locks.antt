@@ -1,5 +1,5 @@
--- Lines of annotations that declare a lock by its expression in C, `lock KIND NAME = EXPRESSION`. The text has the expression as blanks. This
--- project's own rule.
+-- Lines of annotations that declare a lock by its expression in C, `lock KIND NAME = EXPRESSION`. The text has the expression as
+-- blanks. This project's own rule.
 use Rattle.std.specs.Prelude.{ℕ, ◌+◌, Bool, true, false, ◌||◌, if◌then◌else◌, ◌==◌, List, [], ◌∷◌, length, slice_index, nat_lt, codes}
 use Rattle.std.specs.Char.{is_ascii_alphanumeric}
 use Rattle.flt_c.specs.declared.lock.LockLine.{LockLine}

@@ -1,6 +1,7 @@
 -- A C file as a sequence of pieces, and the text that its comments make. The C standard's translation phases 2 and 3; the marker is this
 -- project's own rule. It knows nothing of how a file is read byte by byte.
-use Rattle.std.specs.Prelude.{◌≡◌, ℕ, zero, suc, ◌-◌, Bool, true, false, not, ◌&&◌, ◌||◌, if◌then◌else◌, ◌==◌, nat_lt, List, [], ◌∷◌, ◌++◌, codes, map, Option, Some, None, Ok}
+use Rattle.std.specs.Prelude.{◌≡◌, ℕ, zero, suc, ◌-◌, Bool, true, false, not, ◌&&◌, ◌||◌, if◌then◌else◌}
+use Rattle.std.specs.Prelude.{◌==◌, nat_lt, List, [], ◌∷◌, ◌++◌, codes, map, Option, Some, None, Ok}
 use Rattle.flt_c.specs.declared.front.Front.{Front}
 use Rattle.flt_c.specs.declared.front.Front.TheVariants.{Nothing}
 use Rattle.flt_c.specs.declared.place.Placed.{Placed}

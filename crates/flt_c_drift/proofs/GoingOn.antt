@@ -5,9 +5,11 @@ use Rattle.flt_c.specs.declared.letter.Part.{Part}
 use Rattle.flt_c.specs.declared.letter.Part.TheVariants as part
 use Rattle.flt_c.specs.declared.lock.LockLine.{LockLine}
 use Rattle.flt_c.specs.declared.lock.LockLine.TheVariants as l
-use Rattle.flt_c_drift.specs.Locks.{LockState, argument_with, coded, is_no_argument, is_same_line, is_still, lined, noted as line_noted, read, taken_by}
+use Rattle.flt_c_drift.specs.Locks.{LockState, argument_with, coded, is_no_argument, is_same_line}
+use Rattle.flt_c_drift.specs.Locks.{is_still, lined, noted as line_noted, read, taken_by}
 use Rattle.flt_c_drift.specs.Parts.{is_aside, is_blank, is_code, is_note}
-use Rattle.flt_c_drift.specs.Reading.{State, annotated, begun, cut, end_word, ended, goes_on, is_under_way, keeps_line, keeps_stage, keeps_word, left, locked, marked, noted, refused, turned, with_locks, with_option}
+use Rattle.flt_c_drift.specs.Reading.{State, annotated, begun, cut, end_word, ended, goes_on, is_under_way, keeps_line, keeps_stage}
+use Rattle.flt_c_drift.specs.Reading.{keeps_word, left, locked, marked, noted, refused, turned, with_locks, with_option}
 use Rattle.flt_c_drift.specs.declared.mark.MarkKind.TheVariants as k
 use Rattle.flt_c_drift.specs.declared.lock.Argument.{Argument}
 use Rattle.flt_c_drift.specs.declared.lock.Argument.TheVariants as argument

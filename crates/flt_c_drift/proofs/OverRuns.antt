@@ -1,5 +1,6 @@
 -- What is read over a run of letters is what is read letter by letter.
-use Rattle.std.proofs.Common.{◌≡◌, ℕ, zero, suc, ◌+◌, ◌≤◌, ◌<◌, Bool, true, false, List, [], ◌∷◌, ◌++◌, length, drop, take, map, refl, sym, ap, subst, ◌∙◌, arith, append_assoc}
+use Rattle.std.proofs.Common.{◌≡◌, ℕ, zero, suc, ◌+◌, ◌≤◌, ◌<◌, Bool, true, false, List, [], ◌∷◌, ◌++◌}
+use Rattle.std.proofs.Common.{length, drop, take, map, refl, sym, ap, subst, ◌∙◌, arith, append_assoc}
 use Rattle.std.proofs.lemmas.Bool.{eqb-true}
 use Rattle.std.proofs.lemmas.List.{drop-drop}
 use Rattle.std.specs.Prelude.{◌==◌, ◌&&◌, ◌||◌, not, if◌then◌else◌}
@@ -9,8 +10,10 @@ use Rattle.flt_c.specs.declared.letter.Part.TheVariants as part
 use Rattle.flt_c_drift.proofs.GoingOn.{both, differ, not_true, or_false, taken_first, turn_stays, word_stays}
 use Rattle.flt_c_drift.specs.Locks.{is_no_argument, is_nothing, is_other, is_still}
 use Rattle.flt_c_drift.specs.Parts.{is_blank, is_note, is_of_word, is_word_byte, same_part}
-use Rattle.flt_c_drift.specs.Reading.{State, coded, ended, goes_on, grown, is_empty, is_under_way, keeps_line, keeps_stage, keeps_word, line_on, lined, marks_from, marks_of, passed, seen, spoken_with, taken, taken_as, turned}
-use Rattle.flt_c_drift.specs.Runs.{is_calm, is_code_word, is_idle_in, is_in, is_note_word, run_count, run_in, run_taken, with_word, word_run}
+use Rattle.flt_c_drift.specs.Reading.{State, coded, ended, goes_on, grown, is_empty, is_under_way, keeps_line, keeps_stage, keeps_word}
+use Rattle.flt_c_drift.specs.Reading.{line_on, lined, marks_from, marks_of, passed, seen, spoken_with, taken, taken_as, turned}
+use Rattle.flt_c_drift.specs.Runs.{is_calm, is_code_word, is_idle_in, is_in, is_note_word}
+use Rattle.flt_c_drift.specs.Runs.{run_count, run_in, run_taken, with_word, word_run}
 use Rattle.flt_c_drift.specs.declared.reader.Code.{Code}
 use Rattle.flt_c_drift.specs.declared.reader.Line.{Line}
 use Rattle.flt_c_drift.specs.declared.reader.Spoken.{Spoken}
@@ -46,7 +49,8 @@ no_word b h false e = refl
 
 -- ---- the line and the code
 
-line_stays : (p : Part) (b : ℕ) (line : Line) → line.fresh ≡ false → (b == 10) ≡ false → (line.remark || is_note p && b == 35) ≡ line.remark →
+line_stays : (p : Part) (b : ℕ) (line : Line) → line.fresh ≡ false → (b == 10) ≡ false →
+    (line.remark || is_note p && b == 35) ≡ line.remark →
     lined p b line ≡ line
 line_stays p b line f n m =
     let on : lined p b line ≡ line_on p b line = rw n refl in
@@ -160,9 +164,11 @@ seen_as line letter p e n = rw (e, n) refl
 idle_by : (at : ℕ) (letter : Letter) (s : State) (p : Part) → IsIdle s → letter.part ≡ p → is_idle_in p letter.byte ≡ true →
     taken at letter s ≡ s
 idle_by at letter s part.Other i e h =
-    ap (λ q. taken_as at q letter.byte s) (seen_as s.line letter part.Other e (and_false s.line.remark)) ∙ idle_as at part.Other letter.byte s i h
+    ap (λ q. taken_as at q letter.byte s) (seen_as s.line letter part.Other e (and_false s.line.remark))
+    ∙ idle_as at part.Other letter.byte s i h
 idle_by at letter s part.Code i e h =
-    ap (λ q. taken_as at q letter.byte s) (seen_as s.line letter part.Code e (and_false s.line.remark)) ∙ idle_as at part.Code letter.byte s i h
+    ap (λ q. taken_as at q letter.byte s) (seen_as s.line letter part.Code e (and_false s.line.remark))
+    ∙ idle_as at part.Code letter.byte s i h
 idle_by at letter s _ i e h = elim (differ h) [ ]
 
 -- ---- letters of a word

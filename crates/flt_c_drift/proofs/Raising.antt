@@ -1,7 +1,9 @@
 -- The flags that marks raise, one after the other, say of each number whether a mark says something of it.
-use Rattle.std.proofs.Common.{◌≡◌, ◌+◌, ◌<◌, ◌≤◌, ℕ, Bool, true, false, List, [], ◌∷◌, ◌++◌, arith, ap, drop, get_or, length, refl, set, sym, subst, ◌∙◌}
+use Rattle.std.proofs.Common.{◌≡◌, ◌+◌, ◌<◌, ◌≤◌, ℕ, Bool, true, false, List, [], ◌∷◌, ◌++◌}
+use Rattle.std.proofs.Common.{arith, ap, drop, get_or, length, refl, set, sym, subst, ◌∙◌}
 use Rattle.std.proofs.lemmas.Bool.{eqb-false, eqb-true, ltb-false}
-use Rattle.std.proofs.lemmas.List.{append-nil, at_drop_more, drop_all, get_or-replicate, get_or-set_other, get_or-set_same, length-replicate, length-set}
+use Rattle.std.proofs.lemmas.List.{append-nil, at_drop_more, drop_all, get_or-replicate, get_or-set_other}
+use Rattle.std.proofs.lemmas.List.{get_or-set_same, length-replicate, length-set}
 use Rattle.std.proofs.lemmas.List.Prefix.{front_from_reads}
 use Rattle.std.specs.Prelude.{◌==◌, ◌||◌, if◌then◌else◌, nat_lt, replicate, Option, Some, None}
 use Rattle.flt_c_drift.proofs.Flagged.{flag_of, length_of}
@@ -45,7 +47,10 @@ or_both true y z = refl
 or_both false y z = refl
 
 not_below : (n c : ℕ) (found : List Bool) → c < length found → nat_lt n (length found) ≡ false → (x : Bool) → (n == c) ≡ x → x ≡ false
-not_below n c found below e true h = let is = eqb-true n c h in let le = ltb-false n (length found) e in absurd (omega (arith, below, is, le))
+not_below n c found below e true h =
+    let is = eqb-true n c h in
+    let le = ltb-false n (length found) e in
+    absurd (omega (arith, below, is, le))
 not_below n c found below e false h = refl
 
 set_by : (n c : ℕ) (found : List Bool) → c < length found → (x : Bool) → (n == c) ≡ x →

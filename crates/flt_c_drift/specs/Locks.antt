@@ -1,6 +1,7 @@
 -- The locks of a file: the expressions with which annotations declare them, `lock KIND NAME = EXPRESSION`, and the first arguments of the
 -- calls of locks in its code. This project's own rule.
-use Rattle.std.specs.Prelude.{ℕ, ◌+◌, ◌-◌, Bool, true, false, not, ◌&&◌, ◌||◌, if◌then◌else◌, ◌==◌, nat_lt, List, [], ◌∷◌, ◌++◌, length, map, Option, Some, None}
+use Rattle.std.specs.Prelude.{ℕ, ◌+◌, ◌-◌, Bool, true, false, not, ◌&&◌, ◌||◌, if◌then◌else◌, ◌==◌}
+use Rattle.std.specs.Prelude.{nat_lt, List, [], ◌∷◌, ◌++◌, length, map, Option, Some, None}
 use Rattle.std.specs.Str.{bytes_eq}
 use Rattle.flt_c.specs.Locks.{after, is_expression}
 use Rattle.flt_c.specs.declared.letter.Part.{Part}

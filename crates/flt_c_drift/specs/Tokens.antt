@@ -1,5 +1,6 @@
 -- Tokens of C: an expression without its blanks, comments and enclosing brackets. This project's own rule.
-use Rattle.std.specs.Prelude.{ℕ, zero, suc, ◌+◌, ◌-◌, Bool, true, false, ◌&&◌, ◌||◌, if◌then◌else◌, ◌==◌, nat_lt, List, [], ◌∷◌, ◌++◌, drop, length, take}
+use Rattle.std.specs.Prelude.{ℕ, zero, suc, ◌+◌, ◌-◌, Bool, true, false, ◌&&◌, ◌||◌, if◌then◌else◌}
+use Rattle.std.specs.Prelude.{◌==◌, nat_lt, List, [], ◌∷◌, ◌++◌, drop, length, take}
 use Rattle.flt_c_drift.specs.Parts.{is_blank, is_word_byte}
 use Rattle.flt_c_drift.specs.declared.tokens.Brackets.{Brackets}
 use Rattle.flt_c_drift.specs.declared.tokens.Brackets.TheVariants as bracket

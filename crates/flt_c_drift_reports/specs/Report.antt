@@ -1,6 +1,7 @@
 -- The reports of drifts. This project's own program.
 use Rattle.std.specs.List.{list_any}
-use Rattle.std.specs.Prelude.{ℕ, zero, suc, Bool, ◌-◌, ◌==◌, ◌||◌, List, [], ◌∷◌, ◌++◌, codes, decimal, drop, flat_map, length, map, nat_lt, take, if◌then◌else◌, Option, Some, None}
+use Rattle.std.specs.Prelude.{ℕ, zero, suc, Bool, ◌-◌, ◌==◌, ◌||◌, List, [], ◌∷◌, ◌++◌, codes, decimal, drop}
+use Rattle.std.specs.Prelude.{flat_map, length, map, nat_lt, take, if◌then◌else◌, Option, Some, None}
 use Rattle.flt_c_drift.specs.declared.drift.Drift.{Drift}
 use Rattle.flt_c_drift.specs.declared.drift.DriftKind.{DriftKind}
 use Rattle.flt_c_drift.specs.declared.drift.Span.{Span}

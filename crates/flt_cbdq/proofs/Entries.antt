@@ -1,5 +1,6 @@
 -- Lists of nodes, seen as lists of entries: what a change of the one is to the other.
-use Rattle.std.proofs.Common.{◌≡◌, ◌≢◌, ℕ, zero, suc, ◌+◌, ◌≤◌, Bool, true, false, List, [], ◌∷◌, ◌++◌, length, map, get_or, set, take, drop, find, replicate, Option, Some, None, refl, sym, ap, ◌∙◌, subst, arith, add-one, Contains}
+use Rattle.std.proofs.Common.{◌≡◌, ◌≢◌, ℕ, zero, suc, ◌+◌, ◌≤◌, Bool, true, false, List, [], ◌∷◌, ◌++◌, length, map, get_or, set}
+use Rattle.std.proofs.Common.{take, drop, find, replicate, Option, Some, None, refl, sym, ap, ◌∙◌, subst, arith, add-one, Contains}
 use Rattle.std.proofs.lemmas.List.{map-set, map-append, take-map, drop-map, set-get_or, get_or_past}
 use Rattle.std.proofs.lemmas.List.Elements.{Contains-append_right}
 use Rattle.std.proofs.lemmas.Option.{none-some, same_Some}

@@ -1,5 +1,6 @@
 //! The queues themselves.
-ghost use Rattle.std.specs.Prelude.{◌≡◌, ◌≢◌, ◌≤◌, true, false, [], ◌∷◌, ◌++◌, ◌↔◌, IfOk, OnOk, OnErr, MatchResult, Err, drop, replicate, set, find, slice_get, option_copied};
+ghost use Rattle.std.specs.Prelude.{◌≡◌, ◌≢◌, ◌≤◌, true, false, [], ◌∷◌, ◌++◌, ◌↔◌, IfOk, OnOk, OnErr, MatchResult};
+ghost use Rattle.std.specs.Prelude.{Err, drop, replicate, set, find, slice_get, option_copied};
 ghost use Rattle.flt_cbdq.specs.Queues.{queue_of, is_disabled, with_queue, has_visit, is_of, front_of, without_first, entry_in};
 ghost use Rattle.flt_cbdq.specs.declared.fault.InsertFault.TheVariants as fault;
 

@@ -1,5 +1,6 @@
 -- What is spelled so is read.
-use Rattle.std.proofs.Common.{◌≡◌, ◌<◌, ◌≤◌, ◌+◌, ◌/◌, ◌%◌, ℕ, zero, suc, Bool, true, false, List, [], ◌∷◌, ◌++◌, length, refl, sym, ap, arith, ◌∙◌, append_assoc, append-nil, length-append}
+use Rattle.std.proofs.Common.{◌≡◌, ◌<◌, ◌≤◌, ◌+◌, ◌/◌, ◌%◌, ℕ, zero, suc, Bool, true, false, List, [], ◌∷◌, ◌++◌}
+use Rattle.std.proofs.Common.{length, refl, sym, ap, arith, ◌∙◌, append_assoc, append-nil, length-append}
 use Rattle.std.specs.Prelude.{not, ◌==◌, nat_lt, if◌then◌else◌, Ok, Some, None, codes}
 use Rattle.std.specs.List.{list_all}
 use Rattle.std.specs.Str.{bytes_eq}
@@ -12,8 +13,11 @@ use Rattle.flt_rules.specs.declared.held.HeldLock.{HeldLock}
 use Rattle.flt_abs.specs.Sets.{StatusSet, status_bits, mode_bits, draining_bits}
 use Rattle.flt_abs.specs.State.{State, is_proper}
 use Rattle.flt_cert.specs.Text.{Text, lines_of, decimal}
-use Rattle.flt_cert.specs.Format.{Point, Certificate, is_point, is_callback, is_certificate, digits, access_text, lock_text, more_locks, locks_text, state_text, point_text, point_line, callback_line, last_line, point_lines, one_callback, callback_lines, full_lines_for, joined, full_spelling}
-use Rattle.flt_cert.specs.Reading.{Place, and_then, line, point, points_from, points, callback, callbacks_from, closed, is_last, first, certificate, start}
+use Rattle.flt_cert.specs.Format.{Point, Certificate, is_point, is_callback, is_certificate, digits, access_text, lock_text}
+use Rattle.flt_cert.specs.Format.{more_locks, locks_text, state_text, point_text, point_line, callback_line, last_line}
+use Rattle.flt_cert.specs.Format.{point_lines, one_callback, callback_lines, full_lines_for, joined, full_spelling}
+use Rattle.flt_cert.specs.Reading.{Place, and_then, line, point, points_from, points, callback}
+use Rattle.flt_cert.specs.Reading.{callbacks_from, closed, is_last, first, certificate, start}
 use Rattle.flt_cert.proofs.FieldLaws.{point_again, head_again}
 
 -- ---- lines

@@ -1,9 +1,11 @@
 -- What is read from a line is spelled so, and what is spelled so is read.
-use Rattle.std.proofs.Common.{◌≡◌, ◌<◌, ◌≤◌, ◌+◌, ◌-◌, ◌*◌, ◌/◌, ◌%◌, ℕ, zero, suc, Bool, true, false, List, [], ◌∷◌, ◌++◌, length, take, drop, refl, sym, ap, subst, arith, ◌∙◌, append_assoc, append-nil}
+use Rattle.std.proofs.Common.{◌≡◌, ◌<◌, ◌≤◌, ◌+◌, ◌-◌, ◌*◌, ◌/◌, ◌%◌, ℕ, zero, suc, Bool, true, false, List, [], ◌∷◌}
+use Rattle.std.proofs.Common.{◌++◌, length, take, drop, refl, sym, ap, subst, arith, ◌∙◌, append_assoc, append-nil}
 use Rattle.std.specs.Prelude.{not, ◌==◌, ◌&&◌, ◌||◌, nat_lt, if◌then◌else◌, Option, Some, None, codes}
 use Rattle.std.specs.List.{list_all}
 use Rattle.std.specs.Str.{bytes_eq}
-use Rattle.std.proofs.lemmas.Bool.{and_parts, or_parts, or_from, eqb-true, eq-eqb, ne_eqb, ltb-true, ltb-false, lt-ltb, le-ltb, not-true, agree_below, agree_below_at}
+use Rattle.std.proofs.lemmas.Bool.{and_parts, or_parts, or_from, eqb-true, eq-eqb, ne_eqb, ltb-true}
+use Rattle.std.proofs.lemmas.Bool.{ltb-false, lt-ltb, le-ltb, not-true, agree_below, agree_below_at}
 use Rattle.std.proofs.lemmas.Slice.Eq.{bytes_eq-Decides}
 use Rattle.std.proofs.lemmas.List.{take-append-drop}
 use Rattle.flt_rules.specs.Call.{place_of, lock_at}
@@ -14,12 +16,15 @@ use Rattle.flt_rules.specs.declared.held.Access.TheVariants.{Exclusive, Shared}
 use Rattle.flt_rules.specs.declared.held.HeldLock.{HeldLock}
 use Rattle.flt_abs.specs.Locks.{are_locks}
 use Rattle.flt_abs.specs.LockLaws.{lock_at-place_of, place_of-lock_at, turned, eight_at_most}
-use Rattle.flt_abs.specs.Sets.{StatusSet, ModeSet, DrainingSet, status_bits, mode_bits, draining_bits, is_possible, is_mode_possible, is_draining_possible}
+use Rattle.flt_abs.specs.Sets.{StatusSet, ModeSet, DrainingSet, status_bits, mode_bits, draining_bits}
+use Rattle.flt_abs.specs.Sets.{is_possible, is_mode_possible, is_draining_possible}
 use Rattle.flt_abs.specs.SetLaws.{status_bits-statuses, mode_bits-modes, draining_bits-draining}
 use Rattle.flt_abs.specs.State.{State, state_of, is_proper}
 use Rattle.flt_cert.specs.Text.{Text, decimal, after, count_of, leading, digit_of, ◌>>=◌}
-use Rattle.flt_cert.specs.Format.{Point, is_point, digits, access_text, lock_text, more_locks, locks_text, state_text, point_text, point_line, callback_line}
-use Rattle.flt_cert.specs.Reading.{status_of, sets_from, front_of, byte_at, modes_of, draining_of, blank, lock_of, access_at, with_lock, locks_from, locks_of, made, state_at, point_of, head_of}
+use Rattle.flt_cert.specs.Format.{Point, is_point, digits, access_text, lock_text, more_locks}
+use Rattle.flt_cert.specs.Format.{locks_text, state_text, point_text, point_line, callback_line}
+use Rattle.flt_cert.specs.Reading.{status_of, sets_from, front_of, byte_at, modes_of, draining_of, blank, lock_of}
+use Rattle.flt_cert.specs.Reading.{access_at, with_lock, locks_from, locks_of, made, state_at, point_of, head_of}
 
 -- ---- steps that may fail
 

@@ -1,9 +1,12 @@
 -- A fault depends on no line after the one that it names.
-use Rattle.std.proofs.Common.{◌≡◌, ◌<◌, ◌≤◌, ◌+◌, ℕ, zero, suc, Bool, true, false, List, [], ◌∷◌, ◌++◌, length, take, refl, sym, ap, subst, arith, ◌∙◌}
+use Rattle.std.proofs.Common.{◌≡◌, ◌<◌, ◌≤◌, ◌+◌, ℕ, zero, suc, Bool, true, false, List, []}
+use Rattle.std.proofs.Common.{◌∷◌, ◌++◌, length, take, refl, sym, ap, subst, arith, ◌∙◌}
 use Rattle.std.specs.Prelude.{if◌then◌else◌, Ok, Err, Option, Some, None}
 use Rattle.flt_cert.specs.Text.{Text, lines_of}
 use Rattle.flt_cert.specs.Format.{Point, Certificate, is_certificate, joined, full_spelling, IsFirstFullFault}
-use Rattle.flt_cert.specs.Reading.{Place, Outcome, and_then, line, line_at, asked, head_of, point_of, point, points_from, points, callback, callbacks_from, callbacks, closed, closed_by, finished, is_last, is_first, first, certificate, start, Fails, IsFullFaultOf}
+use Rattle.flt_cert.specs.Reading.{Place, Outcome, and_then, line, line_at, asked, head_of, point_of, point, points_from}
+use Rattle.flt_cert.specs.Reading.{points, callback, callbacks_from, callbacks, closed, closed_by, finished, is_last}
+use Rattle.flt_cert.specs.Reading.{is_first, first, certificate, start, Fails, IsFullFaultOf}
 use Rattle.flt_cert.specs.declared.fault.CertFault.{CertFault}
 use Rattle.flt_cert.specs.declared.fault.CertFault.TheVariants.{Line, OutOfMemory}
 use Rattle.flt_cert.proofs.Sound.{fault_begun, read_lines, joined_lines}

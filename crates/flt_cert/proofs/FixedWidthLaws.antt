@@ -1,11 +1,14 @@
 -- Lines of fixed width spell states that hold no lock.
-use Rattle.std.proofs.Common.{◌≡◌, ◌<◌, ◌≤◌, ◌+◌, ◌-◌, ◌∙◌, ℕ, suc, Bool, true, false, List, [], ◌∷◌, ◌++◌, length, get_or, take, drop, refl, sym, ap, subst, arith, append_assoc}
+use Rattle.std.proofs.Common.{◌≡◌, ◌<◌, ◌≤◌, ◌+◌, ◌-◌, ◌∙◌, ℕ, suc, Bool, true, false, List, [], ◌∷◌, ◌++◌}
+use Rattle.std.proofs.Common.{length, get_or, take, drop, refl, sym, ap, subst, arith, append_assoc}
 use Rattle.std.specs.Prelude.{◌==◌, ◌&&◌, nat_lt, Some, None, IsTrue, IsFalse, IsSome}
 use Rattle.std.specs.List.{list_all}
 use Rattle.std.proofs.lemmas.Bool.{and_parts, and_from, eqb-true, eq-eqb, ltb-true, ltb-false, lt-ltb, agree_below, agree_below_at}
-use Rattle.std.proofs.lemmas.List.{length-take-le, length-drop, length-map, take-append-drop, get_or-take, get_or-drop, drop-drop, drop_more, drop_all}
+use Rattle.std.proofs.lemmas.List.{length-take-le, length-drop, length-map, take-append-drop}
+use Rattle.std.proofs.lemmas.List.{get_or-take, get_or-drop, drop-drop, drop_more, drop_all}
 use Rattle.std.proofs.lemmas.List.Folds.{list_all-append}
-use Rattle.flt_abs.specs.Sets.{StatusSet, ModeSet, DrainingSet, statuses, modes, draining, status_bits, mode_bits, draining_bits, is_possible, is_mode_possible, is_draining_possible}
+use Rattle.flt_abs.specs.Sets.{StatusSet, ModeSet, DrainingSet, statuses, modes, draining, status_bits, mode_bits}
+use Rattle.flt_abs.specs.Sets.{draining_bits, is_possible, is_mode_possible, is_draining_possible}
 use Rattle.flt_abs.specs.SetLaws.{below_eight, below_four}
 use Rattle.flt_abs.specs.State.{state_of, is_proper}
 use Rattle.flt_cert.specs.FixedWidth.{least, greatest, Within, InBounds}

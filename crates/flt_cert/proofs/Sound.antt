@@ -1,5 +1,6 @@
 -- What is read is spelled so, and the lines before a fault begin a certificate.
-use Rattle.std.proofs.Common.{◌≡◌, ◌<◌, ◌+◌, ℕ, zero, suc, Bool, true, false, List, [], ◌∷◌, ◌++◌, length, take, refl, sym, ap, subst, arith, ◌∙◌, append_assoc, append-nil, length-append}
+use Rattle.std.proofs.Common.{◌≡◌, ◌<◌, ◌+◌, ℕ, zero, suc, Bool, true, false, List, [], ◌∷◌, ◌++◌, length, take}
+use Rattle.std.proofs.Common.{refl, sym, ap, subst, arith, ◌∙◌, append_assoc, append-nil, length-append}
 use Rattle.std.specs.Prelude.{◌==◌, nat_lt, if◌then◌else◌, Ok, Err, Option, Some, None}
 use Rattle.std.specs.List.{list_all}
 use Rattle.std.specs.Str.{bytes_eq}
@@ -9,8 +10,10 @@ use Rattle.std.proofs.lemmas.Slice.Eq.{bytes_eq-Decides}
 use Rattle.std.proofs.Math.Seq.{take-append_seam}
 use Rattle.flt_cert.specs.Text as text_spec
 use Rattle.flt_cert.specs.Text.{Text, lines_of}
-use Rattle.flt_cert.specs.Format.{Point, Certificate, is_point, is_callback, is_certificate, point_line, callback_line, first_line, last_line, point_lines, one_callback, callback_lines, full_lines_for, joined}
-use Rattle.flt_cert.specs.Reading.{Place, Outcome, and_then, line, line_at, asked, head_of, point_of, point, points_from, points, callback, callbacks_from, callbacks, closed, closed_by, finished, is_last, is_first, first, certificate, start}
+use Rattle.flt_cert.specs.Format.{Point, Certificate, is_point, is_callback, is_certificate, point_line, callback_line, first_line}
+use Rattle.flt_cert.specs.Format.{last_line, point_lines, one_callback, callback_lines, full_lines_for, joined}
+use Rattle.flt_cert.specs.Reading.{Place, Outcome, and_then, line, line_at, asked, head_of, point_of, point, points_from, points, callback}
+use Rattle.flt_cert.specs.Reading.{callbacks_from, callbacks, closed, closed_by, finished, is_last, is_first, first, certificate, start}
 use Rattle.flt_cert.proofs.FieldLaws.{point_takes, head_takes}
 
 -- ---- outcomes

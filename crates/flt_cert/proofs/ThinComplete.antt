@@ -1,5 +1,6 @@
 -- What spells a thin certificate is read.
-use Rattle.std.proofs.Common.{◌≡◌, ◌<◌, ◌≤◌, ◌+◌, ◌-◌, ℕ, zero, suc, true, false, List, [], ◌∷◌, ◌++◌, length, refl, sym, ap, arith, ◌∙◌, append_assoc, append-nil, length-append}
+use Rattle.std.proofs.Common.{◌≡◌, ◌<◌, ◌≤◌, ◌+◌, ◌-◌, ℕ, zero, suc, true, false, List, [], ◌∷◌, ◌++◌, length}
+use Rattle.std.proofs.Common.{refl, sym, ap, arith, ◌∙◌, append_assoc, append-nil, length-append}
 use Rattle.std.specs.Prelude.{nat_lt, Ok, Some, None, codes}
 use Rattle.std.specs.List.{list_all}
 use Rattle.std.specs.Str.{bytes_eq}
@@ -9,8 +10,10 @@ use Rattle.flt_cert.specs.Format.{Point, is_point, point_line, callback_line, la
 use Rattle.flt_cert.specs.Reading.{Place, line, closed, start}
 use Rattle.flt_cert.specs.Thin.{Slot, Thin, is_slot, is_thin_callback, is_thin}
 use Rattle.flt_cert.specs.ThinFormat.{slot_lines, one_thin_callback, thin_callback_lines, first_thin_line, thin_lines_for, thin_spelling}
-use Rattle.flt_cert.specs.ThinReading.{number_at, given_at, nothing_given, padded, with_given, slots_from, slots, thin_callback, is_thin_end, thin_callbacks_from, thin_callbacks, first_thin, thin_certificate}
-use Rattle.flt_cert.proofs.Complete.{AllEnded, ended_front, no_lines, begins_with, both_ended, lines_joined, point_ended, callback_ended, point_read}
+use Rattle.flt_cert.specs.ThinReading.{number_at, given_at, nothing_given, padded, with_given, slots_from, slots, thin_callback}
+use Rattle.flt_cert.specs.ThinReading.{is_thin_end, thin_callbacks_from, thin_callbacks, first_thin, thin_certificate}
+use Rattle.flt_cert.proofs.Complete.{AllEnded, ended_front, no_lines, begins_with, both_ended}
+use Rattle.flt_cert.proofs.Complete.{lines_joined, point_ended, callback_ended, point_read}
 use Rattle.flt_cert.proofs.FieldLaws.{head_again}
 use Rattle.flt_cert.proofs.GivenLaws.{given_again, none_given}
 

@@ -6,11 +6,13 @@ use Rattle.flt_cert.specs.Format.{Point, joined}
 use Rattle.flt_cert.specs.Reading.{Place, Outcome, and_then, line, asked, head_of, point, closed, closed_by, start, Fails}
 use Rattle.flt_cert.specs.Thin.{Slot, Thin, is_thin}
 use Rattle.flt_cert.specs.ThinFormat.{thin_spelling, IsFirstThinFault}
-use Rattle.flt_cert.specs.ThinReading.{given_at, padded, with_given, if_given, slots_from, slots, thin_callback, is_thin_end, thin_finished, thin_callbacks_from, thin_callbacks, is_first_thin, first_thin, thin_certificate, IsThinFaultOf}
+use Rattle.flt_cert.specs.ThinReading.{given_at, padded, with_given, if_given, slots_from, slots, thin_callback, is_thin_end, thin_finished}
+use Rattle.flt_cert.specs.ThinReading.{thin_callbacks_from, thin_callbacks, is_first_thin, first_thin, thin_certificate, IsThinFaultOf}
 use Rattle.flt_cert.specs.declared.fault.CertFault.{CertFault}
 use Rattle.flt_cert.specs.declared.fault.CertFault.TheVariants.{Line, OutOfMemory}
 use Rattle.flt_cert.proofs.Sound.{joined_lines}
-use Rattle.flt_cert.proofs.FirstFault.{place, Late, then_late, line_late, asked_late, point_late, both, Alike, then_same, line_same, asked_same, point_same, Told, then_told}
+use Rattle.flt_cert.proofs.FirstFault.{place, Late, then_late, line_late, asked_late, point_late, both, Alike}
+use Rattle.flt_cert.proofs.FirstFault.{then_same, line_same, asked_same, point_same, Told, then_told}
 use Rattle.flt_cert.proofs.ThinSound.{fault_begun, read_lines}
 use Rattle.flt_cert.proofs.ThinComplete.{lines_read, lines_spelled}
 

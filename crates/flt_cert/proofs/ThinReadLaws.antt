@@ -1,11 +1,13 @@
 -- The steps of reading thin certificates, as the loops make them.
-use Rattle.std.proofs.Common.{◌≡◌, ◌<◌, ◌≤◌, ◌+◌, ◌-◌, ℕ, zero, suc, true, false, List, [], ◌∷◌, ◌++◌, length, refl, ap, sym, ◌∙◌, arith, append-nil, append_assoc, length-append}
+use Rattle.std.proofs.Common.{◌≡◌, ◌<◌, ◌≤◌, ◌+◌, ◌-◌, ℕ, zero, suc, true, false, List, [], ◌∷◌, ◌++◌, length}
+use Rattle.std.proofs.Common.{refl, ap, sym, ◌∙◌, arith, append-nil, append_assoc, length-append}
 use Rattle.std.specs.Prelude.{Ok, Err, Some, None}
 use Rattle.flt_cert.specs.Text.{Text}
 use Rattle.flt_cert.specs.Format.{Point}
 use Rattle.flt_cert.specs.Reading.{Place, line}
 use Rattle.flt_cert.specs.Thin.{Slot, Thin}
-use Rattle.flt_cert.specs.ThinReading.{given_at, nothing_given, padded, with_given, slots_from, thin_callback, is_thin_end, thin_finished, thin_callbacks_from}
+use Rattle.flt_cert.specs.ThinReading.{given_at, nothing_given, padded, with_given, slots_from, thin_callback}
+use Rattle.flt_cert.specs.ThinReading.{is_thin_end, thin_finished, thin_callbacks_from}
 
 one_left : (n number : ℕ) → number < n → n - number ≡ suc (n - (number + 1))
 one_left n number h = omega arith

@@ -1,5 +1,6 @@
 -- What is read of a thin certificate is spelled so, and the lines before a fault begin a thin certificate.
-use Rattle.std.proofs.Common.{◌≡◌, ◌<◌, ◌≤◌, ◌+◌, ◌-◌, ℕ, zero, suc, Bool, true, false, List, [], ◌∷◌, ◌++◌, length, take, refl, sym, ap, subst, arith, ◌∙◌, append_assoc, append-nil, length-append}
+use Rattle.std.proofs.Common.{◌≡◌, ◌<◌, ◌≤◌, ◌+◌, ◌-◌, ℕ, zero, suc, Bool, true, false, List, [], ◌∷◌, ◌++◌, length}
+use Rattle.std.proofs.Common.{take, refl, sym, ap, subst, arith, ◌∙◌, append_assoc, append-nil, length-append}
 use Rattle.std.specs.Prelude.{nat_lt, if◌then◌else◌, Ok, Err, Option, Some, None}
 use Rattle.std.specs.List.{list_all}
 use Rattle.std.specs.Str.{bytes_eq}
@@ -12,7 +13,8 @@ use Rattle.flt_cert.specs.Format.{Point, is_point, point_line, callback_line, la
 use Rattle.flt_cert.specs.Reading.{Place, Outcome, and_then, line, asked, head_of, point, closed, closed_by, start}
 use Rattle.flt_cert.specs.Thin.{Slot, Thin, is_slot, begins, is_thin_callback, is_thin}
 use Rattle.flt_cert.specs.ThinFormat.{slot_lines, one_thin_callback, thin_callback_lines, first_thin_line, thin_lines_for}
-use Rattle.flt_cert.specs.ThinReading.{given_at, nothing_given, padded, with_given, if_given, slots_from, slots, thin_callback, is_thin_end, thin_finished, thin_callbacks_from, thin_callbacks, is_first_thin, first_thin, thin_certificate}
+use Rattle.flt_cert.specs.ThinReading.{given_at, nothing_given, padded, with_given, if_given, slots_from, slots, thin_callback, is_thin_end}
+use Rattle.flt_cert.specs.ThinReading.{thin_finished, thin_callbacks_from, thin_callbacks, is_first_thin, first_thin, thin_certificate}
 use Rattle.flt_cert.proofs.FieldLaws.{head_takes}
 use Rattle.flt_cert.proofs.GivenLaws.{given_takes}
 use Rattle.flt_cert.proofs.Sound.{Gives, gives, fails, then_gives, At, next_line, said_by, same_front, next_point}

@@ -1,5 +1,6 @@
 -- What has no fault covers, and what covers has no fault.
-use Rattle.std.proofs.Common.{◌≡◌, ℕ, zero, suc, ◌<◌, ◌≤◌, Bool, true, false, [], ◌∷◌, length, Option, Some, None, Result, Ok, Err, refl, sym, ap, ◌∙◌, nat_lt, arith}
+use Rattle.std.proofs.Common.{◌≡◌, ℕ, zero, suc, ◌<◌, ◌≤◌, Bool, true, false, [], ◌∷◌, length, Option}
+use Rattle.std.proofs.Common.{Some, None, Result, Ok, Err, refl, sym, ap, ◌∙◌, nat_lt, arith}
 use Rattle.std.specs.Prelude.{not, ◌==◌, if◌then◌else◌}
 use Rattle.std.specs.List.{list_all}
 use Rattle.flt_rules.specs.Held.{same_locks}
@@ -19,7 +20,8 @@ use Rattle.std.specs.Prelude.{◌↔◌, OnOk, IfErr, IsOk}
 use Rattle.std.proofs.Common.{inl, inr}
 use Rattle.std.proofs.lemmas.Option.{none-some}
 use Rattle.flt_check.specs.declared.checker.Refusal.{Refusal}
-use Rattle.flt_check.specs.Checker.{IsCountFault, IsLeastFault, lead_fault, successor_fault, lesser, result_fault, own_fault, entry_by, entry_fault, point_fault, differs, AgreeOnCounts, IsFaultless}
+use Rattle.flt_check.specs.Checker.{IsCountFault, IsLeastFault, lead_fault, successor_fault, lesser, result_fault, own_fault}
+use Rattle.flt_check.specs.Checker.{entry_by, entry_fault, point_fault, differs, AgreeOnCounts, IsFaultless}
 use Rattle.flt_check.specs.Covering.{state_at, count_at, IsLed, Steps, Covers}
 
 -- ---- options of rules

@@ -1,5 +1,6 @@
 -- What is wrong with a certificate of a text that it doesn't cover, and where first. This project's own definitions.
-use Rattle.std.specs.Prelude.{◌≡◌, ℕ, ◌-◌, ◌<◌, ◌≤◌, ◌⊎◌, Bool, true, false, not, ◌||◌, ◌==◌, if◌then◌else◌, nat_lt, nat_le, length, Option, Some, None, Result, Ok, Err}
+use Rattle.std.specs.Prelude.{◌≡◌, ℕ, ◌-◌, ◌<◌, ◌≤◌, ◌⊎◌, Bool, true, false, not, ◌||◌, ◌==◌, if◌then◌else◌}
+use Rattle.std.specs.Prelude.{nat_lt, nat_le, length, Option, Some, None, Result, Ok, Err}
 use Rattle.flt_rules.specs.Held.{same_locks}
 use Rattle.flt_rules.specs.Rule.{number}
 use Rattle.flt_rules.specs.declared.place.Place.{Place}

@@ -1,6 +1,7 @@
 -- What is kept for points that aren't given, while a callback is gone through, and what is wrong where a point leads. This project's
 -- own definitions.
-use Rattle.std.specs.Prelude.{◌≡◌, ◌≢◌, ℕ, ◌<◌, ◌≤◌, ◌&&◌, ◌==◌, Bool, false, nat_lt, if◌then◌else◌, List, length, take, get_or, set, Option, Some, None, Result, Ok, Err, is_some}
+use Rattle.std.specs.Prelude.{◌≡◌, ◌≢◌, ℕ, ◌<◌, ◌≤◌, ◌&&◌, ◌==◌, Bool, false, nat_lt, if◌then◌else◌, List}
+use Rattle.std.specs.Prelude.{length, take, get_or, set, Option, Some, None, Result, Ok, Err, is_some}
 use Rattle.flt_rules.specs.declared.rule.Rule.{Rule}
 use Rattle.flt_rules.specs.declared.rule.Rule.TheVariants.{R14}
 use Rattle.flt_graph.specs.Graph.{place_at}

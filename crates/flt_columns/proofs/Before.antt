@@ -1,5 +1,6 @@
 -- The bytes before a column.
-use Rattle.std.proofs.Common.{◌≡◌, ◌<◌, ◌≤◌, ◌+◌, ◌-◌, ◌∷◌, [], ℕ, suc, Bool, true, false, List, length, take, drop, get_or, nat_lt, if◌then◌else◌, add-one, drop-cons, ap, sym, ◌∙◌, refl, arith}
+use Rattle.std.proofs.Common.{◌≡◌, ◌<◌, ◌≤◌, ◌+◌, ◌-◌, ◌∷◌, [], ℕ, suc, Bool, true, false, List, length, take, drop}
+use Rattle.std.proofs.Common.{get_or, nat_lt, if◌then◌else◌, add-one, drop-cons, ap, sym, ◌∙◌, refl, arith}
 use Rattle.std.proofs.lemmas.Bool.{le-ltb, lt-ltb, ltb-false, ltb-true}
 use Rattle.std.proofs.lemmas.List.Sums.{sum-map, sum_by-cons}
 use Rattle.flt_columns.specs.Columns.{bytes_before, units, units_of}

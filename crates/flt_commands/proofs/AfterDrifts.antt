@@ -1,5 +1,6 @@
 -- What is told after drifts, and what went out of it.
-use Rattle.std.proofs.Common.{◌≡◌, ◌≢◌, ◌∙◌, ℕ, ◌+◌, List, [], ◌∷◌, ◌++◌, Option, None, Result, Ok, Err, IfErr, IfOk, inl, inr, ap, sym, length, map, min, refl, take}
+use Rattle.std.proofs.Common.{◌≡◌, ◌≢◌, ◌∙◌, ℕ, ◌+◌, List, [], ◌∷◌, ◌++◌, Option, None, Result, Ok}
+use Rattle.std.proofs.Common.{Err, IfErr, IfOk, inl, inr, ap, sym, length, map, min, refl, take}
 use Rattle.std.proofs.Math.Path.{subst}
 use Rattle.std.proofs.Math.Seq.{take-append-add, take-length}
 use Rattle.std.proofs.lemmas.List.{take_min}

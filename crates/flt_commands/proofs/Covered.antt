@@ -1,5 +1,6 @@
 -- What is covered breaks nothing, and an exit status 0 says that something is covered.
-use Rattle.std.proofs.Common.{◌⊎◌, inl, inr, ◌≡◌, ℕ, zero, suc, ◌+◌, List, [], ◌∷◌, ◌++◌, Bool, None, Option, Result, Ok, Err, map, take, drop, max, refl, sym, ◌∙◌, arith}
+use Rattle.std.proofs.Common.{◌⊎◌, inl, inr, ◌≡◌, ℕ, zero, suc, ◌+◌, List, [], ◌∷◌, ◌++◌, Bool, None}
+use Rattle.std.proofs.Common.{Option, Result, Ok, Err, map, take, drop, max, refl, sym, ◌∙◌, arith}
 use Rattle.std.proofs.Math.Path.{subst}
 use Rattle.std.specs.Borrow.{Bor}
 use Rattle.flt_syntax.specs.declared.fault.SyntaxFault.{SyntaxFault}
@@ -57,9 +58,12 @@ use Rattle.flt_commands.specs.Explain.{IsExplained, IsTold, look_in}
 use Rattle.flt_commands.specs.Inputs.{Giving, given, Says, Text, unread}
 use Rattle.flt_commands.specs.Running.{IsRan}
 use Rattle.flt_commands.specs.Thin.{IsThinned, Decides as DecidesThin}
-use Rattle.flt_words.specs.Request.{Asked, Choice, Check, Analyse, Thin, Run, Replay, Show, Explain, Extract, Format, Pages, Emit, EmitInto, Compare, Serve}
+use Rattle.flt_words.specs.Request.{Asked, Choice, Check, Analyse, Thin, Run, Replay, Show, Explain}
+use Rattle.flt_words.specs.Request.{Extract, Format, Pages, Emit, EmitInto, Compare, Serve}
 use Rattle.flt_commands.specs.declared.answer.Answer.{Answer}
-use Rattle.flt_commands.specs.declared.answer.Answer.TheVariants.{Accepted, Refused, Certificate as Written, Judged, Ran as has_run, FileRefused, Explained, Extracted as has_text, Formatted as has_layouts, Pages as has_pages, Shown, Emitted, NotEmitted, EmittedInto, Compared}
+use Rattle.flt_commands.specs.declared.answer.Answer.TheVariants.{Accepted, Refused, Certificate as Written, Judged, Ran as has_run}
+use Rattle.flt_commands.specs.declared.answer.Answer.TheVariants.{FileRefused, Explained, Extracted as has_text, Formatted as has_layouts}
+use Rattle.flt_commands.specs.declared.answer.Answer.TheVariants.{Pages as has_pages, Shown, Emitted, NotEmitted, EmittedInto, Compared}
 use Rattle.flt_commands.specs.declared.failure.Failure.{Failure}
 
 -- the laws' clauses
@@ -354,7 +358,8 @@ module _ (law : Law) (runs : LawOfRuns) (nowhere : SpelledFailsNowhere) where
 
   explains_clean : (gives : Giving) (is_c : Bool) (form : Form) (colour : Colour) (states : ℕ) (look : Look) (journal : Option Text)
       (warnings : Choice) (files : List Text) (codes : List (Option Text)) (texts : List Text) (said : Result Answer Failure)
-      (bytes : List ℕ) (status : ℕ) → IsExplained gives is_c form look warnings.allowed journal files codes texts said → IsReported said bytes status →
+      (bytes : List ℕ) (status : ℕ) → IsExplained gives is_c form look warnings.allowed journal files codes texts said →
+      IsReported said bytes status →
       status ≡ 0 → IsClean (Explain form colour states journal warnings is_c files) texts
   explains_clean gives is_c form colour states look journal warnings files codes texts (Ok answer) bytes status said reported good =
       explained gives is_c form colour states look journal warnings files codes texts answer said (sym reported.1 ∙ good)

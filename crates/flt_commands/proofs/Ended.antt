@@ -1,5 +1,6 @@
 -- What was read to its end, and what was too long.
-use Rattle.std.proofs.Common.{◌<◌, ◌++◌, ◌∙◌, ◌⊎◌, inl, inr, ℕ, List, Option, Some, None, Result, Ok, Err, IfOk, IfSome, IfNone, ap, length, option_map, arith}
+use Rattle.std.proofs.Common.{◌<◌, ◌++◌, ◌∙◌, ◌⊎◌, inl, inr, ℕ, List, Option, Some, None, Result}
+use Rattle.std.proofs.Common.{Ok, Err, IfOk, IfSome, IfNone, ap, length, option_map, arith}
 use Rattle.std.proofs.lemmas.List.{append-nil, length-append}
 use Rattle.std.specs.Io.KnownBytes.{Consumes, IsAtEnd}
 use Rattle.flt_commands.specs.Inputs.{Text}

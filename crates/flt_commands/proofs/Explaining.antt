@@ -1,5 +1,6 @@
 -- What `explain` of files comes to, and what went out of it.
-use Rattle.std.proofs.Common.{◌≡◌, ◌≢◌, ◌∙◌, ℕ, true, false, Bool, List, ◌++◌, Bor, Vec, Global, Option, Some, None, Result, Ok, Err, IfErr, IfOk, IsErr, ap, flat_map, map, option_map, refl, sym, take}
+use Rattle.std.proofs.Common.{◌≡◌, ◌≢◌, ◌∙◌, ℕ, true, false, Bool, List, ◌++◌, Bor, Vec, Global, Option, Some, None}
+use Rattle.std.proofs.Common.{Result, Ok, Err, IfErr, IfOk, IsErr, ap, flat_map, map, option_map, refl, sym, take}
 use Rattle.std.proofs.KnownBytes.{Appends-nil}
 use Rattle.std.specs.Io.KnownBytes.{Appends}
 use Rattle.std.specs.List.{AllZip}
@@ -23,7 +24,8 @@ use Rattle.flt_commands.proofs.Sent.{cut_short}
 use Rattle.flt_commands.specs.Annotated.{AreFoundIn}
 use Rattle.flt_commands.specs.Answer.{sent_in}
 use Rattle.flt_commands.specs.Commands.{IsReported}
-use Rattle.flt_commands.specs.Explain.{HasReport, HoldsBack, IsCutAfter, IsCutOfFiles, IsCutShort, IsExplained, IsSent, IsToldOfFiles, IsToldOrUnwritten, IsToldWith, codes_in, first_in, look_of, said_of, told_name}
+use Rattle.flt_commands.specs.Explain.{HasReport, HoldsBack, IsCutAfter, IsCutOfFiles, IsCutShort, IsExplained, IsSent, IsToldOfFiles}
+use Rattle.flt_commands.specs.Explain.{IsToldOrUnwritten, IsToldWith, codes_in, first_in, look_of, said_of, told_name}
 use Rattle.flt_commands.specs.Drifts.{AreDrifted}
 use Rattle.flt_commands.specs.Explain as explain
 use Rattle.flt_commands.specs.Inputs.{Giving, Text, unread_names}

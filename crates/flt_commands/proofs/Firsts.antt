@@ -1,5 +1,6 @@
 -- The first of several: what holds of those before it, and where it stands.
-use Rattle.std.proofs.Common.{◌≡◌, ◌⊎◌, inr, ℕ, ◌+◌, ◌<◌, ◌≤◌, Bool, true, false, ◌&&◌, ◌||◌, List, [], ◌∷◌, ◌++◌, None, Some, Bor, Vec, Global, length, get_or, take, drop, map, refl, sym, ap, ◌∙◌, arith, count_by, cond, append_assoc}
+use Rattle.std.proofs.Common.{◌≡◌, ◌⊎◌, inr, ℕ, ◌+◌, ◌<◌, ◌≤◌, Bool, true, false, ◌&&◌, ◌||◌, List, [], ◌∷◌, ◌++◌, None, Some, Bor}
+use Rattle.std.proofs.Common.{Vec, Global, length, get_or, take, drop, map, refl, sym, ap, ◌∙◌, arith, count_by, cond, append_assoc}
 use Rattle.std.proofs.Math.Bool.{or_assoc}
 use Rattle.std.proofs.lemmas.List.{take-append-drop, drop_more, map-append, map_more, map_push, length-take-le, length-map}
 use Rattle.std.proofs.lemmas.List.Folds.{list_any-append}

@@ -1,5 +1,6 @@
 -- Files whose texts are laid out: one after the other, what is written into them, and what is said of them.
-use Rattle.std.proofs.Common.{◌≡◌, ◌≢◌, ◌∙◌, ◌+◌, ◌<◌, ◌||◌, ℕ, Bool, true, false, ap, flat_map, get_or, take, List, [], ◌∷◌, ◌++◌, Bor, Vec, Global, Result, Ok, Err, IfOk, length, map, refl, string_bytes, sym}
+use Rattle.std.proofs.Common.{◌≡◌, ◌≢◌, ◌∙◌, ◌+◌, ◌<◌, ◌||◌, ℕ, Bool, true, false, ap, flat_map, get_or, take, List, []}
+use Rattle.std.proofs.Common.{◌∷◌, ◌++◌, Bor, Vec, Global, Result, Ok, Err, IfOk, length, map, refl, string_bytes, sym}
 use Rattle.std.proofs.lemmas.List.Elements.{All-push, All-weaker}
 use Rattle.std.specs.List.{All, list_any}
 use Rattle.flt_commands.proofs.Firsts.{any_more, one_more}

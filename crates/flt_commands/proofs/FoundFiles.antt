@@ -1,5 +1,6 @@
 -- What files give, C files their annotations.
-use Rattle.std.proofs.Common.{◌⊎◌, inl, inr, ◌≡◌, ◌∙◌, ℕ, List, [], ◌∷◌, ◌++◌, ◌&&◌, Bool, true, false, Bor, Option, Some, None, Result, Ok, Err, IfOk, OnErr, ap, sym, map, option_map, string_bytes}
+use Rattle.std.proofs.Common.{◌⊎◌, inl, inr, ◌≡◌, ◌∙◌, ℕ, List, [], ◌∷◌, ◌++◌, ◌&&◌, Bool, true, false, Bor, Option}
+use Rattle.std.proofs.Common.{Some, None, Result, Ok, Err, IfOk, OnErr, ap, sym, map, option_map, string_bytes}
 use Rattle.std.proofs.Math.Path.{subst}
 use Rattle.std.proofs.lemmas.List.{map_push}
 use Rattle.std.proofs.lemmas.List.Elements.{All-push}

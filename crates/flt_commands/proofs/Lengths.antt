@@ -1,5 +1,6 @@
 -- What is kept of a text.
-use Rattle.std.proofs.Common.{◌≡◌, ◌<◌, ◌≤◌, ◌∙◌, ◌⊎◌, ◌++◌, ◌+◌, ◌-◌, ℕ, List, Some, None, Option, Result, Ok, Err, IfOk, IfSome, IfNone, ap, sym, refl, length, take, min, option_map, arith, inl, inr}
+use Rattle.std.proofs.Common.{◌≡◌, ◌<◌, ◌≤◌, ◌∙◌, ◌⊎◌, ◌++◌, ◌+◌, ◌-◌, ℕ, List, Some, None, Option, Result, Ok, Err}
+use Rattle.std.proofs.Common.{IfOk, IfSome, IfNone, ap, sym, refl, length, take, min, option_map, arith, inl, inr}
 use Rattle.std.proofs.Math.Path.{subst}
 use Rattle.std.proofs.lemmas.Bool.{cases_lt}
 use Rattle.std.proofs.lemmas.List.{append-nil, length-take, length-take-le, take-append-le, take_all}

@@ -7,7 +7,9 @@ use Rattle.flt_check.specs.declared.checker.Refusal.{Refusal}
 use Rattle.flt_commands.proofs.OneDecision.{DecidesOne}
 use Rattle.flt_commands.specs.Check.{Decides}
 use Rattle.flt_commands.specs.Single.{seen}
-use Rattle.flt_commands.specs.declared.answer.Answer.TheVariants.{Accepted, Refused, Certificate as Written, Judged, Ran, FileRefused, Explained, Extracted, Formatted, Pages, Shown, Emitted, NotEmitted, EmittedInto, Compared}
+use Rattle.flt_commands.specs.declared.answer.Answer.TheVariants.{Accepted, Refused, Certificate as Written, Judged, Ran}
+use Rattle.flt_commands.specs.declared.answer.Answer.TheVariants.{FileRefused, Explained, Extracted, Formatted, Pages}
+use Rattle.flt_commands.specs.declared.answer.Answer.TheVariants.{Shown, Emitted, NotEmitted, EmittedInto, Compared}
 
 -- the laws' clauses
 abbrev pub HasOneFault : Type 0

@@ -1,5 +1,6 @@
 -- Of some files one thing is said at most where they are laid out, and none is written.
-use Rattle.std.proofs.Common.{◌≡◌, ◌≢◌, ◌∙◌, ◌&&◌, ◌||◌, ◌++◌, ℕ, Bool, false, arith, ap, drop, flat_map, take, List, [], ◌∷◌, Some, None, Result, Ok, Err, inl, inr, length, refl, string_bytes, subst, sym}
+use Rattle.std.proofs.Common.{◌≡◌, ◌≢◌, ◌∙◌, ◌&&◌, ◌||◌, ◌++◌, ℕ, Bool, false, arith, ap, drop, flat_map, take, List}
+use Rattle.std.proofs.Common.{[], ◌∷◌, Some, None, Result, Ok, Err, inl, inr, length, refl, string_bytes, subst, sym}
 use Rattle.std.proofs.lemmas.Grind.{flat_map-append}
 use Rattle.std.proofs.lemmas.List.{same_from_push}
 use Rattle.std.proofs.lemmas.Option.{none-some, same_Some}
@@ -7,7 +8,8 @@ use Rattle.std.specs.List.{list_any}
 use Rattle.flt_commands.proofs.Firsts.{any_more}
 use Rattle.flt_commands.proofs.OneDecision.{start_once}
 use Rattle.flt_commands.specs.Answer.{told_status}
-use Rattle.flt_commands.specs.Format.{AreOutcomes, ComesTo, HasNoLayout, IsFormatSaid, IsLayout, IsOutcome, MayBe, is_unwritten, none as no_outcome, one_more}
+use Rattle.flt_commands.specs.Format.{AreOutcomes, ComesTo, HasNoLayout, IsFormatSaid, IsLayout, IsOutcome}
+use Rattle.flt_commands.specs.Format.{MayBe, is_unwritten, none as no_outcome, one_more}
 use Rattle.flt_commands.specs.Inputs.{AreRead, Giving, IsMissing, Text, is_standard, missing, none, read, unread_names}
 use Rattle.flt_commands.specs.Outcomes.{files_status, is_failed, is_other, layout_in, printed, unformatted_line}
 use Rattle.flt_commands.specs.Single.{AreSame, GivesOne}

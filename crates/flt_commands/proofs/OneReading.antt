@@ -1,11 +1,13 @@
 -- Where the inputs give one thing for each name: the texts that are read are one list, or one name is the first that can't be read.
-use Rattle.std.proofs.Common.{◌≡◌, ◌≢◌, ℕ, ◌+◌, ◌≤◌, Bool, true, false, ◌&&◌, ◌||◌, List, [], ◌∷◌, ◌++◌, Some, None, Result, Err, refl, sym, ap, ◌∙◌, subst, arith, inl, inr, cond, count_by}
+use Rattle.std.proofs.Common.{◌≡◌, ◌≢◌, ℕ, ◌+◌, ◌≤◌, Bool, true, false, ◌&&◌, ◌||◌, List, [], ◌∷◌, ◌++◌, Some}
+use Rattle.std.proofs.Common.{None, Result, Err, refl, sym, ap, ◌∙◌, subst, arith, inl, inr, cond, count_by}
 use Rattle.std.proofs.lemmas.Bool.{and_parts}
 use Rattle.std.proofs.lemmas.List.Sums.{sum_by-append, sum_by-cons}
 use Rattle.std.proofs.lemmas.Option.{none-some, same_Some}
 use Rattle.std.specs.List.{list_any}
 use Rattle.flt_commands.proofs.OnePlace.{Places, same, earlier, later, places, zipped_at, zipped_once}
-use Rattle.flt_commands.specs.Inputs.{AreGiven, Giving, IsMissing, IsUnread, IsUnreadable, NamesFail, Says, unread, given, Text, is_standard}
+use Rattle.flt_commands.specs.Inputs.{AreGiven, Giving, IsMissing, IsUnread, IsUnreadable}
+use Rattle.flt_commands.specs.Inputs.{NamesFail, Says, unread, given, Text, is_standard}
 use Rattle.flt_commands.specs.Single.{AreSame, GivesOne, SaysOne, told}
 use Rattle.flt_commands.specs.declared.answer.Answer.{Answer}
 use Rattle.flt_commands.specs.declared.failure.Failure.{Failure}

@@ -4,7 +4,9 @@ use Rattle.flt_commands.proofs.OneCheck.{CoversWithoutFault, HasOneFault}
 use Rattle.flt_commands.proofs.OneDecision.{DecidesOne}
 use Rattle.flt_commands.specs.Single.{seen}
 use Rattle.flt_commands.specs.Thin.{Decides}
-use Rattle.flt_commands.specs.declared.answer.Answer.TheVariants.{Accepted, Refused, Certificate as Written, Judged, Ran, FileRefused, Explained, Extracted, Formatted, Pages, Shown, Emitted, NotEmitted, EmittedInto, Compared}
+use Rattle.flt_commands.specs.declared.answer.Answer.TheVariants.{Accepted, Refused, Certificate as Written, Judged, Ran}
+use Rattle.flt_commands.specs.declared.answer.Answer.TheVariants.{FileRefused, Explained, Extracted, Formatted, Pages}
+use Rattle.flt_commands.specs.declared.answer.Answer.TheVariants.{Shown, Emitted, NotEmitted, EmittedInto, Compared}
 
 module _ (one : HasOneFault) (none : CoversWithoutFault) where
   -- of a graph and a certificate one answer is decided at most

@@ -1,9 +1,12 @@
 -- The report on what is asked for, from what is said of it and how that is printed.
-use Rattle.std.proofs.Common.{◌≡◌, ◌≢◌, ◌∙◌, ℕ, List, [], ◌∷◌, ◌++◌, flat_map, refl, Option, Some, None, Result, Ok, Err, IfErr, IfOk, OnOk, Bool, Bor, option_map, Vec, Global, map, ap, sym, arith}
+use Rattle.std.proofs.Common.{◌≡◌, ◌≢◌, ◌∙◌, ℕ, List, [], ◌∷◌, ◌++◌, flat_map, refl, Option, Some, None, Result}
+use Rattle.std.proofs.Common.{Ok, Err, IfErr, IfOk, OnOk, Bool, Bor, option_map, Vec, Global, map, ap, sym, arith}
 use Rattle.std.proofs.Math.Path.{subst}
 use Rattle.flt_syntax.specs.TextFails.{SpelledFailsNowhere}
 use Rattle.flt_commands.proofs.Covered.{Law, LawOfRuns, clean_of}
-use Rattle.flt_commands.specs.Commands.{Answers, AnswersFor, AnswersSomehow, AreThose, HasCodes, HoldsBack, IsAnswered, IsBefore, IsCutShort, IsKept, IsKeptAs, IsRemarked, NamesNoJournal, IsRemarkedAfter, IsReported, IsSaid, codes_of, giving_for, texts_in}
+use Rattle.flt_commands.specs.Commands.{Answers, AnswersFor, AnswersSomehow, AreThose, HasCodes, HoldsBack, IsAnswered}
+use Rattle.flt_commands.specs.Commands.{IsBefore, IsCutShort, IsKept, IsKeptAs, IsRemarked, NamesNoJournal, IsRemarkedAfter}
+use Rattle.flt_commands.specs.Commands.{IsReported, IsSaid, codes_of, giving_for, texts_in}
 use Rattle.flt_commands.specs.Attempts.{Attempt}
 use Rattle.flt_commands.specs.Drawn.{IsDrawnFor}
 use Rattle.flt_commands.specs.EmitInto.{ArePut}
@@ -22,7 +25,9 @@ use Rattle.flt_words.specs.declared.request.Colour.{Colour}
 use Rattle.flt_words.specs.declared.request.Form.{Form}
 use Rattle.flt_words.specs.declared.request.FormatMode.TheVariants.{Write}
 use Rattle.flt_commands.specs.declared.answer.Answer.{Answer}
-use Rattle.flt_commands.specs.declared.answer.Answer.TheVariants.{Accepted, Refused, Certificate, Judged, Explained, Extracted, Formatted, Pages, Ran, FileRefused, Shown, Emitted, NotEmitted, EmittedInto, Compared}
+use Rattle.flt_commands.specs.declared.answer.Answer.TheVariants.{Accepted, Refused, Certificate, Judged, Explained}
+use Rattle.flt_commands.specs.declared.answer.Answer.TheVariants.{Extracted, Formatted, Pages, Ran, FileRefused, Shown}
+use Rattle.flt_commands.specs.declared.answer.Answer.TheVariants.{Emitted, NotEmitted, EmittedInto, Compared}
 use Rattle.flt_commands.specs.declared.failure.Failure.{Failure}
 use Rattle.flt_commands.specs.declared.fault.CommandFault.{CommandFault}
 use Rattle.flt_commands.specs.declared.fault.CommandFault.TheVariants.{OutOfMemory}

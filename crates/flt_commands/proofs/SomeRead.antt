@@ -1,5 +1,6 @@
 -- Names of which some are read.
-use Rattle.std.proofs.Common.{◌≡◌, ◌∙◌, ◌+◌, ◌<◌, ℕ, false, arith, flat_map, get_or, take, ◌&&◌, List, [], ◌∷◌, ◌++◌, Some, Bor, Vec, Global, length, map, refl, sym, ap, string_bytes}
+use Rattle.std.proofs.Common.{◌≡◌, ◌∙◌, ◌+◌, ◌<◌, ℕ, false, arith, flat_map, get_or, take, ◌&&◌, List, []}
+use Rattle.std.proofs.Common.{◌∷◌, ◌++◌, Some, Bor, Vec, Global, length, map, refl, sym, ap, string_bytes}
 use Rattle.std.proofs.lemmas.List.{length-map, length_push, map_push}
 use Rattle.std.proofs.lemmas.Grind.{common_steps}
 use Rattle.std.specs.List.{list_any}

@@ -16,7 +16,9 @@ use Rattle.flt_commands.specs.Driver.{driver_status}
 use Rattle.flt_commands.specs.Outcomes.{files_status, printed}
 use Rattle.flt_commands.specs.declared.failure.Failure.{Failure}
 use Rattle.flt_commands.specs.declared.answer.Answer.{Answer}
-use Rattle.flt_commands.specs.declared.answer.Answer.TheVariants.{Accepted, Refused, Certificate, Judged, Explained, Extracted, Formatted, Pages, Ran, FileRefused, Shown, Emitted, NotEmitted, EmittedInto, Compared}
+use Rattle.flt_commands.specs.declared.answer.Answer.TheVariants.{Accepted, Refused, Certificate, Judged, Explained}
+use Rattle.flt_commands.specs.declared.answer.Answer.TheVariants.{Extracted, Formatted, Pages, Ran, FileRefused, Shown}
+use Rattle.flt_commands.specs.declared.answer.Answer.TheVariants.{Emitted, NotEmitted, EmittedInto, Compared}
 use Rattle.flt_commands.specs.declared.emit.Unemitted.{Unemitted}
 use Rattle.flt_commands.specs.declared.emit.Unemitted.TheVariants.{Kinds, Create, Return, Unread}
 

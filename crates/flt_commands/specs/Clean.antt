@@ -8,7 +8,8 @@ use Rattle.flt_model.specs.Steps.{Transition}
 use Rattle.flt_commands.specs.Inputs.{Text}
 use Rattle.flt_stack_prepare.specs.Texts.{AreSpelled}
 use Rattle.flt_commands.specs.Split.{IsCertificateStart}
-use Rattle.flt_words.specs.Request.{Asked, Check, Analyse, Thin, Run, Replay, Show, Explain, Extract, Format, Pages, Emit, EmitInto, Compare, Serve}
+use Rattle.flt_words.specs.Request.{Asked, Check, Analyse, Thin, Run, Replay, Show, Explain}
+use Rattle.flt_words.specs.Request.{Extract, Format, Pages, Emit, EmitInto, Compare, Serve}
 
 -- the filter that the text spells breaks nothing: whatever transitions are tried on it, in whatever order and however many
 abbrev pub BreaksNothing : Text → Type 0

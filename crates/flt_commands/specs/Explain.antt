@@ -3,7 +3,8 @@ use Rattle.std.specs.Borrow.{Bor}
 use Rattle.std.specs.Io.{StartsWith}
 use Rattle.std.specs.Io.KnownBytes.{Appends}
 use Rattle.std.specs.List.{AllZip, list_all}
-use Rattle.std.specs.Prelude.{◌≡◌, ℕ, ◌+◌, List, [], ◌∷◌, ◌++◌, Bool, map, true, false, Option, Some, None, Result, Ok, Err, get_or, length, max, take}
+use Rattle.std.specs.Prelude.{◌≡◌, ℕ, ◌+◌, List, [], ◌∷◌, ◌++◌, Bool, map, true, false, Option}
+use Rattle.std.specs.Prelude.{Some, None, Result, Ok, Err, get_or, length, max, take}
 use Rattle.flt_explain_pages.specs.Pages.{has_page, title}
 use Rattle.flt_explain_forms.specs.Drifted.{drift_status}
 use Rattle.flt_explain_forms.specs.Lines.{AreLines}

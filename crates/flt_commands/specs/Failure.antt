@@ -10,7 +10,8 @@ use Rattle.flt_syntax.specs.declared.fault.ParseError.TheVariants as parse
 use Rattle.flt_cert.specs.declared.fault.CertFault.{CertFault}
 use Rattle.flt_cert.specs.declared.fault.CertFault.TheVariants as cert
 use Rattle.flt_commands.specs.declared.failure.Failure.{Failure}
-use Rattle.flt_commands.specs.declared.failure.Failure.TheVariants.{CannotRead, CannotWrite, NoFile, TooManyFiles, Syntax, FileSyntax, Certificate, JournalLine, ScriptLine, Flawed, Altitude, OutOfMemory}
+use Rattle.flt_commands.specs.declared.failure.Failure.TheVariants.{CannotRead, CannotWrite, NoFile, TooManyFiles, Syntax, FileSyntax}
+use Rattle.flt_commands.specs.declared.failure.Failure.TheVariants.{Certificate, JournalLine, ScriptLine, Flawed, Altitude, OutOfMemory}
 
 -- how a fault of a certificate is reported
 abbrev pub of_certificate : CertFault → Failure

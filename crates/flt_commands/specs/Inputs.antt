@@ -1,5 +1,6 @@
 -- What is read for the names of a command line. This project's own program.
-use Rattle.std.specs.Prelude.{◌≡◌, ◌⊎◌, ℕ, ◌≤◌, Bool, ◌&&◌, true, false, List, [], ◌∷◌, ◌++◌, codes, count_by, map, string_bytes, take, Option, Some, None, Result, Err}
+use Rattle.std.specs.Prelude.{◌≡◌, ◌⊎◌, ℕ, ◌≤◌, Bool, ◌&&◌, true, false, List, [], ◌∷◌, ◌++◌, codes}
+use Rattle.std.specs.Prelude.{count_by, map, string_bytes, take, Option, Some, None, Result, Err}
 use Rattle.std.specs.List.{AllZip, list_any}
 use Rattle.std.specs.Str.{bytes_eq}
 use Rattle.flt_commands.specs.declared.answer.Answer.{Answer}

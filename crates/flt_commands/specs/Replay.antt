@@ -10,7 +10,8 @@ use Rattle.flt_commands.specs.Inputs.{Text}
 use Rattle.flt_commands.specs.declared.answer.Answer.{Answer}
 use Rattle.flt_commands.specs.declared.answer.Answer.TheVariants.{Judged, Shown}
 use Rattle.flt_commands.specs.declared.failure.Failure.{Failure}
-use Rattle.flt_commands.specs.declared.failure.Failure.TheVariants.{CannotWrite, TooManyFiles, FileSyntax, JournalLine, Altitude, OutOfMemory}
+use Rattle.flt_commands.specs.declared.failure.Failure.TheVariants.{CannotWrite, TooManyFiles, FileSyntax}
+use Rattle.flt_commands.specs.declared.failure.Failure.TheVariants.{JournalLine, Altitude, OutOfMemory}
 
 -- ---- the filters
 

@@ -1,5 +1,6 @@
 -- Where the certificate begins in an input that holds a text and its certificate. This project's own format.
-use Rattle.std.specs.Prelude.{◌≡◌, ℕ, ◌-◌, Bool, true, false, ◌==◌, ◌<◌, ◌≤◌, ◌&&◌, ◌||◌, ◌⊎◌, List, [], ◌∷◌, codes, take, drop, length, slice_index}
+use Rattle.std.specs.Prelude.{◌≡◌, ℕ, ◌-◌, Bool, true, false, ◌==◌, ◌<◌, ◌≤◌, ◌&&◌, ◌||◌}
+use Rattle.std.specs.Prelude.{◌⊎◌, List, [], ◌∷◌, codes, take, drop, length, slice_index}
 use Rattle.std.specs.Str.{bytes_eq}
 
 -- a line begins at a place: at the start, and behind each line feed

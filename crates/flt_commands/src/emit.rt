@@ -71,7 +71,8 @@ pub(crate) fn source_of(
 ) -> Result<Option<Vec<u8>>, AllocError>
     requires well_formed { IsWellFormed tree.now.filter }
     requires fit { returns_fit tree.now.filter ≡ true }
-    ensures written { IfOk result (λ found. IsSomeAnd found (λ bytes. bytes.items ≡ spec.part_text Part.Source listed.now tree.now.filter)) }
+    ensures written { IfOk result
+        (λ found. IsSomeAnd found (λ bytes. bytes.items ≡ spec.part_text Part.Source listed.now tree.now.filter)) }
     ensures read { IfOk result (λ found. IsSomeAnd found (λ bytes. spec.IsReadBack Part.Source tree.now.filter bytes.items)) }
 {
     let mut instances = Vec::new(alloc);

@@ -221,8 +221,8 @@ fn sarif_with_runs<O: Sink, W: SearchWatch>(
     Ok(unsent(explained, noted))
 }
 
-/// The output for some texts, in a form, with files that aren't read; a page and a document have drifts within them. Each text's part is written
-/// as soon as it is made, unless the form is one document.
+/// The output for some texts, in a form, with files that aren't read; a page and a document have drifts within them. Each text's part is
+/// written as soon as it is made, unless the form is one document.
 #[tactic(auto, using(crate::proofs::Sent::none_sent, crate::proofs::Faults::write_of, crate::proofs::Faults::memory_of))]
 fn told_in_turn<O: Sink, W: SearchWatch>(
     alloc: Global,
@@ -303,8 +303,8 @@ fn told_whole<O: Sink, W: SearchWatch>(
     Ok(unsent(explained, told.noted))
 }
 
-/// The output for some texts, in a form, with files that aren't read; a page and a document have drifts within them. If a file is named for a
-/// journal, nothing is written before all is known.
+/// The output for some texts, in a form, with files that aren't read; a page and a document have drifts within them. If a file is named for
+/// a journal, nothing is written before all is known.
 #[tactic(auto, using(crate::proofs::Sent::cut_nowhere))]
 pub(crate) fn told<O: Sink, W: SearchWatch>(
     alloc: Global,

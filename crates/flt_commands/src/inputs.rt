@@ -1,7 +1,8 @@
 //! The inputs of a command.
 
 ghost use Rattle.std.specs.Io.KnownBytes.{Consumes, IsAtEnd};
-ghost use Rattle.std.specs.Prelude.{◌≡◌, ◌≢◌, ◌⊎◌, ◌≤◌, ◌<◌, [], ◌∷◌, ◌++◌, ℕ, List, Option, IfOk, IfErr, IfNone, IfSome, OnErr, OnOk, ◌&&◌, None, Some, false, length, map, option_map, true};
+ghost use Rattle.std.specs.Prelude.{◌≡◌, ◌≢◌, ◌⊎◌, ◌≤◌, ◌<◌, [], ◌∷◌, ◌++◌, ℕ, List, Option, IfOk, IfErr, IfNone};
+ghost use Rattle.std.specs.Prelude.{IfSome, OnErr, OnOk, ◌&&◌, None, Some, false, length, map, option_map, true};
 ghost use Rattle.std.specs.List.{list_any};
 ghost use Rattle.std.specs.Prelude;
 ghost use Rattle.flt_commands.specs.Attempts as attempts;

@@ -25,7 +25,9 @@ use Rattle.flt_tree.specs.declared.variable.OperationVariable.{OperationVariable
 use Rattle.flt_tree.specs.declared.variable.OperationVariable.TheVariants.{Data}
 use Rattle.flt_tree.specs.declared.variable.RemovedVariable.{RemovedVariable}
 use Rattle.flt_model.specs.declared.event.Event.{Event}
-use Rattle.flt_model.specs.Calls.{link_of, allocate, got, get_by, kept, set_there, cannot_set, set_by, unlinked, delete_by, deleted, referenced, released, taken, given_up, enqueued, insert_by, removed, defer_by, queue_by, complete_by, complete_post_by}
+use Rattle.flt_model.specs.Calls.{link_of, allocate, got, get_by, kept, set_there, cannot_set, set_by, unlinked}
+use Rattle.flt_model.specs.Calls.{delete_by, deleted, referenced, released, taken, given_up, enqueued, insert_by}
+use Rattle.flt_model.specs.Calls.{removed, defer_by, queue_by, complete_by, complete_post_by}
 use Rattle.flt_model.specs.Effects.{Step, onward}
 use Rattle.flt_model.specs.Program.{callbacks_at, routine_of}
 use Rattle.flt_model.specs.Reads.{read_value_of, write_value_of, read_file_of, test_irp_of}
@@ -33,7 +35,8 @@ use Rattle.flt_model.specs.Returns.{returned, returns}
 use Rattle.flt_model.specs.Steps.{plain_step, fallible_step}
 use Rattle.flt_model.specs.Variables.{context_in, operation_in, named_in, with_old}
 use Rattle.flt_costs.specs.Costs.{left_in}
-use Rattle.flt_model.specs.World.{World, Activation, Entry, Link, activation_at, actor_at, arrival_of, context_at, is_attached, linked_at, presence_at, queue_at}
+use Rattle.flt_model.specs.World.{World, Activation, Entry, Link, activation_at, actor_at, arrival_of}
+use Rattle.flt_model.specs.World.{context_at, is_attached, linked_at, presence_at, queue_at}
 
 left_by : (b : Bool) (n : ℕ) → (if b then 0 else n) ≤ n
 left_by true n = omega arith

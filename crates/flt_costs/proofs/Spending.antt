@@ -18,12 +18,14 @@ use Rattle.flt_model.specs.Effects.{Step}
 use Rattle.flt_model.specs.LocalSteps.{local_step}
 use Rattle.flt_model.specs.Reads.{read_value, write_value, read_file, test_irp}
 use Rattle.flt_model.specs.Returns.{returns}
-use Rattle.flt_model.specs.Steps.{may_go, act_step, plain_step, fallible_step, test_step, if_step, statement_step, list_step, board, moved_on, local}
+use Rattle.flt_model.specs.Steps.{may_go, act_step, plain_step, fallible_step, test_step, if_step}
+use Rattle.flt_model.specs.Steps.{statement_step, list_step, board, moved_on, local}
 use Rattle.flt_model.specs.Variables.{context_in, operation_in}
 use Rattle.flt_model.specs.World.{World, Activation, activation_at, actor_at}
 use Rattle.flt_costs.specs.Costs.{left_in, Spends}
 use Rattle.flt_costs.proofs.Costs.{cost_cons, cost_append, layer_cost, IsCheaper, local_cheaper}
-use Rattle.flt_costs.proofs.Leaving.{left_below, Leaves, leaves_more, plain_to, value_read, value_written, file_read, irp_tested, fallible_to, returns_leaves}
+use Rattle.flt_costs.proofs.Leaving.{left_below, Leaves, leaves_more, plain_to, value_read, value_written}
+use Rattle.flt_costs.proofs.Leaving.{file_read, irp_tested, fallible_to, returns_leaves}
 
 -- ---- steps that others see
 

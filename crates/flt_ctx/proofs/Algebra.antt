@@ -1,5 +1,6 @@
 -- Changes of contexts that come in another order.
-use Rattle.std.proofs.Common.{◌≡◌, ◌≢◌, ℕ, ◌+◌, ◌-◌, ◌<◌, true, if◌then◌else◌, length, Option, None, Some, IsSome, inl, inr, sym, ap, ◌∙◌, arith}
+use Rattle.std.proofs.Common.{◌≡◌, ◌≢◌, ℕ, ◌+◌, ◌-◌, ◌<◌, true, if◌then◌else◌, length}
+use Rattle.std.proofs.Common.{Option, None, Some, IsSome, inl, inr, sym, ap, ◌∙◌, arith}
 use Rattle.std.proofs.lemmas.List.{get_or-set_same, get_or-set_other, length-set, get_or_past}
 use Rattle.std.proofs.lemmas.Bool.{cases_lt, true≢false}
 use Rattle.std.proofs.lemmas.List.Quantifiers.{position-Some}
@@ -7,7 +8,8 @@ use Rattle.std.proofs.lemmas.Option.{none-some}
 use Rattle.flt_ctx.proofs.Walks.{key_is}
 use Rattle.std.proofs.Math.Seq.{set-set, set_comm}
 use Rattle.flt_ctx.specs.declared.key.Key.{Key}
-use Rattle.flt_ctx.specs.Contexts.{Context, ContextTable, no_context, context_at, is_freed, with_context, add_reference, drop_reference, with_link, is_key, linked_at}
+use Rattle.flt_ctx.specs.Contexts.{Context, ContextTable, no_context, context_at, is_freed, with_context}
+use Rattle.flt_ctx.specs.Contexts.{add_reference, drop_reference, with_link, is_key, linked_at}
 
 -- a context is written twice
 twice : (h : ContextTable) (x : ℕ) (c d : Context) → with_context (with_context h x c) x d ≡ with_context h x d

@@ -1,12 +1,14 @@
 -- What a written row is to the contexts that are as_context, and to the links.
-use Rattle.std.proofs.Common.{◌≡◌, ◌≢◌, ℕ, zero, suc, ◌+◌, ◌-◌, ◌<◌, Bool, false, if◌then◌else◌, List, [], ◌∷◌, ◌++◌, length, map, set, Option, None, Some, refl, sym, ap, ◌∙◌, subst, inl, inr}
+use Rattle.std.proofs.Common.{◌≡◌, ◌≢◌, ℕ, zero, suc, ◌+◌, ◌-◌, ◌<◌, Bool, false, if◌then◌else◌, List, [], ◌∷◌}
+use Rattle.std.proofs.Common.{◌++◌, length, map, set, Option, None, Some, refl, sym, ap, ◌∙◌, subst, inl, inr}
 use Rattle.std.proofs.lemmas.Bool.{cases_eq, ne_eqb}
 use Rattle.std.proofs.lemmas.List.{map-set, set-get_or, get_or-set_same, get_or-set_other}
 use Rattle.std.proofs.Math.ListN.{get_or-map}
 use Rattle.ilist_core.specs.NodeLists.{Sequences}
 use Rattle.flt_ctx.specs.declared.links.Link.{Link}
 use Rattle.flt_ctx.specs.declared.links.Row.{Row}
-use Rattle.flt_ctx.specs.Contexts.{Context, ContextTable, context_at, is_freed, with_context, add_reference, drop_reference, put_value, with_link, no_context}
+use Rattle.flt_ctx.specs.Contexts.{Context, ContextTable, context_at, is_freed, with_context, add_reference}
+use Rattle.flt_ctx.specs.Contexts.{drop_reference, put_value, with_link, no_context}
 use Rattle.flt_ctx.specs.Rows.{no_row, row_at, as_context, key_of, AreLinked}
 
 -- ---- links

@@ -1,6 +1,7 @@
 -- What a contract sees of `Contexts`. Source: "Managing contexts" in the Windows Driver Kit, and the pages of the calls that are
 -- named below.
-use Rattle.std.specs.Prelude.{◌≡◌, ◌↔◌, Result, Ok, ℕ, ◌+◌, ◌-◌, Bool, true, false, ◌&&◌, ◌||◌, ◌==◌, if◌then◌else◌, List, Option, Some, None, is_some, get_or, set, position}
+use Rattle.std.specs.Prelude.{◌≡◌, ◌↔◌, Result, Ok, ℕ, ◌+◌, ◌-◌, Bool, true, false, ◌&&◌, ◌||◌, ◌==◌}
+use Rattle.std.specs.Prelude.{if◌then◌else◌, List, Option, Some, None, is_some, get_or, set, position}
 use Rattle.flt_ctx.specs.declared.answers.Release.TheVariants.{Freed}
 use Rattle.flt_ctx.specs.declared.answers.SetAnswer.{SetAnswer}
 use Rattle.flt_ctx.specs.declared.answers.SetAnswer.TheVariants.{Done}

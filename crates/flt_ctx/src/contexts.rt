@@ -3,8 +3,10 @@
 //! A link isn't moved in its lists when another context takes it over: its two nodes stay, and name the other context. So a replacement
 //! takes no memory, and only a link that is new does, before anything is changed. The streams with a link are also in an index, where the
 //! first one of a filter is found without a search.
-ghost use Rattle.std.specs.Prelude.{◌≡◌, ◌≢◌, ℕ, ◌-◌, ◌^◌, ◌<◌, ◌≤◌, ◌↔◌, true, false, List, [], ◌∷◌, ◌++◌, replicate, length, is_some, option_map, IsSome, Some, None, set, if◌then◌else◌, Ok, IfOk, OnOk, OnErr, IfSome, IfNone, MatchOption};
-ghost use Rattle.flt_ctx.specs.Contexts.{context_at, is_freed, linked_at, order_of, add_reference, drop_reference, put_value, with_link, put_link, after_unlink, is_closed, cannot_link, CanLink, IsReplaced};
+ghost use Rattle.std.specs.Prelude.{◌≡◌, ◌≢◌, ℕ, ◌-◌, ◌^◌, ◌<◌, ◌≤◌, ◌↔◌, true, false, List, [], ◌∷◌, ◌++◌, replicate, length, is_some};
+ghost use Rattle.std.specs.Prelude.{option_map, IsSome, Some, None, set, if◌then◌else◌, Ok, IfOk, OnOk, OnErr, IfSome, IfNone, MatchOption};
+ghost use Rattle.flt_ctx.specs.Contexts.{context_at, is_freed, linked_at, order_of, add_reference, drop_reference, put_value};
+ghost use Rattle.flt_ctx.specs.Contexts.{with_link, put_link, after_unlink, is_closed, cannot_link, CanLink, IsReplaced};
 ghost use Rattle.flt_ctx.specs.declared.answers.SetAnswer.TheVariants as answer;
 ghost use Rattle.flt_ctx.specs.declared.answers.Unlinked.{Unlinked};
 ghost use Rattle.flt_ctx.specs.declared.answers.Release.TheVariants.{Freed};

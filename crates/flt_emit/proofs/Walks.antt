@@ -1,5 +1,6 @@
 -- The lines of a statement by its kind, and lines that are written one after the other.
-use Rattle.std.proofs.Common.{◌≡◌, ℕ, ◌+◌, ◌<◌, false, List, [], ◌∷◌, ◌++◌, length, drop, get_or, refl, sym, ap, ◌∙◌, append_assoc, append-nil, arith}
+use Rattle.std.proofs.Common.{◌≡◌, ℕ, ◌+◌, ◌<◌, false, List, [], ◌∷◌, ◌++◌, length, drop}
+use Rattle.std.proofs.Common.{get_or, refl, sym, ap, ◌∙◌, append_assoc, append-nil, arith}
 use Rattle.std.proofs.lemmas.List.{drop_more}
 use Rattle.std.proofs.lemmas.List.Sums.{sum-map, sum_by-cons}
 use Rattle.std.specs.Prelude.{Option}
@@ -15,7 +16,8 @@ use Rattle.flt_tree.specs.declared.filter.Statement.TheVariants.{Act, Call, Retu
 use Rattle.flt_tree.specs.declared.filter.Statement.TheVariants.{rolls-Act, rolls-Call, rolls-Return, rolls-If, rolls-Repeat}
 use Rattle.flt_tree.specs.declared.filter.Status.{Status}
 use Rattle.flt_emit.specs.Scope.{Scope}
-use Rattle.flt_emit.specs.Statements.{Lines, statement_step, statement_text, with_lines, statements_of, body_text, choice_text, turned_text, otherwise_text, if_text}
+use Rattle.flt_emit.specs.Statements.{Lines, statement_step, statement_text, with_lines, statements_of}
+use Rattle.flt_emit.specs.Statements.{body_text, choice_text, turned_text, otherwise_text, if_text}
 
 module _ (scope : Scope) (level point : ℕ) where
   -- a statement's lines are those of its layer

@@ -20,15 +20,19 @@ use Rattle.flt_tree.specs.declared.variable.NumberVariable.{NumberVariable}
 use Rattle.flt_tree.specs.declared.variable.NumberVariable.TheVariants as numbers
 use Rattle.flt_tree.specs.declared.variable.RemovedVariable.{RemovedVariable}
 use Rattle.flt_tree.specs.declared.variable.RemovedVariable.TheVariants as removed
-use Rattle.flt_emit.specs.Expressions.{is_variable, is_zero, constant, compared, null_sign, equal_sign, less_sign, negation, test_text, anchored, address, context_type, fallible_text, condition_text}
+use Rattle.flt_emit.specs.Expressions.{is_variable, is_zero, constant, compared, null_sign, equal_sign, less_sign, negation}
+use Rattle.flt_emit.specs.Expressions.{test_text, anchored, address, context_type, fallible_text, condition_text}
 use Rattle.flt_emit.specs.Line.{atom_text}
 use Rattle.flt_emit.specs.Names.{number_name, context_name, context_or_null, removed_name, instance, own_file, existing_name}
 use Rattle.flt_emit.specs.Scope.{Scope, allocates_for_instance}
 use Rattle.flt_print.specs.Reprinting.{call_without, condition_without}
 use Rattle.flt_emit_read.specs.Front.{Front, after}
-use Rattle.flt_emit_read.specs.Lines.{Asked, known_value, comparison_at, if_same, known_at, if_none, unknown_at, null_at, anchor_given, get_at, set_at, delete_at, named, queued_at, remove_at, generic_at, allocate_at, fallible_at, succeeds_at, condition_at, test_at, test_forms, named_test_at, number_name_at, context_at, removed_at}
+use Rattle.flt_emit_read.specs.Lines.{Asked, known_value, comparison_at, if_same, known_at, if_none, unknown_at, null_at, anchor_given}
+use Rattle.flt_emit_read.specs.Lines.{get_at, set_at, delete_at, named, queued_at, remove_at, generic_at, allocate_at, fallible_at}
+use Rattle.flt_emit_read.specs.Lines.{succeeds_at, condition_at, test_at, test_forms, named_test_at, number_name_at, context_at, removed_at}
 use Rattle.flt_emit_read.proofs.Fronts.{then_reads, after_again, name_reads, joined_pieces}
-use Rattle.flt_emit_read.proofs.Names.{number_name_reads, context_reads, removed_reads, existing_reads, optional_reads, address_reads, atom_reads}
+use Rattle.flt_emit_read.proofs.Names.{number_name_reads, context_reads, removed_reads, existing_reads}
+use Rattle.flt_emit_read.proofs.Names.{optional_reads, address_reads, atom_reads}
 
 -- ---- tests
 

@@ -14,7 +14,9 @@ use Rattle.flt_tree.specs.declared.variable.NumberVariable.{NumberVariable}
 use Rattle.flt_tree.specs.declared.variable.NumberVariable.TheVariants as numbers
 use Rattle.flt_tree.specs.declared.variable.RemovedVariable.{RemovedVariable}
 use Rattle.flt_tree.specs.declared.variable.RemovedVariable.TheVariants as removed
-use Rattle.flt_emit.specs.Callbacks.{where_used, context_declaration, operation_declaration, unread, declared_number, number_declaration, context_variables, removed_variables, number_variables, argument_declaration, instance_declaration, needs_level, declared_level, level_declaration, level_declarations, declarations}
+use Rattle.flt_emit.specs.Callbacks.{where_used, context_declaration, operation_declaration, unread, declared_number, number_declaration}
+use Rattle.flt_emit.specs.Callbacks.{context_variables, removed_variables, number_variables, argument_declaration, instance_declaration}
+use Rattle.flt_emit.specs.Callbacks.{needs_level, declared_level, level_declaration, level_declarations, declarations}
 use Rattle.flt_emit.specs.Line.{joined}
 use Rattle.flt_emit.specs.Names.{context_name, removed_name}
 use Rattle.flt_emit_read.specs.Sources.{past_empty}

@@ -9,7 +9,8 @@ use Rattle.flt_tree.specs.declared.filter.Statement.{Statement}
 use Rattle.flt_emit_read.specs.Blocks.{reading, endings, after_one, past_end, step}
 use Rattle.flt_emit.specs.Fixed.{unreached, free_deferred, free_generic}
 use Rattle.flt_emit_read.specs.Front.{after, or_else}
-use Rattle.flt_emit_read.specs.Lines.{line_at, line_start, ask_forms, plain_line, plain_forms, lock_line, lock_forms, settle_line, settle_forms, named_line, number_name_at, context_at, removed_at}
+use Rattle.flt_emit_read.specs.Lines.{line_at, line_start, ask_forms, plain_line, plain_forms, lock_line, lock_forms}
+use Rattle.flt_emit_read.specs.Lines.{settle_line, settle_forms, named_line, number_name_at, context_at, removed_at}
 use Rattle.flt_emit_read.specs.declared.blocks.Open.{Open}
 use Rattle.flt_emit_read.proofs.Stripped.{after_takes}
 

@@ -13,10 +13,12 @@ use Rattle.flt_tree.specs.declared.filter.Lock.{Lock}
 use Rattle.flt_tree.specs.declared.filter.Position.{Position}
 use Rattle.flt_tree.specs.declared.filter.Statement.{Statement}
 use Rattle.flt_tree.specs.declared.filter.Statement.TheOpen.{Statement-F}
-use Rattle.flt_tree.specs.declared.filter.Statement.TheVariants.{Act, Call, Return, If, Repeat, rolls-Act, rolls-Call, rolls-Return, rolls-If, rolls-Repeat}
+use Rattle.flt_tree.specs.declared.filter.Statement.TheVariants.{Act, Call, Return, If, Repeat, rolls-Act, rolls-Call}
+use Rattle.flt_tree.specs.declared.filter.Statement.TheVariants.{rolls-Return, rolls-If, rolls-Repeat}
 use Rattle.flt_tree.specs.declared.filter.Status.{Status}
 use Rattle.flt_print.specs.Reprinting.{nowhere, condition_without, step_without, statement_without, callback_without}
-use Rattle.flt_emit_read.specs.AsRead.{returned, fits_return, fits_step, statement_fits, callback_fits, step_as_read, statement_as_read, callback_as_read}
+use Rattle.flt_emit_read.specs.AsRead.{returned, fits_return, fits_step, statement_fits, callback_fits}
+use Rattle.flt_emit_read.specs.AsRead.{step_as_read, statement_as_read, callback_as_read}
 use Rattle.flt_emit_read.specs.Laws.{ReadsBack, ReadsBackWhole, SaysOneFilter}
 use Rattle.flt_emit_read.specs.Sources.{read_back}
 use Rattle.flt_emit_read.proofs.Nested.{folded}

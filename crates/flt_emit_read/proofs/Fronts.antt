@@ -1,5 +1,6 @@
 -- What stands at the front of a text is read.
-use Rattle.std.proofs.Common.{◌≡◌, ◌<◌, ◌/◌, ◌%◌, ◌^◌, ℕ, zero, suc, Bool, true, false, List, [], ◌∷◌, ◌++◌, length, refl, ap, arith, rules, ◌∙◌, append_assoc, ◌*◌, ◌-◌, ◌≤◌, ◌+◌}
+use Rattle.std.proofs.Common.{◌≡◌, ◌<◌, ◌/◌, ◌%◌, ◌^◌, ℕ, zero, suc, Bool, true, false, List, [], ◌∷◌, ◌++◌}
+use Rattle.std.proofs.Common.{length, refl, ap, arith, rules, ◌∙◌, append_assoc, ◌*◌, ◌-◌, ◌≤◌, ◌+◌}
 use Rattle.std.specs.Prelude.{◌==◌, not, nat_lt, if◌then◌else◌, Option, Some, None, decimal}
 use Rattle.std.specs.Char.{is_ascii_digit}
 use Rattle.std.specs.Fmt.{digits, digits_onto, digit_glyph}
@@ -9,7 +10,8 @@ use Rattle.std.proofs.lemmas.Fmt.{decimal_nonempty, digits_value-decimal}
 use Rattle.std.proofs.lemmas.Str.Parse.{IsNumeralModel, numerals_by_fold}
 use Rattle.flt_tree.specs.Names.{Text, is_word, is_name}
 use Rattle.flt_emit.specs.Line.{joined, indentation}
-use Rattle.flt_emit_read.specs.Front.{◌>>=◌, or_else, after, front_while, past_while, past_blanks, number_from, number_of, number_at, name_at}
+use Rattle.flt_emit_read.specs.Front.{◌>>=◌, or_else, after, front_while, past_while, past_blanks}
+use Rattle.flt_emit_read.specs.Front.{number_from, number_of, number_at, name_at}
 
 -- ---- steps
 

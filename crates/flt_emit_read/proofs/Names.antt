@@ -22,8 +22,10 @@ use Rattle.flt_emit.specs.Expressions.{address}
 use Rattle.flt_emit.specs.Line.{label, atom_text}
 use Rattle.flt_emit.specs.Names.{number_name, context_name, context_or_null, removed_name, operation_name, existing_name, final_status_name}
 use Rattle.flt_emit_read.specs.Front.{after, past_blanks, number_at}
-use Rattle.flt_emit_read.specs.Lines.{number_name_at, context_at, removed_at, operation_at, final_at, existing_at, optional_at, address_at, atom_at, labelled, ended, ends}
-use Rattle.flt_emit_read.proofs.Fronts.{then_reads, first_reads, other_reads, after_again, all_digits, past_all, number_reads, joined_pieces}
+use Rattle.flt_emit_read.specs.Lines.{number_name_at, context_at, removed_at, operation_at, final_at, existing_at}
+use Rattle.flt_emit_read.specs.Lines.{optional_at, address_at, atom_at, labelled, ended, ends}
+use Rattle.flt_emit_read.proofs.Fronts.{then_reads, first_reads, other_reads, after_again}
+use Rattle.flt_emit_read.proofs.Fronts.{all_digits, past_all, number_reads, joined_pieces}
 
 -- a number variable is read back from its name
 pub number_name_reads : (n : NumberVariable) (r : Text) → number_name_at (number_name n ++ r) ≡ Some (n, r)

@@ -1,5 +1,6 @@
 -- Statements and blocks are read back.
-use Rattle.std.proofs.Common.{◌≡◌, ◌<◌, ◌≤◌, ◌+◌, ℕ, zero, suc, Bool, true, false, List, [], ◌∷◌, ◌++◌, length, map, refl, sym, ap, subst, arith, ◌∙◌, append_assoc, append-nil, add-one}
+use Rattle.std.proofs.Common.{◌≡◌, ◌<◌, ◌≤◌, ◌+◌, ℕ, zero, suc, Bool, true, false, List, [], ◌∷◌, ◌++◌, length}
+use Rattle.std.proofs.Common.{map, refl, sym, ap, subst, arith, ◌∙◌, append_assoc, append-nil, add-one}
 use Rattle.std.proofs.lemmas.List.Sums.{sum-map, sum_by-cons}
 use Rattle.std.proofs.lemmas.List.{length-append}
 use Rattle.std.specs.Prelude.{Option, Some, None, codes, decimal}
@@ -18,12 +19,15 @@ use Rattle.flt_tree.specs.declared.filter.Span.{Span}
 use Rattle.flt_tree.specs.declared.filter.Statement.{Statement, roll-Statement}
 use Rattle.flt_tree.specs.declared.filter.Statement.TheFolds.{fold-Statement, map-Statement, fold-roll-Statement, para-roll-Statement}
 use Rattle.flt_tree.specs.declared.filter.Statement.TheOpen.{Statement-F}
-use Rattle.flt_tree.specs.declared.filter.Statement.TheVariants.{Act, Call, Return, If, Repeat, rolls-Act, rolls-Call, rolls-Return, rolls-If, rolls-Repeat}
+use Rattle.flt_tree.specs.declared.filter.Statement.TheVariants.{Act, Call, Return, If, Repeat, rolls-Act, rolls-Call}
+use Rattle.flt_tree.specs.declared.filter.Statement.TheVariants.{rolls-Return, rolls-If, rolls-Repeat}
 use Rattle.flt_tree.specs.declared.filter.Status.{Status}
 use Rattle.flt_emit.specs.Expressions.{condition_text}
 use Rattle.flt_emit.specs.Line.{joined, label, indentation}
 use Rattle.flt_emit.specs.Scope.{Scope}
-use Rattle.flt_emit.specs.Statements.{Lines, statement_step, statement_text, with_lines, statements_of, body_text, in_turn, choice_text, if_text, bare_text, repeat_text, closing, else_text, action_text, before_call, plain_text, return_text}
+use Rattle.flt_emit.specs.Statements.{Lines, statement_step, statement_text, with_lines, statements_of, body_text, in_turn, choice_text}
+use Rattle.flt_emit.specs.Statements.{if_text, bare_text, repeat_text, closing, else_text, action_text, before_call, plain_text}
+use Rattle.flt_emit.specs.Statements.{return_text}
 use Rattle.flt_print.specs.Reprinting.{condition_without}
 use Rattle.flt_emit_read.specs.AsRead.{returned, step_as_read, statement_as_read}
 use Rattle.flt_emit_read.specs.declared.blocks.Open.{Open}
@@ -31,7 +35,8 @@ use Rattle.flt_emit_read.specs.declared.blocks.Open.TheVariants.{First, Second, 
 use Rattle.flt_emit_read.specs.Blocks.{Reading, reading, ended, takes, past_end, step, lines_at}
 use Rattle.flt_emit_read.specs.declared.line.Line.{Line}
 use Rattle.flt_emit_read.specs.declared.line.Line.TheVariants.{Whole, Asks, Turns, Otherwise, Closes}
-use Rattle.flt_emit_read.specs.Lines.{line_at, if_line, bare_line, repeat_line, line_start, named_line, number_name_at, context_at, removed_at, ask_forms, plain_line, plain_forms, lock_line, lock_forms, settle_line, settle_forms}
+use Rattle.flt_emit_read.specs.Lines.{line_at, if_line, bare_line, repeat_line, line_start, named_line, number_name_at, context_at}
+use Rattle.flt_emit_read.specs.Lines.{removed_at, ask_forms, plain_line, plain_forms, lock_line, lock_forms, settle_line, settle_forms}
 use Rattle.flt_emit_read.proofs.Asked.{condition_reads}
 use Rattle.flt_emit_read.proofs.Plain.{call_reads}
 use Rattle.flt_emit_read.proofs.Fronts.{then_reads, first_reads, other_reads, after_again, number_reads, joined_pieces}

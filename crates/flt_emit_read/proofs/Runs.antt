@@ -1,5 +1,6 @@
 -- Runs of bytes at the front of a text, and the digits of a number.
-use Rattle.std.proofs.Common.{◌≡◌, ◌<◌, ◌≤◌, ◌+◌, ◌-◌, ◌/◌, ◌%◌, ◌^◌, ℕ, suc, Bool, true, false, [], ◌∷◌, ◌++◌, length, take, refl, ap, arith, ◌∙◌}
+use Rattle.std.proofs.Common.{◌≡◌, ◌<◌, ◌≤◌, ◌+◌, ◌-◌, ◌/◌, ◌%◌, ◌^◌, ℕ, suc, Bool, true}
+use Rattle.std.proofs.Common.{false, [], ◌∷◌, ◌++◌, length, take, refl, ap, arith, ◌∙◌}
 use Rattle.std.proofs.lemmas.Fmt.{decimal_digit, decimal_step}
 use Rattle.std.specs.Prelude.{Option, Some, None, if◌then◌else◌, ◌==◌, decimal}
 use Rattle.flt_tree.specs.Names.{Text}

@@ -27,7 +27,9 @@ use Rattle.flt_emit.specs.Statements.{action_text}
 use Rattle.flt_emit_read.specs.Front.{Front, after, past_blanks, number_at}
 use Rattle.flt_emit_read.specs.declared.line.Line.{Line}
 use Rattle.flt_emit_read.specs.declared.line.Line.TheVariants.{Whole}
-use Rattle.flt_emit_read.specs.Lines.{line_at, number_line, context_line, removed_line, expression_after, file_at, write_line, atom_at, number_name_at, completing, line_start, named_line, context_at, removed_at, ask_forms, plain_line, plain_forms, lock_line, lock_forms, settle_line, settle_forms}
+use Rattle.flt_emit_read.specs.Lines.{line_at, number_line, context_line, removed_line, expression_after, file_at, write_line}
+use Rattle.flt_emit_read.specs.Lines.{atom_at, number_name_at, completing, line_start, named_line, context_at, removed_at, ask_forms}
+use Rattle.flt_emit_read.specs.Lines.{plain_line, plain_forms, lock_line, lock_forms, settle_line, settle_forms}
 use Rattle.flt_emit_read.proofs.Fronts.{then_reads, first_reads, other_reads, after_again, joined_pieces, past_indentation}
 use Rattle.flt_emit_read.proofs.Names.{context_reads, removed_reads, atom_reads, ends_reads}
 

@@ -15,7 +15,8 @@ pushed [] block = refl
 pushed (first ∷ blocks) block = ap (λ l. l ++ first ∷ []) (pushed blocks block)
 
 -- while a block is open no callback ends
-pub open_ends_nowhere : (block : Open) (blocks : List Open) (at : Place) (z : Text) → past_end (innermost_first (block ∷ blocks)) at z ≡ None
+pub open_ends_nowhere : (block : Open) (blocks : List Open) (at : Place) (z : Text) →
+    past_end (innermost_first (block ∷ blocks)) at z ≡ None
 open_ends_nowhere block blocks at z = go (innermost_first blocks)
   where
     go : (l : List Open) → past_end (l ++ block ∷ []) at z ≡ None

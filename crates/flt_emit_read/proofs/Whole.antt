@@ -1,5 +1,6 @@
 -- A whole source is read back.
-use Rattle.std.proofs.Common.{◌≡◌, ◌<◌, ◌≤◌, ◌+◌, ◌-◌, ◌^◌, ℕ, zero, suc, Bool, true, false, List, [], ◌∷◌, ◌++◌, length, map, refl, sym, ap, arith, ◌∙◌, append_assoc, append-nil}
+use Rattle.std.proofs.Common.{◌≡◌, ◌<◌, ◌≤◌, ◌+◌, ◌-◌, ◌^◌, ℕ, zero, suc, Bool, true, false, List, [], ◌∷◌}
+use Rattle.std.proofs.Common.{◌++◌, length, map, refl, sym, ap, arith, ◌∙◌, append_assoc, append-nil}
 use Rattle.std.proofs.lemmas.Bool.{and_parts}
 use Rattle.std.proofs.lemmas.Slice.Eq.{bytes_eq-Decides}
 use Rattle.std.specs.Prelude.{flat_map, Option, Some, None, is_some, option_map, codes, decimal, ◌||◌}
@@ -24,13 +25,16 @@ use Rattle.flt_tree.specs.declared.filter.Head.TheVariants.{Pre, Post, Canceled,
 use Rattle.flt_tree.specs.declared.filter.Lock.{Lock}
 use Rattle.flt_tree.specs.declared.filter.Position.{Position}
 use Rattle.flt_tree.specs.declared.filter.Statement.{Statement}
-use Rattle.flt_emit.specs.Callbacks.{prototype, deferred_prototype, hook, unreturned, done, ending, heading, scope_in, opening, contents, callback_text, callbacks_text, prototypes_text, declarations}
+use Rattle.flt_emit.specs.Callbacks.{prototype, deferred_prototype, hook, unreturned, done, ending, heading, scope_in}
+use Rattle.flt_emit.specs.Callbacks.{opening, contents, callback_text, callbacks_text, prototypes_text, declarations}
 use Rattle.flt_emit.specs.Fixed as fixed
-use Rattle.flt_emit.specs.Fixed.{unreached, free_deferred, free_generic, globals_end, queue_fields, allocating, pre_head, post_head, canceled_prototype, deferred_head, generic_head}
+use Rattle.flt_emit.specs.Fixed.{unreached, free_deferred, free_generic, globals_end, queue_fields, allocating}
+use Rattle.flt_emit.specs.Fixed.{pre_head, post_head, canceled_prototype, deferred_head, generic_head}
 use Rattle.flt_emit.specs.Line.{joined}
 use Rattle.flt_emit.specs.Names.{operation_word}
 use Rattle.flt_emit.specs.Scope.{Scope}
-use Rattle.flt_emit.specs.Source.{lock_field, operation_row, row_of, rows_of, title, included, front, globals, helpers, where_queue, registered, declared, framed, source, queue_part, attachment, beginning, registering}
+use Rattle.flt_emit.specs.Source.{lock_field, operation_row, row_of, rows_of, title, included, front, globals, helpers, where_queue}
+use Rattle.flt_emit.specs.Source.{registered, declared, framed, source, queue_part, attachment, beginning, registering}
 use Rattle.flt_emit.specs.Statements.{body_text}
 use Rattle.flt_emit.specs.Uses.{always_returns}
 use Rattle.flt_emit.specs.declared.scope.Allocation.{Allocation}
@@ -39,10 +43,13 @@ use Rattle.flt_emit_read.specs.Blocks.{reading, past_end, step, body_at}
 use Rattle.flt_emit_read.specs.Front.{after}
 use Rattle.flt_emit_read.specs.Laws.{ReadsBack}
 use Rattle.flt_print.specs.Reprinting.{nowhere}
-use Rattle.flt_emit_read.specs.Lines.{line_at, line_start, named_line, number_name_at, context_at, removed_at, ask_forms, plain_line, plain_forms, lock_line, lock_forms, settle_line, settle_forms}
-use Rattle.flt_emit_read.specs.Sources.{lock_at, locks_at, queue_at, operation_kind_at, event_at, routine_at, head_at, prototype_at, heads_at, hooked, callback_at, callbacks_at, queue_of, whole_filter, title_at, read_back}
+use Rattle.flt_emit_read.specs.Lines.{line_at, line_start, named_line, number_name_at, context_at, removed_at, ask_forms}
+use Rattle.flt_emit_read.specs.Lines.{plain_line, plain_forms, lock_line, lock_forms, settle_line, settle_forms}
+use Rattle.flt_emit_read.specs.Sources.{lock_at, locks_at, queue_at, operation_kind_at, event_at, routine_at, head_at, prototype_at}
+use Rattle.flt_emit_read.specs.Sources.{heads_at, hooked, callback_at, callbacks_at, queue_of, whole_filter, title_at, read_back}
 use Rattle.flt_emit_read.proofs.Declared.{declaration_lines}
-use Rattle.flt_emit_read.proofs.Fronts.{then_reads, first_reads, other_reads, after_again, all_digits, past_all, number_reads, name_reads, Stops, pieces, joined_pieces}
+use Rattle.flt_emit_read.proofs.Fronts.{then_reads, first_reads, other_reads, after_again, all_digits, past_all}
+use Rattle.flt_emit_read.proofs.Fronts.{number_reads, name_reads, Stops, pieces, joined_pieces}
 use Rattle.flt_emit_read.proofs.Nested.{of_statements, runs}
 
 -- ---- the ends of callbacks

@@ -42,7 +42,8 @@ use Rattle.flt_tree.specs.declared.variable.OperationVariable.TheVariants as ope
 use Rattle.flt_tree.specs.declared.variable.RemovedVariable.{RemovedVariable}
 use Rattle.flt_tree.specs.declared.variable.RemovedVariable.TheVariants as removed
 use Rattle.flt_emit.specs.Expressions.{is_variable, is_zero}
-use Rattle.flt_emit.specs.Names.{number_name, context_name, removed_name, operation_name, instance, own_file, existing_name, final_status_name}
+use Rattle.flt_emit.specs.Names.{number_name, context_name, removed_name, operation_name}
+use Rattle.flt_emit.specs.Names.{instance, own_file, existing_name, final_status_name}
 use Rattle.flt_print.specs.Reprinting.{nowhere}
 use Rattle.flt_emit_read.specs.declared.line.Line.{Line}
 use Rattle.flt_emit_read.specs.declared.line.Line.TheVariants.{Whole, Asks, Turns, Otherwise, Closes}

@@ -62,7 +62,8 @@ fn routine<'a>(
     parameters: Part<'_>,
     z: &'a [u8],
 ) -> Result<Option<(&'a [u8], &'a [u8])>, AllocError>
-    ensures deferred { IfOk result (λ found. routine_of DeferredPre found ≡ spec.routine_at DeferredPre (part_text parameters.entry) z.now) }
+    ensures deferred { IfOk result
+        (λ found. routine_of DeferredPre found ≡ spec.routine_at DeferredPre (part_text parameters.entry) z.now) }
     ensures generic { IfOk result (λ found. routine_of Generic found ≡ spec.routine_at Generic (part_text parameters.entry) z.now) }
 {
     let Some((found, z)) = name(z) else {

@@ -1,5 +1,6 @@
 -- From where on points are pending, at the earliest.
-use Rattle.std.proofs.Common.{◌≡◌, ℕ, zero, suc, ◌+◌, ◌<◌, ◌≤◌, min, Bool, true, false, List, [], ◌∷◌, Option, Some, None, length, get_or, set, refl, sym, ap, subst, ◌∙◌, arith, ⊎_elim}
+use Rattle.std.proofs.Common.{◌≡◌, ℕ, zero, suc, ◌+◌, ◌<◌, ◌≤◌, min, Bool, true, false, List, [], ◌∷◌, Option}
+use Rattle.std.proofs.Common.{Some, None, length, get_or, set, refl, sym, ap, subst, ◌∙◌, arith, ⊎_elim}
 use Rattle.std.proofs.lemmas.Bool.{cases_lt}
 use Rattle.std.proofs.lemmas.List.{get_or-set_other}
 use Rattle.flt_analyse.specs.Pending.{least, least_from}
@@ -69,7 +70,8 @@ reached_clear : (w : Walk) (n : ℕ) (way : Option Way) → IsClear n w.pending 
 unfolding reached
 reached_clear w n None c = c
 reached_clear w n (Some y) c =
-    arrived_clear w y.point (min n y.point) (news (known w y.point) y.sight) (omega arith) (fewer w.pending (min n y.point) n (omega arith) c)
+    arrived_clear w y.point (min n y.point) (news (known w y.point) y.sight) (omega arith)
+    (fewer w.pending (min n y.point) n (omega arith) c)
 
 led_clear : (s : Spot) (ways : Ways) (n : ℕ) (x : Progress) → IsClear n x.walk.pending →
     IsClear (earliest (earliest n ways.first) ways.second) (led s ways x).walk.pending

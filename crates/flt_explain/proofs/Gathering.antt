@@ -1,5 +1,6 @@
 -- Findings by their points, before and after a look.
-use Rattle.std.proofs.Common.{◌≡◌, ℕ, ◌+◌, ◌<◌, Bool, true, false, cond, List, [], ◌∷◌, ◌++◌, Option, Some, None, length, get_or, set, replicate, refl, sym, ap, subst, ◌∙◌, arith, ⊎_elim}
+use Rattle.std.proofs.Common.{◌≡◌, ℕ, ◌+◌, ◌<◌, Bool, true, false, cond, List, [], ◌∷◌, ◌++◌, Option, Some}
+use Rattle.std.proofs.Common.{None, length, get_or, set, replicate, refl, sym, ap, subst, ◌∙◌, arith, ⊎_elim}
 use Rattle.std.specs.Prelude.{◌==◌}
 use Rattle.std.specs.List.{All, filter}
 use Rattle.std.proofs.lemmas.Bool.{eqb-true, and_parts, and_left, and_right, ne_eqb, cases_eq}
@@ -10,7 +11,8 @@ use Rattle.flt_graph.specs.declared.graph.Graph.{Graph}
 use Rattle.flt_explain.specs.ByPoint.{AreBefore, AreByPoint}
 use Rattle.flt_explain.specs.Told.{is_at, at_point}
 use Rattle.flt_explain.specs.Sight.{past}
-use Rattle.flt_explain.specs.Walk.{Progress, progress, blank, opened, known, wrong, faults_told, marked, news, arrived_if, reached, led, looked_at, looked, spot}
+use Rattle.flt_explain.specs.Walk.{Progress, progress, blank, opened, known, wrong, faults_told, marked}
+use Rattle.flt_explain.specs.Walk.{news, arrived_if, reached, led, looked_at, looked, spot}
 use Rattle.flt_explain.specs.declared.finding.Fault.{Fault}
 use Rattle.flt_explain.specs.declared.finding.Finding.{Finding}
 use Rattle.flt_explain.specs.declared.sight.Sight.{Sight}
@@ -28,11 +30,13 @@ none_at callback point [] b = refl
 none_at callback point (h ∷ hs) b =
     let less : h.callback < callback = All-head (λ (h : Finding). h.callback < callback) h hs b in
     let other : (h.callback == callback) ≡ false = ne_eqb h.callback callback (λ e. absurd (omega (arith, e, less))) in
-    ap (λ t. cond t (h ∷ at_point callback point hs) (at_point callback point hs)) (and_left (h.callback == callback) (h.point == point) other)
+    ap (λ t. cond t (h ∷ at_point callback point hs) (at_point callback point hs))
+    (and_left (h.callback == callback) (h.point == point) other)
     ∙ none_at callback point hs (All-tail (λ (h : Finding). h.callback < callback) h hs b)
 
 -- so at the start of a callback's walk no point has any
-pub none_by_point : (callback n : ℕ) (lists : List (List Finding)) (found : List Finding) → lists ≡ replicate n [] → AreBefore callback found →
+pub none_by_point : (callback n : ℕ) (lists : List (List Finding)) (found : List Finding) →
+    lists ≡ replicate n [] → AreBefore callback found →
     AreByPoint callback lists found
 none_by_point callback n lists found e b = subst (λ ls. AreByPoint callback ls found) (sym e) (record {
   each = λ point within.
@@ -43,14 +47,16 @@ none_by_point callback n lists found e b = subst (λ ls. AreByPoint callback ls 
 -- ---- after a look
 
 -- findings at a spot aren't at other points
-away : (s : Spot) (point : ℕ) (more : List Finding) → (point ≡ s.point → ⊥) → All (λ (h : Finding). is_at s.callback s.point h ≡ true) more →
+away : (s : Spot) (point : ℕ) (more : List Finding) → (point ≡ s.point → ⊥) →
+    All (λ (h : Finding). is_at s.callback s.point h ≡ true) more →
     at_point s.callback point more ≡ []
 away s point [] n a = refl
 away s point (h ∷ hs) n a =
     let at : is_at s.callback s.point h ≡ true = All-head (λ (h : Finding). is_at s.callback s.point h ≡ true) h hs a in
     let same : h.point ≡ s.point = eqb-true h.point s.point ((and_parts (h.callback == s.callback) (h.point == s.point) at).1) in
     let other : (h.point == point) ≡ false = ne_eqb h.point point (λ e. n (sym e ∙ same)) in
-    ap (λ t. cond t (h ∷ at_point s.callback point hs) (at_point s.callback point hs)) (and_right (h.callback == s.callback) (h.point == point) other)
+    ap (λ t. cond t (h ∷ at_point s.callback point hs) (at_point s.callback point hs))
+    (and_right (h.callback == s.callback) (h.point == point) other)
     ∙ away s point hs n (All-tail (λ (h : Finding). is_at s.callback s.point h ≡ true) h hs a)
 
 -- so a look leaves those at other points as they were
@@ -81,7 +87,8 @@ replaced g s w v found all lists here e a h = record { each = by }
         get_or-set_other lists s.point point here [] other ∙ a.each point inside ∙ sym (untouched s point found all other adds))
         (cases_eq point s.point)
 
-pub look_by_point : (g : Graph) (callback point : ℕ) (s : Spot) (w v : Walk) (found all : List Finding) (lists new : List (List Finding)) (here : List Finding) →
+pub look_by_point : (g : Graph) (callback point : ℕ) (s : Spot) (w v : Walk) (found all : List Finding)
+    (lists new : List (List Finding)) (here : List Finding) →
     s ≡ spot g callback point → progress v all ≡ looked g s (progress w found) → AreByPoint callback lists found →
     here ≡ at_point s.callback s.point all → new ≡ set lists point here → AreByPoint callback new all
 look_by_point g callback point s w v found all lists new here is e a h n =
@@ -116,8 +123,10 @@ looked_wide g s x = by (known x.walk s.point)
         led_wide s (past g s.callback s.point faults a) (progress x.walk (faults_told s a faults x.found))
 
 -- so the points without one that is taken are as many after a look at it
-pub look_wide : (g : Graph) (s : Spot) (point : ℕ) (w t v : Walk) (found all : List Finding) (lists new : List (List Finding)) (here : List Finding) →
-    length lists ≡ length w.pending → t ≡ marked w point false → progress v all ≡ looked g s (progress t found) → new ≡ set lists point here →
+pub look_wide : (g : Graph) (s : Spot) (point : ℕ) (w t v : Walk) (found all : List Finding)
+    (lists new : List (List Finding)) (here : List Finding) →
+    length lists ≡ length w.pending → t ≡ marked w point false →
+    progress v all ≡ looked g s (progress t found) → new ≡ set lists point here →
     length new ≡ length v.pending
 look_wide g s point w t v found all lists new here l m e n =
     ap length n ∙ length-set lists point here ∙ l

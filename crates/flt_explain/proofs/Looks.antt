@@ -3,7 +3,8 @@ use Rattle.std.proofs.Common.{◌≡◌, ℕ, zero, suc, ◌+◌, ◌-◌, ◌<�
 use Rattle.std.specs.Prelude.{is_some}
 use Rattle.flt_graph.specs.declared.graph.Graph.{Graph}
 use Rattle.flt_explain.specs.Sight.{past}
-use Rattle.flt_explain.specs.Walk.{progress, known, wrong, faults_told, led, looked_at, looked, first_pending, step_at, step, steps, walked, walked_from}
+use Rattle.flt_explain.specs.Walk.{progress, known, wrong, faults_told, led, looked_at, looked}
+use Rattle.flt_explain.specs.Walk.{first_pending, step_at, step, steps, walked, walked_from}
 use Rattle.flt_explain.specs.declared.finding.Fault.{Fault}
 use Rattle.flt_explain.specs.declared.finding.Finding.{Finding}
 use Rattle.flt_explain.specs.declared.sight.Sight.{Sight}

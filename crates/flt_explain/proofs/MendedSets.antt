@@ -3,7 +3,8 @@ use Rattle.std.proofs.Common.{◌≡◌, ◌<◌, ◌+◌, ◌&&◌, ◌||◌, B
 use Rattle.std.specs.Prelude.{IsTrue}
 use Rattle.std.specs.Int.RustNames.{bit_and}
 use Rattle.flt_rules.specs.declared.rule.Rule.{Rule}
-use Rattle.flt_abs.specs.Sets.{StatusSet, ModeSet, DrainingSet, bit_of, statuses, status_bits, modes, mode_bits, draining, draining_bits, is_held, is_possible}
+use Rattle.flt_abs.specs.Sets.{StatusSet, ModeSet, DrainingSet, bit_of, statuses, status_bits}
+use Rattle.flt_abs.specs.Sets.{modes, mode_bits, draining, draining_bits, is_held, is_possible}
 use Rattle.flt_abs.specs.State.{Status, Null, Held, Stale, has_status}
 use Rattle.flt_explain.specs.Mending.{wants_held, wants_not_held, is_fine, mended, mended_modes, mended_draining}
 

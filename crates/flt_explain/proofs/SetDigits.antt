@@ -1,7 +1,8 @@
 -- What the digits of sets say of what is in one of two sets, and of whether something is in one.
 use Rattle.std.proofs.Common.{◌≡◌, ◌<◌, ◌==◌, Bool, true, false, not, refl, lit<}
 use Rattle.std.specs.Int.RustNames.{bit_or}
-use Rattle.flt_abs.specs.Sets.{StatusSet, ModeSet, DrainingSet, statuses, status_bits, modes, mode_bits, draining, draining_bits, either_status, either_mode, either_draining, is_possible, is_mode_possible, is_draining_possible}
+use Rattle.flt_abs.specs.Sets.{StatusSet, ModeSet, DrainingSet, statuses, status_bits, modes, mode_bits, draining, draining_bits}
+use Rattle.flt_abs.specs.Sets.{either_status, either_mode, either_draining, is_possible, is_mode_possible, is_draining_possible}
 
 abbrev set_of : Bool → Bool → Bool → StatusSet
 set_of n h s = record { null = n; held = h; stale = s }

@@ -1,5 +1,6 @@
 -- What a look at a point adds to the findings: findings at that point alone.
-use Rattle.std.proofs.Common.{◌≡◌, ◌≢◌, ℕ, zero, suc, ◌+◌, ◌<◌, Bool, true, false, cond, List, [], ◌∷◌, ◌++◌, Option, Some, None, if◌then◌else◌, length, refl, sym, ap, subst, ◌∙◌, arith, append_assoc}
+use Rattle.std.proofs.Common.{◌≡◌, ◌≢◌, ℕ, zero, suc, ◌+◌, ◌<◌, Bool, true, false, cond, List, [], ◌∷◌, ◌++◌, Option}
+use Rattle.std.proofs.Common.{Some, None, if◌then◌else◌, length, refl, sym, ap, subst, ◌∙◌, arith, append_assoc}
 use Rattle.std.specs.Prelude.{◌==◌, ◌&&◌, ◌||◌}
 use Rattle.std.specs.List.{All, filter, list_any}
 use Rattle.std.proofs.lemmas.Bool.{eqb-true, eq-eqb, and_parts, and_from}
@@ -15,7 +16,8 @@ use Rattle.flt_explain.specs.Sight.{tells, past}
 use Rattle.flt_explain.specs.Locks as locks
 use Rattle.flt_explain.specs.Subjects.{place, is_same_finding}
 use Rattle.flt_explain.specs.Told.{finding_at, is_told, told, is_at, at_point}
-use Rattle.flt_explain.specs.Walk.{Progress, progress, faults_told, locks_told_of, locks_told, known, wrong, marked, met, opened, reached, led, looked_at, looked, first_pending, spot, step_at, step, looks, steps, walked}
+use Rattle.flt_explain.specs.Walk.{Progress, progress, faults_told, locks_told_of, locks_told, known, wrong, marked, met, opened}
+use Rattle.flt_explain.specs.Walk.{reached, led, looked_at, looked, first_pending, spot, step_at, step, looks, steps, walked}
 use Rattle.flt_explain.specs.declared.finding.Fault.{Fault}
 use Rattle.flt_explain.specs.declared.finding.Finding.{Finding}
 use Rattle.flt_explain.specs.declared.finding.Subject.{Subject}
@@ -99,9 +101,11 @@ faults_told_adds : (s : Spot) (a : Sight) (fs : List Fault) (found : List Findin
 faults_told_adds s a [] found = adds_none s found
 faults_told_adds s a (f ∷ fs) found =
     let next : List Finding = if tells a f.subject then told found (finding_at s f.rule f.subject) else found in
-    adds_both s found next (faults_told s a fs next) (told_if_adds (tells a f.subject) s f.rule f.subject found) (faults_told_adds s a fs next)
+    adds_both s found next (faults_told s a fs next) (told_if_adds (tells a f.subject) s f.rule f.subject found)
+    (faults_told_adds s a fs next)
 
-locks_told_of_adds : (s : Spot) (differ : Locks) (ls : List LockNumber) (found : List Finding) → Adds s found (locks_told_of s differ ls found)
+locks_told_of_adds : (s : Spot) (differ : Locks) (ls : List LockNumber) (found : List Finding) →
+    Adds s found (locks_told_of s differ ls found)
 locks_told_of_adds s differ [] found = adds_none s found
 locks_told_of_adds s differ (l ∷ ls) found =
     let next : List Finding = if locks.contains differ l then told found (finding_at s R12 (about.Lock l)) else found in
@@ -117,7 +121,8 @@ unfolding led
 led_adds s ways x =
     let first : List Finding = locks_told s (met x.walk ways.first) x.found in
     let second : Locks = met (reached x.walk ways.first) ways.second in
-    adds_both s x.found first (locks_told s second first) (locks_told_adds s (met x.walk ways.first) x.found) (locks_told_adds s second first)
+    adds_both s x.found first (locks_told s second first) (locks_told_adds s (met x.walk ways.first) x.found)
+    (locks_told_adds s second first)
 
 -- a look adds findings at its spot alone
 pub looked_adds : (g : Graph) (s : Spot) (x : Progress) → Adds s x.found (looked g s x).found
@@ -129,7 +134,8 @@ looked_adds g s x = by (known x.walk s.point)
     by (Some a) =
         let faults : List Fault = wrong g s a.state in
         let next : List Finding = faults_told s a faults x.found in
-        adds_both s x.found next (led s (past g s.callback s.point faults a) (progress x.walk next)).found (faults_told_adds s a faults x.found)
+        adds_both s x.found next (led s (past g s.callback s.point faults a) (progress x.walk next)).found
+        (faults_told_adds s a faults x.found)
         (led_adds s (past g s.callback s.point faults a) (progress x.walk next))
 
 -- ---- findings of earlier callbacks
@@ -142,9 +148,11 @@ at_before s h e =
 look_before : (s : Spot) (old new : List Finding) → Adds s old new → AreBefore (s.callback + 1) old → AreBefore (s.callback + 1) new
 look_before s old new a b = All-same (λ (h : Finding). h.callback < s.callback + 1) new (old ++ a.more) a.is
     (All-append (λ (h : Finding). h.callback < s.callback + 1) old a.more b
-    (All-weaker (λ (h : Finding). is_at s.callback s.point h ≡ true) (λ (h : Finding). h.callback < s.callback + 1) (at_before s) a.more a.at))
+    (All-weaker (λ (h : Finding). is_at s.callback s.point h ≡ true)
+    (λ (h : Finding). h.callback < s.callback + 1) (at_before s) a.more a.at))
 
-step_before : (g : Graph) (callback : ℕ) (x : Progress) → AreBefore (callback + 1) x.found → AreBefore (callback + 1) (step g callback x).found
+step_before : (g : Graph) (callback : ℕ) (x : Progress) → AreBefore (callback + 1) x.found →
+    AreBefore (callback + 1) (step g callback x).found
 unfolding step
 step_before g callback x b = by (first_pending x.walk)
   where
@@ -155,7 +163,8 @@ step_before g callback x b = by (first_pending x.walk)
         let taken : Progress = progress (marked x.walk point false) x.found in
         look_before s x.found (looked g s taken).found (looked_adds g s taken) b
 
-steps_before : (g : Graph) (callback n : ℕ) (x : Progress) → AreBefore (callback + 1) x.found → AreBefore (callback + 1) (steps g callback n x).found
+steps_before : (g : Graph) (callback n : ℕ) (x : Progress) → AreBefore (callback + 1) x.found →
+    AreBefore (callback + 1) (steps g callback n x).found
 unfolding steps
 steps_before g callback zero x b = b
 steps_before g callback (suc n) x b = steps_before g callback n (step g callback x) (step_before g callback x b)
@@ -164,7 +173,8 @@ later : (callback : ℕ) (h : Finding) → h.callback < callback → h.callback 
 later callback h l = omega arith
 
 -- the walk of a callback adds none of later ones
-pub walked_before : (g : Graph) (callback : ℕ) (found : List Finding) → AreBefore callback found → AreBefore (callback + 1) (walked g callback found)
+pub walked_before : (g : Graph) (callback : ℕ) (found : List Finding) → AreBefore callback found →
+    AreBefore (callback + 1) (walked g callback found)
 unfolding walked
 walked_before g callback found b = steps_before g callback (looks g callback) (progress (opened g callback) found)
     (All-weaker (λ (h : Finding). h.callback < callback) (λ (h : Finding). h.callback < callback + 1) (later callback) found b)

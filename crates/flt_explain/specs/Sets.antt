@@ -6,7 +6,8 @@ use Rattle.flt_tree.specs.Variable.{context_place, operation_place}
 use Rattle.flt_tree.specs.declared.variable.ContextVariable.{ContextVariable}
 use Rattle.flt_tree.specs.declared.variable.OperationVariable.{OperationVariable}
 use Rattle.flt_graph.specs.declared.instruction.Instruction.{Instruction}
-use Rattle.flt_abs.specs.Sets.{StatusSet, ModeSet, DrainingSet, null_alone, is_possible, is_mode_possible, is_draining_possible, status_bits, mode_bits, draining_bits, either_mode, either_draining}
+use Rattle.flt_abs.specs.Sets.{StatusSet, ModeSet, DrainingSet, null_alone, is_possible, is_mode_possible, is_draining_possible}
+use Rattle.flt_abs.specs.Sets.{status_bits, mode_bits, draining_bits, either_mode, either_draining}
 use Rattle.flt_abs.specs.State.{State, state_of, either_all}
 use Rattle.flt_explain.specs.Mending.{mended, mended_modes, mended_draining}
 use Rattle.flt_explain.specs.Subjects.{operands}

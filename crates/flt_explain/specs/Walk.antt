@@ -1,6 +1,7 @@
 -- The walk over the points of one callback, past what is wrong there: always the least point that is pending is looked at, what is wrong
 -- there is told and mended, and where that leads something new is known is pending again. This project's own definitions.
-use Rattle.std.specs.Prelude.{ℕ, zero, suc, ◌+◌, ◌*◌, ◌^◌, ◌-◌, min, Bool, true, false, List, [], ◌∷◌, replicate, slice_index_or, slice_set, Option, Some, None, if◌then◌else◌}
+use Rattle.std.specs.Prelude.{ℕ, zero, suc, ◌+◌, ◌*◌, ◌^◌, ◌-◌, min, Bool, true, false, List, [], ◌∷◌}
+use Rattle.std.specs.Prelude.{replicate, slice_index_or, slice_set, Option, Some, None, if◌then◌else◌}
 use Rattle.flt_rules.specs.declared.call.LockNumber.{LockNumber}
 use Rattle.flt_rules.specs.declared.rule.Rule.TheVariants.{R12}
 use Rattle.flt_graph.specs.Graph.{place_at, points_at, line_at}

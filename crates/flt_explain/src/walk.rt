@@ -179,8 +179,8 @@ impl Walk {
         Ok(())
     }
 
-    /// Looks at a point that was taken: reports its faults, and continues as if it had none. The findings there are these. Returns from where
-    /// on points are pending, at the earliest.
+    /// Looks at a point that was taken: reports its faults, and continues as if it had none. The findings there are these. Returns from
+    /// where on points are pending, at the earliest.
     #[tactic(auto, using(crate::proofs::Looks::looked_by), unfolding(crate::specs::Walk::looked))]
     fn look(
         &mut self,
@@ -193,7 +193,8 @@ impl Walk {
         requires clear { IsClear spot.point self.old.pending }
         requires here { here.old ≡ at_point spot.callback spot.point findings.old }
         ensures clear { IfOk result (λ from. IsClear from self.new.pending) }
-        ensures looked { OnOk result (spec.progress self.new findings.new ≡ spec.looked graph.now spot (spec.progress self.old findings.old)) }
+        ensures looked { OnOk result
+            (spec.progress self.new findings.new ≡ spec.looked graph.now spot (spec.progress self.old findings.old)) }
         ensures here { OnOk result (here.new ≡ at_point spot.callback spot.point findings.new) }
     {
         let Some(sight) = self.known(spot.point) else {
@@ -207,8 +208,8 @@ impl Walk {
         Ok(from)
     }
 
-    /// Looks at the least pending point, if there is one. No point before a number is pending, and the findings of the callback are these, by
-    /// their points. Returns from where on points are pending then, at the earliest.
+    /// Looks at the least pending point, if there is one. No point before a number is pending, and the findings of the callback are these,
+    /// by their points. Returns from where on points are pending then, at the earliest.
     #[tactic(auto, unfolding(crate::specs::Walk::step))]
     fn step(
         &mut self,

@@ -21,11 +21,13 @@ use Rattle.flt_graph.specs.declared.instruction.Instruction.{Instruction}
 use Rattle.flt_graph.specs.declared.instruction.Instruction.TheVariants as instruction
 use Rattle.flt_graph.specs.declared.instruction.Invocation.{Invocation}
 use Rattle.flt_abs.specs.Entry.{entry}
-use Rattle.flt_abs.specs.Outcome.{put_context, put_operation, put_locks, left, called, failed, acted, may_find, may_come_out, leaves, side, Reaches}
+use Rattle.flt_abs.specs.Outcome.{put_context, put_operation, put_locks, left, called, failed}
+use Rattle.flt_abs.specs.Outcome.{acted, may_find, may_come_out, leaves, side, Reaches}
 use Rattle.flt_abs.specs.State.{Status, Situation, State, Means, IsBelow, is_below}
 use Rattle.flt_abs.specs.Step.{leads_to}
 use Rattle.flt_abs.specs.declared.step.Successor.{Successor}
-use Rattle.flt_explain_closed.specs.Closed.{seen, seen_state, IsIn, IsClosed, is_above, has, has_next, have_next, is_kept, is_entered, is_closed}
+use Rattle.flt_explain_closed.specs.Closed.{seen, seen_state, IsIn, IsClosed, is_above, has, has_next}
+use Rattle.flt_explain_closed.specs.Closed.{have_next, is_kept, is_entered, is_closed}
 use Rattle.flt_explain_closed.specs.declared.member.Member.{Member}
 
 -- ---- locks that aren't followed

@@ -1,5 +1,6 @@
 -- One finding more is told.
-use Rattle.std.proofs.Common.{◌⊎◌, inl, inr, ◌≡◌, ◌<◌, ◌≤◌, ◌+◌, ℕ, zero, suc, List, [], ◌∷◌, ◌++◌, Some, IfSome, length, take, get_or, slice_get, arith, subst, sym, refl, ap, ◌∙◌, length-append}
+use Rattle.std.proofs.Common.{◌⊎◌, inl, inr, ◌≡◌, ◌<◌, ◌≤◌, ◌+◌, ℕ, zero, suc, List, [], ◌∷◌, ◌++◌, Some, IfSome}
+use Rattle.std.proofs.Common.{length, take, get_or, slice_get, arith, subst, sym, refl, ap, ◌∙◌, length-append}
 use Rattle.std.specs.List.{AllZip}
 use Rattle.std.proofs.lemmas.List.{length-take-le, take_all}
 use Rattle.std.proofs.lemmas.Option.{slice_get_read}

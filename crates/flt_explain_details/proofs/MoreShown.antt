@@ -1,5 +1,6 @@
 -- Findings are shown from the last one to the first.
-use Rattle.std.proofs.Common.{◌≡◌, ◌<◌, ◌+◌, ℕ, suc, List, [], ◌∷◌, ◌++◌, Some, length, get_or, slice_get, reverse, arith, ap, sym, subst, refl, ◌∙◌, append_assoc, length-append}
+use Rattle.std.proofs.Common.{◌≡◌, ◌<◌, ◌+◌, ℕ, suc, List, [], ◌∷◌, ◌++◌, Some, length, get_or, slice_get}
+use Rattle.std.proofs.Common.{reverse, arith, ap, sym, subst, refl, ◌∙◌, append_assoc, length-append}
 use Rattle.std.specs.List.{AllZip}
 use Rattle.std.proofs.lemmas.List.{reverse-append}
 use Rattle.std.proofs.lemmas.Option.{slice_get-get_or}

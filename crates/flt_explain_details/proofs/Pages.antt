@@ -1,11 +1,13 @@
 -- What is shown of the first bytes of a text.
-use Rattle.std.proofs.Common.{◌≡◌, ◌≤◌, ◌<◌, ◌+◌, ℕ, zero, suc, Bool, true, false, List, [], ◌∷◌, ◌++◌, Option, Some, None, length, map, take, drop, get_or, arith, append_assoc, append-nil, ap, sym, refl, subst, ◌∙◌}
+use Rattle.std.proofs.Common.{◌≡◌, ◌≤◌, ◌<◌, ◌+◌, ℕ, zero, suc, Bool, true, false, List, [], ◌∷◌, ◌++◌, Option, Some, None}
+use Rattle.std.proofs.Common.{length, map, take, drop, get_or, arith, append_assoc, append-nil, ap, sym, refl, subst, ◌∙◌}
 use Rattle.std.specs.Prelude.{◌&&◌, replicate}
 use Rattle.std.specs.Int.{is_in_range}
 use Rattle.std.proofs.lemmas.Fmt.{decimal_digit, decimal_step}
 use Rattle.std.proofs.lemmas.List.{take_more, length-take-le}
 use Rattle.flt_tree.specs.Names.{Text}
-use Rattle.flt_explain_details.specs.Page.{ascii, begins, byte_shown, character, character_by, front_of, shown, shown_from, sign_by, sign_of, IsStretch}
+use Rattle.flt_explain_details.specs.Page.{ascii, begins, byte_shown, character, character_by, front_of}
+use Rattle.flt_explain_details.specs.Page.{shown, shown_from, sign_by, sign_of, IsStretch}
 
 -- ---- characters
 

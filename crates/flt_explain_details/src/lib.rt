@@ -1,6 +1,6 @@
 //! The findings of texts, and all words about them. `judge` finds them, `details` describes them for other forms, and a `Scene` with its
-//! `Traces` has the data that `flt_explain_reports` draws for people. Here too are the lines that end reports, and the `Page` on which words are
-//! written.
+//! `Traces` has the data that `flt_explain_reports` draws for people. Here too are the lines that end reports, and the `Page` on which
+//! words are written.
 #![tactic(auto)]
 
 mod advice;

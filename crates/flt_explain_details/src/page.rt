@@ -1,6 +1,7 @@
 //! The page on which words are written.
 
-ghost use Rattle.std.specs.Prelude.{◌≡◌, ◌<◌, ◌≤◌, ◌+◌, ◌++◌, ◌∷◌, [], true, drop, flat_map, length, option_copied, replicate, take, IfOk, IsTrue, OnOk};
+ghost use Rattle.std.specs.Prelude.{◌≡◌, ◌<◌, ◌≤◌, ◌+◌, ◌++◌, ◌∷◌, [], true, drop, flat_map, length};
+ghost use Rattle.std.specs.Prelude.{option_copied, replicate, take, IfOk, IsTrue, OnOk};
 ghost use Rattle.std.specs.Fmt.{decimal};
 ghost use Rattle.std.specs.Int.{is_in_range};
 ghost use Rattle.flt_explain_details.specs.Page as spec;

@@ -1,5 +1,6 @@
 -- Entries, one after another.
-use Rattle.std.proofs.Common.{◌≡◌, ◌<◌, ◌≤◌, ◌+◌, ℕ, suc, List, [], ◌∷◌, ◌++◌, Option, Some, None, option_map, add-one, append-nil, append_assoc, ap, drop, get_or, length, refl, subst, sym, ◌∙◌}
+use Rattle.std.proofs.Common.{◌≡◌, ◌<◌, ◌≤◌, ◌+◌, ℕ, suc, List, [], ◌∷◌, ◌++◌, Option, Some, None, option_map, add-one}
+use Rattle.std.proofs.Common.{append-nil, append_assoc, ap, drop, get_or, length, refl, subst, sym, ◌∙◌}
 use Rattle.std.proofs.Math.Seq.{drop-cons}
 use Rattle.std.proofs.lemmas.List.{drop_all}
 use Rattle.flt_tree.specs.declared.filter.Filter.{Filter}

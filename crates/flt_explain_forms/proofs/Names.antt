@@ -1,5 +1,6 @@
 -- Names of files, each once.
-use Rattle.std.proofs.Common.{◌≡◌, ◌∙◌, ℕ, suc, ◌+◌, ◌<◌, ap, sym, List, [], ◌∷◌, ◌++◌, arith, drop, drop-cons, flat_map, get_or, length, map, refl}
+use Rattle.std.proofs.Common.{◌≡◌, ◌∙◌, ℕ, suc, ◌+◌, ◌<◌, ap, sym, List, [], ◌∷◌, ◌++◌, arith}
+use Rattle.std.proofs.Common.{drop, drop-cons, flat_map, get_or, length, map, refl}
 use Rattle.std.proofs.Common.{◌≤◌}
 use Rattle.std.proofs.lemmas.List.{drop_all}
 use Rattle.std.specs.Borrow.{Bor}

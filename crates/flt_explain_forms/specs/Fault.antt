@@ -16,7 +16,8 @@ use Rattle.flt_places.specs.declared.files.Files.{Files}
 use Rattle.flt_syntax.specs.declared.fault.SyntaxFault.{SyntaxFault}
 use Rattle.json.specs.Token.{Token, begin_object, end_object}
 use Rattle.flt_tree.specs.declared.filter.Position.{Position}
-use Rattle.flt_explain_forms.specs.Members.{array_member, bytes_member, filled_member, line_of, number_member, string_member, text_items, text_member}
+use Rattle.flt_explain_forms.specs.Members.{array_member, bytes_member, filled_member, line_of, number_member}
+use Rattle.flt_explain_forms.specs.Members.{string_member, text_items, text_member}
 use Rattle.flt_explain_forms.specs.Preface.{preface}
 use Rattle.flt_explain_forms.specs.Short.{place_of}
 

@@ -1,6 +1,7 @@
 -- What tells results apart whatever lines they are on. This project's own format.
 use Rattle.std.specs.Fmt.{decimal}
-use Rattle.std.specs.Prelude.{ℕ, List, [], ◌∷◌, ◌++◌, ◌-◌, ◌==◌, Bool, Option, Some, None, codes, count_by, drop, if◌then◌else◌, length, take}
+use Rattle.std.specs.Prelude.{ℕ, List, [], ◌∷◌, ◌++◌, ◌-◌, ◌==◌, Bool, Option, Some, None}
+use Rattle.std.specs.Prelude.{codes, count_by, drop, if◌then◌else◌, length, take}
 use Rattle.std.specs.Str.Lossy.{utf8_lossy}
 use Rattle.std.specs.Str.{bytes_eq}
 use Rattle.flt_explain_details.specs.Closing.{rule_name}

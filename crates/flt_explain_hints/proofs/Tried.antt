@@ -9,7 +9,8 @@ use Rattle.flt_syntax.specs.declared.fault.SyntaxFault.{SyntaxFault}
 use Rattle.flt_syntax.specs.declared.token.Kind.{Kind}
 use Rattle.flt_tree.specs.Names.{Text}
 use Rattle.flt_tree.specs.declared.filter.Filter.{Filter}
-use Rattle.flt_explain_hints.specs.Choices.{AreChoices, ArePossible, none, may, may_not, TakesName, entry_of, one, possible, possible_names, symbols}
+use Rattle.flt_explain_hints.specs.Choices.{AreChoices, ArePossible, none, may, may_not, TakesName}
+use Rattle.flt_explain_hints.specs.Choices.{entry_of, one, possible, possible_names, symbols}
 use Rattle.flt_explain_hints.specs.Names.{IsNew, declared_names}
 use Rattle.flt_explain_hints.specs.Trial.{Gap, MayStand, is_past, line_behind, may_stand, reads_on, tried}
 use Rattle.flt_explain_hints.specs.declared.choices.Choices.{Choices}

@@ -1,5 +1,6 @@
 -- What is probably wrong where a text doesn't parse, by what is found and what stands round it. This project's own rule.
-use Rattle.std.specs.Prelude.{ℕ, ◌==◌, Bool, true, false, not, ◌&&◌, ◌||◌, List, [], ◌∷◌, ◌++◌, Option, Some, None, codes, if◌then◌else◌, is_some, map, nat_eq, nat_le}
+use Rattle.std.specs.Prelude.{ℕ, ◌==◌, Bool, true, false, not, ◌&&◌, ◌||◌, List, [], ◌∷◌, ◌++◌, Option}
+use Rattle.std.specs.Prelude.{Some, None, codes, if◌then◌else◌, is_some, map, nat_eq, nat_le}
 use Rattle.std.specs.Char.{is_ascii_digit}
 use Rattle.std.specs.List.{list_all, starts_with}
 use Rattle.std.specs.Option.{option_or}
@@ -12,7 +13,8 @@ use Rattle.flt_syntax.specs.declared.token.Kind.TheVariants as k
 use Rattle.flt_tree.specs.Names.{Text, has_name}
 use Rattle.flt_explain_hints.specs.Absences.{absence_of}
 use Rattle.flt_explain_hints.specs.Choices.{are_none, takes}
-use Rattle.flt_explain_hints.specs.Kinds.{begins_callback, is_context_variable, is_fallible, is_final_status, is_plain, is_variable, takes_fast_mutex, takes_push_lock, takes_spin_lock}
+use Rattle.flt_explain_hints.specs.Kinds.{begins_callback, is_context_variable, is_fallible, is_final_status, is_plain}
+use Rattle.flt_explain_hints.specs.Kinds.{is_variable, takes_fast_mutex, takes_push_lock, takes_spin_lock}
 use Rattle.flt_explain_hints.specs.declared.absences.Absence.{Absence}
 use Rattle.flt_explain_hints.specs.declared.absences.Absence.TheVariants as absence
 use Rattle.flt_explain_hints.specs.declared.before.KindsBefore.{KindsBefore}

@@ -1,5 +1,6 @@
 -- Which word is probably meant, and what is probably wrong, in the place of a token. This project's own rule.
-use Rattle.std.specs.Prelude.{◌==◌, Bool, false, not, ◌&&◌, List, [], ◌∷◌, Option, Some, None, codes, drop, if◌then◌else◌, is_none, is_some, length, min, nat_eq}
+use Rattle.std.specs.Prelude.{◌==◌, Bool, false, not, ◌&&◌, List, [], ◌∷◌, Option, Some, None}
+use Rattle.std.specs.Prelude.{codes, drop, if◌then◌else◌, is_none, is_some, length, min, nat_eq}
 use Rattle.std.specs.Borrow.{Bor}
 use Rattle.std.specs.List.{starts_with}
 use Rattle.std.specs.Option.{unwrap_or}

@@ -1,5 +1,6 @@
 -- Words that are misspelt, and name what the language leaves out. This project's own rule.
-use Rattle.std.specs.Prelude.{ℕ, ◌/◌, Bool, true, false, ◌&&◌, List, [], ◌∷◌, Option, Some, None, if◌then◌else◌, length, min, nat_le, nat_lt, take}
+use Rattle.std.specs.Prelude.{ℕ, ◌/◌, Bool, true, false, ◌&&◌, List, [], ◌∷◌, Option, Some}
+use Rattle.std.specs.Prelude.{None, if◌then◌else◌, length, min, nat_le, nat_lt, take}
 use Rattle.std.specs.Char.{eq_ignore_ascii_case}
 use Rattle.flt_explain_nearest.specs.Nearest.{distance}
 use Rattle.flt_syntax.specs.Vocabulary.{vocabulary}

@@ -11,7 +11,8 @@ use Rattle.flt_syntax.specs.declared.token.Token.{Token}
 use Rattle.flt_tree.specs.Names.{Text}
 use Rattle.flt_explain_hints.specs.Before.{kinds_before, tokens_before}
 use Rattle.flt_explain_hints.specs.Choices.{takes}
-use Rattle.flt_explain_hints.specs.Kinds.{is_call, is_context_variable, is_operand_word, is_operation_variable, is_status, takes_fast_mutex, takes_push_lock, takes_spin_lock}
+use Rattle.flt_explain_hints.specs.Kinds.{is_call, is_context_variable, is_operand_word, is_operation_variable}
+use Rattle.flt_explain_hints.specs.Kinds.{is_status, takes_fast_mutex, takes_push_lock, takes_spin_lock}
 use Rattle.flt_explain_hints.specs.declared.choices.Choices.{Choices}
 use Rattle.flt_explain_hints.specs.declared.open_call.OpenCall.{OpenCall}
 

@@ -6,7 +6,8 @@ use Rattle.flt_syntax.specs.declared.token.Kind.{Kind}
 use Rattle.flt_syntax.specs.declared.token.Kind.TheVariants as k
 use Rattle.flt_tree.specs.Names.{Text}
 use Rattle.flt_explain_hints.specs.Choices.{takes}
-use Rattle.flt_explain_hints.specs.Kinds.{begins_callback, is_context_variable, is_number_variable, is_operation_variable, is_status, is_variable}
+use Rattle.flt_explain_hints.specs.Kinds.{begins_callback, is_context_variable, is_number_variable}
+use Rattle.flt_explain_hints.specs.Kinds.{is_operation_variable, is_status, is_variable}
 use Rattle.flt_explain_hints.specs.declared.choices.Choices.{Choices}
 use Rattle.flt_explain_hints.specs.declared.choices.Expected.{Expected}
 use Rattle.flt_explain_hints.specs.declared.phrases.Phrase as declared

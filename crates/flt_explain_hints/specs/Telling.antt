@@ -1,5 +1,6 @@
 -- What is said of a text that doesn't parse, in words for people, to the letter. This project's own program.
-use Rattle.std.specs.Prelude.{ℕ, Bool, true, false, not, ◌&&◌, ◌||◌, List, [], ◌∷◌, ◌++◌, Option, Some, None, codes, if◌then◌else◌, is_none, length, map, min, nat_lt, take}
+use Rattle.std.specs.Prelude.{ℕ, Bool, true, false, not, ◌&&◌, ◌||◌, List, [], ◌∷◌, ◌++◌, Option, Some}
+use Rattle.std.specs.Prelude.{None, codes, if◌then◌else◌, is_none, length, map, min, nat_lt, take}
 use Rattle.std.specs.Borrow.{Bor}
 use Rattle.std.specs.Char.{is_ascii, is_ascii_control}
 use Rattle.std.specs.List.{flat_map}

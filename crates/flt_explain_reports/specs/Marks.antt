@@ -1,5 +1,6 @@
 -- Lines of a text with marks under them. This project's own program.
-use Rattle.std.specs.Prelude.{ℕ, ◌==◌, ◌&&◌, ◌||◌, ◌-◌, Bool, false, if◌then◌else◌, [], ◌∷◌, ◌++◌, Option, Some, None, codes, drop, length, max, min, replicate, slice_get, take}
+use Rattle.std.specs.Prelude.{ℕ, ◌==◌, ◌&&◌, ◌||◌, ◌-◌, Bool, false, if◌then◌else◌, [], ◌∷◌, ◌++◌, Option}
+use Rattle.std.specs.Prelude.{Some, None, codes, drop, length, max, min, replicate, slice_get, take}
 use Rattle.std.specs.Fmt.{decimal}
 use Rattle.std.specs.Int.{is_in_range}
 use Rattle.std.specs.List.{count_by}

@@ -1,6 +1,6 @@
 //! Reports for people: the errors in a text, each with the lines that show it, a path that leads there, and how to fix it. It exports the
-//! parts of a text's report, which `flt_explain_runs` puts together, the report of a warning, and that of a line of another file. The findings and
-//! their words are those of `flt_explain_details` and `flt_explain_warning_details`.
+//! parts of a text's report, which `flt_explain_runs` puts together, the report of a warning, and that of a line of another file. The
+//! findings and their words are those of `flt_explain_details` and `flt_explain_warning_details`.
 #![tactic(auto)]
 
 mod colours;

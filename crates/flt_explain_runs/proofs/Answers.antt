@@ -1,5 +1,6 @@
 -- What is answered of findings, one by one.
-use Rattle.std.proofs.Common.{◌≡◌, ◌<◌, ◌+◌, ℕ, zero, suc, List, [], ◌∷◌, ◌++◌, Some, None, Option, IfOk, IfSome, Result, Ok, Err, length, take, get_or, slice_get, arith, subst}
+use Rattle.std.proofs.Common.{◌≡◌, ◌<◌, ◌+◌, ℕ, zero, suc, List, [], ◌∷◌, ◌++◌, Some, None, Option, IfOk}
+use Rattle.std.proofs.Common.{IfSome, Result, Ok, Err, length, take, get_or, slice_get, arith, subst}
 use Rattle.std.specs.List.{AllZip}
 use Rattle.std.specs.declared.alloc.AllocError.{AllocError}
 use Rattle.flt_tree.specs.declared.filter.Filter.{Filter}

@@ -110,7 +110,10 @@ quiet_found : (findings files all : ℕ) → is_quiet (found_in findings files a
 quiet_found findings files all =
     let more = (if findings == 1 then [] else codes "s") ++ codes " in " ++ decimal files ++ codes " of " ++
     decimal all ++ codes " files" in
-    rw (append_assoc (decimal findings ++ codes " finding") more (10 ∷ []), append_assoc (decimal findings) (codes " finding") (more ++ 10 ∷ []))
+    rw (
+      append_assoc (decimal findings ++ codes " finding") more (10 ∷ []),
+      append_assoc (decimal findings) (codes " finding") (more ++ 10 ∷ []),
+    )
     (quiet_number findings (codes " finding" ++ (more ++ 10 ∷ [])) refl ((plain_more findings files all).goes_on (10 ∷ [])))
 
 -- the line that says how much is found

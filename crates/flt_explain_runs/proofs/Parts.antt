@@ -17,7 +17,8 @@ use Rattle.flt_explain_warning_details.specs.Options.{warned_status}
 use Rattle.flt_explain_warning_details.specs.declared.options.WarningOptions.{WarningOptions}
 use Rattle.flt_explain_runs.specs.Noted.{one_more, numbers_in}
 use Rattle.flt_explain_runs.specs.Parsed.{IsOther, IsUnread}
-use Rattle.flt_explain_runs.specs.Printing.{ClosesNotice, HasNotes, HasReport, IsKnownIn, IsKnownPart, IsNotedOf, IsNoticePart, IsSaid, PrintsNotice}
+use Rattle.flt_explain_runs.specs.Printing.{ClosesNotice, HasNotes, HasReport, IsKnownIn, IsKnownPart}
+use Rattle.flt_explain_runs.specs.Printing.{IsNotedOf, IsNoticePart, IsSaid, PrintsNotice}
 use Rattle.flt_explain_runs.specs.Quiet.{quieted}
 use Rattle.flt_explain_runs.specs.Reported.{faults_in, stack_of}
 use Rattle.flt_explain_runs.specs.Whole.{IsKnownPrint, Look}

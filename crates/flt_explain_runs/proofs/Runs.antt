@@ -1,5 +1,6 @@
 -- What comes of findings in runs, with one more callback and without it.
-use Rattle.std.proofs.Common.{◌≡◌, ◌<◌, ℕ, zero, suc, List, [], ◌∷◌, ◌++◌, Option, Some, None, IfSome, sym, ap, arith, subst, ◌∙◌, ◌+◌, All, append_assoc, drop, get_or, length, length-drop, map, reverse, slice_get, string_bytes, take}
+use Rattle.std.proofs.Common.{◌≡◌, ◌<◌, ℕ, zero, suc, List, [], ◌∷◌, ◌++◌, Option, Some, None, IfSome, sym, ap, arith, subst, ◌∙◌, ◌+◌}
+use Rattle.std.proofs.Common.{All, append_assoc, drop, get_or, length, length-drop, map, reverse, slice_get, string_bytes, take}
 use Rattle.std.specs.Prelude.{◌≢◌}
 use Rattle.std.proofs.lemmas.List.{drop_more, map_more, reverse-append, take_more}
 use Rattle.std.proofs.lemmas.Slice.Zip.{AllZip-long}
@@ -29,7 +30,8 @@ use Rattle.flt_explain_runs.specs.declared.schedules.Schedule.TheVariants.{Break
 use Rattle.flt_explain_runs.specs.declared.schedules.Scheduled.{Scheduled}
 use Rattle.flt_explain_runs.specs.declared.schedules.Scheduled.TheVariants.{Together, Alone}
 use Rattle.flt_explain_runs.specs.declared.schedules.Suspect.{Suspect}
-use Rattle.flt_explain_runs.specs.Again.{GoesOn, IsAgainBy, IsAlone, IsOfJudged, IsSetter, IsOutcomeAgain, IsOutcomeOf as IsOutcomeIn, IsSetting, IsSuspectAgain, ended, line_ends}
+use Rattle.flt_explain_runs.specs.Again.{GoesOn, IsAgainBy, IsAlone, IsOfJudged, IsSetter, IsOutcomeAgain, IsOutcomeOf as IsOutcomeIn}
+use Rattle.flt_explain_runs.specs.Again.{IsSetting, IsSuspectAgain, ended, line_ends}
 use Rattle.flt_model.specs.declared.verdict.Violation.{Violation}
 use Rattle.flt_explain_runs.specs.Noted.{IsAgain, IsAlso, IsBrokenBy, IsNear, schedule_of}
 use Rattle.flt_explain_runs.specs.declared.noted.Noted.{Noted}

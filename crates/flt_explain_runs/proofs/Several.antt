@@ -1,5 +1,7 @@
 -- The reports of several texts, one behind the other, and what of them is put out.
-use Rattle.std.proofs.Common.{inl, inr, ◌≡◌, ◌<◌, ◌≤◌, ◌+◌, ◌-◌, ℕ, zero, suc, Bool, true, false, List, [], ◌∷◌, ◌++◌, IfOk, Result, Ok, Err, Option, Some, None, refl, ap, sym, subst, arith, ◌∙◌, append_assoc, drop, take, get_or, length, length-append}
+use Rattle.std.proofs.Common.{inl, inr, ◌≡◌, ◌<◌, ◌≤◌, ◌+◌, ◌-◌, ℕ, zero, suc, Bool, true, false, List}
+use Rattle.std.proofs.Common.{[], ◌∷◌, ◌++◌, IfOk, Result, Ok, Err, Option, Some, None, refl, ap, sym, subst}
+use Rattle.std.proofs.Common.{arith, ◌∙◌, append_assoc, drop, take, get_or, length, length-append}
 use Rattle.std.specs.Io.KnownBytes.{Appends}
 use Rattle.std.proofs.lemmas.List.{append-nil, take-append-drop, take_all}
 use Rattle.flt_places.specs.declared.files.Files.{Files}

@@ -1,5 +1,6 @@
 -- What texts are, with one more.
-use Rattle.std.proofs.Common.{◌≡◌, ◌<◌, ◌≤◌, ◌+◌, ◌-◌, ℕ, zero, suc, List, [], ◌∷◌, ◌++◌, Some, refl, ap, arith, sym, subst, ◌∙◌, get_or, length-append, take, slice_get, length}
+use Rattle.std.proofs.Common.{◌≡◌, ◌<◌, ◌≤◌, ◌+◌, ◌-◌, ℕ, zero, suc, List, [], ◌∷◌, ◌++◌, Some, refl, ap}
+use Rattle.std.proofs.Common.{arith, sym, subst, ◌∙◌, get_or, length-append, take, slice_get, length}
 use Rattle.std.proofs.lemmas.List.{take_all, take_more}
 use Rattle.flt_model.specs.Program.{filters_of}
 use Rattle.flt_syntax.specs.Spelling.{Spells}
@@ -11,7 +12,8 @@ use Rattle.flt_tree.specs.declared.tree.Tree.{Tree}
 use Rattle.flt_places.specs.declared.files.Files.{Files}
 use Rattle.flt_explain_details.specs.declared.sources.Source.{Source}
 use Rattle.flt_explain_runs.specs.Parsed.{AreFilesOf, AreParsed, fails, no_source, none, parses, with_files, without}
-use Rattle.flt_explain_runs.specs.Readings.{AreReadings, AreStudied, IsPlaced, IsReading, IsStudied, files_by, files_read, known, known_in, sources_read, texts_read}
+use Rattle.flt_explain_runs.specs.Readings.{AreReadings, AreStudied, IsPlaced, IsReading, IsStudied, files_by}
+use Rattle.flt_explain_runs.specs.Readings.{files_read, known, known_in, sources_read, texts_read}
 use Rattle.flt_explain_runs.specs.declared.readings.Reading.{Reading}
 use Rattle.flt_explain_runs.specs.declared.readings.Reading.TheVariants.{Unread, Other, Known}
 use Rattle.flt_explain_runs.specs.declared.readings.Readings.{Readings}

@@ -1,5 +1,6 @@
 -- What is printed, part by part.
-use Rattle.std.proofs.Common.{inl, inr, ◌≡◌, ◌<◌, ◌+◌, ◌==◌, ℕ, Bool, false, List, [], ◌∷◌, ◌++◌, IfSome, Option, Some, None, refl, sym, ap, arith, subst, ◌∙◌, append_assoc, get_or, length, max, take}
+use Rattle.std.proofs.Common.{inl, inr, ◌≡◌, ◌<◌, ◌+◌, ◌==◌, ℕ, Bool, false, List, [], ◌∷◌, ◌++◌, IfSome, Option, Some}
+use Rattle.std.proofs.Common.{None, refl, sym, ap, arith, subst, ◌∙◌, append_assoc, get_or, length, max, take}
 use Rattle.std.specs.Prelude.{◌≢◌}
 use Rattle.std.proofs.lemmas.Bool.{ne_eqb}
 use Rattle.std.proofs.lemmas.List.{append-nil, take_more}
@@ -23,13 +24,15 @@ use Rattle.flt_explain_runs.specs.Again.{IsSetting}
 use Rattle.flt_explain_runs.specs.Lines.{again_line, note_line}
 use Rattle.flt_explain_runs.specs.Notices.{AreNoticeLines}
 use Rattle.flt_explain_runs.specs.Parsed.{IsUnread}
-use Rattle.flt_explain_runs.specs.Printing.{AddBlocks, AddsBlock, AddsBody, AddsNote, HasNotes, IsKnownIn, IsPrintOf, IsUnreadPart, PrintsNotice, warned_in}
+use Rattle.flt_explain_runs.specs.Printing.{AddBlocks, AddsBlock, AddsBody, AddsNote, HasNotes, IsKnownIn}
+use Rattle.flt_explain_runs.specs.Printing.{IsPrintOf, IsUnreadPart, PrintsNotice, warned_in}
 use Rattle.flt_explain_runs.specs.Quiet.{quieted}
 use Rattle.flt_explain_runs.specs.Readings.{IsPlaced, known}
 use Rattle.flt_explain_runs.specs.Rows.{AreAgainRows, AreSettingRows}
 use Rattle.flt_explain_runs.specs.Totals.{some}
 use Rattle.flt_explain_runs.specs.Warnings.{ArePromised}
-use Rattle.flt_explain_runs.specs.Whole.{AreReported, AreReportsWithNotes, ArePrints, IsBody, IsKnownPrint, Look, fails, is_alone, no_block, one_block_more, parses}
+use Rattle.flt_explain_runs.specs.Whole.{AreReported, AreReportsWithNotes, ArePrints, IsBody, IsKnownPrint}
+use Rattle.flt_explain_runs.specs.Whole.{Look, fails, is_alone, no_block, one_block_more, parses}
 use Rattle.flt_explain_runs.specs.declared.again.Setting.{Setting}
 use Rattle.flt_explain_runs.specs.declared.noted.Again.{Again}
 use Rattle.flt_explain_runs.specs.declared.noted.Again.TheVariants.{Runs, RunsNowhere}

@@ -27,7 +27,8 @@ use Rattle.flt_explain_runs.specs.Rows.{AreNoteRows, AreSettingRows}
 use Rattle.flt_explain_runs.specs.Told.{Say}
 use Rattle.flt_explain_runs.specs.Totals.{some}
 use Rattle.flt_explain_runs.specs.Warned.{Warned}
-use Rattle.flt_explain_runs.specs.Whole.{AreBlocks, ArePrints, IsBlock, IsBody, IsKnownPrint, IsNoticePrint, IsUnreadPrint, Look, is_alone, warned_at}
+use Rattle.flt_explain_runs.specs.Whole.{AreBlocks, ArePrints, IsBlock, IsBody, IsKnownPrint, IsNoticePrint}
+use Rattle.flt_explain_runs.specs.Whole.{IsUnreadPrint, Look, is_alone, warned_at}
 use Rattle.flt_explain_runs.specs.declared.again.Setting.{Setting}
 use Rattle.flt_explain_runs.specs.declared.noted.Again.{Again}
 use Rattle.flt_explain_runs.specs.declared.noted.Noted.{Noted}

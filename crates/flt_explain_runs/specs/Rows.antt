@@ -1,5 +1,6 @@
 -- What stands below the lines of a note. This project's own program.
-use Rattle.std.specs.Prelude.{◌≡◌, List, [], ◌∷◌, ◌++◌, ℕ, ◌+◌, ◌-◌, ◌^◌, ◌==◌, Bool, false, true, min, Option, Some, None, codes, slice_range, string_bytes}
+use Rattle.std.specs.Prelude.{◌≡◌, List, [], ◌∷◌, ◌++◌, ℕ, ◌+◌, ◌-◌, ◌^◌, ◌==◌, Bool, false}
+use Rattle.std.specs.Prelude.{true, min, Option, Some, None, codes, slice_range, string_bytes}
 use Rattle.std.specs.Fmt.{format_spec, styled_decimal}
 use Rattle.flt_places.specs.Files.{file_line}
 use Rattle.flt_places.specs.declared.files.Files.{Files}

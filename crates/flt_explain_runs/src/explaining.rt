@@ -89,9 +89,9 @@ fn finished(printed: Printed) -> Told
 /// many states: if several texts parse and the text's filter meets another one on an operation, half of them on all that parse, and on the
 /// filter alone for the findings without a journal there. The last line of each text is that of `analyse`, or `nothing found`; after those
 /// of several texts a line says how many findings there are, and in how many of the texts. Before `nothing found` a text has its warnings
-/// that no comment of it allows, and how many they are. A text that doesn't parse and begins as a certificate, a journal or a script is taken
-/// for one: its report says why a line of it is malformed, and its last line is that of `check`, `replay` or `run`, or `nothing found`. A
-/// script is taken for one for the filters of the texts that parse, or, if none does, for whichever filters it detaches.
+/// that no comment of it allows, and how many they are. A text that doesn't parse and begins as a certificate, a journal or a script is
+/// taken for one: its report says why a line of it is malformed, and its last line is that of `check`, `replay` or `run`, or `nothing
+/// found`. A script is taken for one for the filters of the texts that parse, or, if none does, for whichever filters it detaches.
 ///
 /// Unless it is held back, the report of each text but the last is put out before the next one's findings are looked for.
 ///

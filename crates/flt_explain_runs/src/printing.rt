@@ -1,6 +1,7 @@
 //! The report of a text, with its notes.
 
-ghost use Rattle.std.specs.Prelude.{◌≡◌, ◌≢◌, ◌<◌, ◌++◌, ◌∷◌, [], All, IfOk, IfSome, None, Some, length, map, option_map, reverse, slice_get, OnOk};
+ghost use Rattle.std.specs.Prelude.{◌≡◌, ◌≢◌, ◌<◌, ◌++◌, ◌∷◌, [], All, IfOk, IfSome, None};
+ghost use Rattle.std.specs.Prelude.{Some, length, map, option_map, reverse, slice_get, OnOk};
 ghost use Rattle.std.specs.List.{AllZip};
 ghost use Rattle.flt_model.specs.Program.{filters_of};
 ghost use Rattle.flt_syntax.specs.Spelling.{Spells};

@@ -1,5 +1,7 @@
 -- How far rows tell the same, and the blocks that this makes.
-use Rattle.std.proofs.Common.{◌≡◌, ◌≤◌, ◌<◌, ◌+◌, ◌-◌, ◌*◌, ◌/◌, ℕ, zero, suc, Bool, true, false, List, [], ◌∷◌, ◌++◌, Option, Some, None, IsTrue, length, drop, get_or, slice_get, add-one, add-zero, append_assoc, append-nil, drop-drop, arith, ap, sym, refl, subst, ◌∙◌, if◌then◌else◌}
+use Rattle.std.proofs.Common.{◌≡◌, ◌≤◌, ◌<◌, ◌+◌, ◌-◌, ◌*◌, ◌/◌, ℕ, zero, suc, Bool, true, false, List, [], ◌∷◌, ◌++◌}
+use Rattle.std.proofs.Common.{Option, Some, None, IsTrue, length, drop, get_or, slice_get, add-one, add-zero, append_assoc}
+use Rattle.std.proofs.Common.{append-nil, drop-drop, arith, ap, sym, refl, subst, ◌∙◌, if◌then◌else◌}
 use Rattle.std.proofs.Math.Nat.{div-mul-le_self, zero-div}
 use Rattle.std.proofs.Math.Seq.{drop-cons}
 use Rattle.std.proofs.lemmas.Grind.{common_steps}

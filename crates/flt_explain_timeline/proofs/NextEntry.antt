@@ -1,12 +1,14 @@
 -- One more entry is told.
-use Rattle.std.proofs.Common.{◌≡◌, ◌<◌, ◌≤◌, ◌+◌, ℕ, Bool, true, false, List, [], ◌∷◌, ◌++◌, Option, Some, None, add-one, append-nil, append_assoc, ap, drop, get_or, length, map, refl, subst, sym, ◌∙◌}
+use Rattle.std.proofs.Common.{◌≡◌, ◌<◌, ◌≤◌, ◌+◌, ℕ, Bool, true, false, List, [], ◌∷◌, ◌++◌, Option, Some, None, add-one}
+use Rattle.std.proofs.Common.{append-nil, append_assoc, ap, drop, get_or, length, map, refl, subst, sym, ◌∙◌}
 use Rattle.std.proofs.Math.Seq.{drop-cons}
 use Rattle.std.specs.Prelude.{Err, Ok, OnOk, Result}
 use Rattle.std.proofs.lemmas.List.{drop_all, map-append}
 use Rattle.flt_tree.specs.declared.filter.Filter.{Filter}
 use Rattle.flt_model.specs.declared.moves.JournalEntry.{JournalEntry}
 use Rattle.flt_model.specs.declared.verdict.Verdict.{Verdict}
-use Rattle.flt_explain_timeline.specs.Course.{Entered, Goes, Stops, aside, ending, ending_if, ends_at, entry_of, followed, next_refused, next_told, not_enabled, refused_by, refused_from, told_from}
+use Rattle.flt_explain_timeline.specs.Course.{Entered, Goes, Stops, aside, ending, ending_if, ends_at, entry_of, followed}
+use Rattle.flt_explain_timeline.specs.Course.{next_refused, next_told, not_enabled, refused_by, refused_from, told_from}
 use Rattle.flt_explain_timeline.specs.Tellings.{AreToldBy, told_by}
 use Rattle.flt_explain_timeline.specs.declared.course.Progress.{Progress}
 use Rattle.flt_explain_timeline.specs.declared.refusal.Refusal.{Refusal}

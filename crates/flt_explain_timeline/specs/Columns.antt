@@ -1,5 +1,6 @@
 -- The columns of operations, and who is on in each. This project's own definitions.
-use Rattle.std.specs.Prelude.{ℕ, ◌+◌, ◌-◌, ◌*◌, ◌^◌, ◌==◌, Bool, true, ◌&&◌, nat_lt, if◌then◌else◌, List, [], ◌∷◌, Option, Some, None, get_or, is_none, min, position, replicate, set}
+use Rattle.std.specs.Prelude.{ℕ, ◌+◌, ◌-◌, ◌*◌, ◌^◌, ◌==◌, Bool, true, ◌&&◌, nat_lt, if◌then◌else◌, List}
+use Rattle.std.specs.Prelude.{[], ◌∷◌, Option, Some, None, get_or, is_none, min, position, replicate, set}
 use Rattle.flt_model.specs.Moves.{is_done}
 use Rattle.flt_model.specs.World.{Store}
 use Rattle.flt_explain_timeline.specs.Rows.{is_same}

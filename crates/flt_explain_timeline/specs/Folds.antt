@@ -1,5 +1,6 @@
 -- What repeats in a timeline. This project's own definitions.
-use Rattle.std.specs.Prelude.{◌≡◌, ◌≤◌, ◌+◌, ◌-◌, ◌*◌, ◌/◌, ◌<◌, ℕ, zero, suc, Bool, List, [], ◌∷◌, length, take, drop, nat_lt, slice_get, if◌then◌else◌, Option, Some, None}
+use Rattle.std.specs.Prelude.{◌≡◌, ◌≤◌, ◌+◌, ◌-◌, ◌*◌, ◌/◌, ◌<◌, ℕ, zero, suc, Bool, List, [], ◌∷◌, length}
+use Rattle.std.specs.Prelude.{take, drop, nat_lt, slice_get, if◌then◌else◌, Option, Some, None}
 use Rattle.std.specs.Str.{bytes_eq}
 use Rattle.flt_explain_timeline.specs.declared.folds.Fold.{Fold}
 use Rattle.flt_explain_timeline.specs.declared.rows.Row.{Row}

@@ -1,5 +1,6 @@
 -- Rows of a timeline. This project's own definitions.
-use Rattle.std.specs.Prelude.{◌≡◌, ◌≤◌, ◌+◌, ◌==◌, ℕ, Bool, true, false, not, ◌&&◌, ◌||◌, List, [], ◌∷◌, Option, Some, None, if◌then◌else◌, is_none}
+use Rattle.std.specs.Prelude.{◌≡◌, ◌≤◌, ◌+◌, ◌==◌, ℕ, Bool, true, false, not, ◌&&◌, ◌||◌}
+use Rattle.std.specs.Prelude.{List, [], ◌∷◌, Option, Some, None, if◌then◌else◌, is_none}
 use Rattle.flt_explain_timeline.specs.declared.rows.Row.{Row}
 use Rattle.flt_explain_timeline.specs.declared.telling.Who.{Who}
 

@@ -24,8 +24,9 @@ abbrev pub files_in : List Filter → List Files → List (Bor Filter) → List 
 files_in filters files ordered = map (λ (f : Bor Filter). files_for filters files f.now) ordered
 
 -- the timeline of a journal on some filters, in any order, whose texts are in these files, as far as they are known, of which this is the
--- verdict: what is told of each entry and who was on is by the machine; each entry stands in one row, in the journal's order; the rows are cut where an entry doesn't join the one before it; each
--- row stands in one block or repeats one, and the blocks are those that these rows have
+-- verdict: what is told of each entry and who was on is by the machine; each entry stands in one row, in the journal's order; the rows are
+-- cut where an entry doesn't join the one before it; each row stands in one block or repeats one, and the blocks are those that these rows
+-- have
 pub record IsTimeline (filters : List Filter) (files : List Files) (journal : List JournalEntry) (verdict : Verdict) (t : Timeline)
     : Type 0 where
   pub ordered : filters_behind t.filters.items ≡ by_altitude filters

@@ -1,6 +1,7 @@
 //! A timeline as text: a line for each row that is no repetition, and one for each repetition.
 
-ghost use Rattle.std.specs.Prelude.{◌≡◌, ◌+◌, ◌-◌, ◌/◌, ◌++◌, ◌==◌, codes, drop, flat_map, length, map, option_copied, replicate, slice_get, string_bytes, take, IfOk};
+ghost use Rattle.std.specs.Prelude.{◌≡◌, ◌+◌, ◌-◌, ◌/◌, ◌++◌, ◌==◌, codes, drop, flat_map, length, map};
+ghost use Rattle.std.specs.Prelude.{option_copied, replicate, slice_get, string_bytes, take, IfOk};
 ghost use Rattle.std.specs.Fmt.{decimal};
 ghost use Rattle.std.specs.List.{range_with_len};
 ghost use Rattle.flt_explain_timeline.specs.Folds.{part as told_in};

@@ -1,5 +1,6 @@
 -- What activations wait for. This project's own definitions.
-use Rattle.std.specs.Prelude.{◌≡◌, ◌⊎◌, ◌==◌, ◌&&◌, ◌++◌, ◌∷◌, [], ℕ, zero, suc, Bool, false, not, if◌then◌else◌, List, Option, Some, None, is_some, length, option_and_then}
+use Rattle.std.specs.Prelude.{◌≡◌, ◌⊎◌, ◌==◌, ◌&&◌, ◌++◌, ◌∷◌, [], ℕ, zero, suc, Bool, false, not, if◌then◌else◌}
+use Rattle.std.specs.Prelude.{List, Option, Some, None, is_some, length, option_and_then}
 use Rattle.flt_model.specs.Steps.{local, may_take}
 use Rattle.flt_model.specs.World.{World, activation_at, actor_at}
 use Rattle.flt_rules.specs.Held.{holds_lock}

@@ -242,9 +242,9 @@ fn certified(
     )
 }
 
-/// The details of the warnings of a text without findings, by its least certificate: in the order of `flt_explain_warnings::warnings`, and after
-/// them those of each comment that allows nothing, in the order of the text. Kinds that are `allowed` are left out. A text with findings
-/// has none.
+/// The details of the warnings of a text without findings, by its least certificate: in the order of `flt_explain_warnings::warnings`, and
+/// after them those of each comment that allows nothing, in the order of the text. Kinds that are `allowed` are left out. A text with
+/// findings has none.
 ///
 /// # Errors
 ///

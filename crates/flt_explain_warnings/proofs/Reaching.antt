@@ -1,11 +1,13 @@
 -- The marks of a search are exactly the points to which paths lead. Here g is a graph, t a trail, start a point of the callback.
-use Rattle.std.proofs.Common.{◌≡◌, ◌⊎◌, ℕ, zero, suc, ◌+◌, ◌<◌, ◌≤◌, Bool, true, false, List, [], ◌∷◌, length, Option, Some, None, get_or, refl, sym, ap, subst, ◌∙◌, arith, inl, inr}
+use Rattle.std.proofs.Common.{◌≡◌, ◌⊎◌, ℕ, zero, suc, ◌+◌, ◌<◌, ◌≤◌, Bool, true, false, List, [], ◌∷◌, length}
+use Rattle.std.proofs.Common.{Option, Some, None, get_or, refl, sym, ap, subst, ◌∙◌, arith, inl, inr}
 use Rattle.std.specs.Prelude.{if◌then◌else◌, ◌&&◌, replicate, slice_set}
 use Rattle.std.proofs.lemmas.Bool.{cases_eq}
 use Rattle.std.proofs.lemmas.List.{length-set, length-replicate, get_or-set_same}
 use Rattle.flt_graph.specs.Graph.{points_at, instruction_at}
 use Rattle.flt_graph.specs.declared.graph.Graph.{Graph}
-use Rattle.flt_explain_warnings.specs.Flow.{is_marked, marked, blank, marked_behind, followed, followed_from, passed, settled, reached, is_end, first_end_from, end_from}
+use Rattle.flt_explain_warnings.specs.Flow.{is_marked, marked, blank, marked_behind, followed, followed_from}
+use Rattle.flt_explain_warnings.specs.Flow.{passed, settled, reached, is_end, first_end_from, end_from}
 use Rattle.flt_explain_warnings.specs.Paths.{Path, here, further, IsFoundBy}
 use Rattle.flt_explain_warnings.specs.Trail.{onward, ends}
 use Rattle.flt_explain_warnings.specs.declared.trail.Trail.{Trail}

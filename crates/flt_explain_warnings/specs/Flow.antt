@@ -1,5 +1,6 @@
 -- Which points of a callback are reached along a trail. This project's own definitions.
-use Rattle.std.specs.Prelude.{ℕ, zero, suc, ◌+◌, Bool, true, false, ◌&&◌, if◌then◌else◌, List, replicate, slice_index_or, slice_set, Option, Some, None}
+use Rattle.std.specs.Prelude.{ℕ, zero, suc, ◌+◌, Bool, true, false, ◌&&◌, if◌then◌else◌, List}
+use Rattle.std.specs.Prelude.{replicate, slice_index_or, slice_set, Option, Some, None}
 use Rattle.flt_graph.specs.Graph.{points_at, instruction_at}
 use Rattle.flt_graph.specs.declared.graph.Graph.{Graph}
 use Rattle.flt_explain_warnings.specs.Trail.{onward, ends}

@@ -1,6 +1,7 @@
 -- Contexts that others may have: those that are set on a stream or an instance, were found there, or were given to a callback. A context
 -- that the callback has allocated and not set yet nobody else has. This project's own definitions, by the graph.
-use Rattle.std.specs.Prelude.{ℕ, zero, suc, ◌+◌, Bool, true, false, not, ◌&&◌, ◌||◌, if◌then◌else◌, List, [], ◌∷◌, ◌++◌, length, Option, Some, None, option_map, option_to_list}
+use Rattle.std.specs.Prelude.{ℕ, zero, suc, ◌+◌, Bool, true, false, not, ◌&&◌, ◌||◌, if◌then◌else◌, List}
+use Rattle.std.specs.Prelude.{[], ◌∷◌, ◌++◌, length, Option, Some, None, option_map, option_to_list}
 use Rattle.std.specs.List.{list_any}
 use Rattle.flt_rules.specs.declared.call.Anchor.{Anchor}
 use Rattle.flt_rules.specs.declared.call.Anchor.TheVariants as anchor

@@ -1,5 +1,6 @@
 -- What a search finds is followed back to what made it so.
-use Rattle.std.proofs.Common.{◌≡◌, ◌==◌, ◌<◌, ◌+◌, ℕ, zero, suc, Bool, true, false, List, [], ◌∷◌, ◌++◌, Option, Some, None, IfSome, slice_get, reverse, arith, ap, sym, subst, refl, ◌∙◌}
+use Rattle.std.proofs.Common.{◌≡◌, ◌==◌, ◌<◌, ◌+◌, ℕ, zero, suc, Bool, true, false, List, [], ◌∷◌, ◌++◌, Option}
+use Rattle.std.proofs.Common.{Some, None, IfSome, slice_get, reverse, arith, ap, sym, subst, refl, ◌∙◌}
 use Rattle.std.specs.Prelude.{not, ◌&&◌, ◌||◌, if◌then◌else◌}
 use Rattle.std.proofs.lemmas.Bool.{and_parts, and_from, eqb-true, eq-eqb}
 use Rattle.std.proofs.lemmas.List.{reverse-append}
@@ -7,7 +8,8 @@ use Rattle.flt_graph.specs.Graph.{instruction_at}
 use Rattle.flt_graph.specs.Points.{successor}
 use Rattle.flt_graph.specs.declared.graph.Graph.{Graph}
 use Rattle.flt_explain_ways.specs.Facts.{makes, keeps}
-use Rattle.flt_explain_ways.specs.Origins.{is_kept, leads, is_made_by, are_unmade, is_outcome, is_step_from, path_end, IsOrigin, IsOnPath, origin}
+use Rattle.flt_explain_ways.specs.Origins.{is_kept, leads, is_made_by, are_unmade, is_outcome}
+use Rattle.flt_explain_ways.specs.Origins.{is_step_from, path_end, IsOrigin, IsOnPath, origin}
 use Rattle.flt_explain_ways.specs.Search.{IsStepTo, IsArrival, AreArrivals, IsFound, IsTraced}
 use Rattle.flt_explain_ways.specs.declared.origin.Cause.TheVariants as cause
 use Rattle.flt_explain_ways.specs.declared.facts.Fact.{Fact}

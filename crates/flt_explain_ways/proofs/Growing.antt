@@ -1,5 +1,6 @@
 -- What a situation breaks each state breaks that means it, also where the locks aren't followed and the rule doesn't read them.
-use Rattle.std.proofs.Common.{◌≡◌, ℕ, zero, suc, Bool, true, false, List, [], ◌∷◌, length, map, slice_index_or, Option, Some, None, ap, sym, subst, refl, ◌∙◌}
+use Rattle.std.proofs.Common.{◌≡◌, ℕ, zero, suc, Bool, true, false, List, [], ◌∷◌, length, map}
+use Rattle.std.proofs.Common.{slice_index_or, Option, Some, None, ap, sym, subst, refl, ◌∙◌}
 use Rattle.std.specs.Prelude.{IsTrue, not, ◌==◌, ◌&&◌, ◌||◌}
 use Rattle.std.specs.List.{list_all}
 use Rattle.std.proofs.lemmas.Bool.{and_parts, and_from}
@@ -33,13 +34,16 @@ use Rattle.flt_graph.specs.declared.graph.Graph.{Graph}
 use Rattle.flt_graph.specs.declared.instruction.Instruction.{Instruction}
 use Rattle.flt_graph.specs.declared.instruction.Instruction.TheVariants as instruction
 use Rattle.flt_graph.specs.declared.instruction.Invocation.{Invocation}
-use Rattle.flt_abs.specs.Breaks.{hands_by, is_need_output, is_possessed, is_of_mode, owes_data, action_breaks, test_breaks, row_breaks, returns_illegally, return_breaks, breaks}
+use Rattle.flt_abs.specs.Breaks.{hands_by, is_need_output, is_possessed, is_of_mode, owes_data, action_breaks}
+use Rattle.flt_abs.specs.Breaks.{test_breaks, row_breaks, returns_illegally, return_breaks, breaks}
 use Rattle.flt_abs.specs.LockLaws.{same_locks_decides}
 use Rattle.flt_abs.specs.Locks.{are_locks}
 use Rattle.flt_abs.specs.Outcome.{context_now, operation_now}
 use Rattle.flt_abs.specs.Setting.{setting_of}
-use Rattle.flt_abs.specs.Sets.{StatusSet, ModeSet, null_alone, statuses_within, modes_within, drainings_within, is_possible, is_mode_possible, is_draining_possible}
-use Rattle.flt_abs.specs.State.{Status, Null, Held, Stale, Situation, State, Means, has_status, has_mode, has_draining, have_statuses, is_proper, all_within, is_below}
+use Rattle.flt_abs.specs.Sets.{StatusSet, ModeSet, null_alone, statuses_within, modes_within, drainings_within}
+use Rattle.flt_abs.specs.Sets.{is_possible, is_mode_possible, is_draining_possible}
+use Rattle.flt_abs.specs.State.{Status, Null, Held, Stale, Situation, State, Means, has_status, has_mode}
+use Rattle.flt_abs.specs.State.{has_draining, have_statuses, is_proper, all_within, is_below}
 use Rattle.flt_abs.specs.Variables.{context_in, operation_in}
 use Rattle.flt_abs.specs.declared.setting.Setting.{Setting}
 use Rattle.flt_explain_closed.specs.Closed.{seen}

@@ -1,5 +1,6 @@
 -- Where an instruction leads from a single situation.
-use Rattle.std.proofs.Common.{◌≡◌, ℕ, zero, suc, Bool, true, false, List, [], ◌∷◌, Option, Some, None, map, slice_index_or, ap, sym, subst, refl, ◌∙◌}
+use Rattle.std.proofs.Common.{◌≡◌, ℕ, zero, suc, Bool, true, false, List, [], ◌∷◌, Option}
+use Rattle.std.proofs.Common.{Some, None, map, slice_index_or, ap, sym, subst, refl, ◌∙◌}
 use Rattle.std.specs.Prelude.{slice_set, not, if◌then◌else◌}
 use Rattle.flt_rules.specs.Place.{is_irp}
 use Rattle.flt_rules.specs.Table.{row}
@@ -22,10 +23,12 @@ use Rattle.flt_graph.specs.Points.{successor}
 use Rattle.flt_graph.specs.declared.instruction.Instruction.{Instruction}
 use Rattle.flt_graph.specs.declared.instruction.Instruction.TheVariants as instruction
 use Rattle.flt_graph.specs.declared.instruction.Invocation.{Invocation}
-use Rattle.flt_abs.specs.Outcome.{context_now, operation_now, put_context, put_operation, put_locks, left, called, failed, can_fail, acted, is_null, agrees, may_find, may_come_out, leaves, side}
+use Rattle.flt_abs.specs.Outcome.{context_now, operation_now, put_context, put_operation, put_locks, left, called}
+use Rattle.flt_abs.specs.Outcome.{failed, can_fail, acted, is_null, agrees, may_find, may_come_out, leaves, side}
 use Rattle.flt_abs.specs.Sets.{StatusSet, null_alone, without_null, irp_alone, fast_alone, no_alone, yes_alone}
 use Rattle.flt_abs.specs.State.{Status, Null, Held, Stale, Situation, State, state_of}
-use Rattle.flt_abs.specs.Step.{changed, set_context, set_operation, set_locks, changed_locks, after_call, after_failure, after_action, where_true, where_false, if_possible, leads_to}
+use Rattle.flt_abs.specs.Step.{changed, set_context, set_operation, set_locks, changed_locks, after_call}
+use Rattle.flt_abs.specs.Step.{after_failure, after_action, where_true, where_false, if_possible, leads_to}
 use Rattle.flt_abs.specs.Step as step
 use Rattle.flt_abs.specs.Variables.{with_context, with_operation}
 use Rattle.flt_abs.specs.declared.step.Successor.{Successor}

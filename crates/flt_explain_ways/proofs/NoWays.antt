@@ -1,5 +1,6 @@
 -- A set that no step leads out of rules out each way, where it has nothing of what is found.
-use Rattle.std.proofs.Common.{◌≡◌, ◌<◌, ◌+◌, ℕ, zero, suc, Bool, true, false, List, [], ◌∷◌, ◌++◌, length, take, get_or, arith, Option, Some, None, map, ap, sym, subst, refl, ◌∙◌}
+use Rattle.std.proofs.Common.{◌≡◌, ◌<◌, ◌+◌, ℕ, zero, suc, Bool, true, false, List, [], ◌∷◌, ◌++◌, length}
+use Rattle.std.proofs.Common.{take, get_or, arith, Option, Some, None, map, ap, sym, subst, refl, ◌∙◌}
 use Rattle.std.specs.Prelude.{IsTrue, not, ◌==◌, ◌||◌, slice_get}
 use Rattle.std.specs.List.{list_all}
 use Rattle.std.proofs.lemmas.Bool.{and_parts, eqb-true, eq-eqb}
@@ -19,7 +20,8 @@ use Rattle.flt_explain_closed.specs.Closed.{IsClosed, is_closed}
 use Rattle.flt_explain_closed.specs.declared.member.Member.{Member}
 use Rattle.flt_explain.specs.declared.finding.Finding.{Finding}
 use Rattle.flt_explain_ways.specs.Alone.{alone}
-use Rattle.flt_explain_ways.specs.NoWay.{NoWay, NoWayBy, reads_locks, may_break, is_free, is_with, meets_none, is_alone, rules_out, is_checked, is_ruled_out}
+use Rattle.flt_explain_ways.specs.NoWay.{NoWay, NoWayBy, reads_locks, may_break, is_free, is_with}
+use Rattle.flt_explain_ways.specs.NoWay.{meets_none, is_alone, rules_out, is_checked, is_ruled_out}
 use Rattle.flt_explain_ways.specs.Ways.{or_zero, next_point, are_lists_apart, Shows, Meet}
 use Rattle.flt_explain_ways.specs.declared.answer.Way.{Way}
 use Rattle.flt_explain_ways.specs.declared.cover.Cover.{Cover}

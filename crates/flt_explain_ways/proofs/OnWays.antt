@@ -1,5 +1,6 @@
 -- What is so at the end of a way has an origin on it.
-use Rattle.std.proofs.Common.{◌≡◌, ◌==◌, ℕ, zero, suc, Bool, true, false, List, [], ◌∷◌, Option, Some, None, length, slice_index_or, ap, sym, subst, refl, ◌∙◌}
+use Rattle.std.proofs.Common.{◌≡◌, ◌==◌, ℕ, zero, suc, Bool, true, false, List, [], ◌∷◌, Option}
+use Rattle.std.proofs.Common.{Some, None, length, slice_index_or, ap, sym, subst, refl, ◌∙◌}
 use Rattle.std.specs.Prelude.{not, is_some, ◌&&◌, ◌||◌, if◌then◌else◌}
 use Rattle.std.proofs.lemmas.Bool.{and_parts, and_from, eqb-true, eq-eqb}
 use Rattle.std.proofs.lemmas.List.{length-set}
@@ -30,7 +31,8 @@ use Rattle.flt_explain_ways.specs.Ways.{moment, breaks_nothing, next_point, mome
 use Rattle.flt_explain_ways.specs.declared.answer.Step.{Step}
 use Rattle.flt_explain_ways.specs.declared.situation.Moment.{Moment}
 use Rattle.flt_explain_ways.specs.Facts.{same_status, is_so, makes, keeps, IsWhole}
-use Rattle.flt_explain_ways.specs.Origins.{has, may_be, is_kept, leads, is_at, is_made_by, is_made, behind, is_origin, last_cause, since, origin, origin_if, HaveOrigins}
+use Rattle.flt_explain_ways.specs.Origins.{has, may_be, is_kept, leads, is_at, is_made_by, is_made, behind}
+use Rattle.flt_explain_ways.specs.Origins.{is_origin, last_cause, since, origin, origin_if, HaveOrigins}
 use Rattle.flt_explain_ways.specs.declared.facts.Fact.{Fact}
 use Rattle.flt_explain_ways.specs.declared.facts.Fact.TheVariants as fact
 use Rattle.flt_explain_ways.specs.declared.facts.VariableStatus.{VariableStatus}

@@ -1,5 +1,6 @@
 -- Where a search ends without the point, no path of the graph has an origin there; what it finds has one.
-use Rattle.std.proofs.Common.{◌≡◌, ◌==◌, ◌<◌, ◌≤◌, ◌+◌, ◌-◌, ℕ, zero, suc, Bool, true, false, List, [], ◌∷◌, ◌++◌, Option, Some, None, length, get_or, slice_get, slice_index_or, arith, ap, sym, subst, refl, ◌∙◌}
+use Rattle.std.proofs.Common.{◌≡◌, ◌==◌, ◌<◌, ◌≤◌, ◌+◌, ◌-◌, ℕ, zero, suc, Bool, true, false, List, [], ◌∷◌, ◌++◌, Option}
+use Rattle.std.proofs.Common.{Some, None, length, get_or, slice_get, slice_index_or, arith, ap, sym, subst, refl, ◌∙◌}
 use Rattle.std.specs.Prelude.{◌&&◌, ◌||◌, if◌then◌else◌}
 use Rattle.std.proofs.lemmas.Bool.{and_parts, and_from, or_left, or_right, eqb-true, eq-eqb}
 use Rattle.std.proofs.lemmas.Option.{slice_get-get_or, slice_get_within}
@@ -11,8 +12,10 @@ use Rattle.flt_graph.specs.declared.graph.Point.{Point}
 use Rattle.flt_graph.specs.declared.instruction.Instruction.{Instruction}
 use Rattle.flt_graph.specs.declared.instruction.Instruction.TheVariants as instruction
 use Rattle.flt_explain_ways.specs.Facts.{makes, keeps, leaves_alone, lets_pass}
-use Rattle.flt_explain_ways.specs.Origins.{may_be, is_kept, leads, is_at, is_made_by, is_made, behind, is_origin, is_outcome, is_step_from, path_end, IsLast, HasNoneAt}
-use Rattle.flt_explain_ways.specs.Search.{is_marked, unmarked, arrived, at_entry, entered, step, gone_on, is_sought, AreArrivals, IsReached, AreMarks, IsFollowed, IsSearched, IsUnsearched, open_in}
+use Rattle.flt_explain_ways.specs.Origins.{may_be, is_kept, leads, is_at, is_made_by, is_made, behind, is_origin}
+use Rattle.flt_explain_ways.specs.Origins.{is_outcome, is_step_from, path_end, IsLast, HasNoneAt}
+use Rattle.flt_explain_ways.specs.Search.{is_marked, unmarked, arrived, at_entry, entered, step, gone_on, is_sought, AreArrivals}
+use Rattle.flt_explain_ways.specs.Search.{IsReached, AreMarks, IsFollowed, IsSearched, IsUnsearched, open_in}
 use Rattle.flt_explain_ways.specs.declared.origin.Cause.{Cause}
 use Rattle.flt_explain_ways.specs.declared.origin.Cause.TheVariants as cause
 use Rattle.flt_explain_ways.specs.declared.facts.Fact.{Fact}
@@ -21,7 +24,8 @@ use Rattle.flt_explain_ways.specs.declared.path.Reached.{Reached}
 use Rattle.flt_explain_ways.specs.declared.path.Search.{Search}
 use Rattle.flt_explain_ways.specs.declared.answer.Step.{Step}
 use borrow.Author.Count.{below_more}
-use Rattle.flt_explain_ways.proofs.Searching.{IsMore, more_then, still_reached, arrived_more, arrived_there, arrived_arrivals, gone_more, gone_arrivals, gone_followed, still_followed}
+use Rattle.flt_explain_ways.proofs.Searching.{IsMore, more_then, still_reached, arrived_more, arrived_there, arrived_arrivals}
+use Rattle.flt_explain_ways.proofs.Searching.{gone_more, gone_arrivals, gone_followed, still_followed}
 
 none_past : {A : Type 0} (xs : List A) (n : ℕ) → slice_get xs n ≡ None → length xs ≤ n
 none_past [] n h = omega arith

@@ -1,5 +1,6 @@
 -- What a search of the graph has reached stays reached, and what follows a point is reached with it.
-use Rattle.std.proofs.Common.{◌⊎◌, inl, inr, ◌≡◌, ◌<◌, ◌+◌, ℕ, zero, suc, Bool, true, false, List, [], ◌∷◌, ◌++◌, Option, Some, None, length, slice_get, arith, ap, sym, subst, refl, ◌∙◌, length-append}
+use Rattle.std.proofs.Common.{◌⊎◌, inl, inr, ◌≡◌, ◌<◌, ◌+◌, ℕ, zero, suc, Bool, true, false, List, [], ◌∷◌, ◌++◌, Option}
+use Rattle.std.proofs.Common.{Some, None, length, slice_get, arith, ap, sym, subst, refl, ◌∙◌, length-append}
 use Rattle.std.specs.Prelude.{slice_set, if◌then◌else◌}
 use Rattle.std.proofs.lemmas.List.{length-set}
 use Rattle.std.proofs.lemmas.Option.{slice_get-get_or, slice_get_within}
@@ -7,7 +8,8 @@ use Rattle.flt_graph.specs.Graph.{instruction_at}
 use Rattle.flt_graph.specs.Points.{successor}
 use Rattle.flt_graph.specs.declared.graph.Graph.{Graph}
 use Rattle.flt_explain_ways.specs.Origins.{is_outcome}
-use Rattle.flt_explain_ways.specs.Search.{is_marked, marked, added, arrived_by, arrived, reached, arrived_both, may_be_after, led, taken, step, gone_on, IsArrival, AreArrivals, IsReached, AreMarks, IsFollowed, open_sides, open_in}
+use Rattle.flt_explain_ways.specs.Search.{is_marked, marked, added, arrived_by, arrived, reached, arrived_both, may_be_after, led, taken}
+use Rattle.flt_explain_ways.specs.Search.{step, gone_on, IsArrival, AreArrivals, IsReached, AreMarks, IsFollowed, open_sides, open_in}
 use Rattle.flt_explain_ways.specs.declared.facts.Fact.{Fact}
 use Rattle.flt_explain_ways.specs.declared.path.Mark.{Mark}
 use Rattle.flt_explain_ways.specs.declared.path.Reached.{Reached}

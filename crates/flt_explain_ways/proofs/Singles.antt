@@ -6,8 +6,10 @@ use Rattle.std.proofs.lemmas.Bool.{and_parts, and_from}
 use Rattle.flt_rules.specs.declared.place.Mode.{Mode}
 use Rattle.flt_rules.specs.declared.place.Mode.TheVariants.{Irp, Fast}
 use Rattle.flt_abs.specs.Sets.{StatusSet, ModeSet, DrainingSet, statuses, held_alone, null_alone}
-use Rattle.flt_abs.specs.State.{Status, Null, Held, Stale, Situation, State, Means, IsBelow, state_of, has_status, has_mode, has_draining, have_statuses}
-use Rattle.flt_explain_ways.specs.Alone.{status_alone, mode_alone, draining_alone, alone, is_one, is_one_mode, is_one_draining, is_single, status_in, mode_in, situation_in}
+use Rattle.flt_abs.specs.State.{Status, Null, Held, Stale, Situation, State, Means, IsBelow}
+use Rattle.flt_abs.specs.State.{state_of, has_status, has_mode, has_draining, have_statuses}
+use Rattle.flt_explain_ways.specs.Alone.{status_alone, mode_alone, draining_alone, alone, is_one, is_one_mode}
+use Rattle.flt_explain_ways.specs.Alone.{is_one_draining, is_single, status_in, mode_in, situation_in}
 
 -- ---- digits
 

@@ -1,5 +1,6 @@
 -- What is so of a variable behind an instruction.
-use Rattle.std.proofs.Common.{◌≡◌, ◌<◌, ◌==◌, ℕ, Bool, true, false, List, Option, Some, None, length, slice_index_or, ap, sym, subst, refl, lit<, ◌∙◌}
+use Rattle.std.proofs.Common.{◌≡◌, ◌<◌, ◌==◌, ℕ, Bool, true, false, List, Option, Some, None}
+use Rattle.std.proofs.Common.{length, slice_index_or, ap, sym, subst, refl, lit<, ◌∙◌}
 use Rattle.std.specs.Prelude.{slice_set, if◌then◌else◌}
 use Rattle.std.proofs.lemmas.Bool.{eqb-true, eqb-false}
 use Rattle.std.proofs.lemmas.List.{get_or-set_other, length-set}

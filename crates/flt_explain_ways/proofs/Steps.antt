@@ -26,7 +26,9 @@ use Rattle.flt_graph.specs.declared.instruction.Instruction.TheVariants as instr
 use Rattle.flt_graph.specs.declared.instruction.Invocation.{Invocation}
 use Rattle.flt_abs.specs.Outcome.{context_now, operation_now, left, failed, acted, is_null, agrees, may_find, may_come_out, leaves}
 use Rattle.flt_abs.specs.State.{Status, Null, Held, Stale, Situation}
-use Rattle.flt_explain_ways.specs.Facts.{same_status, is_so, context_change, operation_change, lock_change, acted_context, acted_operation, failed_context, failed_operation, failed_lock, is_left, is_lock_left, stays, lock_stays, leaves_alone, is_null_status, finds, may_find_with, lets_pass, IsWhole, Made, Kept, MadeOrKept}
+use Rattle.flt_explain_ways.specs.Facts.{same_status, is_so, context_change, operation_change, lock_change, acted_context, acted_operation}
+use Rattle.flt_explain_ways.specs.Facts.{failed_context, failed_operation, failed_lock, is_left, is_lock_left, stays, lock_stays}
+use Rattle.flt_explain_ways.specs.Facts.{leaves_alone, is_null_status, finds, may_find_with, lets_pass, IsWhole, Made, Kept, MadeOrKept}
 use Rattle.flt_explain_ways.specs.declared.facts.Fact.{Fact}
 use Rattle.flt_explain_ways.specs.declared.facts.Fact.TheVariants as fact
 use Rattle.flt_explain_ways.specs.declared.facts.VariableStatus.{VariableStatus}

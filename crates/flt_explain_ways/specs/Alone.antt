@@ -3,7 +3,8 @@ use Rattle.std.specs.Prelude.{Bool, true, false, ◌==◌, ◌||◌, ◌&&◌, m
 use Rattle.std.specs.List.{list_all}
 use Rattle.flt_rules.specs.declared.place.Mode.{Mode}
 use Rattle.flt_rules.specs.declared.place.Mode.TheVariants.{Irp, Fast}
-use Rattle.flt_abs.specs.Sets.{StatusSet, ModeSet, DrainingSet, null_alone, held_alone, stale_alone, irp_alone, fast_alone, no_alone, yes_alone, status_bits, mode_bits, draining_bits}
+use Rattle.flt_abs.specs.Sets.{StatusSet, ModeSet, DrainingSet, null_alone, held_alone, stale_alone, irp_alone}
+use Rattle.flt_abs.specs.Sets.{fast_alone, no_alone, yes_alone, status_bits, mode_bits, draining_bits}
 use Rattle.flt_abs.specs.State.{Status, Null, Held, Stale, Situation, State, state_of}
 
 -- ---- from a situation

@@ -1,5 +1,6 @@
 -- A search of the graph for a point where a fact may be so: which points are reached, without the fact or with it, and by which step.
-use Rattle.std.specs.Prelude.{◌≡◌, ℕ, ◌==◌, ◌+◌, ◌<◌, ◌≤◌, Bool, true, false, ◌&&◌, ◌||◌, List, [], ◌∷◌, ◌++◌, length, Option, Some, None, slice_get, slice_set, reverse, if◌then◌else◌}
+use Rattle.std.specs.Prelude.{◌≡◌, ℕ, ◌==◌, ◌+◌, ◌<◌, ◌≤◌, Bool, true, false, ◌&&◌, ◌||◌, List, [], ◌∷◌, ◌++◌}
+use Rattle.std.specs.Prelude.{length, Option, Some, None, slice_get, slice_set, reverse, if◌then◌else◌}
 use Rattle.flt_abs.specs.Entry.{entry}
 use Rattle.flt_graph.specs.Graph.{place_at, instruction_at, points_at}
 use Rattle.flt_graph.specs.Points.{successor}

@@ -5,7 +5,8 @@ use Rattle.std.proofs.lemmas.List.Sums.{sum-map, sum_by-cons}
 use Rattle.flt_tree.specs.Measures.{points_of, points, points_step}
 use Rattle.flt_tree.specs.declared.filter.Callback.{Callback}
 use Rattle.flt_tree.specs.declared.filter.Statement.{Statement, out-Statement, roll-Statement}
-use Rattle.flt_tree.specs.declared.filter.Statement.TheFolds.{map-Statement, para-Statement, para-roll-Statement, fold-roll-Statement, fold_out-Statement, ind-Statement}
+use Rattle.flt_tree.specs.declared.filter.Statement.TheFolds.{map-Statement, para-Statement, para-roll-Statement, fold-roll-Statement}
+use Rattle.flt_tree.specs.declared.filter.Statement.TheFolds.{fold_out-Statement, ind-Statement}
 use Rattle.flt_tree.specs.declared.filter.Statement.TheOpen.{Statement-F}
 use Rattle.flt_tree.specs.declared.filter.Statement.TheViews.{roll-out-Statement}
 use Rattle.flt_graph.specs.Codes.{Code, codes, codes_in, code_step, statement_code, block_code}

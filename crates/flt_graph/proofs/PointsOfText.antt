@@ -1,13 +1,15 @@
 -- Each point of a well-formed filter is that of a statement of the text, or of the end. So each instruction finds what it names, since the
 -- filter's form says of each statement that what it calls is there; and there is one graph.
-use Rattle.std.proofs.Common.{◌≡◌, ℕ, zero, suc, ◌+◌, ◌-◌, ◌<◌, ◌≤◌, Bool, true, List, [], ◌∷◌, ◌++◌, length, Option, Some, None, ap, sym, subst, refl, ◌∙◌, arith, inl, inr}
+use Rattle.std.proofs.Common.{◌≡◌, ℕ, zero, suc, ◌+◌, ◌-◌, ◌<◌, ◌≤◌, Bool, true, List, [], ◌∷◌, ◌++◌}
+use Rattle.std.proofs.Common.{length, Option, Some, None, ap, sym, subst, refl, ◌∙◌, arith, inl, inr}
 use Rattle.std.specs.Prelude.{slice_get, is_some, ◌&&◌}
 use Rattle.std.proofs.lemmas.Bool.{and_parts, cases_lt, cases_eq}
 use Rattle.std.proofs.lemmas.List.{get_or_past, ext_get_or}
 use Rattle.flt_rules.specs.declared.call.LockKind.{LockKind}
 use Rattle.flt_rules.specs.declared.place.Place.{Place}
 use Rattle.flt_tree.specs.Filter.{head_place}
-use Rattle.flt_tree.specs.Declarations.{has_event, AreNewCallbacks, AreWhole, IsServed, finds_routine, test_finds, finds_step, statement_finds, finds_routines}
+use Rattle.flt_tree.specs.Declarations.{has_event, AreNewCallbacks, AreWhole, IsServed, finds_routine}
+use Rattle.flt_tree.specs.Declarations.{test_finds, finds_step, statement_finds, finds_routines}
 use Rattle.flt_rules.specs.Limits.{max_depth, max_repeats}
 use Rattle.flt_tree.specs.Measures.{points_of, points, points_step}
 use Rattle.flt_tree.specs.WellFormed as fine

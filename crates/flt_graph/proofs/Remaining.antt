@@ -1,5 +1,6 @@
 -- Which remaining lists stand where, and what is there.
-use Rattle.std.proofs.Common.{◌≡◌, ℕ, zero, suc, ◌+◌, ◌≤◌, Bool, true, false, List, [], ◌∷◌, length, slice_get, slice_index_or, ◌++◌, Option, Some, None, ap, sym, subst, refl, arith}
+use Rattle.std.proofs.Common.{◌≡◌, ℕ, zero, suc, ◌+◌, ◌≤◌, Bool, true, false, List, [], ◌∷◌, length, slice_get}
+use Rattle.std.proofs.Common.{slice_index_or, ◌++◌, Option, Some, None, ap, sym, subst, refl, arith}
 use Rattle.std.proofs.lemmas.List.{append-nil}
 use Rattle.flt_tree.specs.Filter.{no_span}
 use Rattle.flt_tree.specs.Measures.{points_of}
@@ -13,7 +14,8 @@ use Rattle.flt_tree.specs.declared.filter.Statement.TheOpen.{Statement-F}
 use Rattle.flt_tree.specs.declared.filter.Statement.TheViews.{outs-Repeat}
 use Rattle.flt_graph.specs.Graph.{point_in, no_callback, callback_at}
 use Rattle.flt_graph.specs.Lowering.{IsGraphOf, AreGraphsOf, IsLowered, end_of}
-use Rattle.flt_graph.specs.Points.{entry, instruction_of, choice, In, top, later, granted_block, refused_block, turn, Stands, end, before, again, remaining_turns, remaining_of, remaining, successor, StandsAt, IsLeftOf, IsFirst}
+use Rattle.flt_graph.specs.Points.{entry, instruction_of, choice, In, top, later, granted_block, refused_block, turn, Stands, end}
+use Rattle.flt_graph.specs.Points.{before, again, remaining_turns, remaining_of, remaining, successor, StandsAt, IsLeftOf, IsFirst}
 use Rattle.flt_graph.specs.declared.graph.CallbackGraph.{CallbackGraph}
 use Rattle.flt_graph.specs.declared.graph.Graph.{Graph}
 use Rattle.flt_graph.specs.declared.instruction.Instruction.TheVariants as instruction

@@ -1,6 +1,7 @@
 -- Where remaining lists stand, with the turns that are left, and where that leads. Each lemma of `Remaining.antt` on `Stands` has one
 -- here that names the turns too.
-use Rattle.std.proofs.Common.{◌≡◌, ℕ, zero, suc, ◌+◌, ◌-◌, ◌<◌, ◌≤◌, Bool, true, false, eqb, List, [], ◌∷◌, ◌++◌, Option, Some, None, refl, sym, subst, arith}
+use Rattle.std.proofs.Common.{◌≡◌, ℕ, zero, suc, ◌+◌, ◌-◌, ◌<◌, ◌≤◌, Bool, true, false, eqb, List}
+use Rattle.std.proofs.Common.{[], ◌∷◌, ◌++◌, Option, Some, None, refl, sym, subst, arith}
 use Rattle.std.proofs.lemmas.Bool.{eq-eqb, ne_eqb}
 use Rattle.std.proofs.lemmas.List.{append-nil}
 use Rattle.flt_tree.specs.Filter.{no_span}
@@ -14,8 +15,10 @@ use Rattle.flt_tree.specs.declared.filter.Statement.TheOpen.{Statement-F}
 use Rattle.flt_tree.specs.declared.filter.Statement.TheViews.{outs-Repeat}
 use Rattle.flt_graph.specs.Graph.{point_in}
 use Rattle.flt_graph.specs.Lowering.{IsGraphOf}
-use Rattle.flt_graph.specs.Points.{entry, instruction_of, choice, In, top, later, granted_block, refused_block, turn, Stands, end, before, again, remaining_turns, remaining_of, remaining, successor}
-use Rattle.flt_graph.specs.Turns.{turns_in, turns_at, AreBegun, AreBegunRound, StandsWith, StandsAtWith, left_at, turns_round, turns_after, HasLeft}
+use Rattle.flt_graph.specs.Points.{entry, instruction_of, choice, In, top, later, granted_block, refused_block, turn}
+use Rattle.flt_graph.specs.Points.{Stands, end, before, again, remaining_turns, remaining_of, remaining, successor}
+use Rattle.flt_graph.specs.Turns.{turns_in, turns_at, AreBegun, AreBegunRound, StandsWith}
+use Rattle.flt_graph.specs.Turns.{StandsAtWith, left_at, turns_round, turns_after, HasLeft}
 use Rattle.flt_graph.specs.declared.graph.CallbackGraph.{CallbackGraph}
 use Rattle.flt_graph.specs.declared.instruction.Instruction.TheVariants as instruction
 use Rattle.flt_graph.specs.declared.turns.Turn.{Turn}

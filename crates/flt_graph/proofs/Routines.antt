@@ -9,7 +9,8 @@ use Rattle.std.proofs.lemmas.Option.{slice_get_within}
 use Rattle.std.proofs.lemmas.Slice.Eq.{bytes_eq-Decides}
 use Rattle.flt_rules.specs.declared.place.Place.TheVariants as place
 use Rattle.flt_tree.specs.Filter.{head_place, is_named}
-use Rattle.flt_tree.specs.Declarations.{has_routine, is_declared, AreNewCallbacks, may_be_pre, may_be_post, runs_deferred, runs_generic, has_deferred, has_generic}
+use Rattle.flt_tree.specs.Declarations.{has_routine, is_declared, AreNewCallbacks, may_be_pre, may_be_post}
+use Rattle.flt_tree.specs.Declarations.{runs_deferred, runs_generic, has_deferred, has_generic}
 use Rattle.flt_tree.specs.Names.{Text}
 use Rattle.flt_tree.specs.Registered.{routine_at}
 use Rattle.flt_tree.specs.declared.filter.Callback.{Callback}

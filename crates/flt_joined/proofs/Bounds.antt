@@ -1,5 +1,6 @@
 -- A flaw of the text of some files is that of one of them.
-use Rattle.std.proofs.Common.{◌≡◌, ◌<◌, ◌≤◌, ℕ, suc, ◌+◌, Bool, true, false, List, [], ◌∷◌, ◌++◌, Option, Some, None, Result, Ok, Err, arith, flat_map, if◌then◌else◌, length, refl}
+use Rattle.std.proofs.Common.{◌≡◌, ◌<◌, ◌≤◌, ℕ, suc, ◌+◌, Bool, true, false, List, [], ◌∷◌, ◌++◌, Option}
+use Rattle.std.proofs.Common.{Some, None, Result, Ok, Err, arith, flat_map, if◌then◌else◌, length, refl}
 use Rattle.std.specs.Prelude.{◌==◌, nat_lt}
 use Rattle.std.proofs.Math.Path.{subst}
 use Rattle.flt_c.specs.Files.{◌>>=◌, extracted, flawed, gathered, grown, with_file, with_files, without_expressions}
@@ -30,7 +31,8 @@ chosen false flaw y number right = right
 grown_here : (number : ℕ) (before : c.Text) (r : Result c.Text Fault) → file_by (grown number before r) number ≡ number
 grown_here number before (Err f) = refl
 grown_here number before (Ok text) =
-    chosen (length text.bytes == length before.bytes) Bare _ number (chosen (nat_lt max_text (length text.bytes)) Long (Ok text) number refl)
+    chosen (length text.bytes == length before.bytes) Bare _ number
+    (chosen (nat_lt max_text (length text.bytes)) Long (Ok text) number refl)
 
 -- a flaw of a file has its number
 file_here : (number : ℕ) (text : c.Text) (file : Text) → file_by (with_file number text file) number ≡ number

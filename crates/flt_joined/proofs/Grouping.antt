@@ -1,5 +1,7 @@
 -- Files that go on with one another are a group.
-use Rattle.std.proofs.Common.{◌≡◌, ◌∙◌, ◌⊎◌, inl, inr, ◌<◌, ◌≤◌, ℕ, zero, suc, ◌+◌, ◌-◌, Bool, true, false, List, [], ◌∷◌, ◌++◌, Option, Some, None, Result, Ok, Err, IfOk, ap, arith, drop, flat_map, get_or, if◌then◌else◌, length, map, refl, sym, take}
+use Rattle.std.proofs.Common.{◌≡◌, ◌∙◌, ◌⊎◌, inl, inr, ◌<◌, ◌≤◌, ℕ, zero, suc, ◌+◌, ◌-◌, Bool, true, false}
+use Rattle.std.proofs.Common.{List, [], ◌∷◌, ◌++◌, Option, Some, None, Result, Ok, Err, IfOk, ap, arith}
+use Rattle.std.proofs.Common.{drop, flat_map, get_or, if◌then◌else◌, length, map, refl, sym, take}
 use Rattle.std.proofs.Math.Path.{subst}
 use Rattle.std.proofs.lemmas.List.{drop_more, get_or_default, length-map}
 use Rattle.std.specs.Prelude.{◌&&◌, MatchResult, slice_range}
@@ -9,7 +11,8 @@ use Rattle.flt_c.specs.declared.files.FileFlaw.{FileFlaw}
 use Rattle.flt_joined.proofs.Bounds.{flaw_below}
 use Rattle.flt_joined.proofs.Parts.{part_more}
 use Rattle.flt_joined.specs.Made.{IsMade}
-use Rattle.flt_joined.specs.Texts.{Given, IsGroup, Text, given_of, givens, goes_on, groups_of, is_code, own_code, code_by, text_by, text_of, with_file}
+use Rattle.flt_joined.specs.Texts.{Given, IsGroup, Text, given_of, givens, goes_on, groups_of}
+use Rattle.flt_joined.specs.Texts.{is_code, own_code, code_by, text_by, text_of, with_file}
 use Rattle.flt_joined.specs.declared.given.GivenFile.{GivenFile}
 use Rattle.flt_joined.specs.declared.making.MadeText.{MadeText}
 

@@ -1,5 +1,6 @@
 -- The texts that files make. This project's own rule.
-use Rattle.std.specs.Prelude.{◌≡◌, ℕ, suc, ◌-◌, ◌==◌, ◌&&◌, ◌||◌, Bool, true, false, not, List, [], ◌∷◌, Option, Some, None, Result, Ok, Err, codes, drop, flat_map, if◌then◌else◌, map, nat_eq, option_map, slice_get}
+use Rattle.std.specs.Prelude.{◌≡◌, ℕ, suc, ◌-◌, ◌==◌, ◌&&◌, ◌||◌, Bool, true, false, not, List, [], ◌∷◌, Option, Some, None}
+use Rattle.std.specs.Prelude.{Result, Ok, Err, codes, drop, flat_map, if◌then◌else◌, map, nat_eq, option_map, slice_get}
 use Rattle.std.specs.List.{starts_with}
 use Rattle.flt_c.specs.Files.{extracted}
 use Rattle.flt_c.specs.Texts as c

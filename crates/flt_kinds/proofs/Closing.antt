@@ -1,5 +1,7 @@
 -- Where nothing changes, nothing is missing.
-use Rattle.std.proofs.Common.{arith, ◌≡◌, ◌⊎◌, ◌∙◌, ◌+◌, ◌<◌, ◌≤◌, ◌||◌, ℕ, zero, suc, Bool, true, false, true≢false, List, [], ◌∷◌, Option, Some, None, is_none, length, replicate, ap, sym, refl, subst, slice_index_or, inl, inr, ⊎_elim, get_or, if◌then◌else◌}
+use Rattle.std.proofs.Common.{arith, ◌≡◌, ◌⊎◌, ◌∙◌, ◌+◌, ◌<◌, ◌≤◌, ◌||◌, ℕ, zero, suc, Bool, true, false}
+use Rattle.std.proofs.Common.{true≢false, List, [], ◌∷◌, Option, Some, None, is_none, length, replicate, ap}
+use Rattle.std.proofs.Common.{sym, refl, subst, slice_index_or, inl, inr, ⊎_elim, get_or, if◌then◌else◌}
 use Rattle.std.proofs.lemmas.Bool.{cases_lt}
 use Rattle.std.proofs.lemmas.List.{get_or_past, length-replicate}
 use Rattle.flt_rules.specs.declared.call.Anchor.{Anchor}
@@ -11,7 +13,8 @@ use Rattle.flt_kinds.specs.Cells.{Cells, cells_for, cell, count_empty}
 use Rattle.flt_kinds.specs.Flows.{flows, source, spot}
 use Rattle.flt_kinds.specs.Kinds.{IsThere, Leads, Reaches, MaySet}
 use Rattle.flt_kinds.specs.Kinds.{stays, goes}
-use Rattle.flt_kinds.specs.Rounds.{marked_by, changes_by, carried, carries, any_carries, noted_in, notes_in, noted, notes, visited, visits, points_visited, points_change, callbacks_change, round_of, changes, IsNarrow}
+use Rattle.flt_kinds.specs.Rounds.{marked_by, changes_by, carried, carries, any_carries, noted_in, notes_in, noted, notes, visited}
+use Rattle.flt_kinds.specs.Rounds.{visits, points_visited, points_change, callbacks_change, round_of, changes, IsNarrow}
 use Rattle.flt_kinds.specs.Settled.{IsJust, IsComplete}
 use Rattle.flt_kinds.specs.Sites.{set_at}
 use Rattle.flt_kinds.specs.declared.slot.Flow.{Flow}

@@ -1,12 +1,14 @@
 -- What the cells of both kinds say of each context.
-use Rattle.std.proofs.Common.{arith, ◌≡◌, ◌∙◌, ◌<◌, ◌≤◌, ℕ, zero, suc, Bool, true, false, true≢false, List, [], Option, Some, None, is_none, is_some, unwrap_or, length, Contains, ap, sym, refl, subst, ⊎_elim}
+use Rattle.std.proofs.Common.{arith, ◌≡◌, ◌∙◌, ◌<◌, ◌≤◌, ℕ, zero, suc, Bool, true, false, true≢false, List, [], Option}
+use Rattle.std.proofs.Common.{Some, None, is_none, is_some, unwrap_or, length, Contains, ap, sym, refl, subst, ⊎_elim}
 use Rattle.std.proofs.lemmas.List.Elements.{Contains-append_left, Contains-append_right, Contains-append_cases, Contains-push}
 use Rattle.flt_rules.specs.declared.call.Anchor.{Anchor}
 use Rattle.flt_rules.specs.declared.call.Anchor.TheVariants.{Stream, Instance}
 use Rattle.flt_graph.specs.Graph.{points_at}
 use Rattle.flt_graph.specs.declared.graph.Graph.{Graph}
 use Rattle.flt_kinds.specs.Cells.{Cells, cell}
-use Rattle.flt_kinds.specs.Deciding.{both, begun_twice, set_elsewhere, given_twice, first_of, mixed_at, mixed_below, mixed_in, has_setter, is_needed, only, needed_below, needed_in}
+use Rattle.flt_kinds.specs.Deciding.{both, begun_twice, set_elsewhere, given_twice, first_of, mixed_at, mixed_below}
+use Rattle.flt_kinds.specs.Deciding.{mixed_in, has_setter, is_needed, only, needed_below, needed_in}
 use Rattle.flt_kinds.specs.Flows.{spot}
 use Rattle.flt_kinds.specs.Kinds.{IsThere, MaySet, IsBegun, IsGiven, IsNeeded, AreKinds, KindsHold, IsMixed}
 use Rattle.flt_kinds.specs.Kinds.{allocated, of_stream, of_instance}

@@ -1,5 +1,7 @@
 -- One cell that is filled.
-use Rattle.std.proofs.Common.{arith, ◌≡◌, ◌⊎◌, ◌∙◌, ◌+◌, ◌*◌, ◌<◌, ◌≤◌, ℕ, zero, suc, Bool, true, false, true≢false, unwrap_or, Option, Some, None, is_none, get_or, set, length, replicate, if◌then◌else◌, ap, sym, refl, subst, inl, inr, lit<, ltb-true, lt-ltb, length-set, le_trans, le_of_eq, get_or-set_other, get_or-set_same}
+use Rattle.std.proofs.Common.{arith, ◌≡◌, ◌⊎◌, ◌∙◌, ◌+◌, ◌*◌, ◌<◌, ◌≤◌, ℕ, zero, suc, Bool, true, false, true≢false, unwrap_or, Option}
+use Rattle.std.proofs.Common.{Some, None, is_none, get_or, set, length, replicate, if◌then◌else◌, ap, sym, refl, subst, inl, inr}
+use Rattle.std.proofs.Common.{lit<, ltb-true, lt-ltb, length-set, le_trans, le_of_eq, get_or-set_other, get_or-set_same}
 use Rattle.std.proofs.lemmas.Bool.{cases_eq, cases_lt}
 use Rattle.std.proofs.lemmas.List.{get_or_past, get_or-replicate, length-replicate}
 use Rattle.std.proofs.lemmas.List.Sums.{sum_by-set}

@@ -1,5 +1,6 @@
 -- What a round does to the cells: it keeps what they are for, and each change leaves fewer of them empty.
-use Rattle.std.proofs.Common.{arith, ◌≡◌, ◌∙◌, ◌<◌, ◌≤◌, ◌||◌, ℕ, zero, suc, Bool, true, false, true≢false, List, [], ◌∷◌, Option, Some, None, is_none, length, sym, refl, subst, Contains, zero-lt-suc}
+use Rattle.std.proofs.Common.{arith, ◌≡◌, ◌∙◌, ◌<◌, ◌≤◌, ◌||◌, ℕ, zero, suc, Bool, true, false, true≢false, List, []}
+use Rattle.std.proofs.Common.{◌∷◌, Option, Some, None, is_none, length, sym, refl, subst, Contains, zero-lt-suc}
 use Rattle.std.proofs.lemmas.List.Elements.{Contains-append_right}
 use Rattle.flt_rules.specs.declared.call.Anchor.{Anchor}
 use Rattle.flt_tree.specs.declared.variable.ContextVariable.{ContextVariable}
@@ -9,7 +10,9 @@ use Rattle.flt_kinds.specs.Cells.{Cells, cells_for, IsWithin, cell, marked, coun
 use Rattle.flt_kinds.specs.Flows.{flows, source, spot}
 use Rattle.flt_kinds.specs.Kinds.{IsThere, MaySet}
 use Rattle.flt_kinds.specs.Kinds.{stays, goes}
-use Rattle.flt_kinds.specs.Rounds.{marked_by, changes_by, carried, carries, all_carried, any_carries, noted_in, notes_in, noted, notes, visited, visits, points_visited, points_change, callbacks_visited, callbacks_change, round_of, changes, IsNarrow}
+use Rattle.flt_kinds.specs.Rounds.{marked_by, changes_by, carried, carries, all_carried, any_carries, noted_in}
+use Rattle.flt_kinds.specs.Rounds.{notes_in, noted, notes, visited, visits, points_visited, points_change}
+use Rattle.flt_kinds.specs.Rounds.{callbacks_visited, callbacks_change, round_of, changes, IsNarrow}
 use Rattle.flt_kinds.specs.Settled.{IsJust}
 use Rattle.flt_kinds.specs.Sites.{set_at}
 use Rattle.flt_kinds.specs.declared.slot.Flow.{Flow}

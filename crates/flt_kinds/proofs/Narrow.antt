@@ -1,5 +1,6 @@
 -- A text's callbacks have few enough points for the cells.
-use Rattle.std.proofs.Common.{arith, ◌≡◌, ◌+◌, ◌≤◌, ◌&&◌, ℕ, zero, suc, Bool, true, false, true≢false, List, [], ◌∷◌, length, slice_index_or, sym, refl, leb-true, IsTrue, nat_le}
+use Rattle.std.proofs.Common.{arith, ◌≡◌, ◌+◌, ◌≤◌, ◌&&◌, ℕ, zero, suc, Bool, true, false, true≢false, List}
+use Rattle.std.proofs.Common.{[], ◌∷◌, length, slice_index_or, sym, refl, leb-true, IsTrue, nat_le}
 use Rattle.std.specs.List.{list_all}
 use Rattle.flt_tree.specs.Measures.{are_small, is_small, points, cost}
 use Rattle.flt_tree.specs.declared.filter.Callback.{Callback}

@@ -1,17 +1,21 @@
 -- The first `pre create` that completes with success.
-use Rattle.std.proofs.Common.{arith, ◌≡◌, ◌<◌, ◌≤◌, ◌&&◌, ℕ, zero, suc, Bool, true, false, true≢false, Option, Some, None, is_none, unwrap_or, length, ap, sym, refl, subst, ⊎_elim}
+use Rattle.std.proofs.Common.{arith, ◌≡◌, ◌<◌, ◌≤◌, ◌&&◌, ℕ, zero, suc, Bool, true, false, true≢false, Option}
+use Rattle.std.proofs.Common.{Some, None, is_none, unwrap_or, length, ap, sym, refl, subst, ⊎_elim}
 use Rattle.flt_rules.specs.declared.place.Operation.TheVariants.{Create, Read, Write, Cleanup}
 use Rattle.flt_rules.specs.declared.place.Place.{Place}
 use Rattle.flt_rules.specs.declared.place.Place.TheVariants as place
-use Rattle.flt_rules.specs.declared.status.FinalStatus.TheVariants.{Success, AccessDenied, Cancelled, InsufficientResources, InvalidParameter}
+use Rattle.flt_rules.specs.declared.status.FinalStatus.TheVariants.{Success, AccessDenied, Cancelled, InsufficientResources}
+use Rattle.flt_rules.specs.declared.status.FinalStatus.TheVariants.{InvalidParameter}
 use Rattle.flt_rules.specs.declared.status.FinalStatus.TheVariants as final
-use Rattle.flt_tree.specs.declared.filter.Status.TheVariants.{Complete, WithCallback, Synchronize, NoCallback, DisallowFastIo, FinishedProcessing, MoreProcessingRequired}
+use Rattle.flt_tree.specs.declared.filter.Status.TheVariants.{Complete, WithCallback, Synchronize, NoCallback, DisallowFastIo}
+use Rattle.flt_tree.specs.declared.filter.Status.TheVariants.{FinishedProcessing, MoreProcessingRequired}
 use Rattle.flt_tree.specs.declared.filter.Status.TheVariants as status
 use Rattle.flt_graph.specs.Graph.{instruction_at, place_at, points_at}
 use Rattle.flt_graph.specs.declared.graph.Graph.{Graph}
 use Rattle.flt_graph.specs.declared.instruction.Instruction.{Instruction}
 use Rattle.flt_graph.specs.declared.instruction.Instruction.TheVariants as instruction
-use Rattle.flt_kinds.specs.Creates.{Completes, AreFound, is_create, is_success, completes_at, this_one, first_spot, completed_below, completed_in}
+use Rattle.flt_kinds.specs.Creates.{Completes, AreFound, is_create, is_success, completes_at}
+use Rattle.flt_kinds.specs.Creates.{this_one, first_spot, completed_below, completed_in}
 use Rattle.flt_kinds.specs.Flows.{spot}
 use Rattle.flt_kinds.specs.declared.slot.Spot.{Spot}
 use Rattle.flt_kinds.proofs.Closing.{is_callback, equal_or_below}

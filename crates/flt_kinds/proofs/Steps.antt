@@ -1,5 +1,6 @@
 -- One statement more, or one callback.
-use Rattle.std.proofs.Common.{arith, ◌≡◌, ◌∙◌, ◌+◌, ◌++◌, ℕ, List, length, take, drop, ap, sym, add-one, append_assoc, append-nil, drop_of_length-le, take_all}
+use Rattle.std.proofs.Common.{arith, ◌≡◌, ◌∙◌, ◌+◌, ◌++◌, ℕ, List, length, take, drop, ap, sym}
+use Rattle.std.proofs.Common.{add-one, append_assoc, append-nil, drop_of_length-le, take_all}
 use Rattle.flt_graph.specs.declared.graph.Graph.{Graph}
 use Rattle.flt_kinds.specs.Cells.{Cells}
 use Rattle.flt_kinds.specs.Deciding.{is_needed, only, needed_below}

@@ -1,5 +1,6 @@
 -- A table with a cell for each place in which a context may be: a statement that sets what is there.
-use Rattle.std.specs.Prelude.{ℕ, ◌+◌, ◌*◌, ◌<◌, Bool, true, false, nat_lt, if◌then◌else◌, List, get_or, set, Option, Some, None, is_none, sum_by}
+use Rattle.std.specs.Prelude.{ℕ, ◌+◌, ◌*◌, ◌<◌, Bool, true, false, nat_lt, if◌then◌else◌}
+use Rattle.std.specs.Prelude.{List, get_or, set, Option, Some, None, is_none, sum_by}
 use Rattle.flt_tree.specs.Variable.{context_place}
 use Rattle.flt_kinds.specs.declared.slot.Slot.{Slot}
 use Rattle.flt_kinds.specs.declared.slot.Slot.TheVariants.{Queue, Variable}

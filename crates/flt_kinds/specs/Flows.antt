@@ -1,6 +1,7 @@
 -- How statements take contexts on: through variables, references, the queue, work items and completion contexts.
 -- Source: the driver kit's pages on the calls; that failing calls leave NULL is what the emitted source does.
-use Rattle.std.specs.Prelude.{ℕ, ◌+◌, ◌==◌, Bool, true, false, not, ◌&&◌, ◌||◌, if◌then◌else◌, List, [], ◌∷◌, ◌++◌, map, flat_map, Option, Some, None}
+use Rattle.std.specs.Prelude.{ℕ, ◌+◌, ◌==◌, Bool, true, false, not, ◌&&◌, ◌||◌, if◌then◌else◌}
+use Rattle.std.specs.Prelude.{List, [], ◌∷◌, ◌++◌, map, flat_map, Option, Some, None}
 use Rattle.flt_rules.specs.Place.{same_operation}
 use Rattle.flt_rules.specs.declared.call.Call.{Call}
 use Rattle.flt_rules.specs.declared.call.Call.TheVariants as call

@@ -14,7 +14,8 @@ use Rattle.flt_layout.specs.declared.space.Space.TheVariants as space
 use Rattle.flt_layout.specs.declared.state.Place.{Place}
 use Rattle.flt_layout.specs.declared.state.Place.TheVariants as place
 use Rattle.flt_layout.specs.declared.state.State.{State}
-use Rattle.flt_layout.specs.Layout.{past_token, past_comment, begins, is_comment, on_line, placed, depth, gap, ending, text_from, settled, start, laid_out}
+use Rattle.flt_layout.specs.Layout.{past_token, past_comment, begins, is_comment, on_line, placed}
+use Rattle.flt_layout.specs.Layout.{depth, gap, ending, text_from, settled, start, laid_out}
 use Rattle.flt_layout.specs.Laws.{KeepsItems}
 use Rattle.flt_layout.proofs.Comments as comments
 use Rattle.flt_layout.proofs.Comments.{IsComment, one_line}

@@ -10,7 +10,8 @@ use Rattle.flt_syntax.specs.CallGrammar as c
 use Rattle.flt_syntax.specs.CallGrammar.{StatusAt, OptionalStatusAt, RoutineAt, LockAt, FallibleAt, PlainAt}
 use Rattle.flt_syntax.specs.Cursor.{Input, kind, position, span, bytes_of, is_word}
 use Rattle.flt_syntax.specs.Grammar as g
-use Rattle.flt_syntax.specs.Grammar.{line, StatementAt, ElseAt, BlockAt, StatementsAt, HeadAt, CallbackAt, CallbacksAt, LocksAt, QueueAt, FileAt}
+use Rattle.flt_syntax.specs.Grammar.{line, StatementAt, ElseAt, BlockAt, StatementsAt, HeadAt}
+use Rattle.flt_syntax.specs.Grammar.{CallbackAt, CallbacksAt, LocksAt, QueueAt, FileAt}
 use Rattle.flt_syntax.specs.Lex.{tokens}
 use Rattle.flt_syntax.specs.Scope.{Scope}
 use Rattle.flt_syntax.specs.Spelling.{Spells}

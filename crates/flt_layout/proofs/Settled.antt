@@ -4,7 +4,8 @@ use Rattle.std.specs.Prelude.{◌||◌}
 use Rattle.flt_syntax.specs.Lex.{is_fault}
 use Rattle.flt_layout.specs.Items.{Item, a_token, a_comment, items, comments_of}
 use Rattle.flt_layout.specs.Laws.{KeepsItems, IsLaidOutOnce, KeepsComments, words_among}
-use Rattle.flt_layout.specs.Layout.{past_token, past_comment, begins, is_comment, on_line, placed, depth, gap, text_from, settled, start, laid_out}
+use Rattle.flt_layout.specs.Layout.{past_token, past_comment, begins, is_comment, on_line}
+use Rattle.flt_layout.specs.Layout.{placed, depth, gap, text_from, settled, start, laid_out}
 use Rattle.flt_layout.specs.declared.space.Space.{Space}
 use Rattle.flt_layout.specs.declared.space.Space.TheVariants as space
 use Rattle.flt_layout.specs.declared.state.State.{State}

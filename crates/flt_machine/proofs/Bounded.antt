@@ -16,7 +16,8 @@ use Rattle.flt_machine.proofs.Small.{stays_small}
 use Rattle.flt_rules.specs.Limits.{max_entries}
 
 -- a change is made, and one entry more is written
-pub written_bounded : (b : Situation) (e : JournalEntry) (c : Change) → IsPossible b.store c → length b.entries < max_entries → IsBounded b →
+pub written_bounded : (b : Situation) (e : JournalEntry) (c : Change) → IsPossible b.store c →
+    length b.entries < max_entries → IsBounded b →
     IsBounded (record b { store = after_change b.store c; entries = b.entries ++ e ∷ [] })
 written_bounded b e c can room bounded = record {
   both = bounded.both;

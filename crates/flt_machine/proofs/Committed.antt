@@ -61,7 +61,11 @@ module _ (p : List Filter) (b : Situation) (advanced : Advanced) (grant : Bool) 
 
   -- the activation is the caller there
   pub caller_is : IsCaller middle.world.actors middle.world.activations (caller_of b advanced)
-  caller_is = record { filter = filter_is; place = ap (λ (actors : List Actor). (get_or actors advanced.frame.activation no_actor).place) (sym at.actors); act = kept.stands.same }
+  caller_is = record {
+    filter = filter_is;
+    place = ap (λ (actors : List Actor). (get_or actors advanced.frame.activation no_actor).place) (sym at.actors);
+    act = kept.stands.same;
+  }
 
   -- it stands for it, on its filter's callbacks
   pub stands_there : StandsFor (callbacks_at p advanced.frame.filter) advanced.after (activation_at middle.world advanced.frame.activation)

@@ -1,5 +1,6 @@
 -- What each change adds: one reference at most to each context, and no operation more than may be.
-use Rattle.std.proofs.Common.{◌≡◌, ℕ, ◌+◌, ◌-◌, ◌≤◌, Bool, true, false, List, [], ◌∷◌, ◌++◌, Option, Some, None, length, drop, if◌then◌else◌, sym, subst, refl, ◌∙◌, inl, inr, arith}
+use Rattle.std.proofs.Common.{◌≡◌, ℕ, ◌+◌, ◌-◌, ◌≤◌, Bool, true, false, List, [], ◌∷◌, ◌++◌, Option, Some}
+use Rattle.std.proofs.Common.{None, length, drop, if◌then◌else◌, sym, subst, refl, ◌∙◌, inl, inr, arith}
 use Rattle.std.proofs.Math.ListN.{set, get_or}
 use Rattle.std.proofs.lemmas.Bool.{cases_eq, cases_lt}
 use Rattle.std.proofs.lemmas.List.{get_or-set_same, get_or-set_other, get_or_past, length-set, length-append}
@@ -10,7 +11,8 @@ use Rattle.flt_model.specs.Effects.{after_unlink}
 use Rattle.flt_model.specs.Calls.{put_link}
 use Rattle.flt_model.specs.Moves.{other_entries}
 use Rattle.flt_model.specs.Settling as settling
-use Rattle.flt_model.specs.World.{Store, Context, Link, no_context, context_at, Detached, Detaching, is_freed, queue_at, route_at, visit_at, with_context, with_link, with_route, add_reference, drop_reference}
+use Rattle.flt_model.specs.World.{Store, Context, Link, no_context, context_at, Detached, Detaching, is_freed, queue_at}
+use Rattle.flt_model.specs.World.{route_at, visit_at, with_context, with_link, with_route, add_reference, drop_reference}
 use Rattle.flt_ops.specs.Parts.{way_of}
 use Rattle.flt_machine_store.specs.Changes.{after_change, IsPossible}
 use Rattle.flt_machine_store.specs.declared.change.Change.{Change}
@@ -136,7 +138,8 @@ unlinked_same s y None = refl
 unlinked_same s y (Some d) = refl
 
 -- a change that can be made leaves no more operations than may be
-pub arrivals_after : (s : Store) (c : Change) → IsPossible s c → length s.arrivals ≤ max_operations → length (after_change s c).arrivals ≤ max_operations
+pub arrivals_after : (s : Store) (c : Change) → IsPossible s c → length s.arrivals ≤ max_operations →
+    length (after_change s c).arrivals ≤ max_operations
 arrivals_after s change.Nothing can few = few
 arrivals_after s (change.Allocate owner) can few = few
 arrivals_after s (change.AddReference x) can few = few

@@ -1,5 +1,6 @@
 -- Entries that come to wait: of an operation that is cancelled, one that comes into a queue, and of a filter that is being detached.
-use Rattle.std.proofs.Common.{◌≡◌, ◌≢◌, ℕ, ◌+◌, ◌-◌, ◌<◌, ◌≤◌, Bool, true, false, not, ◌&&◌, ◌||◌, List, [], ◌∷◌, ◌++◌, Option, Some, None, length, drop, map, append_assoc, if◌then◌else◌, ap, sym, refl, ◌∙◌, inl, inr, arith}
+use Rattle.std.proofs.Common.{◌≡◌, ◌≢◌, ℕ, ◌+◌, ◌-◌, ◌<◌, ◌≤◌, Bool, true, false, not, ◌&&◌, ◌||◌, List, [], ◌∷◌, ◌++◌, Option}
+use Rattle.std.proofs.Common.{Some, None, length, drop, map, append_assoc, if◌then◌else◌, ap, sym, refl, ◌∙◌, inl, inr, arith}
 use Rattle.std.proofs.Math.ListN.{get_or}
 use Rattle.std.proofs.lemmas.Bool.{cases_eq, cases_lt, eq-eqb, ne_eqb}
 use Rattle.std.proofs.lemmas.Bool.Decides.{nat_tests}
@@ -10,10 +11,12 @@ use Rattle.std.specs.Prelude.{◌⊎◌, cond, find, is_some, nat_lt, option_map
 use Rattle.flt_model.specs.declared.subject.Subject.{Subject}
 use Rattle.flt_model.specs.declared.subject.Subject.TheVariants as subject
 use Rattle.flt_model.specs.Moves.{is_entry_of}
-use Rattle.flt_model.specs.World.{Store, Entry, Presence, Attached, Detaching, Detached, Route, is_attached, is_detaching, no_route, presence_at, queue_at, route_at, visit_at, with_presence, with_queue}
+use Rattle.flt_model.specs.World.{Store, Entry, Presence, Attached, Detaching, Detached, Route, is_attached, is_detaching}
+use Rattle.flt_model.specs.World.{no_route, presence_at, queue_at, route_at, visit_at, with_presence, with_queue}
 use Rattle.flt_ops.specs.Operating.{with_cancel}
 use Rattle.flt_machine.specs.Tickets.{passing, waits, comes_to_wait, entries_of, teardown_of, by_altitude}
-use Rattle.flt_machine.proofs.Passing.{passing_none, passing_one, passing_same, by_altitude_none, by_altitude_one, by_altitude_past, by_altitude_step}
+use Rattle.flt_machine.proofs.Passing.{passing_none, passing_one, passing_same, by_altitude_none}
+use Rattle.flt_machine.proofs.Passing.{by_altitude_one, by_altitude_past, by_altitude_step}
 use Rattle.flt_machine.proofs.Quiet.{implied, none_and}
 
 -- ---- what is read

@@ -1,5 +1,6 @@
 -- How many get a ticket by a change.
-use Rattle.std.proofs.Common.{◌≡◌, ℕ, zero, suc, ◌+◌, ◌≤◌, true, false, List, [], ◌++◌, Option, Some, None, length, ap, sym, refl, ◌∙◌, arith, length-append}
+use Rattle.std.proofs.Common.{◌≡◌, ℕ, zero, suc, ◌+◌, ◌≤◌, true, false, List, [], ◌++◌, Option}
+use Rattle.std.proofs.Common.{Some, None, length, ap, sym, refl, ◌∙◌, arith, length-append}
 use Rattle.std.proofs.lemmas.Bool.{true≢false}
 use Rattle.flt_model.specs.declared.subject.Subject.{Subject}
 use Rattle.flt_model.specs.declared.subject.Subject.TheVariants as subject
@@ -61,7 +62,14 @@ module _ (altitudes : List ℕ) (s : Store) (c : Change) (operation activation i
   two_of : (n : ℕ) → sort c ≡ n → length es ≤ 1 →
       length (one_of operation) + (length (one_of activation) + (length (one_of item) + (length es + length (one_of teardown)))) ≤ 2
   two_of zero is one =
-      omega (arith, no_operations zero is (λ e. omega (arith, e)), one_at_most activation, no_items zero is (λ e. omega (arith, e)), one, no_teardown)
+      omega (
+        arith,
+        no_operations zero is (λ e. omega (arith, e)),
+        one_at_most activation,
+        no_items zero is (λ e. omega (arith, e)),
+        one,
+        no_teardown,
+      )
   two_of (suc zero) is one =
       omega (
         arith,

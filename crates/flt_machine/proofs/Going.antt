@@ -1,5 +1,6 @@
 -- What a commit goes by: the plan of the instruction at which the activation stands is a step where the local steps lead.
-use Rattle.std.proofs.Common.{◌≡◌, ◌≤◌, ℕ, ◌+◌, ◌*◌, Bool, true, false, not, ◌||◌, List, [], ◌∷◌, ◌++◌, Option, Some, length, ap, sym, subst, refl, ◌∙◌, arith}
+use Rattle.std.proofs.Common.{◌≡◌, ◌≤◌, ℕ, ◌+◌, ◌*◌, Bool, true, false, not, ◌||◌, List, [], ◌∷◌}
+use Rattle.std.proofs.Common.{◌++◌, Option, Some, length, ap, sym, subst, refl, ◌∙◌, arith}
 use Rattle.std.proofs.Math.ListN.{set}
 use Rattle.std.proofs.lemmas.List.{length-append}
 use Rattle.std.specs.Prelude.{IfSome}
@@ -29,10 +30,12 @@ use Rattle.flt_machine_calls.specs.Plans.{IsPlanned, PlansStep, TakesNone, choic
 use Rattle.flt_machine_calls.specs.declared.caller.Caller.{Caller}
 use Rattle.flt_machine_calls.specs.declared.plans.Plan.{Plan}
 use Rattle.flt_machine.specs.Blocking.{is_blocked}
-use Rattle.flt_machine.specs.Calls.{Commits, IsAdvanced, IsBlocked, IsFresh, IsLater, IsRefusedAt, caller_of, instruction_for, is_refused_lock, leaves_choice_at, step_at}
+use Rattle.flt_machine.specs.Calls.{Commits, IsAdvanced, IsBlocked, IsFresh, IsLater, IsRefusedAt, caller_of}
+use Rattle.flt_machine.specs.Calls.{instruction_for, is_refused_lock, leaves_choice_at, step_at}
 use Rattle.flt_machine.specs.Counted.{AreDistinct, IsBounded, IsSmall}
 use Rattle.flt_machine.specs.Situations.{Situation, IsAt, IsKept, IsOwn}
-use Rattle.flt_machine.proofs.Committed.{there, middle, caller_is, stands_there, counted_there, refused_there, blocked_there, made_there, commits, committed, here}
+use Rattle.flt_machine.proofs.Committed.{there, middle, caller_is, stands_there, counted_there, refused_there}
+use Rattle.flt_machine.proofs.Committed.{blocked_there, made_there, commits, committed, here}
 use Rattle.flt_machine.proofs.Local.{goes_there, kept_there}
 use Rattle.flt_machine.proofs.Read.{refused_is, choice_is}
 use Rattle.flt_machine.proofs.Leading.{leads}

@@ -1,5 +1,6 @@
 -- Local steps change their activation alone, and a board whose frame was advanced stands where they lead.
-use Rattle.std.proofs.Common.{◌≡◌, ◌≢◌, ℕ, zero, suc, ◌<◌, ◌≤◌, Bool, false, List, [], ◌∷◌, ◌++◌, Option, Some, None, length, replicate, option_map, option_and_then, if◌then◌else◌, ap, sym, subst, refl, ◌∙◌, inl, inr, arith}
+use Rattle.std.proofs.Common.{◌≡◌, ◌≢◌, ℕ, zero, suc, ◌<◌, ◌≤◌, Bool, false, List, [], ◌∷◌, ◌++◌, Option, Some, None, length, replicate}
+use Rattle.std.proofs.Common.{option_map, option_and_then, if◌then◌else◌, ap, sym, subst, refl, ◌∙◌, inl, inr, arith}
 use Rattle.std.proofs.Math.ListN.{set, get_or}
 use Rattle.std.proofs.lemmas.Bool.{cases_eq, cases_lt}
 use Rattle.std.proofs.lemmas.List.{append-nil, get_or-set_same, get_or-set_other, set-get_or, length-set, get_or_past}
@@ -52,7 +53,11 @@ StaysIn act (Some b) = Stays act b
 action_stays : (act : Activation) (rest : List Statement) (x : Action) → StaysIn act (option_map (goes_on_to rest) (after_action act x))
 action_stays act rest (action.SetNumber n e) = record { ended = refl; given = refl; locks = refl }
 action_stays act rest (action.ClearContext c) = record { ended = refl; given = refl; locks = refl }
-action_stays act rest (action.ClearOperation o) = record { ended = refl; given = get_or-set_other act.operations (operation_place (Removed o)) (operation_place Data) None None (apart o); locks = refl }
+action_stays act rest (action.ClearOperation o) = record {
+  ended = refl;
+  given = get_or-set_other act.operations (operation_place (Removed o)) (operation_place Data) None None (apart o);
+  locks = refl;
+}
 action_stays act rest (action.ReadValue n c) = tt
 action_stays act rest (action.ReadFile n d) = tt
 action_stays act rest (action.WriteValue c x) = tt

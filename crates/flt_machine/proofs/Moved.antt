@@ -1,5 +1,6 @@
 -- A move: what is decided is made, and the board stands after it with an entry more.
-use Rattle.std.proofs.Common.{◌≡◌, ◌≢◌, ℕ, ◌+◌, ◌==◌, ◌≤◌, true, List, [], ◌∷◌, ◌++◌, Option, Some, None, length, ap, sym, subst, refl, ◌∙◌, inl, inr, arith, append-nil}
+use Rattle.std.proofs.Common.{◌≡◌, ◌≢◌, ℕ, ◌+◌, ◌==◌, ◌≤◌, true, List, [], ◌∷◌, ◌++◌, Option, Some}
+use Rattle.std.proofs.Common.{None, length, ap, sym, subst, refl, ◌∙◌, inl, inr, arith, append-nil}
 use Rattle.std.proofs.Math.ListN.{get_or, get_or-append}
 use Rattle.std.proofs.Math.Seq.{get_or-append_seam}
 use Rattle.std.proofs.lemmas.Bool.{cases_eq, cases_lt, eq-eqb}
@@ -82,8 +83,10 @@ start_counts : (n v : ℕ) (given arg x : Option ℕ) → given ≡ Some v →
     × (loses ((gains_visit n given ++ gains_context n arg) ++ frees_by x) n (Visit v) ≡ 0)
 start_counts n v None arg x is = absurd (cc)
 start_counts n v (Some u) arg x is =
-    let same : v ≡ u = cc in
-    (subst (λ (w : ℕ). gains ((event.Gain n (Visit w) ∷ gains_context n arg) ++ frees_by x) n (Visit v) ≡ 1) same (one_gain n v arg x), one_lose n v u arg x)
+    let same : v ≡ u = cc in (
+      subst (λ (w : ℕ). gains ((event.Gain n (Visit w) ∷ gains_context n arg) ++ frees_by x) n (Visit v) ≡ 1) same (one_gain n v arg x),
+      one_lose n v u arg x,
+    )
 
 -- ---- lists that grow at the end
 
@@ -143,8 +146,10 @@ module _ (p : List Filter) (b : Situation) (m : Moment) (d : Decision) (step : S
       young : (k v : ℕ) → length step.world.activations ≤ k → (gains (m.trace ++ step.events) k (Visit v) ≡ 0) ×
           (loses (m.trace ++ step.events) k (Visit v) ≡ 0)
       young k v past =
-          let before = at.young k v (subst (λ (l : List Activation). length l ≤ k) acts_same past) in
-          (omega (arith, before.0, gains-append m.trace step.events k (Visit v), (quiet k v).0), omega (arith, before.1, loses-append m.trace step.events k (Visit v), (quiet k v).1))
+          let before = at.young k v (subst (λ (l : List Activation). length l ≤ k) acts_same past) in (
+            omega (arith, before.0, gains-append m.trace step.events k (Visit v), (quiet k v).0),
+            omega (arith, before.1, loses-append m.trace step.events k (Visit v), (quiet k v).1),
+          )
 
       on : (k : ℕ) (act : Activation) (s : Option Standing) (f : ℕ) →
           KeptFor (callbacks_at p f) m.trace k act s → KeptFor (callbacks_at p f) (m.trace ++ step.events) k act s

@@ -1,5 +1,6 @@
 -- A planned step of an activation, with what is kept of it then.
-use Rattle.std.proofs.Common.{◌≡◌, ℕ, Bool, true, false, List, [], ◌++◌, Option, Some, None, length, if◌then◌else◌, ap, sym, subst, refl, ◌∙◌, arith}
+use Rattle.std.proofs.Common.{◌≡◌, ℕ, Bool, true, false, List, [], ◌++◌, Option, Some, None}
+use Rattle.std.proofs.Common.{length, if◌then◌else◌, ap, sym, subst, refl, ◌∙◌, arith}
 use Rattle.std.proofs.Math.ListN.{set}
 use Rattle.std.proofs.lemmas.List.{length-set}
 use Rattle.std.specs.Prelude.{slice_get}
@@ -15,7 +16,8 @@ use Rattle.flt_model.specs.Program.{callbacks_at, body_of}
 use Rattle.flt_model.specs.Runs.{Moment}
 use Rattle.flt_model.specs.Settling as settling
 use Rattle.flt_model.specs.Trace.{gains, loses}
-use Rattle.flt_model.specs.World.{Store, Activation, Detached, Detaching, activation_at, actor_at, context_at, is_freed, route_at, visit_at, with_context, with_route}
+use Rattle.flt_model.specs.World.{Store, Activation, Detached, Detaching, activation_at, actor_at, context_at}
+use Rattle.flt_model.specs.World.{is_freed, route_at, visit_at, with_context, with_route}
 use Rattle.flt_ops.specs.Parts.{way_of}
 use Rattle.flt_machine_store.specs.Changes.{after_change}
 use Rattle.flt_machine_store.specs.declared.change.Change.{Change}
@@ -125,7 +127,14 @@ module _ (p : List Filter) (m : Moment) (a : ℕ) (cs : List Callback) (s : Stan
   last = written plan.write (onward m.world a
       (if plan.granted then remaining_by (activation_at m.world a).rest true else remaining_by (activation_at m.world a).rest false))
 
-  world_is : step.world ≡ record m.world { activations = set m.world.activations a (written plan.write (onward m.world a (if plan.granted then remaining_by (activation_at m.world a).rest true else remaining_by (activation_at m.world a).rest false))); store = after_change m.world.store plan.change }
+  world_is : step.world
+      ≡ record m.world {
+        activations = set m.world.activations a
+            (written plan.write (onward m.world a
+            (if plan.granted then remaining_by (activation_at m.world a).rest true
+            else remaining_by (activation_at m.world a).rest false)));
+        store = after_change m.world.store plan.change;
+      }
   world_is = planned.world
 
   -- a standing that is written so is kept

@@ -1,12 +1,14 @@
 -- Changes after which no operation, no entry and no filter gets a ticket.
-use Rattle.std.proofs.Common.{◌≡◌, ℕ, zero, suc, ◌+◌, ◌<◌, Bool, true, false, not, ◌&&◌, ◌||◌, List, [], ◌∷◌, ◌++◌, length, drop, take, map, if◌then◌else◌, ap, sym, subst, refl, ◌∙◌, inl, inr, arith}
+use Rattle.std.proofs.Common.{◌≡◌, ℕ, zero, suc, ◌+◌, ◌<◌, Bool, true, false, not, ◌&&◌, ◌||◌, List, [], ◌∷◌, ◌++◌}
+use Rattle.std.proofs.Common.{length, drop, take, map, if◌then◌else◌, ap, sym, subst, refl, ◌∙◌, inl, inr, arith}
 use Rattle.std.proofs.Math.ListN.{set, get_or}
 use Rattle.std.proofs.lemmas.Bool.{cases_eq, cases_lt, eq-eqb}
 use Rattle.std.proofs.lemmas.List.{get_or-set_same, get_or-set_other, get_or_past, length-set}
 use Rattle.std.specs.List.{list_any, before_first, after_first, position_or_len}
 use Rattle.flt_model.specs.declared.subject.Subject.TheVariants as subject
 use Rattle.flt_model.specs.Moves.{is_done, is_entry_of, other_entries}
-use Rattle.flt_model.specs.World.{Store, Entry, Position, Down, Visiting, Up, Route, no_route, is_detaching, presence_at, queue_at, route_at}
+use Rattle.flt_model.specs.World.{Store, Entry, Position, Down, Visiting, Up, Route, no_route}
+use Rattle.flt_model.specs.World.{is_detaching, presence_at, queue_at, route_at}
 use Rattle.flt_machine.specs.Tickets.{newcomer, goes_on, is_left, operations, waits, comes_to_wait, entries_of, teardown_of, by_altitude}
 use Rattle.flt_machine.proofs.Passing.{passing_none, newcomer_none, by_altitude_none}
 

@@ -1,5 +1,6 @@
 -- Changes after which nothing gets a ticket, kind by kind.
-use Rattle.std.proofs.Common.{◌≡◌, ℕ, ◌+◌, Bool, true, false, List, [], ◌∷◌, ◌++◌, Option, Some, None, length, drop, if◌then◌else◌, ap, sym, refl, ◌∙◌, inl, inr}
+use Rattle.std.proofs.Common.{◌≡◌, ℕ, ◌+◌, Bool, true, false, List, [], ◌∷◌, ◌++◌, Option, Some}
+use Rattle.std.proofs.Common.{None, length, drop, if◌then◌else◌, ap, sym, refl, ◌∙◌, inl, inr}
 use Rattle.std.proofs.Math.ListN.{set, get_or, get_or-append}
 use Rattle.std.proofs.lemmas.Bool.{cases_lt}
 use Rattle.std.proofs.lemmas.List.{get_or_past, length-set}
@@ -12,7 +13,8 @@ use Rattle.flt_model.specs.Calls.{put_link}
 use Rattle.flt_model.specs.Effects.{after_unlink}
 use Rattle.flt_model.specs.Moves.{carried_out, is_entry_of, other_entries, without_last, other_frames}
 use Rattle.flt_model.specs.Settling as settling
-use Rattle.flt_model.specs.World.{Store, Arrival, Context, Down, Entry, Presence, Route, Visiting, Detached, context_at, is_detaching, is_freed, no_route, presence_at, queue_at, route_at, visit_at, with_context, with_route}
+use Rattle.flt_model.specs.World.{Store, Arrival, Context, Down, Entry, Presence, Route, Visiting, Detached, context_at, is_detaching}
+use Rattle.flt_model.specs.World.{is_freed, no_route, presence_at, queue_at, route_at, visit_at, with_context, with_route}
 use Rattle.flt_ops.specs.declared.parts.Way.{Way}
 use Rattle.flt_ops.specs.Parts.{way_of}
 use Rattle.flt_machine_store.specs.Changes.{after_change}
@@ -20,7 +22,8 @@ use Rattle.flt_machine_store.specs.declared.change.Change.{Change}
 use Rattle.flt_machine_store.specs.declared.change.Change.TheVariants as change
 use Rattle.flt_machine.specs.Tickets.{newcomer, goes_on, operations, entries_of, teardown_of, by_altitude}
 use Rattle.flt_machine.proofs.Passing.{newcomer_none}
-use Rattle.flt_machine.proofs.Quiet.{at_set, stays, into_visit, no_operation, same_operations, same_entries, no_teardown, any_rest, any_other}
+use Rattle.flt_machine.proofs.Quiet.{at_set, stays, into_visit, no_operation, same_operations}
+use Rattle.flt_machine.proofs.Quiet.{same_entries, no_teardown, any_rest, any_other}
 
 -- ---- parts of a store that are the same
 

@@ -1,5 +1,6 @@
 -- Locks that differ are eight at most, and what a standing counts goes on little by little.
-use Rattle.std.proofs.Common.{◌≡◌, ℕ, ◌+◌, ◌*◌, Some, None, ◌<◌, ◌≤◌, ◌^◌, ◌==◌, Bool, true, false, not, ◌&&◌, ◌||◌, List, [], ◌∷◌, ◌++◌, length, map, if◌then◌else◌, ap, sym, subst, refl, ◌∙◌, inl, inr, arith}
+use Rattle.std.proofs.Common.{◌≡◌, ℕ, ◌+◌, ◌*◌, Some, None, ◌<◌, ◌≤◌, ◌^◌, ◌==◌, Bool, true, false, not, ◌&&◌, ◌||◌, List}
+use Rattle.std.proofs.Common.{[], ◌∷◌, ◌++◌, length, map, if◌then◌else◌, ap, sym, subst, refl, ◌∙◌, inl, inr, arith}
 use Rattle.std.proofs.Math.Dec.{eqb}
 use Rattle.std.proofs.lemmas.Bool.{cases_eq, eq-eqb, ne_eqb}
 use Rattle.std.proofs.lemmas.List.{length-append, length-map}
@@ -82,8 +83,10 @@ module _ (l : LockNumber) (access : Access) where
   -- one lock more that isn't held
   pub taken : (locks : List HeldLock) → AreDistinct locks → holds_lock l locks ≡ false → AreDistinct (locks ++ held l access ∷ [])
   taken [] distinct free = (tt, tt)
-  taken (h ∷ locks) (one, others) free =
-      (pushed_apart (place_of h.lock) locks (turned h (first (same_lock l h.lock) (holds_lock l locks) free)) one, taken locks others (second (same_lock l h.lock) (holds_lock l locks) free))
+  taken (h ∷ locks) (one, others) free = (
+    pushed_apart (place_of h.lock) locks (turned h (first (same_lock l h.lock) (holds_lock l locks) free)) one,
+    taken locks others (second (same_lock l h.lock) (holds_lock l locks) free),
+  )
 
   -- a lock that isn't held has its place
   pub has_place : (locks : List HeldLock) → AreDistinct locks → holds_lock l locks ≡ false → length locks < 8

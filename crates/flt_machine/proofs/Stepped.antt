@@ -1,5 +1,6 @@
 -- A board after a step of an activation that others see, and its journal with an entry more.
-use Rattle.std.proofs.Common.{◌≡◌, ◌≢◌, ℕ, ◌+◌, ◌<◌, ◌≤◌, ◌==◌, Bool, false, List, [], ◌∷◌, ◌++◌, Option, Some, None, length, option_map, option_and_then, ap, sym, subst, refl, ◌∙◌, inl, inr, arith, add-one, append-nil, append_assoc}
+use Rattle.std.proofs.Common.{◌≡◌, ◌≢◌, ℕ, ◌+◌, ◌<◌, ◌≤◌, ◌==◌, Bool, false, List, [], ◌∷◌, ◌++◌, Option, Some, None, length, option_map}
+use Rattle.std.proofs.Common.{option_and_then, ap, sym, subst, refl, ◌∙◌, inl, inr, arith, add-one, append-nil, append_assoc}
 use Rattle.std.proofs.Math.ListN.{set, get_or}
 use Rattle.std.proofs.lemmas.Bool.{cases_eq, ne_eqb}
 use Rattle.std.proofs.lemmas.List.{get_or-set_same, get_or-set_other, length-set}

@@ -1,6 +1,7 @@
 //! Moves.
 
-ghost use Rattle.std.specs.Prelude.{◌≡◌, ◌≢◌, ◌↔◌, ◌<◌, ◌≤◌, ◌+◌, ◌++◌, ◌∷◌, [], false, List, length, Some, Err, is_some, IsTrue, IfOk, IfSome, OnOk, OnErr};
+ghost use Rattle.std.specs.Prelude.{◌≡◌, ◌≢◌, ◌↔◌, ◌<◌, ◌≤◌, ◌+◌, ◌++◌, ◌∷◌, [], false, List, length};
+ghost use Rattle.std.specs.Prelude.{Some, Err, is_some, IsTrue, IfOk, IfSome, OnOk, OnErr};
 ghost use Rattle.flt_machine_dispatch.specs.Decisions.{IsActive, actors_by, frees_by, gains_by, is_cancelling};
 ghost use Rattle.flt_machine_dispatch.specs.Turns as turns;
 ghost use Rattle.flt_machine_frames.specs.Loading.{AreLoaded};

@@ -1,6 +1,7 @@
 //! Steps of activations.
 
-ghost use Rattle.std.specs.Prelude.{◌≡◌, ◌≢◌, ◌↔◌, ◌||◌, not, ◌<◌, ◌≤◌, ◌+◌, ◌++◌, ◌∷◌, [], ℕ, true, false, List, length, set, get_or, IsSome, IsTrue, is_some, if◌then◌else◌, Some, None, OnOk, OnErr, IfOk, IfSome};
+ghost use Rattle.std.specs.Prelude.{◌≡◌, ◌≢◌, ◌↔◌, ◌||◌, not, ◌<◌, ◌≤◌, ◌+◌, ◌++◌, ◌∷◌, [], ℕ, true, false, List, length, set};
+ghost use Rattle.std.specs.Prelude.{get_or, IsSome, IsTrue, is_some, if◌then◌else◌, Some, None, OnOk, OnErr, IfOk, IfSome};
 ghost use Rattle.flt_machine_calls.specs.Continuing.{leads_on};
 ghost use Rattle.flt_machine_calls.specs.Own.{AreOf};
 ghost use Rattle.flt_machine_calls.specs.Plans.{TakesNone, is_end};

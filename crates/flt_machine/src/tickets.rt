@@ -1,7 +1,8 @@
 //! The subjects that get a ticket by a step, since the next move may be about them. They are found before the step's change is made, by
 //! reading alone.
 
-ghost use Rattle.std.specs.Prelude.{◌≡◌, ◌≢◌, ℕ, ◌+◌, ◌≤◌, ◌&&◌, ◌++◌, true, false, not, nat_lt, length, map, get_or, Option, OnOk, OnErr, IfOk};
+ghost use Rattle.std.specs.Prelude.{◌≡◌, ◌≢◌, ℕ, ◌+◌, ◌≤◌, ◌&&◌, ◌++◌, true, false, not, nat_lt};
+ghost use Rattle.std.specs.Prelude.{length, map, get_or, Option, OnOk, OnErr, IfOk};
 ghost use Rattle.std.specs.List.{list_any};
 ghost use Rattle.flt_machine.specs.Tickets as spec;
 ghost use Rattle.flt_model.specs.Moves.{is_entry_of, is_up};

@@ -1,5 +1,6 @@
 -- Plans of calls that complete an operation.
-use Rattle.std.proofs.Common.{◌≡◌, ◌≤◌, ℕ, Bool, true, false, if◌then◌else◌, List, [], ◌∷◌, length, Option, Some, None, option_map, arith, ap, sym, subst, refl, ◌∙◌}
+use Rattle.std.proofs.Common.{◌≡◌, ◌≤◌, ℕ, Bool, true, false, if◌then◌else◌, List, [], ◌∷◌, length}
+use Rattle.std.proofs.Common.{Option, Some, None, option_map, arith, ap, sym, subst, refl, ◌∙◌}
 use Rattle.flt_rules.specs.declared.call.Call.TheVariants as call
 use Rattle.flt_rules.specs.declared.call.Possessed.{Possessed}
 use Rattle.flt_tree.specs.Filter.{context_of}

@@ -1,5 +1,6 @@
 -- A step of a call, a read or a test leaves its activation going on, and adds no lock that the activation holds already.
-use Rattle.std.proofs.Common.{◌≡◌, ◌<◌, ℕ, ◌+◌, Bool, true, false, if◌then◌else◌, List, [], ◌∷◌, ◌++◌, length, Option, Some, None, get_or, set, is_some, arith, ap, subst, sym, refl, ◌∙◌}
+use Rattle.std.proofs.Common.{◌≡◌, ◌<◌, ℕ, ◌+◌, Bool, true, false, if◌then◌else◌, List, [], ◌∷◌, ◌++◌, length}
+use Rattle.std.proofs.Common.{Option, Some, None, get_or, set, is_some, arith, ap, subst, sym, refl, ◌∙◌}
 use Rattle.std.proofs.lemmas.Bool.{false≢true}
 use Rattle.std.proofs.lemmas.List.{get_or-replicate, get_or-set_same, length-replicate}
 use Rattle.flt_rules.specs.Held.{held, holds_lock, without_last}
@@ -30,7 +31,8 @@ use Rattle.flt_model.specs.Locks.{with_holder, without_holder}
 use Rattle.flt_model.specs.Reads as reads
 use Rattle.flt_model.specs.Steps.{plain_step}
 use Rattle.flt_model.specs.Variables.{context_in, operation_in, named_in, with_number, with_old, with_context_in, with_operation_in}
-use Rattle.flt_model.specs.World.{World, Store, Activation, Entry, Link, nobody, actor_at, activation_at, context_at, linked_at, is_attached, presence_at, queue_at, arrival_of}
+use Rattle.flt_model.specs.World.{World, Store, Activation, Entry, Link, nobody, actor_at, activation_at}
+use Rattle.flt_model.specs.World.{context_at, linked_at, is_attached, presence_at, queue_at, arrival_of}
 use Rattle.flt_model.specs.declared.event.Answer.{Answer}
 use Rattle.flt_model.specs.declared.event.Answer.TheVariants.{CompletesPre, CompletesPost}
 use Rattle.flt_model.specs.declared.event.Event.{Event}
@@ -232,7 +234,13 @@ module _ (w : World) (a : ℕ) (lives : (activation_at w a).ended ≡ false) whe
       Lasts w a (calls.removed w a o d granted refused queue)
   removed o d granted refused [] = record
       { act = with_context_in (with_operation_in (onward w a refused) (Removed o) None) d None; is = refl; lives = lives; fresh = kept }
-  removed o d granted refused (e ∷ queue) = record { act = with_context_in (with_operation_in (onward w a granted) (Removed o) (Some e.visit)) d e.context; is = refl; lives = lives; fresh = kept }
+  removed o d granted refused (e ∷ queue) =
+      record {
+        act = with_context_in (with_operation_in (onward w a granted) (Removed o) (Some e.visit)) d e.context;
+        is = refl;
+        lives = lives;
+        fresh = kept;
+      }
 
   deferred : (routine : ℕ) (grant : Bool) (granted refused : List Statement) (v : ℕ) (x : Option ℕ) →
       Lasts w a (if grant then calls.deferred w a routine granted v x else unchanged w a refused)

@@ -1,5 +1,6 @@
 -- The events of a step are its activation's own, and few.
-use Rattle.std.proofs.Common.{refl, ◌==◌, is_some, ◌≡◌, ◌≤◌, ℕ, ◌+◌, Bool, true, false, if◌then◌else◌, List, [], ◌∷◌, ◌++◌, length, Option, Some, None, arith}
+use Rattle.std.proofs.Common.{refl, ◌==◌, is_some, ◌≡◌, ◌≤◌, ℕ, ◌+◌, Bool, true, false, if◌then◌else◌}
+use Rattle.std.proofs.Common.{List, [], ◌∷◌, ◌++◌, length, Option, Some, None, arith}
 use Rattle.std.proofs.lemmas.List.{length-append}
 use Rattle.flt_rules.specs.declared.call.Anchor.{Anchor}
 use Rattle.flt_rules.specs.declared.call.Anchor.TheVariants as anchor
@@ -8,8 +9,10 @@ use Rattle.flt_rules.specs.declared.call.Existing.{Existing}
 use Rattle.flt_rules.specs.declared.call.Existing.TheVariants.{Keep, Replace}
 use Rattle.flt_tree.specs.declared.filter.Statement.{Statement}
 use Rattle.flt_tree.specs.declared.variable.ContextVariable.{ContextVariable}
-use Rattle.flt_model.specs.Calls.{needs_of, allocated, cannot_set, got, get_by, kept, set_there, set_by, unlinked, delete_by, deleted, referenced, released}
-use Rattle.flt_model.specs.Effects.{Step, context, after_unlink, onward, goes_on, unchanged, gives_nothing, uses, empties, calling, needing, freed_by_drop, events_of_unlink, gains_context, loses_context}
+use Rattle.flt_model.specs.Calls.{needs_of, allocated, cannot_set, got, get_by, kept, set_there}
+use Rattle.flt_model.specs.Calls.{set_by, unlinked, delete_by, deleted, referenced, released}
+use Rattle.flt_model.specs.Effects.{Step, context, after_unlink, onward, goes_on, unchanged, gives_nothing, uses, empties}
+use Rattle.flt_model.specs.Effects.{calling, needing, freed_by_drop, events_of_unlink, gains_context, loses_context}
 use Rattle.flt_model.specs.Reads.{read_value_of, write_value_of, read_file_of, test_irp_of}
 use Rattle.flt_tree.specs.declared.variable.Atom.{Atom}
 use Rattle.flt_tree.specs.declared.variable.NumberVariable.{NumberVariable}

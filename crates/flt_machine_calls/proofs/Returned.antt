@@ -1,5 +1,6 @@
 -- The plan of a `return` that answers for its operation.
-use Rattle.std.proofs.Common.{◌≡◌, ◌||◌, ℕ, Bool, true, false, if◌then◌else◌, List, [], ◌∷◌, ◌++◌, Option, Some, None, is_some, nat_lt, arith, ap, sym, subst, refl, ◌∙◌}
+use Rattle.std.proofs.Common.{◌≡◌, ◌||◌, ℕ, Bool, true, false, if◌then◌else◌, List, [], ◌∷◌, ◌++◌}
+use Rattle.std.proofs.Common.{Option, Some, None, is_some, nat_lt, arith, ap, sym, subst, refl, ◌∙◌}
 use Rattle.flt_rules.specs.Place.{answers}
 use Rattle.flt_tree.specs.Filter.{named_context}
 use Rattle.flt_tree.specs.declared.filter.Filter.{Filter}

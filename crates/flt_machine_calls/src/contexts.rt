@@ -1,7 +1,8 @@
 //! Calls on contexts, and the effect of each if it is used wrongly: a variable that is NULL where an object is needed leaves all as it is,
 //! and a call that can fail then fails.
 
-ghost use Rattle.std.specs.Prelude.{◌≡◌, ◌≢◌, ◌∷◌, ◌++◌, ◌||◌, ℕ, true, false, if◌then◌else◌, is_some, length, Some, List, IfOk, OnOk, get_or, option_map, OnErr};
+ghost use Rattle.std.specs.Prelude.{◌≡◌, ◌≢◌, ◌∷◌, ◌++◌, ◌||◌, ℕ, true, false, if◌then◌else◌, is_some};
+ghost use Rattle.std.specs.Prelude.{length, Some, List, IfOk, OnOk, get_or, option_map, OnErr};
 ghost use Rattle.flt_model.specs.Calls as calls;
 ghost use Rattle.flt_model.specs.Effects as effects;
 ghost use Rattle.flt_model.specs.World as machine;

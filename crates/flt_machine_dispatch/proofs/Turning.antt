@@ -1,5 +1,6 @@
 -- Which move comes next in a teardown, where no frame or nothing at all is left.
-use Rattle.std.proofs.Common.{◌≡◌, ℕ, ◌==◌, Bool, true, false, ◌&&◌, ◌||◌, if◌then◌else◌, List, [], ◌∷◌, get_or, find, is_some, Option, Some, None, refl, sym, ap, arith}
+use Rattle.std.proofs.Common.{◌≡◌, ℕ, ◌==◌, Bool, true, false, ◌&&◌, ◌||◌, if◌then◌else◌, List, []}
+use Rattle.std.proofs.Common.{◌∷◌, get_or, find, is_some, Option, Some, None, refl, sym, ap, arith}
 use Rattle.std.specs.Prelude.{position}
 use Rattle.std.specs.List.{list_any}
 use Rattle.std.proofs.lemmas.Bool.Decides.{nat_tests}
@@ -10,7 +11,8 @@ use Rattle.flt_model.specs.declared.moves.Key.{Key}
 use Rattle.flt_model.specs.declared.moves.Move.TheVariants.{Drain, Detached}
 use Rattle.flt_model.specs.Moves.{drain_by, has_frame, is_drained, is_frame_of, is_linked_by}
 use Rattle.flt_model.specs.Program.{filter_of}
-use Rattle.flt_model.specs.World.{Context, Frame, Link, Store, World, is_detaching, is_linked_to, linked_at, presence_at, queue_at, no_context, no_route, route_at}
+use Rattle.flt_model.specs.World.{Context, Frame, Link, Store, World, is_detaching, is_linked_to}
+use Rattle.flt_model.specs.World.{linked_at, presence_at, queue_at, no_context, no_route, route_at}
 use Rattle.flt_machine_dispatch.specs.Turns.{ComesNextOf, is_enabled}
 
 -- ---- lists

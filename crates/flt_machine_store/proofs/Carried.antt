@@ -1,5 +1,6 @@
 -- Changes of contexts and queues are carried over to the machine's own store.
-use Rattle.std.proofs.Common.{◌≡◌, ℕ, ◌+◌, ◌-◌, Bool, true, false, ◌==◌, ◌||◌, not, if◌then◌else◌, List, [], ◌∷◌, ◌++◌, Option, Some, None, is_some, map, option_map, set, drop, find, ap, sym, subst, refl, ◌∙◌, eq-eqb, eqb-true}
+use Rattle.std.proofs.Common.{◌≡◌, ℕ, ◌+◌, ◌-◌, Bool, true, false, ◌==◌, ◌||◌, not, if◌then◌else◌, List, [], ◌∷◌, ◌++◌, Option}
+use Rattle.std.proofs.Common.{Some, None, is_some, map, option_map, set, drop, find, ap, sym, subst, refl, ◌∙◌, eq-eqb, eqb-true}
 use Rattle.std.proofs.Math.ListN.{get_or, get_or-map}
 use Rattle.std.proofs.lemmas.Bool.{true≢false}
 use Rattle.std.proofs.lemmas.List.{map-set, map-append}
@@ -12,7 +13,8 @@ use Rattle.flt_model.specs.Calls.{put_link}
 use Rattle.flt_model.specs.Effects.{after_unlink}
 use Rattle.flt_model.specs.Moves.{is_entry_of, other_entries}
 use Rattle.flt_model.specs.Reads.{put_value}
-use Rattle.flt_model.specs.World.{Store, Context, Entry, Presence, Detached, no_context, context_at, visit_at, is_attached, is_freed, with_context, with_queue, queue_at, add_reference, drop_reference, with_link}
+use Rattle.flt_model.specs.World.{Store, Context, Entry, Presence, Detached, no_context, context_at, visit_at, is_attached}
+use Rattle.flt_model.specs.World.{is_freed, with_context, with_queue, queue_at, add_reference, drop_reference, with_link}
 use Rattle.flt_machine_store.proofs.Reading.{queue_there}
 use Rattle.flt_machine_store.specs.Changes.{after_change, IsFirstOf}
 use Rattle.flt_machine_store.specs.Parts.{key_of, link_of, context_of, entry_of}

@@ -1,12 +1,14 @@
 -- What calls and moves change of what activations share, each in the machine's own words, and when it can be made.
-use Rattle.std.specs.Prelude.{◌≡◌, ℕ, ◌-◌, ◌<◌, ◌^◌, Bool, true, false, ◌||◌, [], ◌∷◌, ◌++◌, drop, find, is_some, length, set, Option, Some, None}
+use Rattle.std.specs.Prelude.{◌≡◌, ℕ, ◌-◌, ◌<◌, ◌^◌, Bool, true, false, ◌||◌, [], ◌∷◌, ◌++◌}
+use Rattle.std.specs.Prelude.{drop, find, is_some, length, set, Option, Some, None}
 use Rattle.flt_model.specs.Calls.{put_link}
 use Rattle.flt_model.specs.Effects.{after_unlink}
 use Rattle.flt_model.specs.Locks.{with_holder, without_holder}
 use Rattle.flt_model.specs.Moves.{is_done, is_entry_of, is_frame_of, other_entries, with_arrival}
 use Rattle.flt_model.specs.Reads.{put_value}
 use Rattle.flt_model.specs.Settling.{settled_by}
-use Rattle.flt_model.specs.World.{Store, Detached, Detaching, Entry, is_attached, presence_at, queue_at, with_presence, with_queue, add_reference, drop_reference, context_at, is_freed, linked_at, route_at}
+use Rattle.flt_model.specs.World.{Store, Detached, Detaching, Entry, is_attached, presence_at, queue_at, with_presence}
+use Rattle.flt_model.specs.World.{with_queue, add_reference, drop_reference, context_at, is_freed, linked_at, route_at}
 use Rattle.flt_model.specs.declared.moves.Key.{Key}
 use Rattle.flt_ops.specs.Operating as operating
 use Rattle.flt_ops.specs.Parts.{way_of}

@@ -1,6 +1,8 @@
 //! The store, and reads of it.
 
-ghost use Rattle.std.specs.Prelude.{◌≡◌, ◌≢◌, ℕ, ◌<◌, ◌≤◌, ◌&&◌, ◌||◌, ◌==◌, not, set, true, false, [], ◌∷◌, drop, find, position, is_some, length, get_or, option_map, replicate, Some, None, OnOk, OnErr, IfOk, IfSome, IfNone, MatchOption, if◌then◌else◌};
+ghost use Rattle.std.specs.Prelude.{◌≡◌, ◌≢◌, ℕ, ◌<◌, ◌≤◌, ◌&&◌, ◌||◌, ◌==◌, not, set, true, false, [], ◌∷◌};
+ghost use Rattle.std.specs.Prelude.{drop, find, position, is_some, length, get_or, option_map, replicate, Some};
+ghost use Rattle.std.specs.Prelude.{None, OnOk, OnErr, IfOk, IfSome, IfNone, MatchOption, if◌then◌else◌};
 ghost use Rattle.std.specs.List.{list_any};
 ghost use Rattle.flt_model.specs.Locks as locks;
 ghost use Rattle.flt_model.specs.Moves as moves;

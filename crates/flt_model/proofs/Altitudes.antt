@@ -1,5 +1,7 @@
 -- Equal altitudes among filters: which is the first that an earlier one has, and where a filter goes.
-use Rattle.std.proofs.Common.{◌≡◌, ◌≢◌, ◌==◌, ℕ, zero, suc, ◌+◌, ◌<◌, ◌≤◌, Bool, true, false, ◌||◌, List, [], ◌∷◌, ◌++◌, Some, if◌then◌else◌, insert, nat_lt, not, one-add, length, get_or, take, drop, map, refl, sym, ap, ◌∙◌, arith, eqb-true, eq-eqb, slice_get}
+use Rattle.std.proofs.Common.{◌≡◌, ◌≢◌, ◌==◌, ℕ, zero, suc, ◌+◌, ◌<◌, ◌≤◌, Bool, true, false, ◌||◌, List, []}
+use Rattle.std.proofs.Common.{◌∷◌, ◌++◌, Some, if◌then◌else◌, insert, nat_lt, not, one-add, length, get_or}
+use Rattle.std.proofs.Common.{take, drop, map, refl, sym, ap, ◌∙◌, arith, eqb-true, eq-eqb, slice_get}
 use Rattle.std.proofs.lemmas.List.{take-append-drop, drop_more, map-append, map_more, length-take-le, length-map, take_all}
 use Rattle.std.proofs.lemmas.List.Quantifiers.{all_pairs_push}
 use Rattle.std.specs.List.{list_any}

@@ -1,5 +1,6 @@
 -- The verdict about a journal, and the run that its transitions are.
-use Rattle.std.proofs.Common.{◌≡◌, ℕ, zero, suc, ◌+◌, Bool, true, false, List, [], ◌∷◌, ◌++◌, Option, Some, None, ap, arith, sym, subst, refl, ◌∙◌, append_assoc, append-nil}
+use Rattle.std.proofs.Common.{◌≡◌, ℕ, zero, suc, ◌+◌, Bool, true, false, List, [], ◌∷◌, ◌++◌, Option}
+use Rattle.std.proofs.Common.{Some, None, ap, arith, sym, subst, refl, ◌∙◌, append_assoc, append-nil}
 use Rattle.std.proofs.lemmas.Bool.{and_parts}
 use Rattle.std.specs.List.{list_all}
 use Rattle.std.specs.Prelude.{not, cond, replicate, take, drop, find, option_map, option_and_then, ◌↔◌}
@@ -13,7 +14,8 @@ use Rattle.flt_model.specs.declared.verdict.Verdict.TheVariants.{Legal, NotARun,
 use Rattle.flt_model.specs.declared.verdict.Violation.{Violation}
 use Rattle.flt_model.specs.declared.verdict.Violation.TheVariants.{V1, V2, V3, V4, V5, V6, V7, V8}
 use Rattle.flt_model.specs.Effects.{Step}
-use Rattle.flt_model.specs.Expansion.{expansion, expand, IsCleanRun, IsStoppedAt, IsBrokenAt, Course, Reaches, Stops, Fails, unless_broken, course_by, course, entry_course, judged, verdict_from, verdict}
+use Rattle.flt_model.specs.Expansion.{expansion, expand, IsCleanRun, IsStoppedAt, IsBrokenAt, Course, Reaches, Stops, Fails}
+use Rattle.flt_model.specs.Expansion.{unless_broken, course_by, course, entry_course, judged, verdict_from, verdict}
 use Rattle.flt_model.specs.Locks.{locks_exclude}
 use Rattle.flt_model.specs.Program.{by_altitude}
 use Rattle.flt_model.specs.Runs.{Moment, start, after, next, run_from, keeps, broken, Break, on_step, first_or, breaks_from}

@@ -1,12 +1,15 @@
 -- Journals: what is read is spelled so, and a fault stands at the first malformed byte.
-use Rattle.std.proofs.Common.{◌≡◌, ◌≤◌, ◌+◌, ℕ, zero, suc, [], ◌∷◌, ◌++◌, length, drop, refl, sym, ap, subst, arith, ◌∙◌, append_assoc, append-nil, length-append, inl, inr}
+use Rattle.std.proofs.Common.{◌≡◌, ◌≤◌, ◌+◌, ℕ, zero, suc, [], ◌∷◌, ◌++◌, length, drop, refl, sym, ap}
+use Rattle.std.proofs.Common.{subst, arith, ◌∙◌, append_assoc, append-nil, length-append, inl, inr}
 use Rattle.std.specs.Prelude.{◌⊎◌, Option, Some, None, Result, Ok, Err, IfOk, OnOk, MatchResult, codes}
 use Rattle.std.specs.List.{flat_map, AllByRecursion}
 use Rattle.std.proofs.Math.Seq.{drop-append_seam}
 use Rattle.std.proofs.lemmas.Bool.{eq-eqb}
 use Rattle.flt_model.specs.Streams.{Text}
-use Rattle.flt_model.specs.JournalText.{Entries, IsEntry, IsJournal, most_entries, entry_line, first_line, last_line, spelling, line_ends, IsFirstFault}
-use Rattle.flt_model.specs.JournalTextReading.{Reading, Fault, Outcome, exactly, line, at_line, closed, behind, entries_from, journal, ReadsAll, IsHindrance, IsFaultOf}
+use Rattle.flt_model.specs.JournalText.{Entries, IsEntry, IsJournal, most_entries, entry_line, first_line}
+use Rattle.flt_model.specs.JournalText.{last_line, spelling, line_ends, IsFirstFault}
+use Rattle.flt_model.specs.JournalTextReading.{Reading, Fault, Outcome, exactly, line, at_line, closed, behind}
+use Rattle.flt_model.specs.JournalTextReading.{entries_from, journal, ReadsAll, IsHindrance, IsFaultOf}
 use Rattle.flt_model.specs.declared.fault.JournalFault.{JournalFault}
 use Rattle.flt_model.specs.declared.fault.JournalFault.TheVariants as faults
 use Rattle.flt_model.specs.declared.moves.JournalEntry.{JournalEntry}

@@ -6,8 +6,11 @@ use Rattle.flt_rules.specs.declared.place.Operation.TheVariants.{Create, Read, W
 use Rattle.flt_rules.specs.declared.place.Mode.{Mode}
 use Rattle.flt_rules.specs.declared.place.Mode.TheVariants.{Irp, Fast}
 use Rattle.flt_model.specs.Streams.{Text}
-use Rattle.flt_model.specs.JournalText.{IsKey, IsMove, IsEntry, number_text, operation_text, mode_text, key_text, grant_text, move_line, entry_line, last_line}
-use Rattle.flt_model.specs.JournalTextReading.{Parser, ◌>>=◌, ◌>>◌, pure, wrong, byte, exactly, number, line, operation, mode, key, grant, numbered, twice_numbered, arrive, pre_or_post, cancel_or_canceled, detach_or_detached, detach_or_drain, unlink, go, move_by}
+use Rattle.flt_model.specs.JournalText.{IsKey, IsMove, IsEntry, number_text, operation_text, mode_text}
+use Rattle.flt_model.specs.JournalText.{key_text, grant_text, move_line, entry_line, last_line}
+use Rattle.flt_model.specs.JournalTextReading.{Parser, ◌>>=◌, ◌>>◌, pure, wrong, byte, exactly, number, line, operation}
+use Rattle.flt_model.specs.JournalTextReading.{mode, key, grant, numbered, twice_numbered, arrive, pre_or_post, cancel_or_canceled}
+use Rattle.flt_model.specs.JournalTextReading.{detach_or_detached, detach_or_drain, unlink, go, move_by}
 use Rattle.flt_model.specs.declared.moves.JournalEntry.{JournalEntry}
 use Rattle.flt_model.specs.declared.moves.JournalEntry.TheVariants as entries
 use Rattle.flt_model.specs.declared.moves.Key.{Key}

@@ -1,6 +1,7 @@
 -- No lock is held exclusively beside another activation: not at the opening, and not after a step from where it was so.
 -- A step that takes a lock goes only where its holders let it; one that gives a lock up leaves fewer; no other changes holders.
-use Rattle.std.proofs.Common.{◌≡◌, ℕ, zero, suc, Bool, true, false, List, [], ◌∷◌, ◌++◌, length, Option, Some, None, ap, sym, subst, refl, ◌∙◌}
+use Rattle.std.proofs.Common.{◌≡◌, ℕ, zero, suc, Bool, true, false, List, [], ◌∷◌, ◌++◌}
+use Rattle.std.proofs.Common.{length, Option, Some, None, ap, sym, subst, refl, ◌∙◌}
 use Rattle.std.proofs.Math.ListN.{set, get_or}
 use Rattle.std.proofs.lemmas.Bool.{and_from, and_parts, eq-eqb, eqb-true}
 use Rattle.std.proofs.lemmas.List.Folds.{list_all-append}
@@ -42,19 +43,26 @@ use Rattle.flt_tree.specs.declared.variable.RemovedVariable.{RemovedVariable}
 use Rattle.flt_model.specs.declared.event.Answer.TheVariants.{Returned, CompletesPre, CompletesPost}
 use Rattle.flt_model.specs.declared.event.Event.{Event}
 use Rattle.flt_model.specs.declared.moves.Move.{Move}
-use Rattle.flt_model.specs.declared.moves.Move.TheVariants.{Arrive, Pre, Skip, Lower, Post, Cancel, Canceled, Work, Detach, Drain, Unlink, Detached}
-use Rattle.flt_model.specs.Calls.{link_of, allocate, got, get_by, kept, set_there, cannot_set, set_by, unlinked, delete_by, deleted, delete, referenced, reference, released, release, taken, given_up, enqueued, insert_by, removed, defer_by, queue_by, complete_by, complete_pre, complete_post_by, complete_post}
+use Rattle.flt_model.specs.declared.moves.Move.TheVariants.{Arrive, Pre, Skip, Lower, Post, Cancel, Canceled}
+use Rattle.flt_model.specs.declared.moves.Move.TheVariants.{Work, Detach, Drain, Unlink, Detached}
+use Rattle.flt_model.specs.Calls.{link_of, allocate, got, get_by, kept, set_there, cannot_set, set_by, unlinked, delete_by, deleted}
+use Rattle.flt_model.specs.Calls.{delete, referenced, reference, released, release, taken, given_up, enqueued, insert_by, removed}
+use Rattle.flt_model.specs.Calls.{defer_by, queue_by, complete_by, complete_pre, complete_post_by, complete_post}
 use Rattle.flt_model.specs.Effects.{Step, after_unlink}
 use Rattle.flt_model.specs.LocalSteps.{local_step}
 use Rattle.flt_model.specs.Locks.{holders_of, with_holders, may_join, is_free_for, exclude, locks_exclude}
-use Rattle.flt_model.specs.Moves.{calls_pre, pre_at, skip_at, lower_at, last_frame, post_by, post_at, fits_mode, is_done, is_entry_of, canceled_by, work_by, is_frame_of, drain_by, unlink_by, is_drained, make}
+use Rattle.flt_model.specs.Moves.{calls_pre, pre_at, skip_at, lower_at, last_frame, post_by, post_at, fits_mode, is_done}
+use Rattle.flt_model.specs.Moves.{is_entry_of, canceled_by, work_by, is_frame_of, drain_by, unlink_by, is_drained, make}
 use Rattle.flt_model.specs.Program.{callbacks_at, filter_of, routine_of}
 use Rattle.flt_model.specs.Reads.{read_value, write_value, read_file, test_irp, read_value_of, write_value_of, read_file_of, test_irp_of}
 use Rattle.flt_model.specs.Returns.{returned, returns}
 use Rattle.flt_model.specs.Settling.{Way, way_of, settles_visit, is_led, settled_by}
-use Rattle.flt_model.specs.Steps.{Transition, Make, Local, Board, may_take, may_go, act_step, plain_step, fallible_step, test_step, if_step, statement_step, list_step, board, moved_on, local, step}
+use Rattle.flt_model.specs.Steps.{Transition, Make, Local, Board, may_take, may_go, act_step, plain_step, fallible_step}
+use Rattle.flt_model.specs.Steps.{test_step, if_step, statement_step, list_step, board, moved_on, local, step}
 use Rattle.flt_model.specs.Variables.{context_in, operation_in, named_in}
-use Rattle.flt_model.specs.World.{World, Store, Activation, Entry, Frame, Holder, Item, Link, Position, Down, Visiting, Up, Route, opening, activation_at, actor_at, arrival_at, context_at, holders_at, is_attached, is_detaching, is_freed, item_at, linked_at, presence_at, queue_at, route_at}
+use Rattle.flt_model.specs.World.{World, Store, Activation, Entry, Frame, Holder, Item, Link, Position, Down, Visiting}
+use Rattle.flt_model.specs.World.{Up, Route, opening, activation_at, actor_at, arrival_at, context_at, holders_at, is_attached}
+use Rattle.flt_model.specs.World.{is_detaching, is_freed, item_at, linked_at, presence_at, queue_at, route_at}
 
 -- ---- lists of which all elements pass a test
 

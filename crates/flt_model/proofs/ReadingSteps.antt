@@ -1,5 +1,6 @@
 -- The steps of reading, as loops and recursions make them.
-use Rattle.std.proofs.Common.{◌≡◌, ◌<◌, ◌+◌, ◌-◌, ℕ, zero, suc, true, false, [], ◌∷◌, ◌++◌, length, drop, drop-cons, slice_index_or, refl, sym, ap, arith, ◌∙◌}
+use Rattle.std.proofs.Common.{◌≡◌, ◌<◌, ◌+◌, ◌-◌, ℕ, zero, suc, true, false, [], ◌∷◌, ◌++◌, length}
+use Rattle.std.proofs.Common.{drop, drop-cons, slice_index_or, refl, sym, ap, arith, ◌∙◌}
 use Rattle.std.specs.Prelude.{◌==◌, ◌≤◌, slice_get, Ok, Err, Some, None}
 use Rattle.flt_model.specs.Streams.{Text}
 use Rattle.flt_model.specs.JournalText.{Entries, most_entries}

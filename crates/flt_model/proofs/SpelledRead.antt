@@ -1,12 +1,16 @@
 -- What is spelled so is read.
-use Rattle.std.proofs.Common.{◌≡◌, ◌≤◌, ℕ, zero, suc, Bool, true, false, [], ◌∷◌, ◌++◌, length, refl, sym, ap, arith, ◌∙◌, append_assoc, append-nil}
+use Rattle.std.proofs.Common.{◌≡◌, ◌≤◌, ℕ, zero, suc, Bool, true, false, [], ◌∷◌, ◌++◌, length}
+use Rattle.std.proofs.Common.{refl, sym, ap, arith, ◌∙◌, append_assoc, append-nil}
 use Rattle.std.specs.Prelude.{Option, Some, None, Ok}
 use Rattle.std.specs.List.{flat_map, AllByRecursion}
 use Rattle.flt_rules.specs.declared.place.Operation.TheVariants.{Create, Read, Write, Cleanup}
 use Rattle.flt_rules.specs.declared.place.Mode.TheVariants.{Irp, Fast}
 use Rattle.flt_model.specs.Streams.{Text}
-use Rattle.flt_model.specs.JournalText.{Entries, IsEntry, IsJournal, most_entries, number_text, key_text, grant_text, entry_line, last_line, spelling}
-use Rattle.flt_model.specs.JournalTextReading.{line, operation, mode, key, grant, numbered, twice_numbered, arrive, pre_or_post, cancel_or_canceled, detach_or_detached, detach_or_drain, unlink, go, move_by, entries_from, journal}
+use Rattle.flt_model.specs.JournalText.{Entries, IsEntry, IsJournal, most_entries, number_text}
+use Rattle.flt_model.specs.JournalText.{key_text, grant_text, entry_line, last_line, spelling}
+use Rattle.flt_model.specs.JournalTextReading.{line, operation, mode, key, grant, numbered, twice_numbered, arrive, pre_or_post}
+use Rattle.flt_model.specs.JournalTextReading.{cancel_or_canceled, detach_or_detached, detach_or_drain, unlink, go, move_by, entries_from}
+use Rattle.flt_model.specs.JournalTextReading.{journal}
 use Rattle.flt_model.specs.declared.moves.JournalEntry.{JournalEntry}
 use Rattle.flt_model.specs.declared.moves.JournalEntry.TheVariants as entries
 use Rattle.flt_model.specs.declared.moves.Key.TheVariants.{Stream, Instance}

@@ -29,11 +29,14 @@ use Rattle.flt_model.specs.declared.event.Event.TheVariants as event
 use Rattle.flt_model.specs.declared.event.Object.{Object}
 use Rattle.flt_model.specs.declared.event.Object.TheVariants.{Context, Visit}
 use Rattle.flt_model.specs.declared.moves.Key.TheVariants.{Stream, Instance}
-use Rattle.flt_model.specs.Effects.{Step, context, operation, optional, gains_context, loses_context, freed_by_drop, after_unlink, events_of_unlink, onward, goes_on, unchanged, gives_nothing, calling}
+use Rattle.flt_model.specs.Effects.{Step, context, operation, optional, gains_context, loses_context, freed_by_drop, after_unlink}
+use Rattle.flt_model.specs.Effects.{events_of_unlink, onward, goes_on, unchanged, gives_nothing, calling}
 use Rattle.flt_model.specs.Locks.{with_holder, without_holder}
 use Rattle.flt_model.specs.Settling.{way_of, makes_frame, settled_by}
 use Rattle.flt_model.specs.Variables.{context_in, operation_in, named_in, with_context_in, with_operation_in, with_old}
-use Rattle.flt_model.specs.World.{World, Store, Activation, Entry, Item, Link, is_attached, presence_at, queue_at, context_at, activation_at, actor_at, arrival_of, is_freed, linked_at, with_queue, add_reference, drop_reference, with_link}
+use Rattle.flt_model.specs.World.{World, Store, Activation, Entry, Item, Link, is_attached, presence_at, queue_at, context_at}
+use Rattle.flt_model.specs.World.{activation_at, actor_at, arrival_of, is_freed, linked_at, with_queue, add_reference, drop_reference}
+use Rattle.flt_model.specs.World.{with_link}
 
 -- ---- contexts. Source: "Managing contexts", FltAllocateContext and the pages beside it
 

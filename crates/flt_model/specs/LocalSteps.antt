@@ -1,6 +1,7 @@
 -- The steps of an activation that nobody else can see: arithmetic, tests of its own variables, and the turns of a `repeat`.
 -- They change the activation alone. This project's own rule.
-use Rattle.std.specs.Prelude.{◌≡◌, ℕ, zero, suc, Bool, false, ◌==◌, nat_lt, if◌then◌else◌, List, [], ◌∷◌, ◌++◌, Option, Some, None, is_some, option_map, set}
+use Rattle.std.specs.Prelude.{◌≡◌, ℕ, zero, suc, Bool, false, ◌==◌, nat_lt, if◌then◌else◌, List}
+use Rattle.std.specs.Prelude.{[], ◌∷◌, ◌++◌, Option, Some, None, is_some, option_map, set}
 use Rattle.flt_tree.specs.declared.filter.Action.{Action}
 use Rattle.flt_tree.specs.declared.filter.Action.TheVariants as action
 use Rattle.flt_tree.specs.declared.filter.Condition.{Condition}
@@ -13,7 +14,8 @@ use Rattle.flt_tree.specs.declared.filter.Test.{Test}
 use Rattle.flt_tree.specs.declared.filter.Test.TheVariants as test
 use Rattle.flt_tree.specs.declared.variable.OperationVariable.TheVariants.{Removed}
 use Rattle.flt_model.specs.World.{World, Activation, activation_at}
-use Rattle.flt_model.specs.Variables.{number_in, context_in, operation_in, with_number, with_context_in, with_operation_in, atom_value, expression_value}
+use Rattle.flt_model.specs.Variables.{number_in, context_in, operation_in, with_number, with_context_in}
+use Rattle.flt_model.specs.Variables.{with_operation_in, atom_value, expression_value}
 
 -- a number is computed, or a variable becomes NULL; other actions are seen by others
 abbrev pub after_action : Activation → Action → Option Activation

@@ -1,6 +1,7 @@
 -- The moves of the filter manager and of worker threads: when each is enabled, and what it does.
 -- Source: the driver kit's pages on pre- and postoperation callbacks, cancel-safe queues, work items and teardown.
-use Rattle.std.specs.Prelude.{ℕ, ◌+◌, Bool, true, false, not, ◌&&◌, ◌||◌, ◌==◌, nat_lt, if◌then◌else◌, List, [], ◌∷◌, ◌++◌, length, Option, Some, None, set, find}
+use Rattle.std.specs.Prelude.{ℕ, ◌+◌, Bool, true, false, not, ◌&&◌, ◌||◌, ◌==◌, nat_lt, if◌then◌else◌}
+use Rattle.std.specs.Prelude.{List, [], ◌∷◌, ◌++◌, length, Option, Some, None, set, find}
 use Rattle.std.specs.List.{list_any, before_first, after_first}
 use Rattle.flt_rules.specs.declared.place.Mode.{Mode}
 use Rattle.flt_rules.specs.declared.place.Mode.TheVariants.{Fast}
@@ -16,12 +17,15 @@ use Rattle.flt_model.specs.declared.event.Event.TheVariants as event
 use Rattle.flt_model.specs.declared.event.Object.TheVariants as object
 use Rattle.flt_model.specs.declared.moves.Key.{Key}
 use Rattle.flt_model.specs.declared.moves.Move.{Move}
-use Rattle.flt_model.specs.declared.moves.Move.TheVariants.{Arrive, Pre, Skip, Lower, Post, Cancel, Canceled, Work, Detach, Drain, Unlink, Detached}
+use Rattle.flt_model.specs.declared.moves.Move.TheVariants.{Arrive, Pre, Skip, Lower, Post, Cancel, Canceled}
+use Rattle.flt_model.specs.declared.moves.Move.TheVariants.{Work, Detach, Drain, Unlink, Detached}
 use Rattle.flt_model.specs.Effects.{Step, gains_context, freed_by_drop, after_unlink}
 use Rattle.flt_model.specs.Program.{callbacks_at, filter_of, has_pre, is_pre_of, is_post_of, is_canceled, body_for, body_at, place_at}
 use Rattle.flt_model.specs.Variables.{starting}
 use Rattle.flt_model.specs.World as world
-use Rattle.flt_model.specs.World.{World, Store, Actor, Activation, Arrival, Completed, Context, Down, Entry, Frame, Item, Link, Position, Route, Up, Visit, Visiting, is_attached, is_detaching, presence_at, queue_at, arrival_at, route_at, visit_at, item_at, linked_at, is_linked_to, with_route, with_queue, with_presence}
+use Rattle.flt_model.specs.World.{World, Store, Actor, Activation, Arrival, Completed, Context, Down, Entry, Frame, Item, Link, Position}
+use Rattle.flt_model.specs.World.{Route, Up, Visit, Visiting, is_attached, is_detaching, presence_at, queue_at, arrival_at, route_at}
+use Rattle.flt_model.specs.World.{visit_at, item_at, linked_at, is_linked_to, with_route, with_queue, with_presence}
 
 -- ---- parts
 

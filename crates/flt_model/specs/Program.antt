@@ -1,6 +1,7 @@
 -- The filters of a run, as their texts declare them. They are numbered from the highest altitude, from 0.
 -- Source: the driver kit's pages on altitudes and on registering pre- and postoperation callbacks.
-use Rattle.std.specs.Prelude.{ℕ, ◌≡◌, ◌≢◌, Bool, true, false, ◌==◌, nat_lt, if◌then◌else◌, List, [], ◌∷◌, ◌++◌, length, Option, Some, None, AllPairs, find, get_or, map, option_map, slice_get}
+use Rattle.std.specs.Prelude.{ℕ, ◌≡◌, ◌≢◌, Bool, true, false, ◌==◌, nat_lt, if◌then◌else◌, List, [], ◌∷◌, ◌++◌}
+use Rattle.std.specs.Prelude.{length, Option, Some, None, AllPairs, find, get_or, map, option_map, slice_get}
 use Rattle.std.specs.List.{list_any, position_or_len}
 use Rattle.flt_rules.specs.Call.{place_of}
 use Rattle.flt_rules.specs.declared.call.LockKind.{LockKind}

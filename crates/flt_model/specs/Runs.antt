@@ -6,7 +6,8 @@ use Rattle.flt_model.specs.declared.verdict.Violation.{Violation}
 use Rattle.flt_model.specs.declared.verdict.Violation.TheVariants.{V1, V2, V3, V4, V5, V6, V7, V8}
 use Rattle.flt_model.specs.Effects.{Step}
 use Rattle.flt_model.specs.Steps.{Transition, step}
-use Rattle.flt_model.specs.Violations.{no_stale_use, no_leak, settled_once, one_owner, legal_statuses, levels_kept, lock_discipline, legal_places}
+use Rattle.flt_model.specs.Violations.{no_stale_use, no_leak, settled_once, one_owner, legal_statuses}
+use Rattle.flt_model.specs.Violations.{levels_kept, lock_discipline, legal_places}
 use Rattle.flt_model.specs.World.{World, opening}
 
 -- how far a run has come: the world, and all events so far in their order

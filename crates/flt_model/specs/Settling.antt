@@ -9,7 +9,8 @@ use Rattle.flt_tree.specs.declared.filter.Status.TheVariants as status
 use Rattle.flt_model.specs.declared.event.Answer.{Answer}
 use Rattle.flt_model.specs.declared.event.Answer.TheVariants.{Returned, CompletesPre, CompletesPost}
 use Rattle.flt_model.specs.Program.{callbacks_at, has_post}
-use Rattle.flt_model.specs.World.{Outcome, Completed, Disallowed, Down, Up, Route, Store, visit_at, arrival_of, route_at, is_settled, with_route}
+use Rattle.flt_model.specs.World.{Outcome, Completed, Disallowed, Down, Up, Route, Store}
+use Rattle.flt_model.specs.World.{visit_at, arrival_of, route_at, is_settled, with_route}
 
 -- where a status leads the operation
 pub data Way : Type 0 where

@@ -18,7 +18,8 @@ use Rattle.flt_tree.specs.declared.filter.Test.{Test}
 use Rattle.flt_tree.specs.declared.filter.Test.TheVariants as test
 use Rattle.flt_model.specs.declared.event.Event.{Event}
 use Rattle.flt_model.specs.declared.moves.Move.{Move}
-use Rattle.flt_model.specs.Calls.{allocate, get, set_context, delete_at, delete, reference, release, acquire, acquire_shared, release_lock, insert, remove_next, queue_deferred, queue_generic, complete_pre, complete_post}
+use Rattle.flt_model.specs.Calls.{allocate, get, set_context, delete_at, delete, reference, release, acquire, acquire_shared, release_lock}
+use Rattle.flt_model.specs.Calls.{insert, remove_next, queue_deferred, queue_generic, complete_pre, complete_post}
 use Rattle.flt_model.specs.Effects.{Step}
 use Rattle.flt_model.specs.LocalSteps.{local_step}
 use Rattle.flt_model.specs.Locks.{holders_of, is_free_for}

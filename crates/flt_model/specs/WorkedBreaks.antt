@@ -18,7 +18,8 @@ use Rattle.flt_model.specs.declared.moves.Move.TheVariants as move
 use Rattle.flt_model.specs.declared.verdict.Verdict.TheVariants.{Legal, NotARun, Breaks}
 use Rattle.flt_model.specs.declared.verdict.Violation.TheVariants.{V1, V2, V3, V4, V5, V6, V7, V8}
 use Rattle.flt_model.specs.Expansion.{verdict}
-use Rattle.flt_model.specs.WorkedParts.{computed, call, return, if_call, on, filter, locking, lock, routine, passes, arrive, pre, lower, post, go}
+use Rattle.flt_model.specs.WorkedParts.{computed, call, return, if_call, on, filter, locking}
+use Rattle.flt_model.specs.WorkedParts.{lock, routine, passes, arrive, pre, lower, post, go}
 
 -- a filter of one pre callback
 abbrev pub reading : List Statement → List Filter

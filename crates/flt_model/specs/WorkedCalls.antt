@@ -27,7 +27,8 @@ use Rattle.flt_model.specs.declared.moves.Move.TheVariants as move
 use Rattle.flt_model.specs.declared.verdict.Verdict.TheVariants.{Legal, NotARun}
 use Rattle.flt_model.specs.Expansion.{verdict}
 use Rattle.flt_model.specs.World.{Disallowed}
-use Rattle.flt_model.specs.WorkedParts.{computed, here, references_after, outcomes_after, call, return, if_call, if_test, release_if, on, filter, routine, passes, arrive, pre, lower, post, cancel, canceled, go}
+use Rattle.flt_model.specs.WorkedParts.{computed, here, references_after, outcomes_after, call, return, if_call, if_test, release_if}
+use Rattle.flt_model.specs.WorkedParts.{on, filter, routine, passes, arrive, pre, lower, post, cancel, canceled, go}
 use Rattle.flt_model.specs.WorkedQueue.{cancels}
 
 abbrev pub no_callback : Statement

@@ -20,7 +20,8 @@ use Rattle.flt_model.specs.declared.moves.Move.TheVariants as move
 use Rattle.flt_model.specs.declared.verdict.Verdict.TheVariants.{Legal, NotARun, Breaks}
 use Rattle.flt_model.specs.declared.verdict.Violation.TheVariants.{V1}
 use Rattle.flt_model.specs.Expansion.{verdict}
-use Rattle.flt_model.specs.WorkedParts.{computed, here, references_after, broken_by, call, return, if_call, release_if, on, filter, cleans_up, arrive, pre, lower, canceled, go}
+use Rattle.flt_model.specs.WorkedParts.{computed, here, references_after, broken_by, call, return, if_call}
+use Rattle.flt_model.specs.WorkedParts.{release_if, on, filter, cleans_up, arrive, pre, lower, canceled, go}
 use Rattle.flt_model.specs.WorkedQueue.{pends, cancels}
 
 -- ---- two reads race to set the stream's context

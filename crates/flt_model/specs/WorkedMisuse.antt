@@ -22,7 +22,8 @@ use Rattle.flt_model.specs.declared.verdict.Verdict.TheVariants.{Legal, Breaks}
 use Rattle.flt_model.specs.declared.verdict.Violation.TheVariants.{V1, V2, V4, V5, V8}
 use Rattle.flt_model.specs.Expansion.{verdict}
 use Rattle.flt_model.specs.World.{Completed, Down, Up}
-use Rattle.flt_model.specs.WorkedParts.{computed, played, references_after, outcomes_after, positions_after, locks_after, call, return, if_call, on, filter, routine, passes, arrive, pre, lower, go}
+use Rattle.flt_model.specs.WorkedParts.{computed, played, references_after, outcomes_after, positions_after, locks_after}
+use Rattle.flt_model.specs.WorkedParts.{call, return, if_call, on, filter, routine, passes, arrive, pre, lower, go}
 use Rattle.flt_model.specs.WorkedBreaks.{reading, makes_one, no_callback, with_locks, takes_first, takes_second, gives_first}
 use Rattle.flt_model.specs.WorkedContexts.{sets}
 

@@ -16,7 +16,8 @@ use Rattle.flt_model.specs.declared.moves.JournalEntry.{JournalEntry}
 use Rattle.flt_model.specs.declared.verdict.Verdict.TheVariants.{Legal, NotARun, Breaks}
 use Rattle.flt_model.specs.declared.verdict.Violation.TheVariants.{V4}
 use Rattle.flt_model.specs.Expansion.{verdict}
-use Rattle.flt_model.specs.WorkedParts.{computed, broken_by, call, return, if_call, if_test, release_if, on, filter, arrive, pre, lower, cancel, canceled, go}
+use Rattle.flt_model.specs.WorkedParts.{computed, broken_by, call, return, if_call, if_test, release_if}
+use Rattle.flt_model.specs.WorkedParts.{on, filter, arrive, pre, lower, cancel, canceled, go}
 
 -- pre read: an I/O request packet is pended in the queue
 abbrev pub pends : Callback

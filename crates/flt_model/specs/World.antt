@@ -1,7 +1,8 @@
 -- The world at one moment: what the filters, operations, visits, contexts, queues, work items and activations are. All are
 -- numbered from 0 in the order in which they came, and no number is used again; so what never changes stands in lists that
 -- only grow. What isn't there has ended, is settled and counts nothing.
-use Rattle.std.specs.Prelude.{ℕ, ◌+◌, ◌-◌, Bool, true, false, ◌&&◌, ◌==◌, if◌then◌else◌, List, [], Option, Some, None, get_or, set, replicate, position, map}
+use Rattle.std.specs.Prelude.{ℕ, ◌+◌, ◌-◌, Bool, true, false, ◌&&◌, ◌==◌, if◌then◌else◌, List}
+use Rattle.std.specs.Prelude.{[], Option, Some, None, get_or, set, replicate, position, map}
 use Rattle.flt_rules.specs.declared.held.Access.{Access}
 use Rattle.flt_rules.specs.declared.held.HeldLock.{HeldLock}
 use Rattle.flt_rules.specs.declared.place.Mode.{Mode}

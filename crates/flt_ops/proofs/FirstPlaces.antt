@@ -1,5 +1,6 @@
 -- The first place whose element passes a test, and the list without it.
-use Rattle.std.proofs.Common.{◌≡◌, ℕ, ◌<◌, ◌≤◌, ◌+◌, nat_lt, Bool, true, false, if◌then◌else◌, List, ◌++◌, Some, None, length, remove, get_or, find, position, refl, sym, ◌∙◌, ap, add-one, arith}
+use Rattle.std.proofs.Common.{◌≡◌, ℕ, ◌<◌, ◌≤◌, ◌+◌, nat_lt, Bool, true, false, if◌then◌else◌, List, ◌++◌, Some}
+use Rattle.std.proofs.Common.{None, length, remove, get_or, find, position, refl, sym, ◌∙◌, ap, add-one, arith}
 use Rattle.std.specs.List.{position_or_len, slice_get, before_first, after_first}
 use Rattle.std.proofs.lemmas.Bool.{ltb-true, ltb-false}
 use Rattle.std.proofs.lemmas.List.{take_all, drop_all, append-nil}

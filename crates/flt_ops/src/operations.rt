@@ -1,10 +1,12 @@
 //! Operations, with the calls that move them.
 
-ghost use Rattle.std.specs.Prelude.{◌≡◌, ◌≢◌, ◌↔◌, ◌≤◌, true, false, not, ◌||◌, ◌&&◌, length, slice_get, get_or, set, find, position, option_map, is_some, if◌then◌else◌, Some, None, Err, OnOk, OnErr, IfOk, MatchOption};
+ghost use Rattle.std.specs.Prelude.{◌≡◌, ◌≢◌, ◌↔◌, ◌≤◌, true, false, not, ◌||◌, ◌&&◌, length, slice_get, get_or, set, find, position};
+ghost use Rattle.std.specs.Prelude.{option_map, is_some, if◌then◌else◌, Some, None, Err, OnOk, OnErr, IfOk, MatchOption};
 ghost use Rattle.flt_model.specs.Moves as moves;
 ghost use Rattle.flt_model.specs.Settling as settling;
 ghost use Rattle.flt_model.specs.World as machine;
-ghost use Rattle.flt_ops.specs.Operating.{store_of, after, no_operations, route_of, filter_at, is_past_filters, frame_at, in_pre_visit, past_filter, lowered, in_post_visit, in_draining_visit, with_cancel, IsStarted};
+ghost use Rattle.flt_ops.specs.Operating.{store_of, after, no_operations, route_of, filter_at, is_past_filters, frame_at, in_pre_visit};
+ghost use Rattle.flt_ops.specs.Operating.{past_filter, lowered, in_post_visit, in_draining_visit, with_cancel, IsStarted};
 ghost use Rattle.flt_ops.specs.Numbered.{numbers_of};
 ghost use Rattle.flt_ops.specs.Parts.{position_of, outcome_of, way_of};
 ghost use Rattle.flt_ops.specs.declared.fault.ArriveFault.TheVariants as fault;

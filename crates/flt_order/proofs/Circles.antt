@@ -1,6 +1,7 @@
 -- Paths of acquisitions back from lock to lock, and where they come round.
 -- Here g is a graph, k a certificate, l, from and to are locks, list is a list of acquisitions.
-use Rattle.std.proofs.Common.{◌≡◌, ◌≢◌, ℕ, zero, suc, ◌+◌, ◌<◌, ◌≤◌, Bool, true, false, List, [], ◌∷◌, ◌++◌, length, Option, Some, None, IfSome, IfNone, IsNone, Ok, sym, subst, ap, refl, ◌∙◌, arith, inl, inr}
+use Rattle.std.proofs.Common.{◌≡◌, ◌≢◌, ℕ, zero, suc, ◌+◌, ◌<◌, ◌≤◌, Bool, true, false, List, [], ◌∷◌, ◌++◌, length, Option}
+use Rattle.std.proofs.Common.{Some, None, IfSome, IfNone, IsNone, Ok, sym, subst, ap, refl, ◌∙◌, arith, inl, inr}
 use Rattle.std.specs.Prelude.{if◌then◌else◌, find, cond, ◌||◌, ◌&&◌}
 use Rattle.std.specs.List.{All, list_any}
 use Rattle.std.proofs.Math.ListN.{get_or, set}

@@ -1,5 +1,6 @@
 -- Ranks as locks are taken away, and what is left of them.
-use Rattle.std.proofs.Common.{◌≡◌, ◌≢◌, ◌⊎◌, ℕ, zero, suc, ◌+◌, ◌<◌, ◌≤◌, Bool, true, false, List, [], ◌∷◌, length, Some, sym, subst, ap, refl, ◌∙◌, arith, inl, inr}
+use Rattle.std.proofs.Common.{◌≡◌, ◌≢◌, ◌⊎◌, ℕ, zero, suc, ◌+◌, ◌<◌, ◌≤◌, Bool, true, false, List}
+use Rattle.std.proofs.Common.{[], ◌∷◌, length, Some, sym, subst, ap, refl, ◌∙◌, arith, inl, inr}
 use Rattle.std.specs.Prelude.{if◌then◌else◌, ◌==◌, ◌||◌}
 use Rattle.std.proofs.Math.ListN.{get_or, set}
 use Rattle.std.proofs.lemmas.Bool.{cases_eq, cases_lt, eqb-true, eq-eqb}
@@ -13,7 +14,8 @@ use Rattle.flt_rules.specs.declared.held.HeldLock.{HeldLock}
 use Rattle.flt_cert.specs.Format.{Certificate}
 use Rattle.flt_graph.specs.declared.graph.Graph.{Graph}
 use Rattle.flt_graph.specs.Graph.{instruction_at}
-use Rattle.flt_order.specs.Order.{taken_by, is_left, IsAcquired, IsFree, IsTaken, NoneLeft, TakesInOrder, AreRanked, AreTakenBefore, count_left}
+use Rattle.flt_order.specs.Order.{taken_by, is_left, IsAcquired, IsFree, IsTaken, NoneLeft}
+use Rattle.flt_order.specs.Order.{TakesInOrder, AreRanked, AreTakenBefore, count_left}
 use Rattle.flt_order.specs.declared.order.Acquisition.{Acquisition}
 use Rattle.flt_order.proofs.Places.{place_below, place_same, callback_within, point_within}
 

@@ -1,6 +1,7 @@
 -- A text cut at the end of its first line.
 use Prim.Native.Nat.compare
-use Rattle.std.proofs.Common.{◌≡◌, ◌<◌, ◌≤◌, ◌+◌, ◌==◌, ℕ, suc, Bool, true, false, not, cond, Some, None, List, [], ◌∷◌, ◌++◌, length, take, drop, map, nat_lt, ap, sym, refl, ◌∙◌, arith, rules}
+use Rattle.std.proofs.Common.{◌≡◌, ◌<◌, ◌≤◌, ◌+◌, ◌==◌, ℕ, suc, Bool, true, false, not, cond, Some, None, List}
+use Rattle.std.proofs.Common.{[], ◌∷◌, ◌++◌, length, take, drop, map, nat_lt, ap, sym, refl, ◌∙◌, arith, rules}
 use Rattle.std.specs.Borrow.{Bor}
 use Rattle.std.specs.Prelude.{position}
 use Rattle.std.specs.Option.{unwrap_or}

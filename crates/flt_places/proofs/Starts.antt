@@ -1,6 +1,7 @@
 -- The place of a byte and the lines of a text, by where lines begin.
 use Rattle.std.specs.List.Sorted.{IsNonDecreasingBy, IsPartitionPoint}
-use Rattle.std.proofs.Common.{◌≡◌, ◌<◌, List, true, false, nat_le, refl, sym, ◌∙◌, ap, subst, arith, ℕ, zero, suc, ◌+◌, ◌-◌, ◌≤◌, nat_lt, Bool, [], ◌∷◌, length, take, drop, get_or, slice_get}
+use Rattle.std.proofs.Common.{◌≡◌, ◌<◌, List, true, false, nat_le, refl, sym, ◌∙◌, ap, subst, arith, ℕ, zero}
+use Rattle.std.proofs.Common.{suc, ◌+◌, ◌-◌, ◌≤◌, nat_lt, Bool, [], ◌∷◌, length, take, drop, get_or, slice_get}
 use Rattle.std.specs.Prelude.{◌==◌, if◌then◌else◌, min}
 use Rattle.std.proofs.lemmas.Grind.{common_steps}
 use Rattle.std.proofs.lemmas.List.{take_min}

@@ -33,7 +33,8 @@ use Rattle.flt_syntax.specs.Words.{Next, Meant, NameAt, NumberAt, OptionalAt}
 use Rattle.flt_syntax.specs.Scope.{Scope}
 use Rattle.flt_syntax.specs.FirstWords.{begins_status}
 use Rattle.flt_syntax.specs.Cursor.{Input, front, kind, is_word, span_of, span}
-use Rattle.flt_syntax.specs.Over.{OptionalOver, StatusOver, OptionalStatusOver, FallibleOver, PlainOver, ExpressionOver, ActionOver, ConditionOver, ElseOver, StatementOver}
+use Rattle.flt_syntax.specs.Over.{OptionalOver, StatusOver, OptionalStatusOver, FallibleOver, PlainOver}
+use Rattle.flt_syntax.specs.Over.{ExpressionOver, ActionOver, ConditionOver, ElseOver, StatementOver}
 
 -- the kinds of token that productions take: not the end, nor what is no token
 abbrev pub passable : Kind → Bool

@@ -18,7 +18,8 @@ use Rattle.flt_syntax.specs.Words.{Next}
 use Rattle.flt_syntax.specs.Scope.{Scope}
 use Rattle.flt_syntax.specs.Cursor.{Input, front, position, span}
 use Rattle.flt_syntax.specs.Over.{QueueOver}
-use Rattle.flt_prefix.proofs.Detached.{passable, Detached, shift, made, left_out, next_free, meant_free, name_free, statements_free, other_kind, next_some, same_token, taken_span, same_span}
+use Rattle.flt_prefix.proofs.Detached.{passable, Detached, shift, made, left_out, next_free, meant_free, name_free}
+use Rattle.flt_prefix.proofs.Detached.{statements_free, other_kind, next_some, same_token, taken_span, same_span}
 
 -- a head
 pub head_free : {text : Text} {i o : Input} {h : Head} → HeadAt text i h o → Detached (HeadAt text) i h o

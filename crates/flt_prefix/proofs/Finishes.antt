@@ -37,10 +37,12 @@ use Rattle.flt_syntax.specs.Words.{Next, Meant, NameAt, NumberAt, ContextAt, Opt
 use Rattle.flt_syntax.specs.Scope.{Scope}
 use Rattle.flt_syntax.specs.Shape.{obtaining, ending}
 use Rattle.flt_syntax.specs.Cursor.{span, Input, bytes_of, fault_at}
-use Rattle.flt_prefix.proofs.Detached.{passable, AllPassed, passed_both, Detached, next_free, meant_free, number_free, routine_free, atom_free, condition_free, statement_free, block_free}
+use Rattle.flt_prefix.proofs.Detached.{passable, AllPassed, passed_both, Detached, next_free, meant_free, number_free}
+use Rattle.flt_prefix.proofs.Detached.{routine_free, atom_free, condition_free, statement_free, block_free}
 use Rattle.flt_prefix.proofs.DetachedFiles.{head_free, callback_free}
 use Rattle.flt_syntax.specs.WordFails as word_fails
-use Rattle.flt_syntax.specs.WordFails.{Refused, Unknown, NextFails, MeantFails, KnownFails, NameFails, NumberFails, ContextFails, OtherFails, OptionalFails, OtherOldFails}
+use Rattle.flt_syntax.specs.WordFails.{Refused, Unknown, NextFails, MeantFails, KnownFails, NameFails, NumberFails}
+use Rattle.flt_syntax.specs.WordFails.{ContextFails, OtherFails, OptionalFails, OtherOldFails}
 use Rattle.flt_syntax.specs.CallFails as call_fails
 use Rattle.flt_syntax.specs.CallFails.{StatusFails, OptionalStatusFails, LockFails, FallibleFails, PlainFails}
 use Rattle.flt_syntax.specs.ActionFails as bad

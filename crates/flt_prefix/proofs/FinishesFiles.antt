@@ -23,7 +23,8 @@ use Rattle.flt_prefix.specs.Prefix as prefix
 use Rattle.flt_prefix.specs.Prefix.{AsksNoLock, AnyCallbacksAt, AnyFileAt, FileBegins}
 use Rattle.flt_prefix.proofs.Detached.{next_free, meant_free, name_free, number_free}
 use Rattle.flt_prefix.proofs.DetachedFiles.{locks_free, queue_free}
-use Rattle.flt_prefix.proofs.Finishes.{Finishes, a_token, not_five, not_six, refused_at, fin_shift, fin_more, fin_by, fin_at, next_fin, meant_fin, name_fin, below, callbacks_fin}
+use Rattle.flt_prefix.proofs.Finishes.{Finishes, a_token, not_five, not_six, refused_at, fin_shift, fin_more}
+use Rattle.flt_prefix.proofs.Finishes.{fin_by, fin_at, next_fin, meant_fin, name_fin, below, callbacks_fin}
 
 -- the number 1
 abbrev one : Token

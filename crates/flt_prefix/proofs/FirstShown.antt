@@ -10,7 +10,8 @@ use Rattle.flt_syntax.specs.TextFails as text_fails
 use Rattle.flt_syntax.specs.TextFails.{CallbacksMiss, WholeFails}
 use Rattle.flt_syntax.specs.declared.fault.SyntaxFault.{SyntaxFault}
 use Rattle.flt_syntax.specs.Lex.{tokens}
-use Rattle.flt_tree.specs.Declarations.{IsServed, finds_routine, test_finds, finds_step, statement_finds, finds_routines, has_deferred, has_generic}
+use Rattle.flt_tree.specs.Declarations.{IsServed, finds_routine, test_finds, finds_step, statement_finds}
+use Rattle.flt_tree.specs.Declarations.{finds_routines, has_deferred, has_generic}
 use Rattle.flt_tree.specs.declared.filter.Callback.{Callback}
 use Rattle.flt_tree.specs.declared.filter.Condition.{Condition}
 use Rattle.flt_tree.specs.declared.filter.Condition.TheVariants.{Succeeds}
@@ -23,7 +24,8 @@ use Rattle.flt_tree.specs.declared.filter.Statement.{Statement, roll-Statement}
 use Rattle.flt_tree.specs.declared.filter.Statement.TheVariants.{If, Repeat, rolls-If, rolls-Repeat}
 use Rattle.flt_tree.specs.declared.filter.Statement.TheOpen.{Statement-F}
 use Rattle.flt_tree.specs.declared.filter.Statement.TheFolds.{fold-Statement, map-Statement, fold-roll-Statement, ind-Statement}
-use Rattle.flt_prefix.specs.Shown.{unless_found, all_of, lacking_in, lacking_by, lacking_step, lacking_of, lacking, callback_shows, queue_shows, shown, FirstInTheText}
+use Rattle.flt_prefix.specs.Shown.{unless_found, all_of, lacking_in, lacking_by, lacking_step, lacking_of}
+use Rattle.flt_prefix.specs.Shown.{lacking, callback_shows, queue_shows, shown, FirstInTheText}
 use Rattle.flt_prefix.proofs.Ascending.{ascends}
 use Rattle.flt_prefix.proofs.Spans.{Spans, file_spans, sorted}
 use Rattle.flt_prefix.specs.Shown.{place}

@@ -1,5 +1,6 @@
 -- Both halves of the law at one place of the text: a fault E03 stands at a token, since the end of a text is never passed.
-use Rattle.std.proofs.Common.{◌≡◌, inl, inr, ℕ, zero, suc, ◌+◌, ◌-◌, Bool, true, false, not, [], ◌∷◌, ◌++◌, refl, sym, ap, subst, ◌∙◌, arith}
+use Rattle.std.proofs.Common.{◌≡◌, inl, inr, ℕ, zero, suc, ◌+◌, ◌-◌, Bool, true, false}
+use Rattle.std.proofs.Common.{not, [], ◌∷◌, ◌++◌, refl, sym, ap, subst, ◌∙◌, arith}
 use Rattle.std.specs.Prelude.{if◌then◌else◌, ◌==◌}
 use Rattle.flt_syntax.specs.Cursor.{Input, front, next, fault, fault_at}
 use Rattle.flt_syntax.specs.Lex.{past, is_blank, is_fault, token, tokens_from, tokens}

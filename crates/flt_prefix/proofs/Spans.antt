@@ -28,12 +28,15 @@ use Rattle.flt_tree.specs.declared.filter.Position.{Position}
 use Rattle.flt_tree.specs.declared.filter.Routine.{Routine}
 use Rattle.flt_tree.specs.declared.filter.Span.{Span}
 use Rattle.flt_tree.specs.declared.filter.Statement.{Statement, roll-Statement}
-use Rattle.flt_tree.specs.declared.filter.Statement.TheVariants.{Act, Call, Return, If, Repeat, rolls-Act, rolls-Call, rolls-Return, rolls-If, rolls-Repeat}
+use Rattle.flt_tree.specs.declared.filter.Statement.TheVariants.{Act, Call, Return, If, Repeat, rolls-Act, rolls-Call}
+use Rattle.flt_tree.specs.declared.filter.Statement.TheVariants.{rolls-Return, rolls-If, rolls-Repeat}
 use Rattle.flt_tree.specs.declared.filter.Statement.TheOpen.{Statement-F}
 use Rattle.flt_tree.specs.declared.filter.Statement.TheFolds.{fold-Statement, map-Statement, fold-roll-Statement}
-use Rattle.flt_prefix.specs.Shown.{unless_found, lacking_in, lacking_by, lacking_step, lacking_of, lacking, all_of, callback_shows, queue_shows, shown, place, AreBehind, IsBefore}
+use Rattle.flt_prefix.specs.Shown.{unless_found, lacking_in, lacking_by, lacking_step, lacking_of, lacking}
+use Rattle.flt_prefix.specs.Shown.{all_of, callback_shows, queue_shows, shown, place, AreBehind, IsBefore}
 use Rattle.flt_prefix.proofs.Ascending.{AllBehind, Ascend}
-use Rattle.flt_prefix.proofs.Detached.{Detached, meant_free, name_free, number_free, optional_free, fallible_free, condition_free, statement_free}
+use Rattle.flt_prefix.proofs.Detached.{Detached, meant_free, name_free, number_free, optional_free}
+use Rattle.flt_prefix.proofs.Detached.{fallible_free, condition_free, statement_free}
 use Rattle.flt_prefix.proofs.DetachedFiles.{locks_free}
 
 -- some things, each at the place of a token between two others, in the order of the tokens

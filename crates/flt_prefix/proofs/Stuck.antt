@@ -18,7 +18,8 @@ use Rattle.flt_syntax.specs.Tables.{number_variable_of, fallible_shape_of}
 use Rattle.flt_syntax.specs.Cursor.{Input, front, kind, is_word, fault, fault_at}
 use Rattle.flt_syntax.specs.FirstWords.{begins_fallible, begins_plain, begins_test, begins_other}
 use Rattle.flt_syntax.specs.WordFails as word_fails
-use Rattle.flt_syntax.specs.WordFails.{Refused, Unknown, NextFails, MeantFails, KnownFails, NameFails, NumberFails, OtherFails, OptionalFails, OtherOldFails}
+use Rattle.flt_syntax.specs.WordFails.{Refused, Unknown, NextFails, MeantFails, KnownFails, NameFails}
+use Rattle.flt_syntax.specs.WordFails.{NumberFails, OtherFails, OptionalFails, OtherOldFails}
 use Rattle.flt_syntax.specs.CallFails as call_fails
 use Rattle.flt_syntax.specs.CallFails.{StatusFails, OptionalStatusFails, LockFails, FallibleFails, PlainFails}
 use Rattle.flt_syntax.specs.ActionFails as bad
@@ -28,7 +29,8 @@ use Rattle.flt_syntax.specs.StatementFails.{StatementFails, ElseFails, BlockFail
 use Rattle.flt_syntax.specs.Cursor.{bytes_of, next}
 use Rattle.flt_tree.specs.Declarations.{lock_number}
 use Rattle.flt_prefix.specs.Prefix.{is_of_token}
-use Rattle.flt_prefix.proofs.Detached.{passable, AllPassed, passed_both, Detached, other_kind, next_free, meant_free, number_free, routine_free, atom_free, condition_free, statement_free, block_free}
+use Rattle.flt_prefix.proofs.Detached.{passable, AllPassed, passed_both, Detached, other_kind, next_free, meant_free, number_free}
+use Rattle.flt_prefix.proofs.Detached.{routine_free, atom_free, condition_free, statement_free, block_free}
 
 differ : false ≡ true → ⊥
 differ e = cc

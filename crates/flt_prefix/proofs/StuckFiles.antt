@@ -14,7 +14,8 @@ use Rattle.flt_syntax.specs.TextFails.{ReadFailsNowhere}
 use Rattle.flt_prefix.specs.Prefix.{is_of_token, NothingGoesOn}
 use Rattle.flt_prefix.proofs.Detached.{other_kind, next_free, meant_free, name_free, number_free}
 use Rattle.flt_prefix.proofs.DetachedFiles.{head_free, callback_free, locks_free, queue_free}
-use Rattle.flt_prefix.proofs.Stuck.{Stuck, same_front, stuck_shift, stuck_by, stuck_at, not_five, not_six, refused_at, refused_again, next_is, next_stuck, meant_stuck, name_stuck, number_stuck, statements_stuck}
+use Rattle.flt_prefix.proofs.Stuck.{Stuck, same_front, stuck_shift, stuck_by, stuck_at, not_five, not_six, refused_at, refused_again}
+use Rattle.flt_prefix.proofs.Stuck.{next_is, next_stuck, meant_stuck, name_stuck, number_stuck, statements_stuck}
 
 new_name_stuck : {text : Text} {found : List Callback} {i : Input} {f : SyntaxFault} → NewNameFails text found i f →
     is_of_token f.kind ≡ true → Stuck (NewNameFails text found) i f

@@ -1,6 +1,7 @@
 //! The two halves of the law of the viable prefix, with its exceptions, and the law of the first place.
 
-ghost use Rattle.flt_prefix.specs.Prefix.{NothingGoesOn, NothingGoesOnInTexts, CallbacksBegin, FileBegins, FileBeginsInTexts, ViablePrefix, NoLockCall, NoBlock};
+ghost use Rattle.flt_prefix.specs.Prefix.{NothingGoesOn, NothingGoesOnInTexts, CallbacksBegin, FileBegins};
+ghost use Rattle.flt_prefix.specs.Prefix.{FileBeginsInTexts, ViablePrefix, NoLockCall, NoBlock};
 ghost use Rattle.flt_prefix.specs.Placed.{TokensArePlaced};
 ghost use Rattle.flt_prefix.specs.Shown.{FirstInTheText};
 

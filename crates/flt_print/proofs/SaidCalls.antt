@@ -53,7 +53,8 @@ use Rattle.flt_tree.specs.declared.variable.Expression.TheVariants as expression
 use Rattle.flt_print.proofs.Alike.{AlikeCall, same, deferred, generic, AlikeCondition, a_test, a_call}
 use Rattle.flt_print.proofs.Pieces.{reads_back, less_piece, plus_piece, minus_piece, assign_piece, equal_piece, differs_piece}
 use Rattle.flt_print.proofs.Said.{Says, says_both, says_by, says_none, says_next, says_kind, says_meant, says_name, says_number}
-use Rattle.flt_print.proofs.SaidWords.{says_number_variable, says_context, says_removed, says_operation_variable, says_final_status, says_existing}
+use Rattle.flt_print.proofs.SaidWords.{says_number_variable, says_context, says_removed, says_operation_variable}
+use Rattle.flt_print.proofs.SaidWords.{says_final_status, says_existing}
 
 module _ (text : Text) (locks : List Lock) (queue : Bool) where
   abbrev pub scope : Scope

@@ -11,8 +11,10 @@ use Rattle.flt_rules.specs.declared.status.FinalStatus.{FinalStatus}
 use Rattle.flt_rules.specs.declared.status.FinalStatus.TheVariants as finals
 use Rattle.flt_tree.specs.Names.{Text}
 use Rattle.flt_syntax.specs.Lex.{keyword, same_kind}
-use Rattle.flt_syntax.specs.Tables.{number_variable_of, context_variable_of, removed_variable_of, operation_variable_of, final_status_of, operation_of, lock_kind_of, existing_of}
-use Rattle.flt_print.specs.Vocabulary.{spelling, number_kind, context_kind, removed_kind, operation_variable_kind, final_status_kind, operation_kind, lock_kind_kind, existing_kind}
+use Rattle.flt_syntax.specs.Tables.{number_variable_of, context_variable_of, removed_variable_of, operation_variable_of}
+use Rattle.flt_syntax.specs.Tables.{final_status_of, operation_of, lock_kind_of, existing_of}
+use Rattle.flt_print.specs.Vocabulary.{spelling, number_kind, context_kind, removed_kind, operation_variable_kind}
+use Rattle.flt_print.specs.Vocabulary.{final_status_kind, operation_kind, lock_kind_kind, existing_kind}
 use Rattle.flt_syntax.specs.Words.{Meant}
 use Rattle.flt_tree.specs.declared.variable.ContextVariable.{ContextVariable}
 use Rattle.flt_tree.specs.declared.variable.ContextVariable.TheVariants as contexts

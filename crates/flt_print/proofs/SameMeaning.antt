@@ -3,12 +3,15 @@ use Rattle.std.proofs.Common.{◌≡◌, ℕ, suc, ◌+◌, Bool, List, [], ◌�
 use Rattle.std.proofs.lemmas.Bool.{false≢true}
 use Rattle.std.specs.List.{list_all, list_any}
 use Rattle.std.specs.Prelude.{◌&&◌, ◌||◌, not, sum, nat_le, Option, Some, None, is_some, option_map}
-use Rattle.flt_tree.specs.Declarations.{same_event, has_event, has_routine, is_declared, AreNewCallbacks, finds_routine, test_finds, finds_step, finds_routines, AreWhole, IsServed, runs_deferred, runs_generic, has_deferred, has_generic, lacks_pre}
+use Rattle.flt_tree.specs.Declarations.{same_event, has_event, has_routine, is_declared, AreNewCallbacks, finds_routine}
+use Rattle.flt_tree.specs.Declarations.{test_finds, finds_step, finds_routines, AreWhole, IsServed, runs_deferred}
+use Rattle.flt_tree.specs.Declarations.{runs_generic, has_deferred, has_generic, lacks_pre}
 use Rattle.flt_tree.specs.Filter.{is_named, no_span}
 use Rattle.flt_tree.specs.Names.{Text}
 use Rattle.flt_tree.specs.Measures.{points_step, points, cost_step, cost, is_small}
 use Rattle.flt_rules.specs.Limits.{max_points, max_cost}
-use Rattle.flt_print.specs.Reprinting.{nowhere, call_without, condition_without, step_without, statement_without, callback_without, without_places}
+use Rattle.flt_print.specs.Reprinting.{nowhere, call_without, condition_without, step_without}
+use Rattle.flt_print.specs.Reprinting.{statement_without, callback_without, without_places}
 use Rattle.flt_tree.specs.declared.filter.Action.{Action}
 use Rattle.flt_tree.specs.declared.filter.Callback.{Callback}
 use Rattle.flt_tree.specs.declared.filter.Condition.{Condition}
@@ -23,12 +26,14 @@ use Rattle.flt_tree.specs.declared.filter.Position.{Position}
 use Rattle.flt_tree.specs.declared.filter.PlainCall.{PlainCall}
 use Rattle.flt_tree.specs.declared.filter.Span.{Span}
 use Rattle.flt_tree.specs.declared.filter.Statement.{Statement, roll-Statement}
-use Rattle.flt_tree.specs.declared.filter.Statement.TheVariants.{Act, Call, Return, If, Repeat, rolls-Act, rolls-Call, rolls-Return, rolls-If, rolls-Repeat}
+use Rattle.flt_tree.specs.declared.filter.Statement.TheVariants.{Act, Call, Return, If, Repeat, rolls-Act, rolls-Call}
+use Rattle.flt_tree.specs.declared.filter.Statement.TheVariants.{rolls-Return, rolls-If, rolls-Repeat}
 use Rattle.flt_tree.specs.declared.filter.Statement.TheOpen.{Statement-F}
 use Rattle.flt_tree.specs.declared.filter.Statement.TheFolds.{fold-Statement, map-Statement, fold-roll-Statement}
 use Rattle.flt_tree.specs.declared.filter.Status.{Status}
 use Rattle.flt_print.proofs.Alike as alike
-use Rattle.flt_print.proofs.Alike.{AlikeCall, AlikeCondition, Alike, AlikeAll, AlikeCallback, AlikeCallbacks, no_callback, one_callback, AlikeFilter}
+use Rattle.flt_print.proofs.Alike.{AlikeCall, AlikeCondition, Alike, AlikeAll, AlikeCallback}
+use Rattle.flt_print.proofs.Alike.{AlikeCallbacks, no_callback, one_callback, AlikeFilter}
 
 -- ---- folds
 

@@ -2,7 +2,8 @@
 use Rattle.std.specs.Prelude.{List, [], ◌∷◌, Option, Some, None}
 use Rattle.flt_tree.specs.Declarations.{lock_name}
 use Rattle.flt_tree.specs.Names.{Text}
-use Rattle.flt_print.specs.Vocabulary.{spelling, context_kind, removed_kind, operation_variable_kind, final_status_kind, acquire_kind, release_kind, get_kind, set_kind, delete_kind, existing_kind}
+use Rattle.flt_print.specs.Vocabulary.{spelling, context_kind, removed_kind, operation_variable_kind, final_status_kind}
+use Rattle.flt_print.specs.Vocabulary.{acquire_kind, release_kind, get_kind, set_kind, delete_kind, existing_kind}
 use Rattle.flt_tree.specs.declared.filter.FallibleCall.{FallibleCall}
 use Rattle.flt_tree.specs.declared.filter.FallibleCall.TheVariants as fallible
 use Rattle.flt_tree.specs.declared.filter.Lock.{Lock}

@@ -1,5 +1,6 @@
 -- What the ledger's counts say of a moment's world and trace.
-use Rattle.std.specs.Prelude.{◌≡◌, ◌≤◌, ℕ, ◌+◌, min, Bool, true, false, not, ◌&&◌, ◌||◌, ◌==◌, if◌then◌else◌, List, [], ◌∷◌, ◌++◌, length, sum_by, map, get_or, set, nat_lt, Option, Some, None}
+use Rattle.std.specs.Prelude.{◌≡◌, ◌≤◌, ℕ, ◌+◌, min, Bool, true, false, not, ◌&&◌, ◌||◌, ◌==◌, if◌then◌else◌, List}
+use Rattle.std.specs.Prelude.{[], ◌∷◌, ◌++◌, length, sum_by, map, get_or, set, nat_lt, Option, Some, None}
 use Rattle.flt_model.specs.declared.event.Event.{Event}
 use Rattle.flt_model.specs.declared.event.Object.{Object}
 use Rattle.flt_model.specs.declared.event.Object.TheVariants.{Context, Visit}
@@ -7,7 +8,8 @@ use Rattle.flt_model.specs.declared.verdict.Violation.{Violation}
 use Rattle.flt_model.specs.declared.verdict.Violation.TheVariants.{V1, V2, V3}
 use Rattle.flt_model.specs.Runs.{Moment}
 use Rattle.flt_model.specs.Trace.{gains, loses, frees, settles, is_held}
-use Rattle.flt_model.specs.Violations.{in_queue, in_item, is_fresh, leaks_nothing, is_first_settling, no_stale_use, no_leak, settled_once, one_owner}
+use Rattle.flt_model.specs.Violations.{in_queue, in_item, is_fresh, leaks_nothing, is_first_settling}
+use Rattle.flt_model.specs.Violations.{no_stale_use, no_leak, settled_once, one_owner}
 use Rattle.flt_model.specs.World.{World, Store, Activation, is_settled}
 use Rattle.flt_replay.specs.Apart.{is_apart, are_apart, ends_in}
 use Rattle.flt_replay_records.specs.Counts.{count, occurs}

@@ -1,7 +1,8 @@
 //! The events so far, as running counts: which activations hold an object, and which objects are freed or settled. They show whether an
 //! event breaks something without a look at the events before it.
 
-ghost use Rattle.std.specs.Prelude.{◌≡◌, ◌+◌, ℕ, ◌<◌, true, false, List, [], ◌∷◌, ◌++◌, length, nat_lt, ◌&&◌, if◌then◌else◌, Some, None, get_or, set, OnOk, IfOk, IfSome, ◌↔◌, IsTrue};
+ghost use Rattle.std.specs.Prelude.{◌≡◌, ◌+◌, ℕ, ◌<◌, true, false, List, [], ◌∷◌, ◌++◌, length, nat_lt, ◌&&◌};
+ghost use Rattle.std.specs.Prelude.{if◌then◌else◌, Some, None, get_or, set, OnOk, IfOk, IfSome, ◌↔◌, IsTrue};
 ghost use Rattle.std.specs.List.{list_all};
 ghost use Rattle.flt_tree.specs.declared.filter.Filter.{Filter};
 ghost use Rattle.flt_model.specs.Effects.{Step};

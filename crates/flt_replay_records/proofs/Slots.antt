@@ -1,5 +1,7 @@
 -- The slots of a lock's holders: what is left where one comes or is emptied, and who stands in the way.
-use Rattle.std.proofs.Common.{◌≡◌, ◌≢◌, ℕ, cond, is_some, zero, suc, ◌+◌, ◌<◌, Bool, true, false, not, ◌&&◌, ◌||◌, ◌==◌, if◌then◌else◌, List, [], ◌∷◌, ◌++◌, Option, Some, None, filter, length, take, ◌-◌, IsTrue, get_or, set, refl, sym, ap, subst, ⊎_elim, ◌∙◌, arith}
+use Rattle.std.proofs.Common.{◌≡◌, ◌≢◌, ℕ, cond, is_some, zero, suc, ◌+◌, ◌<◌, Bool, true, false, not, ◌&&◌}
+use Rattle.std.proofs.Common.{◌||◌, ◌==◌, if◌then◌else◌, List, [], ◌∷◌, ◌++◌, Option, Some, None, filter, length}
+use Rattle.std.proofs.Common.{take, ◌-◌, IsTrue, get_or, set, refl, sym, ap, subst, ⊎_elim, ◌∙◌, arith}
 use Rattle.std.proofs.lemmas.Bool.{cases_eq, cond-true, cond-false}
 use Rattle.std.proofs.lemmas.Bool.Decides.{nat_tests}
 use Rattle.std.proofs.lemmas.List.{append-nil, get_or_push}
@@ -13,7 +15,8 @@ use Rattle.flt_rules.specs.declared.held.Access.TheVariants.{Exclusive, Shared}
 use Rattle.flt_model.specs.Locks.{may_join, is_free_for}
 use Rattle.flt_model.specs.World.{Holder}
 use Rattle.flt_replay_records.proofs.Keys.{at_self, at_other}
-use Rattle.flt_replay_records.specs.Slots.{left, is_own, is_owned, is_slot_of, may_join_slot, how_many, no_other, IsOnly, ArePlaces, AreSlots}
+use Rattle.flt_replay_records.specs.Slots.{left, is_own, is_owned, is_slot_of, may_join_slot}
+use Rattle.flt_replay_records.specs.Slots.{how_many, no_other, IsOnly, ArePlaces, AreSlots}
 
 -- ---- what is left
 

@@ -1,5 +1,6 @@
 -- What counts that are kept in order say: of none that all count 0, and how often each key stands among them.
-use Rattle.std.proofs.Common.{◌≡◌, ◌≢◌, ⊎_elim, subst, ℕ, ◌+◌, ◌<◌, List, [], ◌∷◌, Option, Some, None, ap, sym, refl, ◌∙◌, arith, length, min}
+use Rattle.std.proofs.Common.{◌≡◌, ◌≢◌, ⊎_elim, subst, ℕ, ◌+◌, ◌<◌, List, [], ◌∷◌, Option}
+use Rattle.std.proofs.Common.{Some, None, ap, sym, refl, ◌∙◌, arith, length, min}
 use Rattle.std.proofs.lemmas.Bool.{cases_eq, cond-true, cond-false}
 use Rattle.std.proofs.lemmas.Bool.Decides.{nat_tests}
 use Rattle.std.proofs.lemmas.List.Sums.{sum_by-cons}

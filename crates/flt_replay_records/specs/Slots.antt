@@ -1,5 +1,6 @@
 -- What the slots of a lock's holders say, and the places of those that hold it.
-use Rattle.std.specs.Prelude.{◌≡◌, ℕ, ◌+◌, Bool, true, false, not, ◌&&◌, ◌||◌, ◌==◌, if◌then◌else◌, List, [], ◌∷◌, Option, Some, None, length, get_or}
+use Rattle.std.specs.Prelude.{◌≡◌, ℕ, ◌+◌, Bool, true, false, not, ◌&&◌, ◌||◌, ◌==◌, if◌then◌else◌}
+use Rattle.std.specs.Prelude.{List, [], ◌∷◌, Option, Some, None, length, get_or}
 use Rattle.std.specs.BTreeMap.{is_at}
 use Rattle.std.specs.List.{list_all}
 use Rattle.std.specs.Map.{lookup}

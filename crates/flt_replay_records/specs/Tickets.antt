@@ -1,5 +1,6 @@
 -- What the tickets of a queue's entries say of them.
-use Rattle.std.specs.Prelude.{◌≡◌, ℕ, ◌<◌, ◌≤◌, Bool, true, false, ◌==◌, if◌then◌else◌, nat_lt, MatchOption, List, [], ◌∷◌, ◌++◌, Option, Some, None, is_some, nat_eq, take, length, get_or}
+use Rattle.std.specs.Prelude.{◌≡◌, ℕ, ◌<◌, ◌≤◌, Bool, true, false, ◌==◌, if◌then◌else◌, nat_lt, MatchOption}
+use Rattle.std.specs.Prelude.{List, [], ◌∷◌, ◌++◌, Option, Some, None, is_some, nat_eq, take, length, get_or}
 use Rattle.std.specs.List.{list_any, before_first, after_first}
 use Rattle.flt_model.specs.Violations.{in_queue}
 use Rattle.flt_model.specs.World.{Entry}

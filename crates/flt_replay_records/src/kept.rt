@@ -1,7 +1,8 @@
 //! The state that an activation keeps beside its innermost blocks. Most use few variables, which are in place; the others allocate memory
 //! of their own, once.
 
-ghost use Rattle.std.specs.Prelude.{◌≡◌, ◌<◌, ◌++◌, ◌∷◌, [], true, false, None, length, get_or, set, remove, replicate, IfOk, IfSome, OnOk, MatchOption};
+ghost use Rattle.std.specs.Prelude.{◌≡◌, ◌<◌, ◌++◌, ◌∷◌, [], true, false, None, length, get_or};
+ghost use Rattle.std.specs.Prelude.{set, remove, replicate, IfOk, IfSome, OnOk, MatchOption};
 ghost use Rattle.flt_replay_records.specs.Kept.{contents, contents_of, few_alone, few_contexts, few_operations, IsAll};
 ghost use Rattle.flt_replay_records.specs.Behind.{parts, TurnsLast};
 ghost use Rattle.flt_replay_records.specs.declared.rest.Part.TheVariants.{Block, Repeat};

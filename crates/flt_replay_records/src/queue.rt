@@ -1,6 +1,7 @@
 //! A cancel-safe queue: an entry is taken out without a move of the others, and those of a visit are found without a search.
 
-ghost use Rattle.std.specs.Prelude.{◌≡◌, ◌≤◌, ◌<◌, ◌==◌, ℕ, true, false, if◌then◌else◌, [], ◌∷◌, ◌++◌, Some, None, is_some, find, map, take, length, get_or, OnOk, OnErr, IfOk, MatchOption, ◌↔◌, IsTrue};
+ghost use Rattle.std.specs.Prelude.{◌≡◌, ◌≤◌, ◌<◌, ◌==◌, ℕ, true, false, if◌then◌else◌, [], ◌∷◌, ◌++◌, Some, None, is_some};
+ghost use Rattle.std.specs.Prelude.{find, map, take, length, get_or, OnOk, OnErr, IfOk, MatchOption, ◌↔◌, IsTrue};
 ghost use Rattle.flt_model.specs.Violations.{in_queue};
 ghost use Rattle.flt_model.specs.World as machine;
 ghost use Rattle.flt_replay_records.specs.Counts.{count};

@@ -1,6 +1,7 @@
 //! Waiting entries, in queues and in work items, with counts of their visits.
 
-ghost use Rattle.std.specs.Prelude.{◌≡◌, ◌+◌, List, [], ◌∷◌, ◌++◌, length, get_or, set, sum_by, find, map, Some, None, OnOk, IfOk, MatchOption, ◌↔◌, IsTrue};
+ghost use Rattle.std.specs.Prelude.{◌≡◌, ◌+◌, List, [], ◌∷◌, ◌++◌, length, get_or, set, sum_by};
+ghost use Rattle.std.specs.Prelude.{find, map, Some, None, OnOk, IfOk, MatchOption, ◌↔◌, IsTrue};
 ghost use Rattle.flt_model.specs.Violations.{in_queue, in_item};
 ghost use Rattle.flt_model.specs.World as machine;
 ghost use Rattle.flt_replay_records.specs.Tickets.{is_of, without_first};

@@ -1,6 +1,7 @@
 //! The world of the monitor, and reads of it by number: an object that isn't there has ended, is settled and counts nothing.
 
-ghost use Rattle.std.specs.Prelude.{◌≡◌, ◌+◌, true, get_or, set, replicate, sum_by, find, filter, ◌==◌, is_some, length, Some, None, [], ◌∷◌, ◌++◌, OnOk, IfOk, MatchOption};
+ghost use Rattle.std.specs.Prelude.{◌≡◌, ◌+◌, true, get_or, set, replicate, sum_by, find, filter, ◌==◌};
+ghost use Rattle.std.specs.Prelude.{is_some, length, Some, None, [], ◌∷◌, ◌++◌, OnOk, IfOk, MatchOption};
 ghost use Rattle.flt_model.specs.Effects.{onward};
 ghost use Rattle.flt_model.specs.Locks as locks;
 ghost use Rattle.flt_model.specs.Moves as moves;

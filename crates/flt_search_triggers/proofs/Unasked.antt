@@ -1,5 +1,6 @@
 -- What no point starts no statement asks for: all other callbacks are a closed set.
-use Rattle.std.proofs.Common.{◌≡◌, ℕ, zero, suc, ◌+◌, ◌<◌, ◌≤◌, Bool, true, false, not, ◌||◌, cond, List, [], ◌∷◌, Option, Some, None, refl, sym, ap, subst, ◌∙◌, arith}
+use Rattle.std.proofs.Common.{◌≡◌, ℕ, zero, suc, ◌+◌, ◌<◌, ◌≤◌, Bool, true, false, not, ◌||◌, cond}
+use Rattle.std.proofs.Common.{List, [], ◌∷◌, Option, Some, None, refl, sym, ap, subst, ◌∙◌, arith}
 use Rattle.std.proofs.lemmas.Bool.{and_from, or_parts, eqb-true, eq-eqb, lt-ltb}
 use Rattle.std.proofs.lemmas.List.Sums.{passes_at_first, sum-map, sum_by-cons}
 use Rattle.std.proofs.lemmas.Option.{get_or_from_slice_get, slice_get-get_or}
@@ -43,9 +44,11 @@ use Rattle.flt_graph.specs.declared.instruction.Instruction.{Instruction}
 use Rattle.flt_graph.specs.declared.instruction.Invocation.{Invocation}
 use Rattle.flt_model.specs.Program.{is_canceled, body_of, place_for}
 use Rattle.flt_model.specs.Settling.{asks_for_frame, way_before}
-use Rattle.flt_starts.specs.Closed.{IsClosed, body_within, condition_within, fallible_within, number_for, plain_within, return_within, statement_within, status_within, step_within}
+use Rattle.flt_starts.specs.Closed.{IsClosed, body_within, condition_within, fallible_within, number_for, plain_within}
+use Rattle.flt_starts.specs.Closed.{return_within, statement_within, status_within, step_within}
 use Rattle.flt_starts.specs.Starts.{NeverStarts}
-use Rattle.flt_search_triggers.specs.Triggers.{is_calling_back, is_item_of, is_started, is_started_alone, is_started_by, is_started_by_status, is_started_in, is_started_to, is_started_within}
+use Rattle.flt_search_triggers.specs.Triggers.{is_calling_back, is_item_of, is_started, is_started_alone, is_started_by}
+use Rattle.flt_search_triggers.specs.Triggers.{is_started_by_status, is_started_in, is_started_to, is_started_within}
 
 -- ---- tests
 

@@ -1,5 +1,5 @@
-//! The part of a text on which a place depends: its callback, and the heads of the others. Words are tried and edits are judged on it, which takes
-//! a fraction of what the whole text takes.
+//! The part of a text on which a place depends: its callback, and the heads of the others. Words are tried and edits are judged on it,
+//! which takes a fraction of what the whole text takes.
 
 use flt_explain_details::tokens_of;
 use flt_server_outline::{Symbol, SymbolKind, mark_tokens, symbols_of};

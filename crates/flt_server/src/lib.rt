@@ -1,9 +1,9 @@
 //! A server of the Language Server Protocol for texts of filters: mistakes, and the facts and words of each place. The text of a C file is
-//! its annotations, and places are those of the C file. It exports `Server`, which answers the bodies of messages; `flt_server_frames` reads and
-//! writes them, and `flt_server_session` knows the protocol.
+//! its annotations, and places are those of the C file. It exports `Server`, which answers the bodies of messages; `flt_server_frames`
+//! reads and writes them, and `flt_server_session` knows the protocol.
 //!
-//! An answer is proved to be what `flt_server_session` says of it. The text of a result, as the words of a hover, is only tested. A `Reporter` of
-//! `flt_server_session` makes the reports that clients ask for.
+//! An answer is proved to be what `flt_server_session` says of it. The text of a result, as the words of a hover, is only tested. A
+//! `Reporter` of `flt_server_session` makes the reports that clients ask for.
 #![tactic(auto)]
 
 mod actions;

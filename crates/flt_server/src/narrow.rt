@@ -7,8 +7,8 @@ use flt_syntax::{Kind, Token};
 use sqlite_items::Items;
 use std::alloc::{AllocError, Global};
 
-/// How many statements a callback has at most whose statements are left out. A callback has at most 512 points, with its end: with more statements
-/// that limit may be why a word isn't legal.
+/// How many statements a callback has at most whose statements are left out. A callback has at most 512 points, with its end: with more
+/// statements that limit may be why a word isn't legal.
 const MAX_STATEMENTS: usize = 508;
 
 /// The bytes from one up to another.
@@ -200,8 +200,8 @@ fn marked_of(alloc: Global, text: &[u8]) -> Result<Items<Marked>, AllocError> {
     mark_tokens(alloc, tokens.as_slice())
 }
 
-/// A text at a place without statements that are over before it: all but the last two of each block that is open there. It is the same text if it
-/// has a `repeat` there or many statements, since limits might then be the fault.
+/// A text at a place without statements that are over before it: all but the last two of each block that is open there. It is the same text
+/// if it has a `repeat` there or many statements, since limits might then be the fault.
 pub(crate) fn narrow(alloc: Global, focus: &Focus, byte: usize) -> Result<Focus, AllocError> {
     let text = focus.text.as_slice();
     let tokens = marked_of(alloc, text)?;

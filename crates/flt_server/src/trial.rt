@@ -47,8 +47,8 @@ fn whole(alloc: Global, text: &[u8]) -> Result<Focus, AllocError> {
     })
 }
 
-/// The least part of a text that has its fault, at the same line and column: without the bodies of other callbacks, and without statements that
-/// are over before it; all of the text where they matter.
+/// The least part of a text that has its fault, at the same line and column: without the bodies of other callbacks, and without statements
+/// that are over before it; all of the text where they matter.
 pub(crate) fn trial_text(
     alloc: Global,
     text: &[u8],

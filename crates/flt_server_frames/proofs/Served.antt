@@ -1,12 +1,15 @@
 -- A server answers one frame after the other.
-use Rattle.std.proofs.Common.{◌≡◌, ◌≢◌, ◌+◌, ◌-◌, ◌^◌, ◌++◌, ◌∷◌, ◌∙◌, [], ℕ, List, Option, Some, None, Result, Ok, Err, IfErr, ap, sym, subst, refl, length}
+use Rattle.std.proofs.Common.{◌≡◌, ◌≢◌, ◌+◌, ◌-◌, ◌^◌, ◌++◌, ◌∷◌, ◌∙◌, [], ℕ, List, Option, Some}
+use Rattle.std.proofs.Common.{None, Result, Ok, Err, IfErr, ap, sym, subst, refl, length}
 use Rattle.std.proofs.KnownBytes.{Appends-nil, Appends-trans, Consumes-nil, Consumes-trans}
 use Rattle.std.proofs.lemmas.Grind.{flat_map-append}
 use Rattle.std.proofs.lemmas.List.{append_assoc, append-nil, length-append}
 use Rattle.std.specs.Io.KnownBytes.{Appends, Consumes}
 use Rattle.std.specs.List.{flat_map}
-use Rattle.flt_server_frames.specs.Frames.{AreFrames, Ending, Gives, IsFrame, ended, ends, ends_cut, ends_malformed, framed, front_of, whole}
-use Rattle.flt_server_frames.specs.Handling.{AreAnswers, EndWith, IsOver, IsServed, IsServedSoFar, Reply, full, messages_of, over, said, sent_for}
+use Rattle.flt_server_frames.specs.Frames.{AreFrames, Ending, Gives, IsFrame, ended, ends, ends_cut}
+use Rattle.flt_server_frames.specs.Frames.{ends_malformed, framed, front_of, whole}
+use Rattle.flt_server_frames.specs.Handling.{AreAnswers, EndWith, IsOver, IsServed, IsServedSoFar}
+use Rattle.flt_server_frames.specs.Handling.{Reply, full, messages_of, over, said, sent_for}
 use Rattle.flt_server_frames.specs.Line.{Text}
 use Rattle.flt_server_frames.specs.declared.fault.ServeFault.{ServeFault}
 use Rattle.flt_server_frames.specs.declared.fault.ServeFault.TheVariants as fault

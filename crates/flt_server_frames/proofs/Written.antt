@@ -1,5 +1,7 @@
 -- A frame that is written is read again, and a stream has one reading.
-use Rattle.std.proofs.Common.{◌≡◌, ◌≢◌, ◌<◌, ◌≤◌, ◌+◌, ◌-◌, ◌*◌, ◌/◌, ◌%◌, ◌^◌, ◌++◌, ◌∷◌, ◌∙◌, ◌⊎◌, inl, inr, [], ℕ, zero, suc, eqb, Bool, true, false, not, ◌&&◌, List, Option, Some, None, if◌then◌else◌, nat_lt, ap, sym, subst, refl, length, codes, arith}
+use Rattle.std.proofs.Common.{◌≡◌, ◌≢◌, ◌<◌, ◌≤◌, ◌+◌, ◌-◌, ◌*◌, ◌/◌, ◌%◌, ◌^◌, ◌++◌, ◌∷◌, ◌∙◌, ◌⊎◌, inl}
+use Rattle.std.proofs.Common.{inr, [], ℕ, zero, suc, eqb, Bool, true, false, not, ◌&&◌, List, Option, Some}
+use Rattle.std.proofs.Common.{None, if◌then◌else◌, nat_lt, ap, sym, subst, refl, length, codes, arith}
 use Rattle.std.proofs.Math.Seq.{get_or-append_seam, take-append_seam}
 use Rattle.std.proofs.lemmas.Bool.{and_from, and_parts, le-leb, le-ltb, lt-ltb, not-true, true≢false}
 use Rattle.std.proofs.lemmas.Bool.Decides.{eqb_tells}
@@ -9,7 +11,8 @@ use Rattle.std.specs.Char.{is_ascii_digit}
 use Rattle.std.specs.Fmt.{decimal}
 use Rattle.std.specs.List.{AllByRecursion, flat_map}
 use Rattle.flt_server_frames.proofs.Reading.{body_with}
-use Rattle.flt_server_frames.specs.Frames.{AreFrames, Ending, Front, body_of, cut, ended, ends, ends_cut, ends_malformed, framed, front_of, in_header, malformed, whole}
+use Rattle.flt_server_frames.specs.Frames.{AreFrames, Ending, Front, body_of, cut, ended, ends, ends_cut}
+use Rattle.flt_server_frames.specs.Frames.{ends_malformed, framed, front_of, in_header, malformed, whole}
 use Rattle.flt_server_frames.specs.Line.{Text, after_blanks, length_in, number_after, said_by, said_of_length, without_return}
 use Rattle.flt_server_frames.specs.declared.line.Said.TheVariants as said
 

@@ -1,7 +1,8 @@
 -- Frames of messages over a stream of bytes: a header, and the body. The base protocol of the Language Server Protocol.
 use Rattle.std.specs.Fmt.{decimal}
 use Rattle.std.specs.Io.KnownBytes.{Consumes, IsAtEnd}
-use Rattle.std.specs.Prelude.{◌≡◌, ℕ, zero, suc, ◌==◌, nat_lt, if◌then◌else◌, List, [], ◌∷◌, ◌++◌, codes, drop, length, take, Option, Some, None}
+use Rattle.std.specs.Prelude.{◌≡◌, ℕ, zero, suc, ◌==◌, nat_lt, if◌then◌else◌, List, []}
+use Rattle.std.specs.Prelude.{◌∷◌, ◌++◌, codes, drop, length, take, Option, Some, None}
 use Rattle.flt_server_frames.specs.Line.{Text, said_by}
 use Rattle.flt_server_frames.specs.declared.frame.Frame.{Frame}
 use Rattle.flt_server_frames.specs.declared.frame.Frame.TheVariants as frame

@@ -1,6 +1,7 @@
 -- What a line of a frame's header says. The base protocol of the Language Server Protocol.
 use Rattle.std.specs.Char.{is_ascii_digit, to_ascii_lowercase}
-use Rattle.std.specs.Prelude.{ℕ, ◌+◌, ◌-◌, ◌*◌, Bool, true, false, ◌||◌, ◌&&◌, ◌==◌, nat_lt, if◌then◌else◌, List, [], ◌∷◌, codes, length, slice_index, take, Option, Some, None}
+use Rattle.std.specs.Prelude.{ℕ, ◌+◌, ◌-◌, ◌*◌, Bool, true, false, ◌||◌, ◌&&◌, ◌==◌, nat_lt, if◌then◌else◌}
+use Rattle.std.specs.Prelude.{List, [], ◌∷◌, codes, length, slice_index, take, Option, Some, None}
 use Rattle.flt_server_frames.specs.declared.line.Said.{Said}
 use Rattle.flt_server_frames.specs.declared.line.Said.TheVariants as said
 

@@ -1,5 +1,6 @@
 -- Lines in a text, and bytes in a line.
-use Rattle.std.proofs.Common.{◌≡◌, ◌≢◌, ◌<◌, ◌≤◌, ◌+◌, ◌-◌, ◌==◌, ◌∷◌, [], ℕ, zero, suc, Bool, true, false, List, drop, get_or, length, if◌then◌else◌, add-one, drop-cons, ap, sym, ◌∙◌, refl, arith}
+use Rattle.std.proofs.Common.{◌≡◌, ◌≢◌, ◌<◌, ◌≤◌, ◌+◌, ◌-◌, ◌==◌, ◌∷◌, [], ℕ, zero, suc, Bool, true, false, List}
+use Rattle.std.proofs.Common.{drop, get_or, length, if◌then◌else◌, add-one, drop-cons, ap, sym, ◌∙◌, refl, arith}
 use Rattle.std.proofs.lemmas.List.{drop_all, length-drop}
 use Rattle.flt_server_outline.specs.Places.{left_after}
 use Rattle.flt_places.specs.Places.{first_line, rest_behind}

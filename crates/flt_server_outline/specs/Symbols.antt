@@ -1,5 +1,6 @@
 -- The symbols of a text.
-use Rattle.std.specs.Prelude.{ℕ, Bool, true, false, ◌&&◌, ◌==◌, if◌then◌else◌, nat_le, List, [], ◌∷◌, ◌++◌, Option, Some, None, option_to_list}
+use Rattle.std.specs.Prelude.{ℕ, Bool, true, false, ◌&&◌, ◌==◌, if◌then◌else◌, nat_le}
+use Rattle.std.specs.Prelude.{List, [], ◌∷◌, ◌++◌, Option, Some, None, option_to_list}
 use Rattle.flt_server_outline.specs.Blocks.{depth_after}
 use Rattle.flt_server_outline.specs.declared.roles.Marked.{Marked}
 use Rattle.flt_server_outline.specs.declared.roles.NameOf.TheVariants as name

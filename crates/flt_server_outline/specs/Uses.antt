@@ -1,5 +1,6 @@
 -- What a token names, and where else that is named.
-use Rattle.std.specs.Prelude.{ℕ, ◌-◌, ◌^◌, Bool, true, false, not, ◌&&◌, ◌||◌, ◌==◌, if◌then◌else◌, nat_le, nat_lt, List, [], ◌∷◌, Option, Some, None, find, option_and_then}
+use Rattle.std.specs.Prelude.{ℕ, ◌-◌, ◌^◌, Bool, true, false, not, ◌&&◌, ◌||◌, ◌==◌, if◌then◌else◌, nat_le}
+use Rattle.std.specs.Prelude.{nat_lt, List, [], ◌∷◌, Option, Some, None, find, option_and_then}
 use Rattle.std.specs.Str.{bytes_eq}
 use Rattle.flt_server_outline.specs.Blocks.{depth_after}
 use Rattle.flt_server_outline.specs.Symbols.{is_close_brace}

@@ -182,7 +182,8 @@ IsRead body (Some j) = IsUtf8 body × (document body ≡ Some j)
 IsRead body None = IsUtf8 body → document body ≡ None
 
 -- from the first session a body may be answered so, and the second is the session afterwards
-pub record IsAnswered (reports : List ℕ → List ℕ → List ℕ → Type 0) (old : Session) (body : List ℕ) (answer : handling.Reply) (new : Session) : Type 0 where
+pub record IsAnswered (reports : List ℕ → List ℕ → List ℕ → Type 0)
+    (old : Session) (body : List ℕ) (answer : handling.Reply) (new : Session) : Type 0 where
   pub read : Option Json
   pub is_read : IsRead body read
   pub response : IsResponse (of_body old read) answer.response

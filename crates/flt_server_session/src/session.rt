@@ -542,7 +542,8 @@ impl Session {
         params: Option<&Value<'_>>,
     ) -> Result<Answered, AllocError>
         requires ready { self.old.phase ≡ Ready }
-        ensures answers { IfOk result (spec.Answers (spec.of_asked self.old.documents id.now method.now (option_map (λ v. value_view v.now) params.entry)) None) }
+        ensures answers { IfOk result
+            (spec.Answers (spec.of_asked self.old.documents id.now method.now (option_map (λ v. value_view v.now) params.entry)) None) }
         ensures report { IfOk result (λ a. spec.IsReported R.reports (spec.report_of_request Ready self.old.documents id.now method.now
             (option_map (λ v. value_view v.now) params.entry)) (option_map (λ v. v.items) a.response)) }
         ensures phase { OnOk result (self.new.phase ≡ spec.after_request Ready method.now) }
@@ -569,8 +570,10 @@ impl Session {
         method: &str,
         params: Option<&Value<'_>>,
     ) -> Result<Answered, AllocError>
-        ensures answers { IfOk result (spec.Answers (spec.of_request self.old id.now method.now (option_map (λ v. value_view v.now) params.entry)) None) }
-        ensures report { IfOk result (λ a. spec.IsReported R.reports (spec.report_of_request self.old.phase self.old.documents id.now method.now
+        ensures answers { IfOk result
+            (spec.Answers (spec.of_request self.old id.now method.now (option_map (λ v. value_view v.now) params.entry)) None) }
+        ensures report { IfOk result
+            (λ a. spec.IsReported R.reports (spec.report_of_request self.old.phase self.old.documents id.now method.now
             (option_map (λ v. value_view v.now) params.entry)) (option_map (λ v. v.items) a.response)) }
         ensures phase { OnOk result (self.new.phase ≡ spec.after_request self.old.phase method.now) }
         ensures kept { OnErr result (self.new ≡ self.old) }
@@ -593,8 +596,12 @@ impl Session {
         params: Option<&Value<'_>>,
     ) -> Result<Answered, AllocError>
         requires numbers { HasNumbers (value_view id.now) }
-        ensures answers { IfOk result (spec.Answers (spec.of_request self.old (spec.id_text (value_view id.now)) method.now (option_map (λ v. value_view v.now) params.entry)) None) }
-        ensures report { IfOk result (λ a. spec.IsReported R.reports (spec.report_of_request self.old.phase self.old.documents (spec.id_text (value_view id.now)) method.now
+        ensures answers { IfOk result
+            (spec.Answers (spec.of_request self.old (spec.id_text (value_view id.now)) method.now
+            (option_map (λ v. value_view v.now) params.entry)) None) }
+        ensures report { IfOk result
+            (λ a. spec.IsReported R.reports
+            (spec.report_of_request self.old.phase self.old.documents (spec.id_text (value_view id.now)) method.now
             (option_map (λ v. value_view v.now) params.entry)) (option_map (λ v. v.items) a.response)) }
         ensures phase { OnOk result (self.new.phase ≡ spec.after_request self.old.phase method.now) }
         ensures kept { OnErr result (self.new ≡ self.old) }
@@ -614,7 +621,8 @@ impl Session {
         params: Option<&Value<'_>>,
     ) -> Result<Answered, AllocError>
         requires numbers { messages.IsWritable message }
-        ensures answers { IfOk result (spec.Answers (spec.of_message self.old (messages.view_of message.entry) (option_map (λ v. value_view v.now) params.entry))
+        ensures answers { IfOk result
+            (spec.Answers (spec.of_message self.old (messages.view_of message.entry) (option_map (λ v. value_view v.now) params.entry))
             (spec.end_of_message self.old.phase (messages.view_of message.entry))) }
         ensures report { IfOk result (λ a. spec.IsReported R.reports (spec.report_of_message self.old (messages.view_of message.entry)
             (option_map (λ v. value_view v.now) params.entry)) (option_map (λ v. v.items) a.response)) }

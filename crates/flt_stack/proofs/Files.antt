@@ -1,5 +1,6 @@
 -- Files that are read one by one: one more is read, or the first that can't be, or isn't accepted, has its fault.
-use Rattle.std.proofs.Common.{◌≡◌, ℕ, zero, suc, ◌+◌, ◌<◌, List, [], ◌∷◌, ◌++◌, length, get_or, map, min, take, Some, refl, ap, ◌∙◌, subst, arith}
+use Rattle.std.proofs.Common.{◌≡◌, ℕ, zero, suc, ◌+◌, ◌<◌, List, [], ◌∷◌, ◌++◌, length}
+use Rattle.std.proofs.Common.{get_or, map, min, take, Some, refl, ap, ◌∙◌, subst, arith}
 use Rattle.std.proofs.lemmas.List.{length-take, map_more, map_push, take-map, take-take}
 use Rattle.std.proofs.lemmas.Option.{slice_get-get_or, slice_get-map, slice_get_within}
 use Rattle.std.specs.List.{AllZip}
@@ -14,7 +15,8 @@ use Rattle.flt_cert.specs.declared.cert.Cert.{Cert}
 use Rattle.flt_check.specs.declared.checker.Refusal.{Refusal}
 use Rattle.flt_machine_frames.specs.Loading.{AreGraphsOfFilters}
 use Rattle.flt_model.specs.Program.{filters_of}
-use Rattle.flt_stack.specs.Loading.{File, IsAcceptedFile, AreAcceptedFiles, AreReadFiles, CannotRead, IsFirstFault, IsReadFile, StopsAt, StopsReading}
+use Rattle.flt_stack.specs.Loading.{File, IsAcceptedFile, AreAcceptedFiles, AreReadFiles, CannotRead}
+use Rattle.flt_stack.specs.Loading.{IsFirstFault, IsReadFile, StopsAt, StopsReading}
 use Rattle.flt_stack.specs.Lowered.{AreCertificates, AreCovered, IsFirstRefusal}
 use Rattle.flt_stack.specs.declared.fault.LoadFault.{LoadFault}
 use Rattle.flt_stack.specs.declared.fault.LoadFault.TheVariants as fault

@@ -1,5 +1,6 @@
 -- A file that is accepted isn't refused: its text spells one filter, which has one graph, and its bytes spell one certificate.
-use Rattle.std.proofs.Common.{◌≡◌, ℕ, ◌<◌, List, [], ◌∷◌, Result, Ok, Err, IfErr, inl, inr, length, get_or, refl, sym, ap, subst, ◌∙◌, arith}
+use Rattle.std.proofs.Common.{◌≡◌, ℕ, ◌<◌, List, [], ◌∷◌, Result, Ok, Err, IfErr, inl}
+use Rattle.std.proofs.Common.{inr, length, get_or, refl, sym, ap, subst, ◌∙◌, arith}
 use Rattle.std.proofs.lemmas.List.{length-append, get_or_append_left, get_or_at}
 use Rattle.std.proofs.lemmas.Option.{get_or_from_slice_get, slice_get_within}
 use Rattle.std.specs.Prelude.{IsTrue, MatchResult}

@@ -1,5 +1,5 @@
-//! How filters are loaded that are read and lowered already: each certificate is checked, and if all are accepted the filters are put in the
-//! order of their altitudes.
+//! How filters are loaded that are read and lowered already: each certificate is checked, and if all are accepted the filters are put in
+//! the order of their altitudes.
 
 ghost use Rattle.std.specs.Prelude.{◌≡◌, ◌↔◌, List, None, length, IfErr, IfOk, IfSome, IsTrue};
 ghost use Rattle.std.specs.List.{All};

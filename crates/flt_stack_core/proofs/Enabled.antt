@@ -1,5 +1,6 @@
 -- A move is enabled, or it isn't.
-use Rattle.std.proofs.Common.{rules, ◌≡◌, ◌<◌, ℕ, Bool, true, false, ◌&&◌, nat_lt, List, Option, Some, None, is_some, if◌then◌else◌, refl, ap, sym, ◌∙◌}
+use Rattle.std.proofs.Common.{rules, ◌≡◌, ◌<◌, ℕ, Bool, true, false, ◌&&◌, nat_lt, List, Option}
+use Rattle.std.proofs.Common.{Some, None, is_some, if◌then◌else◌, refl, ap, sym, ◌∙◌}
 use Rattle.std.specs.Prelude.{◌↔◌}
 use Rattle.flt_machine_frames.specs.Loading.{AreLoaded}
 use Rattle.flt_machine_frames.specs.declared.loaded.Loaded.{Loaded}

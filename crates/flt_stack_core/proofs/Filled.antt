@@ -114,7 +114,8 @@ module _ (l : Loaded) (b : Situation) (step : Move) (r : Result Events ApplyFaul
 -- the step after an advance leaves it full, too
 pub commit_full : (p : List Filter) (l : Loaded) (b later : Situation) (advanced : Advanced) (grant : Bool) (list : List Event)
     (r : Commit) (events : Events) (F B : Type 0) → r ≡ answer.Committed events → ((r ≡ answer.Stale) ↔ (F → ⊥)) →
-    ((r ≡ answer.Blocked) ↔ (F × B)) → ((r ≡ answer.Full) ↔ (F × ((B → ⊥) × (length b.entries ≡ max_entries)))) → AreLoaded p l → IsBoard p b →
+    ((r ≡ answer.Blocked) ↔ (F × B)) → ((r ≡ answer.Full) ↔ (F × ((B → ⊥) × (length b.entries ≡ max_entries)))) →
+    AreLoaded p l → IsBoard p b →
     Now l b (λ p m. Commits p b later advanced grant list m) → IsFull b.entries → IsFull later.entries
 commit_full p l b later advanced grant list r events F B made stale blocked full loaded own commits before =
     let committed = commits p loaded own.moment own.at in

@@ -1,11 +1,13 @@
 -- What a subject asks for is none of what callers ask for.
-use Rattle.std.proofs.Common.{◌≡◌, ℕ, Bool, true, false, List, [], ◌∷◌, Option, Some, None, if◌then◌else◌, IfSome, length, inl, inr, refl, sym, subst}
+use Rattle.std.proofs.Common.{◌≡◌, ℕ, Bool, true, false, List, [], ◌∷◌, Option, Some, None}
+use Rattle.std.proofs.Common.{if◌then◌else◌, IfSome, length, inl, inr, refl, sym, subst}
 use Rattle.flt_machine_dispatch.specs.Turns.{ComesAfterEntries, ComesAfterFrames, ComesNext, ComesNextIn, ComesNextOf, is_enabled, next_of}
 use Rattle.flt_machine.specs.Calls.{IsFullFor, is_arrival}
 use Rattle.flt_machine.specs.Situations.{Situation}
 use Rattle.flt_model.specs.World.{World, Entry}
 use Rattle.flt_model.specs.declared.moves.Move.{Move}
-use Rattle.flt_model.specs.declared.moves.Move.TheVariants.{Arrive, Pre, Skip, Lower, Post, Cancel, Canceled, Work, Detach, Drain, Unlink, Detached}
+use Rattle.flt_model.specs.declared.moves.Move.TheVariants.{Arrive, Pre, Skip, Lower, Post, Cancel, Canceled}
+use Rattle.flt_model.specs.declared.moves.Move.TheVariants.{Work, Detach, Drain, Unlink, Detached}
 use Rattle.flt_stack_core.specs.Turns.{IsFollowing}
 use Rattle.flt_tree.specs.declared.filter.Filter.{Filter}
 use Rattle.flt_rules.specs.Limits.{max_entries}

@@ -1,5 +1,6 @@
 -- What a turn does: the move of one subject. This project's own rule.
-use Rattle.std.specs.Prelude.{◌≡◌, ◌≤◌, ◌⊎◌, ◌^◌, ◌-◌, ℕ, ◌+◌, Bool, true, false, not, min, List, [], ◌∷◌, ◌++◌, option_map, Option, Some, None, is_some, length, if◌then◌else◌}
+use Rattle.std.specs.Prelude.{◌≡◌, ◌≤◌, ◌⊎◌, ◌^◌, ◌-◌, ℕ, ◌+◌, Bool, true, false, not, min, List, [], ◌∷◌}
+use Rattle.std.specs.Prelude.{◌++◌, option_map, Option, Some, None, is_some, length, if◌then◌else◌}
 use Rattle.std.specs.BTreeSet.{contains}
 use Rattle.std.specs.Ordering.{nat_cmp}
 use Rattle.flt_machine_dispatch.specs.Turns.{ComesNextOf, next_of}

@@ -1,5 +1,6 @@
 //! The core of a running stack, which its lock guards.
-ghost use Rattle.std.specs.Prelude.{◌≡◌, ◌↔◌, ◌⊎◌, ◌<◌, ◌+◌, ◌++◌, ◌∷◌, [], true, false, length, Err, Some, None, IfErr, IfOk, IfSome, IsTrue, OnOk, OnErr};
+ghost use Rattle.std.specs.Prelude.{◌≡◌, ◌↔◌, ◌⊎◌, ◌<◌, ◌+◌, ◌++◌, ◌∷◌, [], true, false, length};
+ghost use Rattle.std.specs.Prelude.{Err, Some, None, IfErr, IfOk, IfSome, IsTrue, OnOk, OnErr};
 ghost use Rattle.flt_stack_core.specs.Counting.{callers_in, is_callers_move, others_in};
 ghost use Rattle.flt_stack_receipts.specs.Bounds.{IsFull};
 ghost use Rattle.flt_stack_receipts.specs.Receipts.{receipt};
@@ -153,7 +154,8 @@ impl<N: StackName> Core<N> {
         requires mode { fits_mode operation mode ≡ true }
         requires file { file < 1024 }
         ensures serial { IfOk result (λ serial. serial ≡ length self.old.board.store.arrivals) }
-        ensures entry { OnOk result (self.new.board.entries ≡ self.old.board.entries ++ journal_entry.Move (moves.Arrive operation mode file) ∷ []) }
+        ensures entry { OnOk result
+            (self.new.board.entries ≡ self.old.board.entries ++ journal_entry.Move (moves.Arrive operation mode file) ∷ []) }
         ensures receipt { IfOk result (λ serial. receipts.new.list.items ≡ receipts.old.list.items
             ++ receipt (length self.old.board.entries) (moves.Arrive operation mode file) (Some serial) ∷ []) }
         ensures share { OnOk result (receipts.new.share.amount ≡ receipts.old.share.amount + 1) }
@@ -193,7 +195,8 @@ impl<N: StackName> Core<N> {
         ensures share { OnOk result (receipts.new.share.amount ≡ receipts.old.share.amount + 1) }
         ensures parts { receipts.new.share.parts ≡ receipts.old.share.parts }
         ensures fault { IfSome (spec.detach_fault N.trees self.old.board altitude) (λ fault. result ≡ Err fault) }
-        ensures memory { spec.detach_fault N.trees self.old.board altitude ≡ None → IfErr result (λ fault. fault ≡ detach_fault.OutOfMemory) }
+        ensures memory { spec.detach_fault N.trees self.old.board altitude ≡ None →
+            IfErr result (λ fault. fault ≡ detach_fault.OutOfMemory) }
         ensures choices { self.new.choices ≡ self.old.choices }
         ensures refused { OnErr result ((self.new ≡ self.old) × (receipts.new.list.items ≡ receipts.old.list.items)
             × (receipts.new.share.amount ≡ receipts.old.share.amount)) }
@@ -309,7 +312,8 @@ impl<N: StackName> Core<N> {
         requires others { is_callers_move step ≡ false }
         ensures made { IfOk result (λ events. Now loaded.now self.old.board (λ p m. Makes p self.new.board [] (Make step) events.list m)) }
         ensures entry { OnOk result (self.new.board.entries ≡ self.old.board.entries ++ journal_entry.Move step ∷ []) }
-        ensures next { IfOk result (λ events. events.next.items ≡ tickets.after_move loaded.now.altitudes self.old.board.store self.new.board.store
+        ensures next { IfOk result
+            (λ events. events.next.items ≡ tickets.after_move loaded.now.altitudes self.old.board.store self.new.board.store
             (length self.old.board.standings) (length self.new.board.standings)) }
         ensures share { OnOk result (mine.new.amount ≡ mine.old.amount + 1) }
         ensures parts { mine.new.parts ≡ mine.old.parts }

@@ -1,7 +1,8 @@
 //! One turn at a time, on a board of one thread.
 
 ghost use Rattle.std.specs.VecDeque.{deque_len, deque_capacity};
-ghost use Rattle.std.specs.Prelude.{◌≡◌, ◌≢◌, ◌↔◌, ◌≤◌, ◌+◌, ◌++◌, ◌∷◌, [], false, true, List, length, drop, Ok, Err, Some, IfSome, IfOk, OnErr, if◌then◌else◌};
+ghost use Rattle.std.specs.Prelude.{◌≡◌, ◌≢◌, ◌↔◌, ◌≤◌, ◌+◌, ◌++◌, ◌∷◌, [], false, true, List, length};
+ghost use Rattle.std.specs.Prelude.{drop, Ok, Err, Some, IfSome, IfOk, OnErr, if◌then◌else◌};
 ghost use Rattle.flt_machine_dispatch.specs.Decisions.{is_cancelling};
 ghost use Rattle.flt_machine.specs.Situations.{IsOwn, Now};
 ghost use Rattle.flt_stack_core.specs.Turns as spec;

@@ -1,5 +1,6 @@
 -- What is true of each element.
-use Rattle.std.proofs.Common.{◌≡◌, ℕ, ◌+◌, List, [], ◌∷◌, ◌++◌, All, Option, Some, length, map, option_to_list, sum_by, ap, refl, sym, arith, ◌∙◌}
+use Rattle.std.proofs.Common.{◌≡◌, ℕ, ◌+◌, List, [], ◌∷◌, ◌++◌, All, Option, Some, length}
+use Rattle.std.proofs.Common.{map, option_to_list, sum_by, ap, refl, sym, arith, ◌∙◌}
 use Rattle.std.proofs.lemmas.List.{length-map}
 use Rattle.std.proofs.lemmas.List.Elements.{All-head, All-map, All-pop, All-same, All-tail}
 use Rattle.std.proofs.lemmas.List.Sums.{sum_by-cons}

@@ -1,5 +1,6 @@
 -- Scripts: where a reader stands in a text, line by line, and what it finds there.
-use Rattle.std.proofs.Common.{◌≡◌, ◌≢◌, ◌+◌, ◌<◌, ◌≤◌, ℕ, true, false, List, [], ◌∷◌, ◌++◌, length, refl, sym, ap, arith, ◌∙◌, append_assoc, append-nil, length-append}
+use Rattle.std.proofs.Common.{◌≡◌, ◌≢◌, ◌+◌, ◌<◌, ◌≤◌, ℕ, true, false, List, [], ◌∷◌, ◌++◌, length}
+use Rattle.std.proofs.Common.{refl, sym, ap, arith, ◌∙◌, append_assoc, append-nil, length-append}
 use Rattle.std.specs.Prelude.{◌||◌, ◌==◌, Option, Some, None}
 use Rattle.std.specs.List.{list_all, list_any}
 use Rattle.std.proofs.lemmas.Bool.{and_parts, and_from, eqb-true}
@@ -8,7 +9,8 @@ use Rattle.std.proofs.lemmas.List.{nil_from_length}
 use Rattle.flt_tree.specs.declared.tree.Tree.{Tree}
 use Rattle.flt_model.specs.Program.{filters_of}
 use Rattle.flt_model.specs.Streams.{Text}
-use Rattle.flt_stack_prepare.specs.ScriptText.{Commands, Stack, is_command, is_loaded, may_follow, are_commands, is_script, command_line, spelling, IsFirstFault}
+use Rattle.flt_stack_prepare.specs.ScriptText.{Commands, Stack, is_command, is_loaded, may_follow, are_commands}
+use Rattle.flt_stack_prepare.specs.ScriptText.{is_script, command_line, spelling, IsFirstFault}
 use Rattle.flt_stack_prepare.specs.declared.command.Command.{Command}
 use Rattle.flt_stack_prepare.proofs.CommandLaws.{line_some}
 

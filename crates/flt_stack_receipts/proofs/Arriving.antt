@@ -1,5 +1,6 @@
 -- Operations arrive by their own moves alone: no other move, and no step of an activation, changes how many there are.
-use Rattle.std.proofs.Common.{◌≡◌, ℕ, zero, suc, ◌+◌, Bool, true, false, List, [], ◌∷◌, ◌++◌, length, Option, Some, None, refl, ap, sym, subst, ◌∙◌, arith}
+use Rattle.std.proofs.Common.{◌≡◌, ℕ, zero, suc, ◌+◌, Bool, true, false, List, [], ◌∷◌, ◌++◌}
+use Rattle.std.proofs.Common.{length, Option, Some, None, refl, ap, sym, subst, ◌∙◌, arith}
 use Rattle.std.proofs.Math.ListN.{set}
 use Rattle.std.proofs.lemmas.List.{length-append}
 use Rattle.std.proofs.lemmas.List.Sums.{sum_by-cons}
@@ -40,20 +41,28 @@ use Rattle.flt_model.specs.declared.event.Event.{Event}
 use Rattle.flt_model.specs.declared.moves.JournalEntry.{JournalEntry}
 use Rattle.flt_model.specs.declared.moves.JournalEntry.TheVariants as entry
 use Rattle.flt_model.specs.declared.moves.Move.{Move}
-use Rattle.flt_model.specs.declared.moves.Move.TheVariants.{Arrive, Pre, Skip, Lower, Post, Cancel, Canceled, Work, Detach, Drain, Unlink, Detached}
-use Rattle.flt_model.specs.Calls.{link_of, allocate, got, get_by, kept, set_there, cannot_set, set_by, unlinked, delete_by, deleted, referenced, released, taken, given_up, enqueued, insert_by, removed, defer_by, queue_by, completed, complete_by, complete_post_by}
+use Rattle.flt_model.specs.declared.moves.Move.TheVariants.{Arrive, Pre, Skip, Lower, Post, Cancel, Canceled}
+use Rattle.flt_model.specs.declared.moves.Move.TheVariants.{Work, Detach, Drain, Unlink, Detached}
+use Rattle.flt_model.specs.Calls.{link_of, allocate, got, get_by, kept, set_there, cannot_set, set_by, unlinked}
+use Rattle.flt_model.specs.Calls.{delete_by, deleted, referenced, released, taken, given_up, enqueued, insert_by}
+use Rattle.flt_model.specs.Calls.{removed, defer_by, queue_by, completed, complete_by, complete_post_by}
 use Rattle.flt_model.specs.Effects.{Step, after_unlink}
 use Rattle.flt_model.specs.Expansion.{expansion, expand}
 use Rattle.flt_model.specs.LocalSteps.{local_step}
-use Rattle.flt_model.specs.Moves.{calls_pre, pre_at, skip_at, lower_at, last_frame, pre_of, post_of, post_by, post_at, fits_mode, is_done, is_entry_of, canceled_by, work_of, work_by, is_frame_of, drain_by, unlink_by, is_drained, make}
+use Rattle.flt_model.specs.Moves.{calls_pre, pre_at, skip_at, lower_at, last_frame, pre_of, post_of, post_by, post_at, fits_mode, is_done}
+use Rattle.flt_model.specs.Moves.{is_entry_of, canceled_by, work_of, work_by, is_frame_of, drain_by, unlink_by, is_drained, make}
 use Rattle.flt_model.specs.Program.{callbacks_at, filter_of, routine_of}
-use Rattle.flt_model.specs.Reads.{put_value, read_value, write_value, read_file, test_irp, read_value_of, write_value_of, read_file_of, test_irp_of}
+use Rattle.flt_model.specs.Reads.{put_value, read_value, write_value, read_file, test_irp}
+use Rattle.flt_model.specs.Reads.{read_value_of, write_value_of, read_file_of, test_irp_of}
 use Rattle.flt_model.specs.Returns.{returned, returns}
 use Rattle.flt_model.specs.Runs.{Moment, after, next, run_from, start}
 use Rattle.flt_model.specs.Settling.{Way, way_of, is_led, lead, settles_visit, settled_by}
-use Rattle.flt_model.specs.Steps.{Transition, Make, Local, Board, may_go, act_step, plain_step, fallible_step, test_step, if_step, statement_step, list_step, board, moved_on, local}
+use Rattle.flt_model.specs.Steps.{Transition, Make, Local, Board, may_go, act_step, plain_step, fallible_step}
+use Rattle.flt_model.specs.Steps.{test_step, if_step, statement_step, list_step, board, moved_on, local}
 use Rattle.flt_model.specs.Variables.{context_in, operation_in, named_in, atom_value}
-use Rattle.flt_model.specs.World.{World, Store, Activation, Arrival, Entry, Frame, Item, Link, Position, Down, Visiting, Up, Route, activation_at, actor_at, arrival_at, arrival_of, context_at, is_attached, is_detaching, is_freed, item_at, linked_at, presence_at, queue_at, route_at}
+use Rattle.flt_model.specs.World.{World, Store, Activation, Arrival, Entry, Frame, Item, Link, Position, Down, Visiting}
+use Rattle.flt_model.specs.World.{Up, Route, activation_at, actor_at, arrival_at, arrival_of, context_at, is_attached}
+use Rattle.flt_model.specs.World.{is_detaching, is_freed, item_at, linked_at, presence_at, queue_at, route_at}
 use Rattle.flt_stack_receipts.specs.Receipts.{is_arrival}
 
 -- ---- stores that have the same operations

@@ -1,6 +1,7 @@
 //! The part of a caller's call that holds the lock. It puts the tickets first, so that a call that is refused adds nothing; a worker that
 //! takes one can make no move before the lock is free.
-ghost use Rattle.std.specs.Prelude.{◌≡◌, ◌≢◌, ◌≤◌, ◌⊎◌, ◌↔◌, ◌+◌, ◌<◌, ◌++◌, ◌∷◌, [], false, true, List, length, is_some, Err, IfErr, IfOk, IfSome, None, OnErr, OnOk, Some};
+ghost use Rattle.std.specs.Prelude.{◌≡◌, ◌≢◌, ◌≤◌, ◌⊎◌, ◌↔◌, ◌+◌, ◌<◌, ◌++◌, ◌∷◌, [], false, true, List};
+ghost use Rattle.std.specs.Prelude.{length, is_some, Err, IfErr, IfOk, IfSome, None, OnErr, OnOk, Some};
 ghost use Rattle.std.specs.BTreeSet.{insert_key};
 ghost use Rattle.std.specs.Ordering.{nat_cmp};
 ghost use Rattle.flt_stack_receipts.specs.Receipts.{receipt};

@@ -5,7 +5,8 @@ ghost use Rattle.flt_cancel.specs.Steps.{words_after, IsNext, WasAsked};
 ghost use Rattle.flt_cancel.specs.declared.step.Step.TheVariants.{Ask, Collect};
 ghost use Rattle.flt_pool.specs.Hands.{having_put};
 ghost use Rattle.flt_pool.specs.Seats.{IsTakenOf};
-ghost use Rattle.flt_stack_threads.specs.Places.{asked_by, collected_by, hands_by, marked_by, marks_by, other_deques, own_deque, put_by, IsCallerOf, IsFreshCaller, IsFreshWorker, IsWorkerOf, LeadsToOthers};
+ghost use Rattle.flt_stack_threads.specs.Places.{asked_by, collected_by, hands_by, marked_by, marks_by, other_deques, own_deque};
+ghost use Rattle.flt_stack_threads.specs.Places.{put_by, IsCallerOf, IsFreshCaller, IsFreshWorker, IsWorkerOf, LeadsToOthers};
 ghost use Rattle.flt_rules.specs.Limits.{max_operations};
 
 use crate::joining::{caller_places, worker_places};

@@ -4,8 +4,8 @@
 //! calls that succeeded. A worker has a seat too. Whenever the lock is free the board's journal is a run of the machine on the loaded
 //! filters that breaks nothing. The journal that the end returns is one too.
 //!
-//! Callers and workers meet at an `exchange` of tickets and of requests to cancel an operation. A caller puts tickets and asks for cancels; a
-//! worker takes tickets, pushes those that its own moves name, and collects the requests. Each has one of the `places` at the exchange,
+//! Callers and workers meet at an `exchange` of tickets and of requests to cancel an operation. A caller puts tickets and asks for cancels;
+//! a worker takes tickets, pushes those that its own moves name, and collects the requests. Each has one of the `places` at the exchange,
 //! which records in contracts the tickets and requests that went through it. Whatever the threads do, no ticket is taken twice, no request
 //! is lost, and none of either is invented.
 #![tactic(auto)]

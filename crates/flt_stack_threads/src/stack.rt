@@ -1,5 +1,6 @@
 //! The stack, and the calls on it.
-ghost use Rattle.std.specs.Prelude.{◌≡◌, ◌≢◌, ◌↔◌, ◌⊎◌, ◌+◌, ◌<◌, ◌≤◌, ◌++◌, ◌∷◌, [], ℕ, true, false, All, Err, IfErr, IfOk, IsPermutation, IsTrue, List, MatchResult, OnErr, OnOk, length, map, sum_by};
+ghost use Rattle.std.specs.Prelude.{◌≡◌, ◌≢◌, ◌↔◌, ◌⊎◌, ◌+◌, ◌<◌, ◌≤◌, ◌++◌, ◌∷◌, [], ℕ, true, false, All, Err, IfErr};
+ghost use Rattle.std.specs.Prelude.{IfOk, IsPermutation, IsTrue, List, MatchResult, OnErr, OnOk, length, map, sum_by};
 ghost use Rattle.flt_cancel.specs.Serials.{IsPresent};
 ghost use Rattle.flt_cancel.specs.Steps.{IsNext, words_after};
 ghost use Rattle.flt_cancel.specs.declared.step.Step.TheVariants.{Ask};

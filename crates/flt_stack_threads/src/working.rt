@@ -131,8 +131,8 @@ impl<N: StackName> Stack<N> {
         seat.waiting.finish_turn(&mut seat.place, ticket, outcome)
     }
 
-    /// Makes the move that a ticket asks for, which is chosen and made in one hold of the lock; or the steps of an activation. An activation
-    /// is taken from the board in one hold of the lock, and comes back in another; between them it makes its local steps.
+    /// Makes the move that a ticket asks for, which is chosen and made in one hold of the lock; or the steps of an activation. An
+    /// activation is taken from the board in one hold of the lock, and comes back in another; between them it makes its local steps.
     fn turn<R: Wait, G: Gate>(
         &self,
         rt: &R,

@@ -10,11 +10,13 @@ use Rattle.flt_model.specs.declared.event.Event.{Event}
 use Rattle.flt_model.specs.declared.moves.Move.{Move}
 use Rattle.flt_model.specs.declared.moves.Move.TheVariants as move
 use Rattle.flt_model.specs.Effects.{Step}
-use Rattle.flt_model.specs.Moves.{calls_pre, pre_at, skip_at, lower_at, last_frame, pre_of, post_of, post_by, post_at, fits_mode, is_done, is_entry_of, canceled_by, work_of, work_by, is_frame_of, drain_by, unlink_by, is_drained, make}
+use Rattle.flt_model.specs.Moves.{calls_pre, pre_at, skip_at, lower_at, last_frame, pre_of, post_of, post_by, post_at, fits_mode, is_done}
+use Rattle.flt_model.specs.Moves.{is_entry_of, canceled_by, work_of, work_by, is_frame_of, drain_by, unlink_by, is_drained, make}
 use Rattle.flt_model.specs.Program.{callbacks_at, filter_of, is_canceled}
 use Rattle.flt_model.specs.Runs.{Moment, next}
 use Rattle.flt_model.specs.Steps.{Transition, Make, Local, Board, board, local}
-use Rattle.flt_model.specs.World.{World, Activation, Entry, Frame, Item, Position, Down, Visiting, Up, Route, arrival_at, is_attached, is_detaching, item_at, linked_at, presence_at, queue_at, route_at}
+use Rattle.flt_model.specs.World.{World, Activation, Entry, Frame, Item, Position, Down, Visiting, Up, Route, arrival_at}
+use Rattle.flt_model.specs.World.{is_attached, is_detaching, item_at, linked_at, presence_at, queue_at, route_at}
 use Rattle.flt_starts.specs.Starts.{Callee, Starts, callee, pre_callee, post_callee, item_callee, started_by, starts_callback}
 use Rattle.flt_starts.proofs.Found.{body_found}
 

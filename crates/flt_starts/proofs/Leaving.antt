@@ -1,5 +1,6 @@
 -- Each call, read, test and return keeps a world as it has to stay, where all that its statement asks for may start.
-use Rattle.std.proofs.Common.{◌≡◌, ◌≢◌, ◌⊎◌, ℕ, Bool, true, false, List, [], ◌∷◌, ◌++◌, Option, Some, None, IfSome, inl, inr, refl, sym, subst, ◌∙◌, arith}
+use Rattle.std.proofs.Common.{◌≡◌, ◌≢◌, ◌⊎◌, ℕ, Bool, true, false, List, [], ◌∷◌, ◌++◌, Option}
+use Rattle.std.proofs.Common.{Some, None, IfSome, inl, inr, refl, sym, subst, ◌∙◌, arith}
 use Rattle.std.proofs.Math.ListN.{get_or, set}
 use Rattle.std.proofs.lemmas.List.{get_or-set_other, length-set}
 use Rattle.std.proofs.lemmas.List.Elements.{All-head, All-rest}
@@ -37,7 +38,9 @@ use Rattle.flt_tree.specs.declared.variable.RemovedVariable.{RemovedVariable}
 use Rattle.flt_tree.specs.declared.variable.RemovedVariable.TheVariants.{O0, O1, O2, O3}
 use Rattle.flt_model.specs.declared.event.Answer.TheVariants.{Returned, CompletesPre, CompletesPost}
 use Rattle.flt_model.specs.declared.event.Event.{Event}
-use Rattle.flt_model.specs.Calls.{link_of, allocate, got, get_by, kept, set_there, cannot_set, set_by, unlinked, delete_by, deleted, referenced, released, taken, given_up, enqueued, insert_by, removed, defer_by, queue_by, completed, complete_by, complete_post_by}
+use Rattle.flt_model.specs.Calls.{link_of, allocate, got, get_by, kept, set_there, cannot_set, set_by, unlinked}
+use Rattle.flt_model.specs.Calls.{delete_by, deleted, referenced, released, taken, given_up, enqueued, insert_by}
+use Rattle.flt_model.specs.Calls.{removed, defer_by, queue_by, completed, complete_by, complete_post_by}
 use Rattle.flt_model.specs.Effects.{Step, onward}
 use Rattle.flt_model.specs.Program.{callbacks_at, place_at, routine_of}
 use Rattle.flt_model.specs.Reads.{read_value_of, write_value_of, put_value, read_file_of, test_irp_of}
@@ -45,7 +48,8 @@ use Rattle.flt_model.specs.Returns.{there, returned, returns}
 use Rattle.flt_model.specs.Settling.{way_of}
 use Rattle.flt_model.specs.Steps.{plain_step, fallible_step}
 use Rattle.flt_model.specs.Variables.{context_in, operation_in, named_in, with_old, atom_value}
-use Rattle.flt_model.specs.World.{World, Store, Activation, Actor, Entry, Link, activation_at, actor_at, arrival_of, context_at, is_attached, is_freed, linked_at, nobody, presence_at, queue_at, visit_at}
+use Rattle.flt_model.specs.World.{World, Store, Activation, Actor, Entry, Link, activation_at, actor_at, arrival_of, context_at}
+use Rattle.flt_model.specs.World.{is_attached, is_freed, linked_at, nobody, presence_at, queue_at, visit_at}
 use Rattle.flt_starts.specs.Closed.{canceled_number, body_within, status_within, return_within, plain_within, fallible_within}
 use Rattle.flt_starts.proofs.Found.{routine_elsewhere}
 use Rattle.flt_starts.proofs.Kept.{Setting, callbacks, Owns, Fits, Waits, Runs, RunsIn, Kept}

@@ -1,5 +1,6 @@
 -- Each move keeps a world as it has to stay: a callback that starts is one that may, and is given a visit of its own filter.
-use Rattle.std.proofs.Common.{◌≡◌, ◌<◌, ◌≤◌, ◌⊎◌, ℕ, zero, suc, ◌+◌, Bool, true, false, List, [], ◌∷◌, ◌++◌, length, Option, Some, None, IfSome, inl, inr, refl, sym, ap, subst, arith}
+use Rattle.std.proofs.Common.{◌≡◌, ◌<◌, ◌≤◌, ◌⊎◌, ℕ, zero, suc, ◌+◌, Bool, true, false, List, [], ◌∷◌, ◌++◌}
+use Rattle.std.proofs.Common.{length, Option, Some, None, IfSome, inl, inr, refl, sym, ap, subst, arith}
 use Rattle.std.proofs.Math.ListN.{get_or, set}
 use Rattle.std.proofs.Math.Seq.{get_or-append_seam}
 use Rattle.std.proofs.lemmas.Bool.{and_parts, cases_lt}
@@ -20,15 +21,21 @@ use Rattle.flt_tree.specs.declared.filter.Head.TheVariants as head
 use Rattle.flt_tree.specs.declared.filter.Statement.{Statement}
 use Rattle.flt_model.specs.declared.event.Event.{Event}
 use Rattle.flt_model.specs.declared.moves.Move.{Move}
-use Rattle.flt_model.specs.declared.moves.Move.TheVariants.{Arrive, Pre, Skip, Lower, Post, Cancel, Canceled, Work, Detach, Drain, Unlink, Detached}
+use Rattle.flt_model.specs.declared.moves.Move.TheVariants.{Arrive, Pre, Skip, Lower, Post, Cancel, Canceled}
+use Rattle.flt_model.specs.declared.moves.Move.TheVariants.{Work, Detach, Drain, Unlink, Detached}
 use Rattle.flt_model.specs.Effects.{Step}
-use Rattle.flt_model.specs.Moves.{calls_pre, pre_at, skip_at, lower_at, last_frame, without_last, pre_of, post_of, post_by, post_at, fits_mode, is_done, is_entry_of, other_entries, canceled_by, work_of, work_by, is_frame_of, other_frames, drain_by, unlink_by, is_drained, with_arrival, with_visit, make}
+use Rattle.flt_model.specs.Moves.{calls_pre, pre_at, skip_at, lower_at, last_frame, without_last, pre_of, post_of, post_by}
+use Rattle.flt_model.specs.Moves.{post_at, fits_mode, is_done, is_entry_of, other_entries, canceled_by, work_of, work_by, is_frame_of}
+use Rattle.flt_model.specs.Moves.{other_frames, drain_by, unlink_by, is_drained, with_arrival, with_visit, make}
 use Rattle.flt_model.specs.Program.{callbacks_at, filter_of, is_canceled, body_for, body_at, place_at}
 use Rattle.flt_model.specs.Variables.{starting}
-use Rattle.flt_model.specs.World.{World, Store, Activation, Actor, Arrival, Entry, Frame, Item, Position, Down, Visiting, Up, Presence, Route, Visit, activation_at, actor_at, arrival_at, is_attached, is_detaching, item_at, linked_at, no_actor, no_arrival, no_route, no_visit, nobody, presence_at, queue_at, route_at}
+use Rattle.flt_model.specs.World.{World, Store, Activation, Actor, Arrival, Entry, Frame, Item, Position, Down, Visiting, Up, Presence}
+use Rattle.flt_model.specs.World.{Route, Visit, activation_at, actor_at, arrival_at, is_attached, is_detaching, item_at, linked_at}
+use Rattle.flt_model.specs.World.{no_actor, no_arrival, no_route, no_visit, nobody, presence_at, queue_at, route_at}
 use Rattle.flt_starts.specs.Closed.{number_for, pre_number, body_within}
 use Rattle.flt_starts.proofs.Found.{found_within}
-use Rattle.flt_starts.proofs.Kept.{Setting, callbacks, Owns, Fits, fits_elsewhere, owns_later, fits_later, Waits, Queued, Runs, Framed, AreFramed, Holds, Kept}
+use Rattle.flt_starts.proofs.Kept.{Setting, callbacks, Owns, Fits, fits_elsewhere, owns_later, fits_later}
+use Rattle.flt_starts.proofs.Kept.{Waits, Queued, Runs, Framed, AreFramed, Holds, Kept}
 use Rattle.flt_starts.proofs.Lists.{Grows, stays, pushed, push_both, find_all, last_all, without_last_all}
 use Rattle.flt_starts.proofs.Stores.{route_still, queue_still, started_still}
 

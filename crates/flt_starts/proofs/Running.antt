@@ -1,5 +1,6 @@
 -- Every run keeps a world as it has to stay, and there no callback starts but one that may.
-use Rattle.std.proofs.Common.{◌≡◌, ℕ, zero, suc, Bool, true, false, List, [], ◌∷◌, length, Option, Some, None, IfSome, refl, sym, ap, subst, ◌∙◌}
+use Rattle.std.proofs.Common.{◌≡◌, ℕ, zero, suc, Bool, true, false, List, [], ◌∷◌, length}
+use Rattle.std.proofs.Common.{Option, Some, None, IfSome, refl, sym, ap, subst, ◌∙◌}
 use Rattle.std.proofs.Math.ListN.{get_or}
 use Rattle.std.proofs.lemmas.List.Elements.{All-nil}
 use Rattle.std.specs.List.{All}
@@ -16,7 +17,8 @@ use Rattle.flt_model.specs.Moves.{calls_pre, pre_at, last_frame, pre_of, is_fram
 use Rattle.flt_model.specs.Program.{callbacks_at, filter_of, is_canceled}
 use Rattle.flt_model.specs.Runs.{Moment, start, after, next, run, run_from}
 use Rattle.flt_model.specs.Steps.{Transition, Make, Local, Board}
-use Rattle.flt_model.specs.World.{World, Entry, Frame, Item, Position, Down, Visiting, Up, arrival_at, is_detaching, item_at, no_arrival, opening, presence_at, queue_at, route_at}
+use Rattle.flt_model.specs.World.{World, Entry, Frame, Item, Position, Down, Visiting, Up, arrival_at, is_detaching}
+use Rattle.flt_model.specs.World.{item_at, no_arrival, opening, presence_at, queue_at, route_at}
 use Rattle.flt_starts.specs.Closed.{IsClosed, number_for}
 use Rattle.flt_starts.specs.Starts.{Callee, callee, pre_callee, post_callee, item_callee, started_by, starts_callback, NeverStarts}
 use Rattle.flt_starts.proofs.Kept.{Setting, callbacks, Waits, Queued, Framed, Kept}

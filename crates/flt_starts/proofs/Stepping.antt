@@ -16,13 +16,15 @@ use Rattle.flt_model.specs.Effects.{Step}
 use Rattle.flt_model.specs.LocalSteps.{after_action, holds_condition, after_statement, local_step, goes_on_to}
 use Rattle.flt_model.specs.Reads.{read_value, write_value, read_file, test_irp}
 use Rattle.flt_model.specs.Returns.{returns}
-use Rattle.flt_model.specs.Steps.{may_go, act_step, plain_step, fallible_step, test_step, if_step, statement_step, list_step, board, moved_on, local}
+use Rattle.flt_model.specs.Steps.{may_go, act_step, plain_step, fallible_step, test_step, if_step}
+use Rattle.flt_model.specs.Steps.{statement_step, list_step, board, moved_on, local}
 use Rattle.flt_model.specs.Variables.{context_in, operation_in}
 use Rattle.flt_model.specs.World.{World, Activation, Actor, activation_at, actor_at}
 use Rattle.flt_starts.specs.Closed.{condition_within, step_within, statement_within, body_within}
 use Rattle.flt_starts.proofs.Bodies.{first_within, rest_within, append_within, layer_within, choice_within, turns_within}
 use Rattle.flt_starts.proofs.Kept.{Setting, callbacks, Runs, Kept}
-use Rattle.flt_starts.proofs.Leaving.{Left, goes, on, removed_on, plain_to, value_read, value_written, file_read, irp_tested, fallible_to, returns_to}
+use Rattle.flt_starts.proofs.Leaving.{Left, goes, on, removed_on, plain_to, value_read, value_written}
+use Rattle.flt_starts.proofs.Leaving.{file_read, irp_tested, fallible_to, returns_to}
 use Rattle.flt_starts.proofs.Stores.{end_within, still}
 
 module _ (q : Setting) (w : World) (k : Kept q w) (a : ℕ) where

@@ -17,8 +17,10 @@ use Rattle.flt_tree.specs.declared.filter.Callback.{Callback}
 use Rattle.flt_tree.specs.declared.filter.Status.{Status}
 use Rattle.flt_tree.specs.declared.filter.Status.TheVariants as status
 use Rattle.flt_model.specs.Program.{callbacks_at}
-use Rattle.flt_model.specs.Settling.{Way, Passes, Frames, Ends, Rises, Stays, way_before, way_after, way_by, asks_for_frame, settles_visit, led, is_led, lead, settled_by}
-use Rattle.flt_model.specs.World.{Store, Arrival, Entry, Item, Route, arrival_at, arrival_of, no_route, queue_at, route_at, visit_at, with_queue, with_route}
+use Rattle.flt_model.specs.Settling.{Way, Passes, Frames, Ends, Rises, Stays, way_before, way_after, way_by}
+use Rattle.flt_model.specs.Settling.{asks_for_frame, settles_visit, led, is_led, lead, settled_by}
+use Rattle.flt_model.specs.World.{Store, Arrival, Entry, Item, Route, arrival_at, arrival_of, no_route}
+use Rattle.flt_model.specs.World.{queue_at, route_at, visit_at, with_queue, with_route}
 use Rattle.flt_starts.specs.Closed.{post_number, status_within, return_within}
 use Rattle.flt_starts.proofs.Kept.{Setting, callbacks, Framed, AreFramed, Waits, Queued, Holds}
 use Rattle.flt_starts.proofs.Lists.{set_keeps, push_keeps}

@@ -25,16 +25,22 @@ use Rattle.flt_syntax.specs.Words as words
 use Rattle.flt_syntax.specs.CallGrammar as g
 use Rattle.flt_syntax.specs.CallGrammar.{StatusAt, OptionalStatusAt, RoutineAt, LockAt, FallibleAt, PlainAt}
 use Rattle.flt_syntax.specs.Words.{Next, Meant, ContextAt, OptionalAt}
-use Rattle.flt_syntax.specs.Operand.{context_variable, removed_variable, removed_variable_of, operation_variable, operation_variable_of, same_context, other_context, with_context}
+use Rattle.flt_syntax.specs.Operand.{context_variable, removed_variable, removed_variable_of, operation_variable}
+use Rattle.flt_syntax.specs.Operand.{operation_variable_of, same_context, other_context, with_context}
 use Rattle.flt_syntax.specs.Scope.{Scope, lock_named, routine}
 use Rattle.flt_syntax.specs.Shape.{lock_kind}
-use Rattle.flt_syntax.specs.Status.{final_status_of, final_status, bare_status_of, bare_status, status_by, status, has_more, begins_status, optional_status}
-use Rattle.flt_syntax.specs.Call.{existing_of, existing, old, other_old, obtain_context, set_context, delete_context_of, insert_io, remove_next_io, queue_by, queue_call, queue_deferred, queue_generic, fallible_by, fallible_call, end_context, reference_context, lock_call, complete_pre, complete_post, plain_by, plain_call, fallible_shape_of, plain_shape_of}
+use Rattle.flt_syntax.specs.Status.{final_status_of, final_status, bare_status_of, bare_status}
+use Rattle.flt_syntax.specs.Status.{status_by, status, has_more, begins_status, optional_status}
+use Rattle.flt_syntax.specs.Call.{existing_of, existing, old, other_old, obtain_context, set_context, delete_context_of}
+use Rattle.flt_syntax.specs.Call.{insert_io, remove_next_io, queue_by, queue_call, queue_deferred, queue_generic, fallible_by}
+use Rattle.flt_syntax.specs.Call.{fallible_call, end_context, reference_context, lock_call, complete_pre, complete_post}
+use Rattle.flt_syntax.specs.Call.{plain_by, plain_call, fallible_shape_of, plain_shape_of}
 use Rattle.flt_syntax.specs.Cursor.{Input, kind, refusal, refuse, unknown, expect, name, given}
 use Rattle.flt_syntax.proofs.TokenKinds.{none_some, not_seen}
 use Rattle.flt_syntax.specs.FirstWords.{begins_fallible, begins_plain}
 use Rattle.flt_syntax.specs.Over.{OptionalOver, StatusOver, OptionalStatusOver, FallibleOver, PlainOver}
-use Rattle.flt_syntax.proofs.Complete.{then_again, kind_is, rest_is, left_is, means, some_of, expect_again, eat_again, eat_none, known_again, context_again, spelled_again, next_less, meant_less, name_less, optional_less}
+use Rattle.flt_syntax.proofs.Complete.{then_again, kind_is, rest_is, left_is, means, some_of, expect_again, eat_again, eat_none}
+use Rattle.flt_syntax.proofs.Complete.{known_again, context_again, spelled_again, next_less, meant_less, name_less, optional_less}
 
 -- ---- variables
 

@@ -1,5 +1,6 @@
 -- What is spelled is read: heads, callbacks and whole texts.
-use Rattle.std.proofs.Common.{◌≡◌, ◌≢◌, ℕ, zero, suc, ◌+◌, ◌≤◌, ◌<◌, Bool, true, false, not, List, [], ◌∷◌, ◌++◌, length, length-append, Ok, refl, ap, ◌∙◌, append_assoc, arith}
+use Rattle.std.proofs.Common.{◌≡◌, ◌≢◌, ℕ, zero, suc, ◌+◌, ◌≤◌, ◌<◌, Bool, true, false, not, List, []}
+use Rattle.std.proofs.Common.{◌∷◌, ◌++◌, length, length-append, Ok, refl, ap, ◌∙◌, append_assoc, arith}
 use Rattle.std.specs.Prelude.{Option, Some, None, IsTrue, ◌&&◌}
 use Rattle.std.specs.List.{list_all}
 use Rattle.std.proofs.lemmas.Bool.{lt-ltb, le-ltb}
@@ -18,20 +19,24 @@ use Rattle.flt_tree.specs.Names.{Text}
 use Rattle.flt_syntax.specs.Lex.{same_kind, tokens}
 use Rattle.flt_syntax.specs.Grammar as g
 use Rattle.flt_syntax.specs.Grammar.{HeadAt, CallbackAt, CallbacksAt, LocksAt, QueueAt, FileAt}
-use Rattle.flt_tree.specs.Declarations.{AreNewLocks, is_declared, AreNewCallbacks, AreWhole, IsServed, has_event, has_routine, lacks_pre, has_lock}
+use Rattle.flt_tree.specs.Declarations.{AreNewLocks, is_declared, AreNewCallbacks, AreWhole}
+use Rattle.flt_tree.specs.Declarations.{IsServed, has_event, has_routine, lacks_pre, has_lock}
 use Rattle.flt_syntax.specs.Spelling.{Spells}
 use Rattle.flt_syntax.specs.Words.{Next, Meant, NameAt}
 use Rattle.flt_syntax.specs.Scope.{Scope}
 use Rattle.flt_tree.specs.Measures.{is_small, are_small}
 use Rattle.flt_rules.specs.Limits.{max_callbacks, max_altitude, max_locks}
-use Rattle.flt_syntax.specs.Head.{operation_of, operation, event_by, event, new_event, new_name, new_routine, new_head_by, new_head, begins_head, head}
+use Rattle.flt_syntax.specs.Head.{operation_of, operation, event_by, event, new_event, new_name}
+use Rattle.flt_syntax.specs.Head.{new_routine, new_head_by, new_head, begins_head, head}
 use Rattle.flt_syntax.specs.Whole.{missing, callback_fault, first_fault, queue_fault, whole_fault}
-use Rattle.flt_syntax.specs.File.{lock_kind_of, lock_kind, lock, locks_from, locks, queue, callback, callbacks_from, callbacks, file, unless_fault, whole, filter_of}
+use Rattle.flt_syntax.specs.File.{lock_kind_of, lock_kind, lock, locks_from, locks, queue, callback}
+use Rattle.flt_syntax.specs.File.{callbacks_from, callbacks, file, unless_fault, whole, filter_of}
 use Rattle.flt_syntax.specs.Cursor.{Input, Outcome, kind, refusal, sees}
 use Rattle.flt_syntax.proofs.Routines.{none_missing}
 use Rattle.flt_syntax.specs.Over.{QueueOver}
 use Rattle.flt_syntax.proofs.TokenKinds.{differ, apart_kinds, unseen, not_seen}
-use Rattle.flt_syntax.proofs.Complete.{then_again, kind_is, rest_is, expect_again, eat_again, eat_none, known_again, spelled_again, within_again, apart, next_less, meant_less, name_less}
+use Rattle.flt_syntax.proofs.Complete.{then_again, kind_is, rest_is, expect_again, eat_again, eat_none, known_again}
+use Rattle.flt_syntax.proofs.Complete.{spelled_again, within_again, apart, next_less, meant_less, name_less}
 use Rattle.flt_syntax.proofs.CompleteStatements.{statements_again, statements_less}
 
 -- ---- heads

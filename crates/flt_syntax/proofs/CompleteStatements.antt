@@ -1,5 +1,6 @@
 -- What is spelled and over is read: tests, statements and blocks.
-use Rattle.std.proofs.Common.{◌≡◌, ◌≢◌, ℕ, zero, suc, ◌-◌, ◌≤◌, ◌<◌, Bool, true, false, List, [], ◌∷◌, ◌++◌, length, Ok, refl, sym, ap, ◌∙◌, append_assoc, arith}
+use Rattle.std.proofs.Common.{◌≡◌, ◌≢◌, ℕ, zero, suc, ◌-◌, ◌≤◌, ◌<◌, Bool, true, false, List, []}
+use Rattle.std.proofs.Common.{◌∷◌, ◌++◌, length, Ok, refl, sym, ap, ◌∙◌, append_assoc, arith}
 use Rattle.std.specs.Prelude.{◌&&◌}
 use Rattle.std.proofs.lemmas.Bool.{ne_eqb}
 use Rattle.std.proofs.lemmas.List.{append-nil}
@@ -28,21 +29,29 @@ use Rattle.flt_syntax.specs.Grammar as s
 use Rattle.flt_syntax.specs.Grammar.{line, StatementAt, ElseAt, BlockAt, StatementsAt}
 use Rattle.flt_syntax.specs.Words as words
 use Rattle.flt_syntax.specs.Words.{Next, Meant, NumberAt, ContextAt}
-use Rattle.flt_syntax.specs.Operand.{context_variable, removed_variable_of, operation_variable, number_variable_of, atom_by, atom, leading_atom}
+use Rattle.flt_syntax.specs.Operand.{context_variable, removed_variable_of, operation_variable}
+use Rattle.flt_syntax.specs.Operand.{number_variable_of, atom_by, atom, leading_atom}
 use Rattle.flt_syntax.specs.Scope.{Scope}
 use Rattle.flt_syntax.specs.Status.{optional_status}
-use Rattle.flt_syntax.specs.Action.{expression_by, expression, number_by, set_number, clear_context, clear_operation, write_value, spanned, word_statement_by, word_statement, simple_statement}
+use Rattle.flt_syntax.specs.Action.{expression_by, expression, number_by, set_number, clear_context, clear_operation}
+use Rattle.flt_syntax.specs.Action.{write_value, spanned, word_statement_by, word_statement, simple_statement}
 use Rattle.flt_syntax.specs.Call.{fallible_call, plain_call}
 use Rattle.flt_syntax.specs.Condition.{context_test, operation_test, comparison_by, number_test, word_test_by, word_test, condition}
 use Rattle.flt_rules.specs.Limits.{max_turns}
 use Rattle.flt_syntax.specs.Statement.{otherwise, choice, repetition, statement_by, statement, statements_from, statements, block}
 use Rattle.flt_syntax.specs.Cursor.{Input, Parser, and_then, ◌<$>◌, kind, span, next, refusal, unknown, expect, number_within}
-use Rattle.flt_syntax.specs.FirstWords.{begins_fallible, begins_plain, is_variable, is_test_word, begins_test, is_simple_word, has_blocks, begins_other}
+use Rattle.flt_syntax.specs.FirstWords.{begins_fallible, begins_plain, is_variable, is_test_word}
+use Rattle.flt_syntax.specs.FirstWords.{begins_test, is_simple_word, has_blocks, begins_other}
 use Rattle.flt_syntax.specs.Over.{ExpressionOver, ActionOver, ConditionOver, ElseOver, StatementOver}
 use Rattle.flt_syntax.proofs.TokenKinds.{differ, suc_some, not_seen}
-use Rattle.flt_syntax.proofs.Complete.{then_again, kind_is, rest_is, left_is, means, sees_it, expect_again, eat_again, eat_none, context_again, within_again, other, left_false, right_false, none_of, some_of, is_number, is_context, is_removed, context_number, number_context, removed_number, number_removed, removed_context, next_less, meant_less, number_less}
-use Rattle.flt_syntax.proofs.CompleteCalls.{operation_again, fallible_again, plain_again, optional_status_again, fallible_begins, plain_begins, fallible_less, plain_less, optional_status_less}
-use Rattle.flt_syntax.proofs.Follows.{Follows, follows_open, condition_over, statement_over, action_simply, no_blocks, statement_stays, statements_follow}
+use Rattle.flt_syntax.proofs.Complete.{then_again, kind_is, rest_is, left_is, means, sees_it, expect_again, eat_again}
+use Rattle.flt_syntax.proofs.Complete.{eat_none, context_again, within_again, other, left_false, right_false, none_of}
+use Rattle.flt_syntax.proofs.Complete.{some_of, is_number, is_context, is_removed, context_number, number_context, removed_number}
+use Rattle.flt_syntax.proofs.Complete.{number_removed, removed_context, next_less, meant_less, number_less}
+use Rattle.flt_syntax.proofs.CompleteCalls.{operation_again, fallible_again, plain_again, optional_status_again, fallible_begins}
+use Rattle.flt_syntax.proofs.CompleteCalls.{plain_begins, fallible_less, plain_less, optional_status_less}
+use Rattle.flt_syntax.proofs.Follows.{Follows, follows_open, condition_over, statement_over, action_simply}
+use Rattle.flt_syntax.proofs.Follows.{no_blocks, statement_stays, statements_follow}
 
 -- ---- atoms
 

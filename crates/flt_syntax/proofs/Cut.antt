@@ -1,13 +1,15 @@
 -- The tokens of a text by the line in which reading stands, and by how many bytes were left where it begins: reading goes on
 -- over blanks, comments and tokens, none of which ends a line but the line feed.
-use Rattle.std.proofs.Common.{◌≡◌, ◌≢◌, ℕ, zero, suc, ◌+◌, ◌-◌, ◌≤◌, ◌<◌, Bool, true, false, List, [], ◌∷◌, ◌++◌, length, take, drop, get_or, refl, sym, ap, subst, ◌∙◌, arith, append_assoc}
+use Rattle.std.proofs.Common.{◌≡◌, ◌≢◌, ℕ, zero, suc, ◌+◌, ◌-◌, ◌≤◌, ◌<◌, Bool, true, false, List, [], ◌∷◌, ◌++◌}
+use Rattle.std.proofs.Common.{length, take, drop, get_or, refl, sym, ap, subst, ◌∙◌, arith, append_assoc}
 use Rattle.std.proofs.lemmas.Bool.{eqb-true, eqb-false, and_parts}
 use Rattle.std.proofs.lemmas.List.{append-nil, length-drop, take_all}
 use Rattle.std.proofs.Math.Seq.{take-length}
 use Rattle.std.specs.List.{prefix_len}
 use Rattle.std.specs.Prelude.{◌==◌, ◌&&◌, not, nat_lt, slice_index, if◌then◌else◌}
 use Rattle.flt_syntax.specs.Cursor.{Input}
-use Rattle.flt_syntax.specs.Lex.{past, one_column_on, end_of, word, is_blank, is_fault, after_spaces, after_comment, run, pair_or, token, IsWithin, token_of, step_of, tokens_from, tokens}
+use Rattle.flt_syntax.specs.Lex.{past, one_column_on, end_of, word, is_blank, is_fault, after_spaces, after_comment}
+use Rattle.flt_syntax.specs.Lex.{run, pair_or, token, IsWithin, token_of, step_of, tokens_from, tokens}
 use Rattle.flt_syntax.specs.declared.token.Kind.{Kind}
 use Rattle.flt_syntax.specs.declared.token.Kind.TheVariants as k
 use Rattle.flt_syntax.specs.declared.token.Token.{Token}

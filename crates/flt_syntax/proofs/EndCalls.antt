@@ -24,15 +24,20 @@ use Rattle.flt_syntax.specs.Operand.{removed_variable, removed_variable_of, oper
 use Rattle.flt_syntax.specs.Scope.{Scope, lock_named, routine}
 use Rattle.flt_tree.specs.Declarations.{lock_number}
 use Rattle.flt_syntax.specs.Shape.{lock_kind}
-use Rattle.flt_syntax.specs.Status.{final_status_of, final_status, bare_status_of, bare_status, status_by, status, has_more, begins_status, optional_status}
-use Rattle.flt_syntax.specs.Call.{existing_of, existing, obtain_context, set_context, delete_context_of, insert_io, remove_next_io, queue_by, queue_call, queue_deferred, queue_generic, fallible_by, fallible_call, end_context, reference_context, lock_call, complete_pre, complete_post, plain_by, plain_call, fallible_shape_of, plain_shape_of}
+use Rattle.flt_syntax.specs.Status.{final_status_of, final_status, bare_status_of, bare_status}
+use Rattle.flt_syntax.specs.Status.{status_by, status, has_more, begins_status, optional_status}
+use Rattle.flt_syntax.specs.Call.{existing_of, existing, obtain_context, set_context, delete_context_of, insert_io, remove_next_io}
+use Rattle.flt_syntax.specs.Call.{queue_by, queue_call, queue_deferred, queue_generic, fallible_by, fallible_call, end_context}
+use Rattle.flt_syntax.specs.Call.{reference_context, lock_call, complete_pre, complete_post, plain_by, plain_call, fallible_shape_of}
+use Rattle.flt_syntax.specs.Call.{plain_shape_of}
 use Rattle.flt_syntax.specs.Cursor.{Input, ◌<$>◌, kind, next, bytes_of, refusal, refuse, fault_at, fail, found_or, known_or, given}
 use Rattle.flt_syntax.proofs.TokenKinds.{took, meant_at}
 use Rattle.flt_syntax.specs.Over.{StatusOver, OptionalStatusOver, FallibleOver, PlainOver}
 use Rattle.flt_syntax.specs.WordFails.{NameFails, KnownFails, MeantFails}
 use Rattle.flt_syntax.specs.CallFails as bad
 use Rattle.flt_syntax.specs.CallFails.{StatusFails, OptionalStatusFails, LockFails, FallibleFails, PlainFails}
-use Rattle.flt_syntax.proofs.Ends.{WordAt, name_of, Ends, gives, fails, then_ends, refused, expect_ends, meant_ends, known_ends, context_ends, word_ends, spelled_ends, other_ends, with_context_ends, old_ends, other_old_ends}
+use Rattle.flt_syntax.proofs.Ends.{WordAt, name_of, Ends, gives, fails, then_ends, refused, expect_ends, meant_ends, known_ends}
+use Rattle.flt_syntax.proofs.Ends.{context_ends, word_ends, spelled_ends, other_ends, with_context_ends, old_ends, other_old_ends}
 
 -- ---- variables
 

@@ -1,5 +1,6 @@
 -- Each reader ends: what it gives is spelled and over, and its fault is one by the relation beside the grammar. Heads, callbacks, files.
-use Rattle.std.proofs.Common.{◌≡◌, ◌≢◌, ◌⊎◌, inl, inr, ℕ, zero, suc, ◌+◌, ◌-◌, ◌≤◌, ◌<◌, Bool, true, false, nat_lt, List, [], ◌∷◌, ◌++◌, length, length-append, Ok, Err, refl, sym, ap, subst, ◌∙◌, append_assoc, arith}
+use Rattle.std.proofs.Common.{◌≡◌, ◌≢◌, ◌⊎◌, inl, inr, ℕ, zero, suc, ◌+◌, ◌-◌, ◌≤◌, ◌<◌, Bool, true, false, nat_lt, List, []}
+use Rattle.std.proofs.Common.{◌∷◌, ◌++◌, length, length-append, Ok, Err, refl, sym, ap, subst, ◌∙◌, append_assoc, arith}
 use Rattle.std.specs.Prelude.{Option, Some, None, option_map, is_some, if◌then◌else◌}
 use Rattle.std.specs.List.{list_all}
 use Rattle.std.proofs.lemmas.Bool.{ltb-true, ltb-false}
@@ -24,7 +25,8 @@ use Rattle.flt_syntax.specs.Words.{Next, Meant, NameAt}
 use Rattle.flt_syntax.specs.Scope.{Scope}
 use Rattle.flt_tree.specs.Measures.{is_small}
 use Rattle.flt_rules.specs.Limits.{max_callbacks, max_altitude, max_locks, max_depth, max_repeats}
-use Rattle.flt_syntax.specs.Head.{operation_of, operation, event_by, event, new_event, new_routine, new_head_by, new_head, is_among, is_taken, begins_head, crowded, head}
+use Rattle.flt_syntax.specs.Head.{operation_of, operation, event_by, event, new_event, new_routine, new_head_by}
+use Rattle.flt_syntax.specs.Head.{new_head, is_among, is_taken, begins_head, crowded, head}
 use Rattle.flt_syntax.specs.File.{lock_kind_of, lock_kind, lock, locks_from, locks, queue, callback, callbacks_from, callbacks, file}
 use Rattle.flt_syntax.specs.Cursor.{Input, ◌>>=◌, pure, kind, next, position, refusal, fault, fault_at, fail, sees}
 use Rattle.flt_syntax.proofs.TokenKinds.{differ, kind_same, apart_kinds, unseen, took, meant_at}
@@ -34,7 +36,8 @@ use Rattle.flt_syntax.specs.WordFails.{Refused, MeantFails}
 use Rattle.flt_syntax.specs.FileFails as bad
 use Rattle.flt_syntax.specs.FileFails.{NewNameFails, HeadFails, CallbackFails, CallbacksFails, LocksFails, FileFails}
 use Rattle.flt_syntax.specs.TextFails.{Reads}
-use Rattle.flt_syntax.proofs.Ends.{Ends, gives, fails, then_ends, ends_by, refused, expect_ends, Eaten, eaten, left, eat_ends, meant_ends, spelled_ends, within_ends}
+use Rattle.flt_syntax.proofs.Ends.{Ends, gives, fails, then_ends, ends_by, refused, expect_ends, Eaten}
+use Rattle.flt_syntax.proofs.Ends.{eaten, left, eat_ends, meant_ends, spelled_ends, within_ends}
 use Rattle.flt_syntax.proofs.EndStatements.{either, is_there, statements_ends, block_ends}
 use Rattle.flt_syntax.proofs.CompleteFiles.{callback_less}
 

@@ -1,5 +1,6 @@
 -- Each reader ends: what it gives is spelled and over, and its fault is one by the relation beside the grammar. Tests, statements, blocks.
-use Rattle.std.proofs.Common.{◌≡◌, ◌≢◌, ◌⊎◌, inl, inr, ℕ, zero, suc, ◌-◌, ◌≤◌, Bool, true, false, List, [], ◌∷◌, ◌++◌, length, Ok, Err, refl, sym, ap, subst, ◌∙◌, append_assoc, arith}
+use Rattle.std.proofs.Common.{◌≡◌, ◌≢◌, ◌⊎◌, inl, inr, ℕ, zero, suc, ◌-◌, ◌≤◌, Bool, true, false, List, []}
+use Rattle.std.proofs.Common.{◌∷◌, ◌++◌, length, Ok, Err, refl, sym, ap, subst, ◌∙◌, append_assoc, arith}
 use Rattle.std.specs.Prelude.{Option, Some, None, if◌then◌else◌, is_some}
 use Rattle.std.proofs.lemmas.Bool.{ne_eqb}
 use Rattle.std.proofs.lemmas.List.{append-nil}
@@ -26,11 +27,13 @@ use Rattle.flt_syntax.specs.Grammar.{line, StatementAt, ElseAt, BlockAt, Stateme
 use Rattle.flt_syntax.specs.Words.{Next, Meant, ContextAt}
 use Rattle.flt_syntax.specs.Operand.{context_variable_of, removed_variable_of, number_variable_of, atom_by, atom, leading_atom}
 use Rattle.flt_syntax.specs.Scope.{Scope}
-use Rattle.flt_syntax.specs.Action.{expression_by, expression, number_by, set_number, clear_context, clear_operation, write_value, spanned, word_statement_by, word_statement, simple_statement}
+use Rattle.flt_syntax.specs.Action.{expression_by, expression, number_by, set_number, clear_context, clear_operation}
+use Rattle.flt_syntax.specs.Action.{write_value, spanned, word_statement_by, word_statement, simple_statement}
 use Rattle.flt_syntax.specs.Condition.{context_test, operation_test, comparison_by, number_test, word_test_by, word_test, condition}
 use Rattle.flt_rules.specs.Limits.{max_turns}
 use Rattle.flt_syntax.specs.Statement.{otherwise, choice, repetition, statement_by, statement, statements_from, statements, braced, block}
-use Rattle.flt_syntax.specs.Cursor.{Input, and_then, ◌>>=◌, ◌<$>◌, pure, front, kind, next, refusal, unknown, fault_at, sees, expect, given, too_deep}
+use Rattle.flt_syntax.specs.Cursor.{Input, and_then, ◌>>=◌, ◌<$>◌, pure, front, kind, next, refusal}
+use Rattle.flt_syntax.specs.Cursor.{unknown, fault_at, sees, expect, given, too_deep}
 use Rattle.flt_syntax.proofs.TokenKinds.{suc_some, kind_same, apart_kinds, unseen, took, meant_at, number_at}
 use Rattle.flt_syntax.proofs.Complete.{kind_is}
 use Rattle.flt_syntax.specs.FirstWords.{is_variable, is_test_word, is_simple_word, has_blocks}
@@ -42,7 +45,8 @@ use Rattle.flt_syntax.specs.ActionFails as bad
 use Rattle.flt_syntax.specs.ActionFails.{AtomFails, LeadingFails, ExpressionFails, ActionFails, ConditionFails}
 use Rattle.flt_syntax.specs.StatementFails as statement_fails
 use Rattle.flt_syntax.specs.StatementFails.{StatementFails, ElseFails, BlockFails, StatementsFails}
-use Rattle.flt_syntax.proofs.Ends.{Ends, gives, fails, then_ends, ends_by, refused, unknown_at, expect_ends, Eaten, eaten, left, eat_ends, context_ends, within_ends}
+use Rattle.flt_syntax.proofs.Ends.{Ends, gives, fails, then_ends, ends_by, refused, unknown_at, expect_ends}
+use Rattle.flt_syntax.proofs.Ends.{Eaten, eaten, left, eat_ends, context_ends, within_ends}
 use Rattle.flt_syntax.proofs.EndCalls.{neither, operation_ends, optional_status_ends, fallible_ends, plain_ends}
 use Rattle.flt_syntax.proofs.CompleteStatements.{statement_less}
 

@@ -17,11 +17,13 @@ use Rattle.flt_syntax.specs.Words.{Next, Meant, NameAt, NumberAt, ContextAt, Opt
 use Rattle.flt_syntax.specs.Operand.{context_variable, context_variable_of, same_context, other_context, with_context}
 use Rattle.flt_syntax.specs.Call.{old, other_old}
 use Rattle.flt_syntax.specs.Scope.{spelled}
-use Rattle.flt_syntax.specs.Cursor.{Input, Outcome, ◌<$>◌, pure, and_then, front, kind, next, is_word, bytes_of, refusal, refusal_by, refuse, unknown, fault_at, fail, sees, eat, expect, name, known_or, number_within}
+use Rattle.flt_syntax.specs.Cursor.{Input, Outcome, ◌<$>◌, pure, and_then, front, kind, next, is_word, bytes_of, refusal, refusal_by}
+use Rattle.flt_syntax.specs.Cursor.{refuse, unknown, fault_at, fail, sees, eat, expect, name, known_or, number_within}
 use Rattle.flt_syntax.proofs.TokenKinds.{differ, none_some, some_same, kind_same, unseen, took, meant_at, number_at}
 use Rattle.flt_syntax.specs.Over.{OptionalOver}
 use Rattle.flt_syntax.specs.WordFails as bad
-use Rattle.flt_syntax.specs.WordFails.{Refused, Unknown, NextFails, MeantFails, KnownFails, NameFails, NumberFails, ContextFails, OtherFails, OptionalFails, OtherOldFails}
+use Rattle.flt_syntax.specs.WordFails.{Refused, Unknown, NextFails, MeantFails, KnownFails, NameFails, NumberFails}
+use Rattle.flt_syntax.specs.WordFails.{ContextFails, OtherFails, OptionalFails, OtherOldFails}
 
 -- what holds of the value and of what is left, or of the fault
 pub data Ends {A : Type 0} (R : A → Input → Type 0) (F : SyntaxFault → Type 0) : Outcome A → Type 0 where

@@ -18,7 +18,8 @@ use Rattle.flt_tree.specs.declared.filter.Head.{Head}
 use Rattle.flt_tree.specs.declared.filter.Lock.{Lock}
 use Rattle.flt_tree.specs.declared.filter.Position.{Position}
 use Rattle.flt_tree.specs.declared.filter.Statement.{Statement}
-use Rattle.flt_syntax.proofs.FineCalls.{next_on, meant_on, fine_name, fine_number, optional_status_on, fine_plain, fine_action, fine_condition}
+use Rattle.flt_syntax.proofs.FineCalls.{next_on, meant_on, fine_name, fine_number, optional_status_on}
+use Rattle.flt_syntax.proofs.FineCalls.{fine_plain, fine_action, fine_condition}
 use Rattle.flt_syntax.proofs.TokenBytes.{AreTokens, are_tokens}
 
 -- ---- statements

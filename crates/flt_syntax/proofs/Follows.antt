@@ -21,7 +21,8 @@ use Rattle.flt_syntax.specs.Cursor.{Input, kind, sees}
 use Rattle.flt_syntax.specs.FirstWords.{begins_status, begins_plain, has_blocks}
 use Rattle.flt_syntax.specs.Grammar as s
 use Rattle.flt_syntax.specs.Grammar.{StatementAt, ElseAt, StatementsAt}
-use Rattle.flt_syntax.specs.Over.{OptionalOver, StatusOver, OptionalStatusOver, FallibleOver, PlainOver, ExpressionOver, ActionOver, ConditionOver, ElseOver, StatementOver}
+use Rattle.flt_syntax.specs.Over.{OptionalOver, StatusOver, OptionalStatusOver, FallibleOver, PlainOver}
+use Rattle.flt_syntax.specs.Over.{ExpressionOver, ActionOver, ConditionOver, ElseOver, StatementOver}
 use Rattle.flt_syntax.specs.Scope.{Scope}
 use Rattle.flt_syntax.specs.Tables.{number_variable_of, removed_variable_of}
 use Rattle.flt_syntax.specs.Words as words

@@ -1,5 +1,6 @@
 -- What is read behind what was read before, on a stack of which a part is the list that is read.
-use Rattle.std.proofs.Common.{◌≡◌, ℕ, zero, suc, ◌≤◌, false, List, [], ◌∷◌, ◌++◌, length, length-append, take, drop, Ok, Err, refl, sym, ap, ◌∙◌, arith}
+use Rattle.std.proofs.Common.{◌≡◌, ℕ, zero, suc, ◌≤◌, false, List, [], ◌∷◌, ◌++◌, length, length-append}
+use Rattle.std.proofs.Common.{take, drop, Ok, Err, refl, sym, ap, ◌∙◌, arith}
 use Rattle.flt_syntax.specs.Cursor.{Input, Outcome, Parser, and_then, ◌>>=◌, sees, onto}
 use Rattle.flt_syntax.specs.Scope.{Scope}
 use Rattle.flt_syntax.specs.Statement.{statement, statements_from}

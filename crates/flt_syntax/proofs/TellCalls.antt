@@ -8,19 +8,25 @@ use Rattle.flt_syntax.specs.declared.shape.QueueCall.{QueueCall}
 use Rattle.flt_syntax.specs.declared.token.Kind.{Kind}
 use Rattle.flt_syntax.specs.declared.token.Kind.TheVariants as k
 use Rattle.flt_syntax.specs.Words as words
-use Rattle.flt_syntax.specs.Operand.{context_variable, removed_variable, removed_variable_of, operation_variable, operation_variable_of, with_context}
+use Rattle.flt_syntax.specs.Operand.{context_variable, removed_variable, removed_variable_of}
+use Rattle.flt_syntax.specs.Operand.{operation_variable, operation_variable_of, with_context}
 use Rattle.flt_syntax.specs.Scope.{Scope, lock_named, routine}
 use Rattle.flt_syntax.specs.Shape.{lock_kind}
-use Rattle.flt_syntax.specs.Status.{final_status_of, final_status, bare_status_of, bare_status, status_by, status, has_more, optional_status}
-use Rattle.flt_syntax.specs.Call.{existing_of, existing, old, obtain_context, set_context, delete_context_of, insert_io, remove_next_io, queue_call, queue_deferred, queue_generic, fallible_by, fallible_call, end_context, reference_context, lock_call, complete_pre, complete_post, plain_by, plain_call}
+use Rattle.flt_syntax.specs.Status.{final_status_of, final_status, bare_status_of, bare_status}
+use Rattle.flt_syntax.specs.Status.{status_by, status, has_more, optional_status}
+use Rattle.flt_syntax.specs.Call.{existing_of, existing, old, obtain_context, set_context, delete_context_of, insert_io, remove_next_io}
+use Rattle.flt_syntax.specs.Call.{queue_call, queue_deferred, queue_generic, fallible_by, fallible_call, end_context, reference_context}
+use Rattle.flt_syntax.specs.Call.{lock_call, complete_pre, complete_post, plain_by, plain_call}
 use Rattle.flt_syntax.specs.Cursor.{Input, kind, known_or, given, refusal, refuse, fault_at, expect, name}
 use Rattle.flt_syntax.proofs.TokenKinds.{differ}
 use Rattle.flt_syntax.proofs.Complete.{then_again, rest_is, left_is, expect_again, context_again, none_of, left_false, right_false}
 use Rattle.flt_syntax.specs.WordFails.{MeantFails, KnownFails, NameFails}
 use Rattle.flt_syntax.specs.CallFails as bad
 use Rattle.flt_syntax.specs.CallFails.{StatusFails, OptionalStatusFails, LockFails, FallibleFails, PlainFails}
-use Rattle.flt_syntax.proofs.CompleteCalls.{removed_again, operation_again, status_at, routine_again, existing_again, fallible_at, queue_at, plain_at}
-use Rattle.flt_syntax.proofs.Tells.{then_fails, refuses, expect_tells, meant_tells, known_tells, context_tells, word_tells, spelled_tells, other_tells, with_context_tells, old_tells, other_old_tells}
+use Rattle.flt_syntax.proofs.CompleteCalls.{removed_again, operation_again, status_at, routine_again}
+use Rattle.flt_syntax.proofs.CompleteCalls.{existing_again, fallible_at, queue_at, plain_at}
+use Rattle.flt_syntax.proofs.Tells.{then_fails, refuses, expect_tells, meant_tells, known_tells, context_tells, word_tells}
+use Rattle.flt_syntax.proofs.Tells.{spelled_tells, other_tells, with_context_tells, old_tells, other_old_tells}
 
 -- ---- variables
 

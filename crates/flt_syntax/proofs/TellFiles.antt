@@ -1,5 +1,6 @@
 -- What fails by the relation beside the grammar, of that the reader says so: heads, callbacks, locks and files.
-use Rattle.std.proofs.Common.{◌≡◌, ℕ, zero, suc, ◌≤◌, ◌<◌, Bool, true, false, nat_lt, List, [], ◌∷◌, length, Ok, Err, refl, sym, ap, ◌∙◌, arith}
+use Rattle.std.proofs.Common.{◌≡◌, ℕ, zero, suc, ◌≤◌, ◌<◌, Bool, true, false, nat_lt, List}
+use Rattle.std.proofs.Common.{[], ◌∷◌, length, Ok, Err, refl, sym, ap, ◌∙◌, arith}
 use Rattle.std.specs.Prelude.{if◌then◌else◌}
 use Rattle.std.proofs.lemmas.Bool.{lt-ltb, le-ltb}
 use Rattle.flt_syntax.specs.declared.token.Kind.{Kind}
@@ -17,16 +18,19 @@ use Rattle.flt_tree.specs.Declarations.{has_event}
 use Rattle.flt_syntax.specs.Words.{Next}
 use Rattle.flt_syntax.specs.Scope.{Scope}
 use Rattle.flt_rules.specs.Limits.{max_callbacks, max_altitude}
-use Rattle.flt_syntax.specs.Head.{operation_of, operation, event_by, event, new_event, new_name, new_routine, new_head_by, new_head, is_taken, begins_head, crowded, head}
+use Rattle.flt_syntax.specs.Head.{operation_of, operation, event_by, event, new_event, new_name, new_routine}
+use Rattle.flt_syntax.specs.Head.{new_head_by, new_head, is_taken, begins_head, crowded, head}
 use Rattle.flt_syntax.specs.File.{lock_kind_of, lock_kind, lock, locks_from, locks, callback, callbacks_from, callbacks, file}
 use Rattle.flt_syntax.specs.Cursor.{Input, Outcome, and_then, kind, next, refusal, fault_at}
 use Rattle.flt_syntax.specs.WordFails.{MeantFails}
 use Rattle.flt_syntax.specs.FileFails as bad
 use Rattle.flt_syntax.specs.FileFails.{NewNameFails, HeadFails, CallbackFails, CallbacksFails, LocksFails, FileFails}
 use Rattle.flt_syntax.proofs.TokenKinds.{differ, not_seen}
-use Rattle.flt_syntax.proofs.Complete.{then_again, rest_is, expect_again, eat_again, spelled_again, within_again, next_less, meant_less, name_less}
+use Rattle.flt_syntax.proofs.Complete.{then_again, rest_is, expect_again, eat_again, spelled_again}
+use Rattle.flt_syntax.proofs.Complete.{within_again, next_less, meant_less, name_less}
 use Rattle.flt_syntax.proofs.CompleteStatements.{statements_again}
-use Rattle.flt_syntax.proofs.CompleteFiles.{operation_again, head_at, event_at, head_again, head_begins, callback_again, callback_less, lock_kind_again, lock_again, locks_again, locks_less, queue_again, queue_less}
+use Rattle.flt_syntax.proofs.CompleteFiles.{operation_again, head_at, event_at, head_again, head_begins, callback_again, callback_less}
+use Rattle.flt_syntax.proofs.CompleteFiles.{lock_kind_again, lock_again, locks_again, locks_less, queue_again, queue_less}
 use Rattle.flt_syntax.proofs.Ends.{refused}
 use Rattle.flt_syntax.proofs.EndFiles.{never, no_deferred_pre, no_deferred_post, no_generic, event_twice, taken_is}
 use Rattle.flt_syntax.proofs.Tells.{then_fails, same_error, refuses, expect_tells, meant_tells, spelled_tells, within_tells}

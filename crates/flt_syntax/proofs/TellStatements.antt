@@ -27,7 +27,10 @@ use Rattle.flt_syntax.specs.StatementFails.{StatementFails, ElseFails, BlockFail
 use Rattle.flt_syntax.proofs.TokenKinds.{not_seen}
 use Rattle.flt_syntax.proofs.Complete.{then_again, kind_is, rest_is, left_is, sees_it, expect_again, eat_again, context_again, within_again}
 use Rattle.flt_syntax.proofs.Follows.{condition_over, not_simple, number_simply, context_simply, removed_simply, no_blocks, statement_stays}
-use Rattle.flt_syntax.proofs.CompleteStatements.{leading_again, sign_at, by_expression, no_words, value_at, at_number, at_context, at_removed, word_at, comparison_at, if_context, if_removed, if_number, if_at, if_call, condition_again, at_simple, at_call, statement_at, repeats_less, statement_less, statement_again, block_follows, block_again}
+use Rattle.flt_syntax.proofs.CompleteStatements.{leading_again, sign_at, by_expression, no_words, value_at, at_number, at_context}
+use Rattle.flt_syntax.proofs.CompleteStatements.{at_removed, word_at, comparison_at, if_context, if_removed, if_number, if_at}
+use Rattle.flt_syntax.proofs.CompleteStatements.{if_call, condition_again, at_simple, at_call, statement_at, repeats_less}
+use Rattle.flt_syntax.proofs.CompleteStatements.{statement_less, statement_again, block_follows, block_again}
 use Rattle.flt_syntax.proofs.Ends.{refused}
 use Rattle.flt_syntax.proofs.Tells.{then_fails, same_error, refuses, unknowns, expect_tells, context_tells, within_tells}
 use Rattle.flt_syntax.proofs.TellCalls.{operation_tells, optional_status_tells, fallible_tells, plain_tells}

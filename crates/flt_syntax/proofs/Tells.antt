@@ -13,11 +13,13 @@ use Rattle.flt_syntax.specs.Words as words
 use Rattle.flt_syntax.specs.Operand.{context_variable, other_context, with_context}
 use Rattle.flt_syntax.specs.Call.{old, other_old}
 use Rattle.flt_syntax.specs.Scope.{spelled}
-use Rattle.flt_syntax.specs.Cursor.{Input, Outcome, and_then, kind, refusal, refusal_by, unknown, fault_at, expect, name, known_or, number_within}
+use Rattle.flt_syntax.specs.Cursor.{Input, Outcome, and_then, kind, refusal, refusal_by, unknown}
+use Rattle.flt_syntax.specs.Cursor.{fault_at, expect, name, known_or, number_within}
 use Rattle.flt_syntax.proofs.TokenKinds.{differ, not_seen}
 use Rattle.flt_syntax.proofs.Complete.{then_again, eat_again, context_again, sees_number}
 use Rattle.flt_syntax.specs.WordFails as bad
-use Rattle.flt_syntax.specs.WordFails.{Refused, Unknown, NextFails, MeantFails, KnownFails, NameFails, NumberFails, ContextFails, OtherFails, OptionalFails, OtherOldFails}
+use Rattle.flt_syntax.specs.WordFails.{Refused, Unknown, NextFails, MeantFails, KnownFails, NameFails, NumberFails}
+use Rattle.flt_syntax.specs.WordFails.{ContextFails, OtherFails, OptionalFails, OtherOldFails}
 use Rattle.flt_syntax.proofs.Ends.{context_self}
 
 -- where the first part fails, both do

@@ -1,5 +1,6 @@
 -- What the tokens of a text are: the bytes of a word are a name, and a number is below 2^64.
-use Rattle.std.proofs.Common.{◌≡◌, ℕ, zero, suc, ◌+◌, ◌-◌, ◌*◌, ◌^◌, ◌<◌, Bool, true, false, [], ◌∷◌, ◌++◌, length, take, drop, take-append-drop, refl, sym, ap, ◌∙◌, arith}
+use Rattle.std.proofs.Common.{◌≡◌, ℕ, zero, suc, ◌+◌, ◌-◌, ◌*◌, ◌^◌, ◌<◌, Bool, true, false, [], ◌∷◌}
+use Rattle.std.proofs.Common.{◌++◌, length, take, drop, take-append-drop, refl, sym, ap, ◌∙◌, arith}
 use Rattle.std.proofs.lemmas.Bool.{ltb-true, ltb-false, lt-ltb, and_parts, and_from}
 use Rattle.std.proofs.lemmas.List.Folds.{length-prefix_len}
 use Rattle.std.specs.Char.{is_ascii_digit}
@@ -8,7 +9,8 @@ use Rattle.std.specs.Prelude.{◌==◌, ◌&&◌, not, nat_lt, slice_index, if�
 use Rattle.flt_syntax.specs.Cursor as cursor
 use Rattle.flt_syntax.specs.Cursor.{Input, bytes_of}
 use Rattle.flt_tree.specs.Names.{Text, is_word, is_name}
-use Rattle.flt_syntax.specs.Lex.{past, word, is_blank, is_fault, keyword, value_from, number_by, number, run, pair_or, token, tokens_from, tokens}
+use Rattle.flt_syntax.specs.Lex.{past, word, is_blank, is_fault, keyword, value_from, number_by}
+use Rattle.flt_syntax.specs.Lex.{number, run, pair_or, token, tokens_from, tokens}
 use Rattle.flt_tree.specs.declared.filter.Position.{Position}
 use Rattle.flt_syntax.specs.declared.token.Kind.{Kind}
 use Rattle.flt_syntax.specs.declared.token.Kind.TheVariants as k

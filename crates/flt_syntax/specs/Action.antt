@@ -2,7 +2,8 @@
 use Rattle.std.specs.Prelude.{Ok}
 use Rattle.flt_syntax.specs.Call.{plain_call}
 use Rattle.flt_syntax.specs.Cursor.{Input, Parser, ◌>>=◌, ◌>>◌, pure, ◌<$>◌, kind, span, peek, take_token, given, expect}
-use Rattle.flt_syntax.specs.Operand.{atom, leading_atom, context_variable, operation_variable, context_variable_of, number_variable_of, removed_variable_of}
+use Rattle.flt_syntax.specs.Operand.{atom, leading_atom, context_variable, operation_variable, context_variable_of}
+use Rattle.flt_syntax.specs.Operand.{number_variable_of, removed_variable_of}
 use Rattle.flt_syntax.specs.Scope.{Scope}
 use Rattle.flt_syntax.specs.Status.{optional_status}
 use Rattle.flt_tree.specs.declared.filter.Action.{Action}

@@ -5,13 +5,15 @@ use Rattle.flt_rules.specs.declared.call.Anchor.{Anchor}
 use Rattle.flt_rules.specs.declared.call.Existing.{Existing}
 use Rattle.flt_rules.specs.declared.call.LockKind.{LockKind}
 use Rattle.flt_syntax.specs.FirstWords.{begins_fallible, begins_plain}
-use Rattle.flt_syntax.specs.WordFails.{Refused, NextFails, MeantFails, KnownFails, NameFails, ContextFails, OtherFails, OptionalFails, OtherOldFails}
+use Rattle.flt_syntax.specs.WordFails.{Refused, NextFails, MeantFails, KnownFails, NameFails}
+use Rattle.flt_syntax.specs.WordFails.{ContextFails, OtherFails, OptionalFails, OtherOldFails}
 use Rattle.flt_syntax.specs.CallGrammar.{RoutineAt}
 use Rattle.flt_syntax.specs.Cursor.{Input, kind, fault_at}
 use Rattle.flt_syntax.specs.Scope.{Scope}
 use Rattle.flt_syntax.specs.FirstWords.{begins_status}
 use Rattle.flt_syntax.specs.Shape.{lock_kind}
-use Rattle.flt_syntax.specs.Tables.{fallible_shape_of, plain_shape_of, existing_of, final_status_of, removed_variable_of, operation_variable_of}
+use Rattle.flt_syntax.specs.Tables.{fallible_shape_of, plain_shape_of, existing_of, final_status_of}
+use Rattle.flt_syntax.specs.Tables.{removed_variable_of, operation_variable_of}
 use Rattle.flt_syntax.specs.Words.{Next, Meant, NameAt, ContextAt}
 use Rattle.flt_syntax.specs.declared.fault.FaultKind.TheVariants.{E04}
 use Rattle.flt_syntax.specs.declared.fault.SyntaxFault.{SyntaxFault}

@@ -10,7 +10,8 @@ use Rattle.flt_tree.specs.Names.{Text}
 use Rattle.flt_syntax.specs.Scope.{Scope}
 use Rattle.flt_tree.specs.Declarations.{lock_number}
 use Rattle.flt_syntax.specs.Shape.{obtaining, ending, lock_kind, locking}
-use Rattle.flt_syntax.specs.Tables.{fallible_shape_of, plain_shape_of, existing_of, final_status_of, bare_status_of, removed_variable_of, operation_variable_of}
+use Rattle.flt_syntax.specs.Tables.{fallible_shape_of, plain_shape_of, existing_of, final_status_of}
+use Rattle.flt_syntax.specs.Tables.{bare_status_of, removed_variable_of, operation_variable_of}
 use Rattle.flt_syntax.specs.Words.{Next, Meant, NameAt, ContextAt, OptionalAt}
 use Rattle.flt_tree.specs.declared.filter.FallibleCall.{FallibleCall}
 use Rattle.flt_tree.specs.declared.filter.FallibleCall.TheVariants as fallible

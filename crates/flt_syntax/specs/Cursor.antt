@@ -1,5 +1,6 @@
 -- How the tokens of a text are read, from left to right, up to the first fault that is met.
-use Rattle.std.specs.Prelude.{◌≡◌, ◌-◌, ℕ, Bool, true, false, not, ◌&&◌, if◌then◌else◌, List, [], ◌∷◌, ◌++◌, length, take, min, slice_range, nat_le, Option, Some, None, Result, Ok, Err}
+use Rattle.std.specs.Prelude.{◌≡◌, ◌-◌, ℕ, Bool, true, false, not, ◌&&◌, if◌then◌else◌, List, [], ◌∷◌, ◌++◌}
+use Rattle.std.specs.Prelude.{length, take, min, slice_range, nat_le, Option, Some, None, Result, Ok, Err}
 use Rattle.flt_rules.specs.Parsing as parsing
 pub use Rattle.flt_rules.specs.Parsing.{and_then, ◌>>=◌, ◌>>◌, pure}
 use Rattle.flt_tree.specs.Filter.{no_span}

@@ -1,7 +1,9 @@
 -- How a whole text is read.
-use Rattle.std.specs.Prelude.{◌≡◌, ℕ, zero, suc, ◌-◌, if◌then◌else◌, nat_lt, List, [], ◌∷◌, ◌++◌, length, is_some, Option, Some, None, Result, Ok, Err}
+use Rattle.std.specs.Prelude.{◌≡◌, ℕ, zero, suc, ◌-◌, if◌then◌else◌, nat_lt, List, [], ◌∷◌}
+use Rattle.std.specs.Prelude.{◌++◌, length, is_some, Option, Some, None, Result, Ok, Err}
 use Rattle.flt_rules.specs.declared.call.LockKind.{LockKind}
-use Rattle.flt_syntax.specs.Cursor.{Outcome, Parser, ◌>>=◌, ◌>>◌, pure, kind, position, span, place, here, refusal, refuse, fault, known_or, sees, eat, expect, number_within}
+use Rattle.flt_syntax.specs.Cursor.{Outcome, Parser, ◌>>=◌, ◌>>◌, pure, kind, position, span, place, here}
+use Rattle.flt_syntax.specs.Cursor.{refusal, refuse, fault, known_or, sees, eat, expect, number_within}
 use Rattle.flt_syntax.specs.Head.{head}
 use Rattle.flt_tree.specs.Declarations.{has_lock}
 use Rattle.flt_rules.specs.Limits.{max_text, max_altitude, max_locks, max_depth, max_repeats}

@@ -1,6 +1,7 @@
 -- The first words of productions, where several may stand.
 use Rattle.std.specs.Prelude.{Bool, true, false, ◌||◌, is_some}
-use Rattle.flt_syntax.specs.Tables.{number_variable_of, context_variable_of, removed_variable_of, bare_status_of, fallible_shape_of, plain_shape_of}
+use Rattle.flt_syntax.specs.Tables.{number_variable_of, context_variable_of, removed_variable_of}
+use Rattle.flt_syntax.specs.Tables.{bare_status_of, fallible_shape_of, plain_shape_of}
 use Rattle.flt_syntax.specs.declared.token.Kind.{Kind}
 use Rattle.flt_syntax.specs.declared.token.Kind.TheVariants as k
 

@@ -1,7 +1,8 @@
 -- How the heads of callbacks are read.
 use Rattle.std.specs.Prelude.{Bool, false, if◌then◌else◌, nat_lt, List, length, Option, Some, None, option_map, Ok, Err}
 use Rattle.flt_rules.specs.declared.place.Operation.{Operation}
-use Rattle.flt_syntax.specs.Cursor.{Input, Parser, and_then, ◌>>=◌, ◌>>◌, pure, ◌<$>◌, kind, next, refusal, refuse, fault_at, fail, peek, take_token, known_or}
+use Rattle.flt_syntax.specs.Cursor.{Input, Parser, and_then, ◌>>=◌, ◌>>◌, pure, ◌<$>◌, kind, next}
+use Rattle.flt_syntax.specs.Cursor.{refusal, refuse, fault_at, fail, peek, take_token, known_or}
 use Rattle.flt_tree.specs.Declarations.{has_event, has_routine}
 use Rattle.flt_rules.specs.Limits.{max_callbacks}
 use Rattle.flt_tree.specs.Names.{Text}

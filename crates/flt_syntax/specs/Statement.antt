@@ -2,7 +2,8 @@
 use Rattle.std.specs.Prelude.{ℕ, zero, suc, ◌-◌, if◌then◌else◌, ◌==◌, List, [], ◌∷◌, ◌++◌, length, Ok, Err}
 use Rattle.flt_syntax.specs.Action.{simple_statement}
 use Rattle.flt_syntax.specs.Condition.{condition}
-use Rattle.flt_syntax.specs.Cursor.{Parser, ◌>>=◌, ◌>>◌, pure, place, here, span, refuse, fail, peek, take_token, sees, eat, expect, number_within, too_deep}
+use Rattle.flt_syntax.specs.Cursor.{Parser, ◌>>=◌, ◌>>◌, pure, place, here, span, refuse, fail}
+use Rattle.flt_syntax.specs.Cursor.{peek, take_token, sees, eat, expect, number_within, too_deep}
 use Rattle.flt_syntax.specs.Scope.{Scope}
 use Rattle.flt_syntax.specs.declared.fault.FaultKind.TheVariants.{E06}
 use Rattle.flt_tree.specs.declared.filter.Statement.{Statement}

@@ -1,13 +1,17 @@
 -- Words that begin with a command's name are taken by the program with this command alone as by the whole program.
-use Rattle.std.proofs.Common.{◌≡◌, List, [], ◌∷◌, ◌++◌, Bool, true, false, Some, fold, refl, sym, ◌∙◌, ap, append-nil, append_assoc, codes, bytes_eq, find, if◌then◌else◌, is_some}
+use Rattle.std.proofs.Common.{◌≡◌, List, [], ◌∷◌, ◌++◌, Bool, true, false, Some, fold, refl, sym, ◌∙◌, ap}
+use Rattle.std.proofs.Common.{append-nil, append_assoc, codes, bytes_eq, find, if◌then◌else◌, is_some}
 use Rattle.std.proofs.lemmas.Slice.Eq.{bytes_eq-Decides}
 use Rattle.clap.proofs.OnLiterals.{clap_on_literals}
-use Rattle.clap.specs.Faults.{check_fault, defaults_fault, entered_fault, fault_of, is_simple_and_free, level_fault, settle_fault, turn_fault, walk_fault}
+use Rattle.clap.specs.Faults.{check_fault, defaults_fault, entered_fault, fault_of, is_simple_and_free}
+use Rattle.clap.specs.Faults.{level_fault, settle_fault, turn_fault, walk_fault}
 use Rattle.clap.specs.Kinds.{Kinds, or_else}
-use Rattle.clap.specs.Simple.{App, Shape, built, built_leaf, entered, inherited, is_simple, label_of, marked_built, names_of, on_top, rows_at, subcommand_of, with_leaf_noted}
+use Rattle.clap.specs.Simple.{App, Shape, built, built_leaf, entered, inherited, is_simple, label_of}
+use Rattle.clap.specs.Simple.{marked_built, names_of, on_top, rows_at, subcommand_of, with_leaf_noted}
 use Rattle.clap.specs.Walk.{Names, Rule, Text, Walk, answers_to, finished, nothing_held, settled, walk_from, walked}
 use Rattle.flt_words.specs.Words.{IsFirst}
-use Rattle.flt_words.specs.Program.{analyse_app, app_for, check_app, compare_app, emit_app, explain_app, extract_app, format_app, program_app, program_with, replay_app, run_app, serve_app, thin_app}
+use Rattle.flt_words.specs.Program.{analyse_app, app_for, check_app, compare_app, emit_app, explain_app, extract_app}
+use Rattle.flt_words.specs.Program.{format_app, program_app, program_with, replay_app, run_app, serve_app, thin_app}
 
 -- ---- a walk that has met its command
 

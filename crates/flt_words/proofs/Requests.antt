@@ -1,5 +1,6 @@
 -- What the matches of a command line ask for.
-use Rattle.std.proofs.Common.{◌≡◌, inl, inr, List, [], ◌∷◌, true, false, Option, Some, None, Bor, Vec, Global, Result, Ok, Err, IfOk, refl, sym, ◌∙◌, ap, option_map, option_and_then, unwrap_or, map}
+use Rattle.std.proofs.Common.{◌≡◌, inl, inr, List, [], ◌∷◌, true, false, Option, Some, None, Bor, Vec, Global, Result}
+use Rattle.std.proofs.Common.{Ok, Err, IfOk, refl, sym, ◌∙◌, ap, option_map, option_and_then, unwrap_or, map}
 use Rattle.std.specs.Option.{IsSomeAnd, option_map_or}
 use Rattle.std.specs.declared.alloc.AllocError.{AllocError}
 use Rattle.clap.specs.Built.{AddsSubcommand}

@@ -149,7 +149,8 @@ bare_explain_app = new_app (codes "explain")
 -- `explain [--form FORM] [--color WHEN] [--states N] [--journal FILE] [--runs] [--strict] [--allow KIND].. [--c] FILE..`
 abbrev pub explain_app : App
 explain_app =
-    with_rule (with_rule (with_rule (with_rule (with_rule (with_rule (with_rule (with_rule (with_rule bare_explain_app form_rule) colour_rule)
+    with_rule (with_rule (with_rule
+    (with_rule (with_rule (with_rule (with_rule (with_rule (with_rule bare_explain_app form_rule) colour_rule)
     states_rule) written_rule) runs_rule) strict_rule) allow_rule) c_rule) texts_rule
 
 abbrev pub bare_extract_app : App

@@ -1,5 +1,6 @@
 -- What each call reads and leaves, in the words of its contract.
-use Rattle.std.proofs.Common.{◌≡◌, ◌↔◌, ℕ, ◌<◌, Bool, true, false, List, [], ◌∷◌, ◌++◌, length, get_or, set, map, drop, Option, Some, None, is_some, IsSome, IfSome, IfNone, refl, sym, ap, ◌∙◌, inl, inr, subst, arith, Contains}
+use Rattle.std.proofs.Common.{◌≡◌, ◌↔◌, ℕ, ◌<◌, Bool, true, false, List, [], ◌∷◌, ◌++◌, length, get_or, set, map, drop, Option}
+use Rattle.std.proofs.Common.{Some, None, is_some, IsSome, IfSome, IfNone, refl, sym, ap, ◌∙◌, inl, inr, subst, arith, Contains}
 use Rattle.std.proofs.lemmas.Bool.{cases_eq}
 use Rattle.std.proofs.lemmas.List.{ext_get_or, get_or_read, length-set, length-map, get_or-set_same, get_or-set_other}
 use Rattle.std.specs.Ordering.{nat_cmp}
@@ -18,7 +19,10 @@ use Rattle.ilist_core.proofs.Spelled.{linked_row, Spells-right}
 use Rattle.ilist_core.proofs.Mended.{list_in, with_value-same, with_value-other, with_first-keeps}
 use Rattle.ilist_core.proofs.NodeSet.{contains-nodes_in, nodes_in-kept, nodes_in-insert, nodes_in-remove}
 use Rattle.ilist_core.proofs.Linked.{lists_of-sound}
-use Rattle.ilist_core.proofs.Changes.{first_of-Contains, there-named, named, one_list, last_within, nodes_of-without, pushed_rows, pushed_ends, IsSound-push, pushed-there, previous, next, row-named, previous-there, next-there_still, mended_rows, node-there, unlinked_rows, unlinked_ends, list-within, IsSound-unlink, unlinked-there, unlinked-none, mended-keeps, IsSound-same, IsSound-add, IsSound-remove, IsSound-new_list}
+use Rattle.ilist_core.proofs.Changes.{first_of-Contains, there-named, named, one_list, last_within, nodes_of-without, pushed_rows}
+use Rattle.ilist_core.proofs.Changes.{pushed_ends, IsSound-push, pushed-there, previous, next, row-named, previous-there, next-there_still}
+use Rattle.ilist_core.proofs.Changes.{mended_rows, node-there, unlinked_rows, unlinked_ends, list-within, IsSound-unlink, unlinked-there}
+use Rattle.ilist_core.proofs.Changes.{unlinked-none, mended-keeps, IsSound-same, IsSound-add, IsSound-remove, IsSound-new_list}
 
 -- what a contract sees of a table and its ends
 abbrev pub seen : Slab Row → List Ends → Sequences

@@ -1,12 +1,14 @@
 -- Walks along a list from node to node, and a node that leaves its one list.
-use Rattle.std.proofs.Common.{◌≡◌, ◌≢◌, ◌⊎◌, ◌↔◌, ℕ, zero, suc, ◌<◌, true, false, eqb, List, [], ◌∷◌, ◌++◌, length, map, set, Option, Some, None, IfSome, refl, sym, ap, ◌∙◌, inl, inr, subst, arith, Contains, append_assoc}
+use Rattle.std.proofs.Common.{◌≡◌, ◌≢◌, ◌⊎◌, ◌↔◌, ℕ, zero, suc, ◌<◌, true, false, eqb, List, [], ◌∷◌, ◌++◌, length, map, set}
+use Rattle.std.proofs.Common.{Option, Some, None, IfSome, refl, sym, ap, ◌∙◌, inl, inr, subst, arith, Contains, append_assoc}
 use Rattle.std.proofs.lemmas.Bool.{cases_eq, eq-eqb, ne_eqb, true≢false}
 use Rattle.std.proofs.lemmas.List.{ext_get_or, length-set, length-map, get_or-set_same, get_or-set_other}
 use Rattle.std.proofs.lemmas.List.Elements.{Contains-append_left, Contains-append_right, Contains-append_cases}
 use Rattle.std.specs.FinSet as finite
 use Rattle.slab.proofs.SlabLemmas.{Contains-cons, Contains-cons_cases}
 use Rattle.ilist_core.specs.NodeLists.{Sequences, nodes_of, nodes_from, first_of, without, NoneTwice, AreApart}
-use Rattle.ilist_core.proofs.Nodes.{cut, Contains-nil, Contains-without, Contains-here, Contains-at, apart_across, apart_first, NoneTwice-right, without-absent, without-cut}
+use Rattle.ilist_core.proofs.Nodes.{cut, Contains-nil, Contains-without, Contains-here, Contains-at, apart_across}
+use Rattle.ilist_core.proofs.Nodes.{apart_first, NoneTwice-right, without-absent, without-cut}
 use Rattle.ilist_core.proofs.Changes.{nodes_of-without}
 
 -- the first node of a list, if there is one, is of the list

@@ -1,5 +1,6 @@
 -- A point that is looked at by the slots is looked at by the points that follow from them.
-use Rattle.std.proofs.Common.{◌≡◌, ◌<◌, ◌≤◌, ◌+◌, ℕ, true, List, [], length, get_or, Option, Some, None, Result, Ok, Err, refl, sym, ap, ◌∙◌, inl, inr}
+use Rattle.std.proofs.Common.{◌≡◌, ◌<◌, ◌≤◌, ◌+◌, ℕ, true, List, [], length, get_or, Option}
+use Rattle.std.proofs.Common.{Some, None, Result, Ok, Err, refl, sym, ap, ◌∙◌, inl, inr}
 use Rattle.std.specs.Prelude.{◌==◌, if◌then◌else◌}
 use Rattle.std.proofs.lemmas.Option.{none-some}
 use Rattle.flt_rules.specs.declared.rule.Rule.{Rule}
@@ -13,7 +14,8 @@ use Rattle.flt_cert.specs.Format.{Point, Certificate}
 use Rattle.flt_check.specs.Checker.{lesser, successor_fault, result_fault, own_fault, entry_by, point_fault}
 use Rattle.flt_cert.specs.Thin.{Slot}
 use Rattle.flt_check.specs.Full.{full_points}
-use Rattle.flt_check.specs.Ready.{IsReady, side_fault, column_fault, slots_result, put_result, slots_fault, put_from, own_state, column_result, column_own, column_point, AreGiven}
+use Rattle.flt_check.specs.Ready.{IsReady, side_fault, column_fault, slots_result, put_result, slots_fault}
+use Rattle.flt_check.specs.Ready.{put_from, own_state, column_result, column_own, column_point, AreGiven}
 use Rattle.flt_check.proofs.Thin.Ready.{given_at, ready_state, ready_unreached, ready_reached, side_fault_is}
 
 -- ---- certificates by columns

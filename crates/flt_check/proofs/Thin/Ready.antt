@@ -1,5 +1,6 @@
 -- Going through a callback: what is kept for later points is what follows for them, and a fault is the checker's.
-use Rattle.std.proofs.Common.{◌≡◌, ◌<◌, ◌≤◌, ◌+◌, ℕ, suc, Bool, true, false, List, [], ◌∷◌, ◌++◌, length, take, set, get_or, Option, Some, None, Ok, refl, sym, ap, ◌∙◌, subst, arith, inl, inr}
+use Rattle.std.proofs.Common.{◌≡◌, ◌<◌, ◌≤◌, ◌+◌, ℕ, suc, Bool, true, false, List, [], ◌∷◌, ◌++◌, length, take}
+use Rattle.std.proofs.Common.{set, get_or, Option, Some, None, Ok, refl, sym, ap, ◌∙◌, subst, arith, inl, inr}
 use Rattle.std.specs.Prelude.{◌⊎◌, ◌&&◌, ◌==◌, not, nat_lt, if◌then◌else◌, is_some}
 use Rattle.std.proofs.lemmas.Bool.{cond-false, cases_lt, cases_eq, ne_eqb, lt-ltb, le-ltb, ltb-true, and_parts, and_from, true≢false}
 use Rattle.std.proofs.lemmas.List.{get_or-take, length-take-le, get_or_past, take_more, get_or-set_same, get_or-set_other, length-set}

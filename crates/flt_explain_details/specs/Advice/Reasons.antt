@@ -2,7 +2,8 @@
 use Rattle.std.specs.Prelude.{ℕ, Bool, true, false, [], ◌∷◌, codes, Option, Some, None}
 use Rattle.std.specs.List.{concat}
 use Rattle.flt_rules.specs.declared.call.Call.{Call}
-use Rattle.flt_rules.specs.declared.call.Call.TheVariants.{InsertIo, QueueDeferredIoWorkItem, QueueGenericWorkItem, CompletePendedPreOperation}
+use Rattle.flt_rules.specs.declared.call.Call.TheVariants.{InsertIo, QueueDeferredIoWorkItem, QueueGenericWorkItem}
+use Rattle.flt_rules.specs.declared.call.Call.TheVariants.{CompletePendedPreOperation}
 use Rattle.flt_tree.specs.Names.{Text}
 use Rattle.flt_graph.specs.declared.instruction.Invocation.{Invocation}
 use Rattle.flt_explain.specs.declared.finding.Subject.{Subject}
@@ -76,7 +77,8 @@ emptying_outcome false = codes " fails"
 -- a call gives none
 unfoldable pub emptied_by_call : Circumstances → Call → ℕ → Bool → Text
 emptied_by_call x c line succeeds =
-    concat (subject x ∷ codes " is NULL where " ∷ marked (call_name c) ∷ codes " in line " ∷ line_named x line ∷ emptying_outcome succeeds ∷ [])
+    concat (subject x ∷ codes " is NULL where " ∷ marked (call_name c) ∷ codes " in line " ∷ line_named x line
+    ∷ emptying_outcome succeeds ∷ [])
 
 abbrev pub emptied_by : Circumstances → Option Invocation → ℕ → Bool → Text
 emptied_by x (Some c) line succeeds = emptied_by_call x c.call line succeeds

@@ -30,7 +30,9 @@ use Rattle.flt_explain_details.specs.Names.{operation_name, status_name}
 use Rattle.flt_explain_details.specs.Page.{marked, quoted}
 use Rattle.flt_explain_details.specs.declared.advice.reasons.Reason.{Reason}
 use Rattle.flt_explain_details.specs.declared.advice.statuses.Wrong.{Wrong}
-use Rattle.flt_explain_details.specs.declared.advice.statuses.Wrong.TheVariants.{PendingIsFinal, NoneIsReturned, OtherStage, NoPost, Create, Held, GivenAway, FastIo, Irp, NeverFast, Draining, Queued, Deferred, Canceled, NotHanded, Unpaired, Other}
+use Rattle.flt_explain_details.specs.declared.advice.statuses.Wrong.TheVariants.{PendingIsFinal, NoneIsReturned, OtherStage, NoPost, Create}
+use Rattle.flt_explain_details.specs.declared.advice.statuses.Wrong.TheVariants.{Held, GivenAway, FastIo, Irp, NeverFast, Draining, Queued}
+use Rattle.flt_explain_details.specs.declared.advice.statuses.Wrong.TheVariants.{Deferred, Canceled, NotHanded, Unpaired, Other}
 
 -- ---- callbacks of operations
 

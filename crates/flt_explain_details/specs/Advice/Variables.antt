@@ -1,6 +1,7 @@
 -- Variables that aren't held where they are used (R01, R04, R13), or are held where they mustn't be (R02, R03, R05): what is wrong, and how
 -- to fix it. This project's own program.
-use Rattle.std.specs.Prelude.{Bool, true, false, ◌&&◌, if◌then◌else◌, [], ◌++◌, codes, Option, Some, None, is_some, option_and_then, unwrap_or}
+use Rattle.std.specs.Prelude.{Bool, true, false, ◌&&◌, if◌then◌else◌, [], ◌++◌, codes}
+use Rattle.std.specs.Prelude.{Option, Some, None, is_some, option_and_then, unwrap_or}
 use Rattle.flt_rules.specs.declared.call.Call.{Call}
 use Rattle.flt_rules.specs.declared.call.Call.TheVariants.{ReleaseContext, CompletePendedPreOperation, CompletePendedPostOperation}
 use Rattle.flt_rules.specs.declared.place.Place.{Place}

@@ -1,8 +1,10 @@
 -- What a ledger says of a step whose events it has taken in: the visits that it has listed are enough to look at.
-use Rattle.std.proofs.Common.{◌≡◌, ◌≢◌, ◌⊎◌, ⊎_elim, inl, inr, subst, ℕ, zero, suc, ◌+◌, ◌<◌, ◌≤◌, Bool, true, false, List, [], ◌∷◌, ◌++◌, Option, Some, None, ap, sym, refl, ◌∙◌, arith, length, get_or}
+use Rattle.std.proofs.Common.{◌≡◌, ◌≢◌, ◌⊎◌, ⊎_elim, inl, inr, subst, ℕ, zero, suc, ◌+◌, ◌<◌, ◌≤◌, Bool, true, false}
+use Rattle.std.proofs.Common.{List, [], ◌∷◌, ◌++◌, Option, Some, None, ap, sym, refl, ◌∙◌, arith, length, get_or}
 use Rattle.std.proofs.Math.ListN.{get_or-append}
 use Rattle.std.proofs.Math.Seq.{get_or-append_seam}
-use Rattle.std.proofs.lemmas.Bool.{both_ways, true≢false, cases_eq, cases_lt, lt-ltb, le-ltb, eqb-true, eq-eqb, and_from, and_parts, or_right, false_from_ne_true, not-false, not-true}
+use Rattle.std.proofs.lemmas.Bool.{both_ways, true≢false, cases_eq, cases_lt, lt-ltb, le-ltb, eqb-true, eq-eqb}
+use Rattle.std.proofs.lemmas.Bool.{and_from, and_parts, or_right, false_from_ne_true, not-false, not-true}
 use Rattle.std.proofs.lemmas.List.{length-map, ext_get_or, length-append}
 use Rattle.std.proofs.lemmas.List.Sums.{sum_by-cons}
 use Rattle.std.specs.List.{list_all}
@@ -30,7 +32,8 @@ use Rattle.flt_replay_records.specs.Counts.{count, occurs}
 use Rattle.flt_replay.specs.Holdings.{times_held}
 use Rattle.flt_replay.specs.Rows.{count_of}
 use Rattle.flt_replay.specs.Judging.{Follows, first_of, of_holding}
-use Rattle.flt_replay.specs.Ledger.{Tally, Tells, IsCounted, Agrees, Judged, Halted, Joined, held, share, running_with, going, waiting, owns, owns_any, first_broken}
+use Rattle.flt_replay.specs.Ledger.{Tally, Tells, IsCounted, Agrees, Judged, Halted, Joined, held, share}
+use Rattle.flt_replay.specs.Ledger.{running_with, going, waiting, owns, owns_any, first_broken}
 
 -- ---- the listed
 

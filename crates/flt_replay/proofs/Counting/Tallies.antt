@@ -1,6 +1,7 @@
 -- What a ledger's counts say of a trace: what is held, what is live, and that an activation has let everything go.
 use Rattle.std.proofs.Common.{◌≡◌, ◌≢◌, ⊎_elim, subst, ℕ, ◌+◌, ◌<◌, ◌≤◌, Bool, true, false, List, [], ◌∷◌, ap, sym, refl, ◌∙◌, arith}
-use Rattle.std.proofs.lemmas.Bool.{cases_eq, cases_Bool, both_ways, and_from, and_parts, false_from_ne_true, true≢false, ltb-true, ltb-false}
+use Rattle.std.proofs.lemmas.Bool.{cases_eq, cases_Bool, both_ways, and_from, and_parts}
+use Rattle.std.proofs.lemmas.Bool.{false_from_ne_true, true≢false, ltb-true, ltb-false}
 use Rattle.std.proofs.lemmas.Bool.Decides.{nat_tests}
 use Rattle.std.proofs.lemmas.List.Sums.{sum_by-cons}
 use Rattle.std.specs.Prelude.{nat_lt, ◌==◌, ◌↔◌, IsTrue, not}

@@ -1,5 +1,6 @@
 -- What comes of the monitor's steps, entry by entry.
-use Rattle.std.proofs.Common.{◌≡◌, ◌<◌, ◌-◌, ◌+◌, ℕ, zero, suc, Bool, true, false, List, [], ◌∷◌, ◌++◌, Option, Some, None, Result, Ok, Err, IfOk, find, not, replicate, drop, get_or, length, add-one, refl, sym, ◌∙◌, ap, subst, arith, sub-one}
+use Rattle.std.proofs.Common.{◌≡◌, ◌<◌, ◌-◌, ◌+◌, ℕ, zero, suc, Bool, true, false, List, [], ◌∷◌, ◌++◌, Option, Some, None, Result, Ok}
+use Rattle.std.proofs.Common.{Err, IfOk, find, not, replicate, drop, get_or, length, add-one, refl, sym, ◌∙◌, ap, subst, arith, sub-one}
 use Rattle.std.specs.List.{list_all}
 use Rattle.std.specs.Option.{option_or}
 use Rattle.std.specs.Prelude.{IsTrue, if◌then◌else◌, option_and_then}
@@ -11,7 +12,8 @@ use Rattle.flt_model.specs.declared.moves.Move.{Move}
 use Rattle.flt_model.specs.declared.verdict.Verdict.{Verdict}
 use Rattle.flt_model.specs.declared.verdict.Violation.{Violation}
 use Rattle.flt_model.specs.Effects.{Step}
-use Rattle.flt_model.specs.Expansion.{Course, Reaches, Stops, Fails, unless_broken, course, go_on, entry_course, expansion, judged, verdict_from}
+use Rattle.flt_model.specs.Expansion.{Course, Reaches, Stops, Fails, unless_broken, course}
+use Rattle.flt_model.specs.Expansion.{go_on, entry_course, expansion, judged, verdict_from}
 use Rattle.flt_model.specs.Locks.{locks_exclude}
 use Rattle.flt_model.specs.Moves.{make}
 use Rattle.flt_model.specs.Runs.{Moment, start, after, next, broken}

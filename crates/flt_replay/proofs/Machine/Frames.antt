@@ -1,6 +1,7 @@
 -- What a step of an activation leaves as it is: all actors, visits and arrivals, the other activations, and the variable `data`.
 -- The rules of statuses, levels, locks and places read nothing else, so they can be read after the step as well.
-use Rattle.std.proofs.Common.{◌≡◌, ◌<◌, ℕ, Bool, true, false, List, [], ◌∷◌, ◌++◌, Option, Some, None, inl, inr, true≢false, length, ap, sym, refl, ◌∙◌, arith}
+use Rattle.std.proofs.Common.{◌≡◌, ◌<◌, ℕ, Bool, true, false, List, [], ◌∷◌, ◌++◌, Option, Some}
+use Rattle.std.proofs.Common.{None, inl, inr, true≢false, length, ap, sym, refl, ◌∙◌, arith}
 use Rattle.std.proofs.Math.ListN.{set, get_or}
 use Rattle.std.proofs.lemmas.Bool.{eq-eqb, and_from, cases_lt}
 use Rattle.std.proofs.lemmas.List.{get_or-set_other, get_or_past}
@@ -39,8 +40,13 @@ use Rattle.flt_model.specs.declared.event.Event.{Event}
 use Rattle.flt_model.specs.declared.event.Event.TheVariants as event
 use Rattle.flt_model.specs.declared.event.Object.{Object}
 use Rattle.flt_model.specs.declared.event.Object.TheVariants.{Visit}
-use Rattle.flt_model.specs.Calls.{needs_of, link_of, set_there, set_by, cannot_set, got, kept, get_by, allocate, allocated, get, set_context, unlinked, delete_by, delete_at, deleted, delete, referenced, reference, released, release, taken, acquire, acquire_shared, given_up, release_lock, enqueued, insert_by, insert, removed, remove_next, deferred, defer_by, queue_deferred, queued, queue_by, queue_generic, completed, status_of, complete_by, complete_pre, status_of_post, complete_post_by, complete_post}
-use Rattle.flt_model.specs.Effects.{Step, context, operation, optional, uses, empties, gains_context, loses_context, freed_by_drop, after_unlink, events_of_unlink, onward, goes_on, unchanged, gives_nothing, needing, calling}
+use Rattle.flt_model.specs.Calls.{needs_of, link_of, set_there, set_by, cannot_set, got, kept, get_by, allocate, allocated, get}
+use Rattle.flt_model.specs.Calls.{set_context, unlinked, delete_by, delete_at, deleted, delete, referenced, reference, released}
+use Rattle.flt_model.specs.Calls.{release, taken, acquire, acquire_shared, given_up, release_lock, enqueued, insert_by, insert, removed}
+use Rattle.flt_model.specs.Calls.{remove_next, deferred, defer_by, queue_deferred, queued, queue_by, queue_generic, completed, status_of}
+use Rattle.flt_model.specs.Calls.{complete_by, complete_pre, status_of_post, complete_post_by, complete_post}
+use Rattle.flt_model.specs.Effects.{Step, context, operation, optional, uses, empties, gains_context, loses_context, freed_by_drop}
+use Rattle.flt_model.specs.Effects.{after_unlink, events_of_unlink, onward, goes_on, unchanged, gives_nothing, needing, calling}
 use Rattle.flt_model.specs.Program.{callbacks_at, routine_of}
 use Rattle.flt_model.specs.Reads.{put_value, read_value_of, write_value_of, read_file_of, test_irp_of}
 use Rattle.flt_model.specs.Returns.{ends, status_given, context_used, visit_given_back, returned, returns, there}
@@ -48,7 +54,8 @@ use Rattle.flt_model.specs.Settling.{Way, led, way_of, settles_visit, makes_fram
 use Rattle.flt_model.specs.Steps.{plain_step, fallible_step, list_step, board}
 use Rattle.flt_model.specs.Trace.{is_held}
 use Rattle.flt_model.specs.Variables.{operation_in, context_in, named_in, atom_value, with_number, with_old, with_operation_in}
-use Rattle.flt_model.specs.World.{World, Store, Activation, Entry, Link, activation_at, actor_at, is_attached, presence_at, queue_at, context_at, is_freed, linked_at, nobody, arrival_of, visit_at, route_at, with_context, with_route}
+use Rattle.flt_model.specs.World.{World, Store, Activation, Entry, Link, activation_at, actor_at, is_attached, presence_at, queue_at}
+use Rattle.flt_model.specs.World.{context_at, is_freed, linked_at, nobody, arrival_of, visit_at, route_at, with_context, with_route}
 use Rattle.flt_replay.proofs.Machine.EachStep.{OfEach, of_list}
 use Rattle.flt_replay.specs.Judging.{is_by}
 

@@ -6,11 +6,16 @@ use Rattle.flt_rules.specs.declared.place.Operation.{Operation}
 use Rattle.flt_tree.specs.declared.filter.Filter.{Filter}
 use Rattle.flt_tree.specs.declared.filter.Statement.{Statement}
 use Rattle.flt_model.specs.declared.moves.Move.{Move}
-use Rattle.flt_model.specs.declared.moves.Move.TheVariants.{Arrive, Pre, Skip, Lower, Post, Cancel, Canceled, Work, Detach, Drain, Unlink, Detached}
+use Rattle.flt_model.specs.declared.moves.Move.TheVariants.{Arrive, Pre, Skip, Lower, Post, Cancel, Canceled}
+use Rattle.flt_model.specs.declared.moves.Move.TheVariants.{Work, Detach, Drain, Unlink, Detached}
 use Rattle.flt_model.specs.Effects.{Step, freed_by_drop, after_unlink}
-use Rattle.flt_model.specs.Moves.{stores, starts, with_visit, with_arrival, fits_mode, calls_pre, pre_at, pre_of, skip_at, carried_out, lower_at, last_frame, post_by, post_at, is_done, is_entry_of, other_entries, canceled_by, work_by, is_frame_of, drain_by, unlink_by, is_drained, make}
+use Rattle.flt_model.specs.Moves.{stores, starts, with_visit, with_arrival, fits_mode, calls_pre, pre_at, pre_of, skip_at}
+use Rattle.flt_model.specs.Moves.{carried_out, lower_at, last_frame, post_by, post_at, is_done, is_entry_of, other_entries}
+use Rattle.flt_model.specs.Moves.{canceled_by, work_by, is_frame_of, drain_by, unlink_by, is_drained, make}
 use Rattle.flt_model.specs.Program.{filter_of}
-use Rattle.flt_model.specs.World.{World, Actor, Arrival, Down, Entry, Frame, Item, Position, Presence, Route, Up, Visit, Visiting, is_attached, is_detaching, presence_at, queue_at, arrival_at, route_at, item_at, linked_at, with_route, with_queue, with_presence}
+use Rattle.flt_model.specs.World.{World, Actor, Arrival, Down, Entry, Frame, Item, Position, Presence, Route}
+use Rattle.flt_model.specs.World.{Up, Visit, Visiting, is_attached, is_detaching, presence_at, queue_at, arrival_at}
+use Rattle.flt_model.specs.World.{route_at, item_at, linked_at, with_route, with_queue, with_presence}
 
 -- ---- each kind of move
 

@@ -1,6 +1,7 @@
 -- What a move does with visits: a callback that starts is a new activation, which gains what it is given; a visit that no event
 -- names stays where it is.
-use Rattle.std.proofs.Common.{◌≡◌, ◌≢◌, ◌≤◌, ℕ, zero, suc, ◌+◌, Bool, true, false, List, [], ◌∷◌, ◌++◌, Option, Some, None, length, ap, sym, refl, ◌∙◌, arith, length-append}
+use Rattle.std.proofs.Common.{◌≡◌, ◌≢◌, ◌≤◌, ℕ, zero, suc, ◌+◌, Bool, true, false, List, [], ◌∷◌, ◌++◌}
+use Rattle.std.proofs.Common.{Option, Some, None, length, ap, sym, refl, ◌∙◌, arith, length-append}
 use Rattle.std.proofs.Math.ListN.{set, get_or}
 use Rattle.std.proofs.lemmas.Bool.{and_from, and_parts, eqb-true}
 use Rattle.std.proofs.lemmas.List.Folds.{list_all-append, find_at}
@@ -18,7 +19,8 @@ use Rattle.flt_model.specs.Moves.{stores, starts, gains_visit, with_visit, is_en
 use Rattle.flt_model.specs.Trace.{one_if}
 use Rattle.flt_model.specs.Variables.{starting}
 use Rattle.flt_model.specs.Violations.{in_queue, in_item, in_some}
-use Rattle.flt_model.specs.World.{World, Store, Actor, Activation, Entry, Item, Route, Visit, queue_at, item_at, context_at, with_route, with_queue}
+use Rattle.flt_model.specs.World.{World, Store, Actor, Activation, Entry, Item, Route, Visit}
+use Rattle.flt_model.specs.World.{queue_at, item_at, context_at, with_route, with_queue}
 use Rattle.flt_replay.proofs.Machine.Apart.{apart_numbers, one_if_apart, Unmoved, unmoved_same, SameParts, sum_set}
 use Rattle.flt_replay.proofs.Machine.Frames.{if_same, self_by}
 use Rattle.flt_replay.proofs.Machine.MoveCases.{EachMove, each_move}

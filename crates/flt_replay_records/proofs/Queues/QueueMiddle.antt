@@ -1,5 +1,6 @@
 -- The first entry that passes a test, and the others.
-use Rattle.std.proofs.Common.{◌≡◌, ℕ, suc, ◌+◌, Bool, true, false, List, [], ◌∷◌, ◌++◌, Some, find, take, drop, refl, sym, ap, ◌∙◌, arith, add-one}
+use Rattle.std.proofs.Common.{◌≡◌, ℕ, suc, ◌+◌, Bool, true, false, List, [], ◌∷◌, ◌++◌}
+use Rattle.std.proofs.Common.{Some, find, take, drop, refl, sym, ap, ◌∙◌, arith, add-one}
 use Rattle.std.specs.List.{AllByRecursion, position_or_len}
 use Rattle.flt_model.specs.World.{Entry}
 use Rattle.flt_replay_records.specs.Tickets.{without_first}

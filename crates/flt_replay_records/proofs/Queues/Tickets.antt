@@ -1,8 +1,11 @@
 -- A queue's entries by their tickets: which are left, where one comes or is taken out, and which stands first.
-use Rattle.std.proofs.Common.{◌≡◌, ℕ, zero, suc, ◌+◌, ◌<◌, ◌≤◌, Bool, true, false, ◌==◌, nat_lt, nat_eq, List, [], ◌∷◌, ◌++◌, ◌⊎◌, inl, inr, ◌||◌, if◌then◌else◌, Option, Some, None, is_some, find, map, take, length, get_or, set, ⊎_elim, refl, sym, ap, subst, ◌∙◌, arith}
+use Rattle.std.proofs.Common.{◌≡◌, ℕ, zero, suc, ◌+◌, ◌<◌, ◌≤◌, Bool, true, false, ◌==◌, nat_lt, nat_eq, List}
+use Rattle.std.proofs.Common.{[], ◌∷◌, ◌++◌, ◌⊎◌, inl, inr, ◌||◌, if◌then◌else◌, Option, Some, None, is_some}
+use Rattle.std.proofs.Common.{find, map, take, length, get_or, set, ⊎_elim, refl, sym, ap, subst, ◌∙◌, arith}
 use Rattle.std.proofs.lemmas.Bool.{eqb-true, ltb-false, ltb-true, lt-ltb, cases_eq, cases_lt, cases_order}
 use Rattle.std.proofs.lemmas.Bool.Decides.{nat_tests}
-use Rattle.std.proofs.lemmas.List.{append-nil, map-append, get_or_append_left, get_or_push, get_or_past, take_all, take_more, take-append-le, length-set, length_push}
+use Rattle.std.proofs.lemmas.List.{append-nil, map-append, get_or_append_left, get_or_push, get_or_past}
+use Rattle.std.proofs.lemmas.List.{take_all, take_more, take-append-le, length-set, length_push}
 use Rattle.std.proofs.lemmas.List.Folds.{list_any-append}
 use Rattle.std.specs.List.{list_any}
 use Rattle.std.specs.Option.{MatchOption}

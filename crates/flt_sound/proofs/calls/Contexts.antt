@@ -2,7 +2,8 @@
 -- as it changes what variables, links and events say of it, so that the count of references still holds and a context is freed
 -- just where its last reference goes.
 -- p is the program, m the moment, a the activation, s its shadow; c, d and old are variables, x and y contexts, l is a link.
-use Rattle.std.proofs.Common.{◌≡◌, ℕ, ◌+◌, ◌<◌, ◌≤◌, Bool, true, false, List, [], ◌∷◌, ◌++◌, length, Option, Some, None, sym, subst, refl, ◌∙◌, arith}
+use Rattle.std.proofs.Common.{◌≡◌, ℕ, ◌+◌, ◌<◌, ◌≤◌, Bool, true, false, List, [], ◌∷◌, ◌++◌}
+use Rattle.std.proofs.Common.{length, Option, Some, None, sym, subst, refl, ◌∙◌, arith}
 use Rattle.std.specs.Prelude.{is_some, if◌then◌else◌}
 use Rattle.std.proofs.lemmas.List.{length-set}
 use Rattle.flt_rules.specs.declared.call.Anchor.{Anchor}
@@ -30,20 +31,25 @@ use Rattle.flt_model.specs.Effects.{onward, freed_by_drop, after_unlink, goes_on
 use Rattle.flt_model.specs.Runs.{Moment}
 use Rattle.flt_model.specs.Trace.{gains, frees}
 use Rattle.flt_model.specs.Variables.{with_context_in, with_old}
-use Rattle.flt_model.specs.World.{Store, Link, no_context, is_linked_to, same_key, with_link, add_reference, drop_reference, actor_at, activation_at, arrival_of, context_at, linked_at}
+use Rattle.flt_model.specs.World.{Store, Link, no_context, is_linked_to, same_key, with_link, add_reference}
+use Rattle.flt_model.specs.World.{drop_reference, actor_at, activation_at, arrival_of, context_at, linked_at}
 use Rattle.flt_model.specs.World as world
 use Rattle.flt_sound.proofs.sums.Counts.{counts, of_actor-same, made_self}
 use Rattle.flt_sound.proofs.sums.Ledger.{Ledger}
-use Rattle.flt_sound.proofs.sums.Shadows.{Unset, Owns, Past, own, own_all, own_all-set, Shadow, context_slot, with_rest, put_context, put_old}
+use Rattle.flt_sound.proofs.sums.Shadows.{Unset, Owns, Past, own, own_all, own_all-set, Shadow}
+use Rattle.flt_sound.proofs.sums.Shadows.{context_slot, with_rest, put_context, put_old}
 use Rattle.flt_sound.proofs.sums.Slots.{owned_there, not_held, context_there, own_all-put}
 use Rattle.flt_sound.proofs.points.Events.{none, lost, gained, dropped}
 use Rattle.flt_sound.proofs.points.Kept.{Good, IsAt, held_one}
 use Rattle.flt_sound.proofs.points.Legal.{spot}
-use Rattle.flt_sound.proofs.points.Rows.{before, state_of, was, owned_operation, operation_is, situation-put_context, plain-past_context, draining_of, PlacedAt, AtCall, owned_context, context_is, onward_is}
-use Rattle.flt_sound.proofs.calls.Effects.{GoodBehind, own_filter, has_owned_context, has_owned_visit, same_store, no_ledger, unchanged_good}
+use Rattle.flt_sound.proofs.points.Rows.{before, state_of, was, owned_operation, operation_is, situation-put_context, plain-past_context}
+use Rattle.flt_sound.proofs.points.Rows.{draining_of, PlacedAt, AtCall, owned_context, context_is, onward_is}
+use Rattle.flt_sound.proofs.calls.Effects.{GoodBehind, own_filter, has_owned_context, has_owned_visit}
+use Rattle.flt_sound.proofs.calls.Effects.{same_store, no_ledger, unchanged_good}
 use Rattle.flt_sound.proofs.calls.Links.{some_link, IsAvailable, IsLinked, link_refs, link_available, available_touch, found_link}
 use Rattle.flt_sound.proofs.points.Opened.{Opened, opened_call, opened_use, given_good, behind, ledger_after, clean_after}
-use Rattle.flt_sound.proofs.points.Stepping.{row_good, CalmStore, same_calm, calm_of, running, Touched, held_touch, held_refs, stood_contexts}
+use Rattle.flt_sound.proofs.points.Stepping.{row_good, CalmStore, same_calm, calm_of, running}
+use Rattle.flt_sound.proofs.points.Stepping.{Touched, held_touch, held_refs, stood_contexts}
 use Rattle.flt_sound.proofs.sums.Belonging.{newest}
 use Rattle.flt_sound.proofs.sums.Handovers.{gains-dropped, loses-dropped, settles-dropped}
 use Rattle.flt_sound.proofs.sums.Touching.{CleanBy, drop_clean}

@@ -2,7 +2,8 @@
 -- the variables lose is what the receiver then has; they keep the numbers and are past them. The first call that does so stands
 -- here, FltCbdqInsertIo; Queueing and the folder `ends` have the others.
 -- p is the program, m the moment, a the activation, s its shadow; d and c are variables, v a visit, x a context, if there is one.
-use Rattle.std.proofs.Common.{◌≡◌, ℕ, ◌<◌, Bool, true, false, List, [], ◌∷◌, ◌++◌, length, map, Option, Some, None, ap, sym, subst, refl, ◌∙◌, arith}
+use Rattle.std.proofs.Common.{◌≡◌, ℕ, ◌<◌, Bool, true, false, List, [], ◌∷◌, ◌++◌, length}
+use Rattle.std.proofs.Common.{map, Option, Some, None, ap, sym, subst, refl, ◌∙◌, arith}
 use Rattle.std.specs.Prelude.{not, ◌&&◌, if◌then◌else◌}
 use Rattle.std.proofs.lemmas.Option.{slice_get_within}
 use Rattle.std.proofs.Math.ListN.{set}
@@ -49,9 +50,11 @@ use Rattle.flt_sound.proofs.sums.Turns.{Turned, enqueue_turned}
 use Rattle.flt_sound.proofs.points.Events.{Events, none, lost, has_context, has_visit}
 use Rattle.flt_sound.proofs.points.Kept.{Good, IsAt, StoreChange}
 use Rattle.flt_sound.proofs.points.Legal.{spot}
-use Rattle.flt_sound.proofs.points.Rows.{PlacedAt, before, state_of, draining_of, AtCall, onward_is, given_mode, owned_context, owned_operation, context_is, operation_is}
+use Rattle.flt_sound.proofs.points.Rows.{PlacedAt, before, state_of, draining_of, AtCall, onward_is, given_mode}
+use Rattle.flt_sound.proofs.points.Rows.{owned_context, owned_operation, context_is, operation_is}
 use Rattle.flt_sound.proofs.calls.Stores.{queue_stored}
-use Rattle.flt_sound.proofs.calls.Effects.{GoodBehind, own_filter, own_place, GivenAt, given_as, in_place, has_owned_context, has_owned_visit, unchanged_good}
+use Rattle.flt_sound.proofs.calls.Effects.{GoodBehind, own_filter, own_place, GivenAt, given_as, in_place}
+use Rattle.flt_sound.proofs.calls.Effects.{has_owned_context, has_owned_visit, unchanged_good}
 use Rattle.flt_sound.proofs.points.Handed.{names_has, named_own, Names, handed, handed_values, handed_wide, handed_count, handed_situation}
 use Rattle.flt_sound.proofs.points.Opened.{Opened, opened_use, opened_uses, behind, ledger_after, clean_after, Keeps}
 use Rattle.flt_sound.proofs.points.Stepping.{row_good, running, Touched, held_touch, stood_after, stood_contexts}

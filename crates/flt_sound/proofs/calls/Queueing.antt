@@ -2,7 +2,8 @@
 -- both may hand a context with it. An item that is queued has a routine of the kind that the call wants, so that the callback
 -- that later runs it stands at the first point of its own text.
 -- p is the program, m the moment, a the activation, s its shadow; i is an item, r a routine's name and `routine` its number.
-use Rattle.std.proofs.Common.{◌≡◌, ℕ, ◌+◌, Bool, true, false, List, [], ◌∷◌, ◌++◌, length, Option, Some, None, ap, subst, refl, arith, inl, inr}
+use Rattle.std.proofs.Common.{◌≡◌, ℕ, ◌+◌, Bool, true, false, List, [], ◌∷◌, ◌++◌, length}
+use Rattle.std.proofs.Common.{Option, Some, None, ap, subst, refl, arith, inl, inr}
 use Rattle.std.specs.Prelude.{slice_get, if◌then◌else◌}
 use Rattle.std.proofs.Math.ListN.{get_or, get_or-append}
 use Rattle.std.proofs.Math.Seq.{get_or-append_seam}
@@ -43,9 +44,11 @@ use Rattle.flt_sound.proofs.sums.Turns.{defer_turned, item_turned}
 use Rattle.flt_sound.proofs.points.Events.{none, lost}
 use Rattle.flt_sound.proofs.points.Kept.{Good, IsAt, StoreChange}
 use Rattle.flt_sound.proofs.points.Rows.{PlacedAt, before, AtCall, owned_context, owned_operation, context_is, operation_is}
-use Rattle.flt_sound.proofs.calls.Handing.{loses-named, frees-handed, settles-handed, with_context, hand_good, context_good, mode_irp, given_irp}
+use Rattle.flt_sound.proofs.calls.Handing.{loses-named, frees-handed, settles-handed, with_context}
+use Rattle.flt_sound.proofs.calls.Handing.{hand_good, context_good, mode_irp, given_irp}
 use Rattle.flt_sound.proofs.calls.Stores.{items_stored, items_mine}
-use Rattle.flt_sound.proofs.calls.Effects.{GoodBehind, own_filter, own_place, GivenAt, given_as, in_place, has_owned_context, has_owned_visit, unchanged_good}
+use Rattle.flt_sound.proofs.calls.Effects.{GoodBehind, own_filter, own_place, GivenAt, given_as, in_place}
+use Rattle.flt_sound.proofs.calls.Effects.{has_owned_context, has_owned_visit, unchanged_good}
 use Rattle.flt_sound.proofs.points.Handed.{Names, names_has, named_own}
 use Rattle.flt_sound.proofs.points.Opened.{Opened, opened_call, opened_use, opened_uses}
 use Rattle.flt_sound.proofs.points.Stored.{IsItem, FitsItem}

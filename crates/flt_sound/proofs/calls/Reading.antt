@@ -30,9 +30,11 @@ use Rattle.flt_sound.proofs.sums.Shadows.{Shadow, Owns, plain, with_rest}
 use Rattle.flt_sound.proofs.points.Local.{agrees_self}
 use Rattle.flt_sound.proofs.points.Events.{none, uses}
 use Rattle.flt_sound.proofs.points.Kept.{Good, IsAt}
-use Rattle.flt_sound.proofs.points.Rows.{PlacedAt, before, AtAct, AtTest, onward_is, owned_context, owned_operation, context_is, operation_is, given_mode}
+use Rattle.flt_sound.proofs.points.Rows.{PlacedAt, before, AtAct, AtTest, onward_is, owned_context}
+use Rattle.flt_sound.proofs.points.Rows.{owned_operation, context_is, operation_is, given_mode}
 use Rattle.flt_sound.proofs.calls.Effects.{has_owned_context, has_owned_visit, same_store}
-use Rattle.flt_sound.proofs.points.Stepping.{row_good, CalmStore, same_calm, calm_of, running, Touched, held_touch, held_refs, quiet_ledger, stood_contexts}
+use Rattle.flt_sound.proofs.points.Stepping.{row_good, CalmStore, same_calm, calm_of, running, Touched}
+use Rattle.flt_sound.proofs.points.Stepping.{held_touch, held_refs, quiet_ledger, stood_contexts}
 use Rattle.flt_sound.proofs.sums.References.{values}
 use Rattle.flt_sound.proofs.sums.Touching.{use_clean}
 

@@ -35,7 +35,8 @@ use Rattle.flt_sound.proofs.sums.Shadows.{Owns, own, Shadow}
 use Rattle.flt_sound.proofs.points.Kept.{Good, IsAt}
 use Rattle.flt_sound.proofs.points.Rows.{before, state_of, owned_operation, operation_is, PlacedAt, AtCall, owned_context, context_is}
 use Rattle.flt_sound.proofs.calls.Effects.{GoodBehind, own_filter, has_owned_context, has_owned_visit, unchanged_good}
-use Rattle.flt_sound.proofs.calls.Links.{IsLinked, CanLink, link_refs, link_available, available_touch, found_link, can_link, other_link, unlink_keeps, drop_keeps}
+use Rattle.flt_sound.proofs.calls.Links.{IsLinked, CanLink, link_refs, link_available, available_touch}
+use Rattle.flt_sound.proofs.calls.Links.{found_link, can_link, other_link, unlink_keeps, drop_keeps}
 use Rattle.flt_sound.proofs.calls.Contexts.{nulls, nothing_given, gets, drops, adds}
 use Rattle.flt_sound.proofs.points.Opened.{Opened, opened_use, opened_uses}
 use Rattle.flt_sound.proofs.points.Stepping.{same_calm}

@@ -3,7 +3,8 @@
 -- A context that goes with the status finds its frame.
 -- p is the program, m the moment, a the activation, s its shadow; d is the variable, v the visit, st the status, c and x the
 -- status's context variable and its context, if it has one.
-use Rattle.std.proofs.Common.{◌≡◌, ℕ, Bool, true, false, List, [], ◌∷◌, ◌++◌, Option, Some, None, ap, sym, subst, refl, ◌∙◌, arith, append_assoc}
+use Rattle.std.proofs.Common.{◌≡◌, ℕ, Bool, true, false, List, [], ◌∷◌, ◌++◌, Option, Some}
+use Rattle.std.proofs.Common.{None, ap, sym, subst, refl, ◌∙◌, arith, append_assoc}
 use Rattle.std.specs.Prelude.{not, ◌&&◌, ◌||◌, if◌then◌else◌, is_some}
 use Rattle.std.proofs.Math.ListN.{set}
 use Rattle.std.proofs.lemmas.Bool.{and_from, and_parts, not-false}
@@ -57,7 +58,8 @@ use Rattle.flt_sound.proofs.points.Events.{Events, none, uses, lost, settled, an
 use Rattle.flt_sound.proofs.points.Kept.{Good, IsAt}
 use Rattle.flt_sound.proofs.points.Legal.{spot, place_same, callbacks_there, Cleared}
 use Rattle.flt_sound.proofs.calls.Handing.{loses-named, frees-handed, settles-handed, HandOver, hand_good}
-use Rattle.flt_sound.proofs.calls.Effects.{GoodBehind, own_filter, own_place, GivenAt, given_as, in_place, has_owned_context, has_owned_visit}
+use Rattle.flt_sound.proofs.calls.Effects.{GoodBehind, own_filter, own_place, GivenAt, given_as}
+use Rattle.flt_sound.proofs.calls.Effects.{in_place, has_owned_context, has_owned_visit}
 use Rattle.flt_sound.proofs.ends.Tests.{implied, needed, allowed}
 use Rattle.flt_sound.proofs.ends.Settling.{has_post_of, frames_by, settled_parts}
 use Rattle.flt_sound.proofs.ends.Frames.{context_taken, reference_taken, owned_visit, frame_made}

@@ -3,7 +3,8 @@
 -- operation as it has it. The machine's tests of all this follow.
 -- p is the program, m the moment, a the activation, s its shadow; st is the status, v the visit that the callback was given, c and
 -- x the status's context variable and its context, q a place.
-use Rattle.std.proofs.Common.{◌≡◌, ℕ, zero, suc, ◌<◌, Bool, true, false, List, [], ◌∷◌, take, Option, Some, None, ap, sym, subst, refl, ◌∙◌, arith, inl, inr}
+use Rattle.std.proofs.Common.{◌≡◌, ℕ, zero, suc, ◌<◌, Bool, true, false, List, [], ◌∷◌, take}
+use Rattle.std.proofs.Common.{Option, Some, None, ap, sym, subst, refl, ◌∙◌, arith, inl, inr}
 use Rattle.std.specs.Prelude.{not, ◌&&◌, ◌||◌, slice_index_or}
 use Rattle.std.specs.List.{list_any}
 use Rattle.std.proofs.Math.ListN.{set, get_or}

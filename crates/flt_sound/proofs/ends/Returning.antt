@@ -3,7 +3,8 @@
 -- frame. Then nothing is left in the variables, so the end leaks nothing.
 -- p is the program, m the moment, a the activation, s its shadow; st is the status, v the visit that the callback was given, c and
 -- x the status's context variable and its context.
-use Rattle.std.proofs.Common.{◌≡◌, ℕ, ◌+◌, ◌≤◌, Bool, true, false, List, [], ◌∷◌, ◌++◌, map, Option, Some, None, ap, sym, subst, refl, ◌∙◌, arith}
+use Rattle.std.proofs.Common.{◌≡◌, ℕ, ◌+◌, ◌≤◌, Bool, true, false, List, [], ◌∷◌, ◌++◌}
+use Rattle.std.proofs.Common.{map, Option, Some, None, ap, sym, subst, refl, ◌∙◌, arith}
 use Rattle.std.specs.Prelude.{if◌then◌else◌, is_some}
 use Rattle.std.proofs.Math.ListN.{set}
 use Rattle.std.proofs.Math.Seq.{map-set_same}
@@ -47,9 +48,11 @@ use Rattle.flt_sound.proofs.points.Events.{Events, none, uses, lost, settled, en
 use Rattle.flt_sound.proofs.points.Rows.{was, owned_context, context_is, operation_is}
 use Rattle.flt_sound.proofs.calls.Handing.{context_lost, loses-named}
 use Rattle.flt_sound.proofs.calls.Effects.{own_filter, own_place, GivenAt, same_store}
-use Rattle.flt_sound.proofs.ends.Ending.{Ending, when, answer, used, lost_if, taken_if, settled_if, given_back, front, ending, in_turn, has_later, loses-used, loses-lost_if, front_does, ending_does, ending_turned}
+use Rattle.flt_sound.proofs.ends.Ending.{Ending, when, answer, used, lost_if, taken_if, settled_if, given_back, front, ending}
+use Rattle.flt_sound.proofs.ends.Ending.{in_turn, has_later, loses-used, loses-lost_if, front_does, ending_does, ending_turned}
 use Rattle.flt_sound.proofs.ends.Frames.{reference_taken, given_visit, frame_made}
-use Rattle.flt_sound.proofs.ends.ReturnRules.{without_locks, AtReturn, no_locks, contexts_free, none_held, all_past, silent_free, returnable, held_asked, away_asked, stage_is, post_is, answer_legal}
+use Rattle.flt_sound.proofs.ends.ReturnRules.{without_locks, AtReturn, no_locks, contexts_free, none_held, all_past, silent_free}
+use Rattle.flt_sound.proofs.ends.ReturnRules.{returnable, held_asked, away_asked, stage_is, post_is, answer_legal}
 use Rattle.flt_sound.proofs.ends.Tests.{implied}
 use Rattle.flt_sound.proofs.ends.Settling.{has_post_of, frames_by, settled_parts}
 use Rattle.flt_sound.proofs.points.Handed.{Names, names_has, named_own, handed, handed_values, handed_count}

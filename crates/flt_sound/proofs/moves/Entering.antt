@@ -1,7 +1,8 @@
 -- A callback that starts stands at the first point of its text, in a situation that the state of its place's entry means. So the
 -- certificate, which covers each entry, says of a new activation what the invariant asks.
 -- p is the program, f a filter, c a callback, q its place; `gift` is the visit that it is given and `arg` the context, if any.
-use Rattle.std.proofs.Common.{◌≡◌, ℕ, zero, suc, ◌<◌, Bool, true, false, List, [], ◌∷◌, ◌++◌, length, replicate, Option, Some, None, ap, sym, subst, refl, ◌∙◌, arith}
+use Rattle.std.proofs.Common.{◌≡◌, ℕ, zero, suc, ◌<◌, Bool, true, false, List, [], ◌∷◌, ◌++◌, length}
+use Rattle.std.proofs.Common.{replicate, Option, Some, None, ap, sym, subst, refl, ◌∙◌, arith}
 use Rattle.std.specs.Prelude.{slice_get, ◌||◌}
 use Rattle.std.proofs.lemmas.Option.{slice_get_within}
 use Rattle.flt_rules.specs.declared.place.Mode.{Mode}

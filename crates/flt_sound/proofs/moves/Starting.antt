@@ -2,7 +2,8 @@
 -- added at the end of the list, so that all others stay as they are; what it is given it owns.
 -- p is the program, m the moment, k its invariant, s the store after the step, es the events; `gift` and `arg` are the visit and the
 -- context that the activation is given, b an activation, v a visit, x and y contexts.
-use Rattle.std.proofs.Common.{◌≡◌, ◌≢◌, ℕ, ◌+◌, ◌≤◌, Bool, List, [], ◌∷◌, ◌++◌, length, map, replicate, Option, Some, ap, sym, subst, refl, ◌∙◌, arith, inl, inr, sum_by}
+use Rattle.std.proofs.Common.{◌≡◌, ◌≢◌, ℕ, ◌+◌, ◌≤◌, Bool, List, [], ◌∷◌, ◌++◌, length, map, replicate}
+use Rattle.std.proofs.Common.{Option, Some, ap, sym, subst, refl, ◌∙◌, arith, inl, inr, sum_by}
 use Rattle.std.proofs.Math.ListN.{get_or, get_or-append}
 use Rattle.std.proofs.Math.Seq.{get_or-append_seam}
 use Rattle.std.proofs.lemmas.Bool.{cases_eq, cases_lt}
@@ -42,7 +43,8 @@ use Rattle.flt_sound.proofs.points.Kept.{Kept, Good, keeps_context}
 use Rattle.flt_sound.proofs.calls.Removing.{given_value}
 use Rattle.flt_sound.proofs.ends.ReturnRules.{own_none}
 use Rattle.flt_sound.proofs.moves.Entering.{fresh, plain-fresh, Enters, enters, entered}
-use Rattle.flt_sound.proofs.moves.Gifts.{own_given, own_of_given, gifts, gifts-visits, gifts-contexts, gifts-loses, gifts-settles, gifts_clean, gifts_events}
+use Rattle.flt_sound.proofs.moves.Gifts.{own_given, own_of_given, gifts, gifts-visits, gifts-contexts}
+use Rattle.flt_sound.proofs.moves.Gifts.{gifts-loses, gifts-settles, gifts_clean, gifts_events}
 use Rattle.flt_sound.proofs.points.Stored.{Stood, Stored, Given}
 use Rattle.flt_sound.proofs.sums.Belonging.{IsOf, Belongs}
 use Rattle.flt_sound.proofs.sums.Touching.{CleanBy, Touch, clean_from}

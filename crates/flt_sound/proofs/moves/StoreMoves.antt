@@ -1,7 +1,8 @@
 -- Moves that change the store alone: an operation arrives, goes on or is cancelled, a filter's detachment begins or ends, a link of it
 -- goes. No visit, entry, item or frame is touched, so what stands in them fits as before.
 -- p is the program, m the moment, k its invariant, s the store; o is an operation, f a filter, r a route, x a context.
-use Rattle.std.proofs.Common.{◌≡◌, ℕ, ◌+◌, Bool, true, false, List, [], ◌∷◌, length, Option, Some, None, ap, sym, refl, ◌∙◌, arith, inl, inr, sum_by}
+use Rattle.std.proofs.Common.{◌≡◌, ℕ, ◌+◌, Bool, true, false, List, [], ◌∷◌, length, Option}
+use Rattle.std.proofs.Common.{Some, None, ap, sym, refl, ◌∙◌, arith, inl, inr, sum_by}
 use Rattle.std.specs.Prelude.{not, ◌&&◌, ◌||◌, if◌then◌else◌, nat_lt}
 use Rattle.std.proofs.Math.ListN.{set}
 use Rattle.std.proofs.Math.Seq.{get_or-append_seam}
@@ -14,10 +15,13 @@ use Rattle.flt_rules.specs.declared.place.Operation.{Operation}
 use Rattle.flt_tree.specs.declared.filter.Filter.{Filter}
 use Rattle.flt_model.specs.declared.moves.Key.{Key}
 use Rattle.flt_model.specs.Effects.{Step, freed_by_drop, after_unlink}
-use Rattle.flt_model.specs.Moves.{with_arrival, fits_mode, arrive, calls_pre, skip_at, carried_out, lower_at, is_done, cancel, detach, unlink_by, unlink, is_drained, detached, stores}
+use Rattle.flt_model.specs.Moves.{with_arrival, fits_mode, arrive, calls_pre, skip_at, carried_out, lower_at}
+use Rattle.flt_model.specs.Moves.{is_done, cancel, detach, unlink_by, unlink, is_drained, detached, stores}
 use Rattle.flt_model.specs.Runs.{Moment}
 use Rattle.flt_model.specs.World as world
-use Rattle.flt_model.specs.World.{World, Store, Arrival, Entry, Frame, Item, Route, Position, Down, Up, Visiting, no_route, no_visit, no_arrival, arrival_at, route_at, queue_at, item_at, presence_at, is_detaching, is_attached, linked_at, with_route, with_queue, with_presence, Link, context_at, no_context, is_linked_to}
+use Rattle.flt_model.specs.World.{World, Store, Arrival, Entry, Frame, Item, Route, Position, Down, Up, Visiting, no_route, no_visit}
+use Rattle.flt_model.specs.World.{no_arrival, arrival_at, route_at, queue_at, item_at, presence_at, is_detaching, is_attached, linked_at}
+use Rattle.flt_model.specs.World.{with_route, with_queue, with_presence, Link, context_at, no_context, is_linked_to}
 use Rattle.flt_sound.proofs.sums.Counts.{counts}
 use Rattle.flt_sound.proofs.sums.Differences.{in_frame, in_route}
 use Rattle.flt_sound.proofs.sums.Ledger.{Ledger, still, moved}

@@ -3,7 +3,8 @@
 -- the callback the move itself tests, or the invariant says of the frame.
 -- p is the program, m the moment, k its invariant, s the store, a the new activation; o is an operation, f a filter, r a route, c a
 -- callback, q a position, x a visit or a frame, y a context.
-use Rattle.std.proofs.Common.{◌≡◌, ℕ, ◌+◌, ◌<◌, Bool, true, false, List, [], ◌∷◌, ◌++◌, length, Option, Some, None, ap, sym, refl, ◌∙◌, arith, inl, inr, sum_by}
+use Rattle.std.proofs.Common.{◌≡◌, ℕ, ◌+◌, ◌<◌, Bool, true, false, List, [], ◌∷◌, ◌++◌, length}
+use Rattle.std.proofs.Common.{Option, Some, None, ap, sym, refl, ◌∙◌, arith, inl, inr, sum_by}
 use Rattle.std.specs.Prelude.{if◌then◌else◌, nat_lt, find}
 use Rattle.std.proofs.Math.ListN.{get_or}
 use Rattle.std.proofs.Math.Seq.{get_or-append_seam}
@@ -14,11 +15,14 @@ use Rattle.flt_rules.specs.declared.place.Place.TheVariants as place
 use Rattle.flt_rules.specs.declared.place.Stage.{Stage}
 use Rattle.flt_rules.specs.declared.place.Stage.TheVariants as stage
 use Rattle.flt_tree.specs.declared.filter.Filter.{Filter}
-use Rattle.flt_model.specs.Moves.{with_visit, calls_pre, pre_of, pre_at, without_last, last_frame, post_of, post_by, post_at, is_frame_of, other_frames, drain_by, drain}
+use Rattle.flt_model.specs.Moves.{with_visit, calls_pre, pre_of, pre_at, without_last, last_frame, post_of}
+use Rattle.flt_model.specs.Moves.{post_by, post_at, is_frame_of, other_frames, drain_by, drain}
 use Rattle.flt_model.specs.Program.{callbacks_at, has_pre, is_pre_of, is_post_of}
 use Rattle.flt_model.specs.Runs.{Moment}
 use Rattle.flt_model.specs.World as world
-use Rattle.flt_model.specs.World.{World, Store, Arrival, Entry, Frame, Item, Route, Position, Down, Up, Visiting, no_route, no_visit, no_arrival, arrival_at, route_at, queue_at, item_at, presence_at, is_detaching, is_attached, linked_at, with_route, with_queue, with_presence, Link, context_at, no_context, is_linked_to}
+use Rattle.flt_model.specs.World.{World, Store, Arrival, Entry, Frame, Item, Route, Position, Down, Up, Visiting, no_route, no_visit}
+use Rattle.flt_model.specs.World.{no_arrival, arrival_at, route_at, queue_at, item_at, presence_at, is_detaching, is_attached, linked_at}
+use Rattle.flt_model.specs.World.{with_route, with_queue, with_presence, Link, context_at, no_context, is_linked_to}
 use Rattle.flt_model.specs.Trace.{one_if}
 use Rattle.flt_model.specs.Violations.{in_some}
 use Rattle.flt_model.specs.declared.event.Object.TheVariants.{Context}

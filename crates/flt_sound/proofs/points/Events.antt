@@ -22,7 +22,8 @@ use Rattle.flt_model.specs.Moves.{is_empty}
 use Rattle.flt_model.specs.Runs.{Moment}
 use Rattle.flt_model.specs.Statuses.{may_answer, may_pend}
 use Rattle.flt_model.specs.Trace.{gain, lose, gains, loses, same_object}
-use Rattle.flt_model.specs.Violations.{leaks_nothing, is_legal, is_low_enough, is_disciplined, is_in_place, is_let_go, no_leak, legal_statuses, levels_kept, legal_places}
+use Rattle.flt_model.specs.Violations.{leaks_nothing, is_legal, is_low_enough, is_disciplined, is_in_place}
+use Rattle.flt_model.specs.Violations.{is_let_go, no_leak, legal_statuses, levels_kept, legal_places}
 use Rattle.flt_model.specs.World.{Store, activation_at, context_at}
 use Rattle.flt_sound.proofs.sums.Counts.{held_where, counts, of_actor-other, Has, not_held_where, gains-nil, loses-nil}
 use Rattle.flt_sound.proofs.sums.Shadows.{Slot, Unset, Owns, own, own_all, Shadow}

@@ -2,7 +2,8 @@
 -- visits, contexts), an unsettled visit stands in one place and is settled once, each reference of a context stands somewhere. They are
 -- equations between sums, so that a step of one activation is shown by a few linear equations (`StepOf`), whatever the call was.
 -- Here p is the program, m a moment, a, b are activations, s, old, new shadows or stores, es the events of the step.
-use Rattle.std.proofs.Common.{◌≡◌, ◌≢◌, ℕ, ◌+◌, ◌<◌, ◌≤◌, Bool, true, false, List, [], length, map, Some, refl, sym, ap, ◌∙◌, subst, arith, inl, inr, sum_by, ◌++◌}
+use Rattle.std.proofs.Common.{◌≡◌, ◌≢◌, ℕ, ◌+◌, ◌<◌, ◌≤◌, Bool, true, false, List, [], length, map}
+use Rattle.std.proofs.Common.{Some, refl, sym, ap, ◌∙◌, subst, arith, inl, inr, sum_by, ◌++◌}
 use Rattle.std.specs.List.{list_all}
 use Rattle.std.specs.Prelude.{if◌then◌else◌}
 use Rattle.std.proofs.lemmas.List.Sums.{get_or-le-sum_by, sum_by-set}

@@ -2,7 +2,8 @@
 -- have no events,
 -- and nothing but the activation changes: it goes on at a point of its callback, owning what it owned (`quiet`), since R03 lets it clear no
 -- variable that may hold something. Here p is the program, m a moment, a an activation, s its shadow, st its first statement.
-use Rattle.std.proofs.Common.{◌≡◌, ℕ, zero, suc, Bool, true, false, List, [], ◌∷◌, ◌++◌, Option, Some, None, ap, sym, subst, refl, ◌∙◌, arith}
+use Rattle.std.proofs.Common.{◌≡◌, ℕ, zero, suc, Bool, true, false, List, [], ◌∷◌, ◌++◌}
+use Rattle.std.proofs.Common.{Option, Some, None, ap, sym, subst, refl, ◌∙◌, arith}
 use Rattle.std.specs.Prelude.{option_map, if◌then◌else◌}
 use Rattle.std.proofs.Math.ListN.{set, get_or, get_or-map}
 use Rattle.std.proofs.lemmas.List.{map-set, length-set}
@@ -37,7 +38,8 @@ use Rattle.flt_model.specs.Variables.{with_number, with_context_in, with_operati
 use Rattle.flt_model.specs.World.{Activation, actor_at, activation_at, nobody, is_settled}
 use Rattle.flt_sound.proofs.sums.Counts.{counts, Has, gains-nil, loses-nil}
 use Rattle.flt_sound.proofs.sums.Ledger.{still}
-use Rattle.flt_sound.proofs.sums.Shadows.{Unset, value_of, status_of, own_all, Shadow, no_one, plain, situation, context_slot, operation_slot, with_rest, put_context, put_operation, plain-put_context, plain-put_operation}
+use Rattle.flt_sound.proofs.sums.Shadows.{Unset, value_of, status_of, own_all, Shadow, no_one, plain, situation, context_slot}
+use Rattle.flt_sound.proofs.sums.Shadows.{operation_slot, with_rest, put_context, put_operation, plain-put_context, plain-put_operation}
 use Rattle.flt_sound.proofs.sums.Slots.{not_held, some_same, own_all-cleared, data_stays, owned_before}
 use Rattle.flt_sound.proofs.sums.Turns.{calm_turned}
 use Rattle.flt_sound.proofs.sums.Uses.{none_had}

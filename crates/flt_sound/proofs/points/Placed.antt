@@ -2,7 +2,8 @@
 -- callback's graph, the certificate has a state there, and the state means the activation's situation (`Placed`). Then no rule is broken
 -- at the point (`fine`), and after each outcome it is placed again (`goes_on`). No other file speaks of graphs and states at once.
 -- Here p is the program, f a filter's number in it, t a situation, q a place, i the instruction at its point.
-use Rattle.std.proofs.Common.{◌≡◌, ℕ, zero, suc, ◌<◌, Bool, true, false, List, [], ◌∷◌, length, Option, Some, None, Ok, ap, sym, subst, refl, ◌∙◌, arith}
+use Rattle.std.proofs.Common.{◌≡◌, ℕ, zero, suc, ◌<◌, Bool, true, false, List, [], ◌∷◌, length}
+use Rattle.std.proofs.Common.{Option, Some, None, Ok, ap, sym, subst, refl, ◌∙◌, arith}
 use Rattle.std.specs.Prelude.{IsTrue, slice_get, slice_index_or, find, cond}
 use Rattle.std.proofs.Math.ListN.{get_or}
 use Rattle.flt_rules.specs.declared.place.Operation.{Operation}

@@ -29,7 +29,8 @@ use Rattle.flt_model.specs.Effects.{onward}
 use Rattle.flt_model.specs.Runs.{Moment}
 use Rattle.flt_model.specs.Variables.{context_in, operation_in}
 use Rattle.flt_model.specs.World.{Activation, actor_at, activation_at, arrival_of}
-use Rattle.flt_sound.proofs.sums.Shadows.{Slot, Unset, Owns, Past, value_of, status_of, Shadow, plain, situation, context_slot, operation_slot, with_rest, put_context, value-context_slot, value-operation_slot}
+use Rattle.flt_sound.proofs.sums.Shadows.{Slot, Unset, Owns, Past, value_of, status_of, Shadow, plain, situation, context_slot}
+use Rattle.flt_sound.proofs.sums.Shadows.{operation_slot, with_rest, put_context, value-context_slot, value-operation_slot}
 use Rattle.flt_sound.proofs.sums.Slots.{IsOwned, surely_held}
 use Rattle.flt_sound.proofs.points.Kept.{IsAt, activation_is, stood_at, StoodAt}
 use Rattle.flt_sound.proofs.points.Legal.{spot, Cleared, cleared}

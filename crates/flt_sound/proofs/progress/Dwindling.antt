@@ -2,7 +2,8 @@
 -- no entry comes into its queue and no link is made, no work item is queued, and a frame is made only where a visit from before the filters
 -- below is settled. So these visits, frames, entries, items and links are counted together (`size`).
 -- Here f is the filter, s a store, w a world, a an activation, g its filter, v a visit.
-use Rattle.std.proofs.Common.{◌≡◌, ◌≢◌, ℕ, zero, suc, ◌+◌, ◌≤◌, Bool, true, false, List, [], ◌∷◌, ◌++◌, length, Option, Some, None, ap, sym, refl, ◌∙◌, arith, inl, inr, ◌⊎◌, sum_by}
+use Rattle.std.proofs.Common.{◌≡◌, ◌≢◌, ℕ, zero, suc, ◌+◌, ◌≤◌, Bool, true, false, List, [], ◌∷◌, ◌++◌, length}
+use Rattle.std.proofs.Common.{Option, Some, None, ap, sym, refl, ◌∙◌, arith, inl, inr, ◌⊎◌, sum_by}
 use Rattle.std.specs.Prelude.{not, if◌then◌else◌, is_some}
 use Rattle.std.proofs.Math.ListN.{set, get_or}
 use Rattle.std.proofs.lemmas.Bool.{cases_eq, cases_lt, and_parts, or_parts}
@@ -45,17 +46,23 @@ use Rattle.flt_tree.specs.declared.variable.RemovedVariable.{RemovedVariable}
 use Rattle.flt_model.specs.declared.event.Answer.{Answer}
 use Rattle.flt_model.specs.declared.event.Answer.TheVariants.{Returned, CompletesPre, CompletesPost}
 use Rattle.flt_model.specs.declared.event.Event.{Event}
-use Rattle.flt_model.specs.Calls.{link_of, put_link, allocate, got, get_by, kept, set_there, cannot_set, set_by, unlinked, delete_by, deleted, referenced, released, taken, given_up, enqueued, insert_by, removed, defer_by, queue_by, complete_by, complete_post_by}
+use Rattle.flt_model.specs.Calls.{link_of, put_link, allocate, got, get_by, kept, set_there, cannot_set, set_by}
+use Rattle.flt_model.specs.Calls.{unlinked, delete_by, deleted, referenced, released, taken, given_up, enqueued}
+use Rattle.flt_model.specs.Calls.{insert_by, removed, defer_by, queue_by, complete_by, complete_post_by}
 use Rattle.flt_model.specs.Effects.{Step, after_unlink}
 use Rattle.flt_model.specs.Program.{callbacks_at, routine_of, has_post}
 use Rattle.flt_model.specs.Reads.{put_value, read_value_of, write_value_of, read_file_of, test_irp_of}
 use Rattle.flt_model.specs.Returns.{returned, returns}
-use Rattle.flt_model.specs.Settling.{Way, Passes, Frames, Ends, Rises, Stays, way_by, way_of, given_by, is_returned, settles_visit, asks_for_frame, led, is_led, lead, settled_by}
-use Rattle.flt_model.specs.Steps.{may_go, leaves_choice, may_be_refused, act_step, plain_step, fallible_step, test_step, if_step, statement_step, list_step}
+use Rattle.flt_model.specs.Settling.{Way, Passes, Frames, Ends, Rises, Stays, way_by, way_of, given_by, is_returned}
+use Rattle.flt_model.specs.Settling.{settles_visit, asks_for_frame, led, is_led, lead, settled_by}
+use Rattle.flt_model.specs.Steps.{may_go, leaves_choice, may_be_refused, act_step, plain_step}
+use Rattle.flt_model.specs.Steps.{fallible_step, test_step, if_step, statement_step, list_step}
 use Rattle.flt_model.specs.Trace.{one_if}
 use Rattle.flt_model.specs.Variables.{context_in, operation_in, named_in}
 use Rattle.flt_model.specs.World as world
-use Rattle.flt_model.specs.World.{World, Store, Activation, Entry, Item, Link, Route, Visit, Presence, Attached, Detaching, Detached, no_context, no_route, no_visit, nobody, activation_at, actor_at, arrival_of, context_at, is_attached, is_freed, is_settled, linked_at, presence_at, queue_at, route_at, visit_at, with_queue, with_route}
+use Rattle.flt_model.specs.World.{World, Store, Activation, Entry, Item, Link, Route, Visit, Presence, Attached, Detaching, Detached}
+use Rattle.flt_model.specs.World.{no_context, no_route, no_visit, nobody, activation_at, actor_at, arrival_of, context_at, is_attached}
+use Rattle.flt_model.specs.World.{is_freed, is_settled, linked_at, presence_at, queue_at, route_at, visit_at, with_queue, with_route}
 use Rattle.flt_sound.proofs.points.Local.{AfterStep}
 use Rattle.flt_sound.proofs.rest.Parts.{frame_is, frames_in, frames_of, items_of, links_of, Apart, same_apart, both_apart}
 use Rattle.flt_sound.proofs.rest.Others.{more_apart, less_apart, value_apart, made_apart, put_apart, unlink_apart, queue_apart}

@@ -1,7 +1,8 @@
 -- Callbacks can end. Each step of an activation lowers what it may still spend, and as long as one runs one can go on; so going on comes to
 -- an end, and there all have ended.
 -- Here p is the program, m a moment, a and b are activations, x is a transition, s its step.
-use Rattle.std.proofs.Common.{◌≡◌, ℕ, zero, suc, ◌+◌, ◌<◌, ◌≤◌, Bool, true, false, List, [], ◌∷◌, length, Option, Some, None, ap, sym, subst, refl, ◌∙◌, arith, inl, inr, ◌⊎◌, sum_by}
+use Rattle.std.proofs.Common.{◌≡◌, ℕ, zero, suc, ◌+◌, ◌<◌, ◌≤◌, Bool, true, false, List, [], ◌∷◌, length}
+use Rattle.std.proofs.Common.{Option, Some, None, ap, sym, subst, refl, ◌∙◌, arith, inl, inr, ◌⊎◌, sum_by}
 use Rattle.std.specs.Prelude.{◌||◌, is_some, option_and_then, option_map, if◌then◌else◌}
 use Rattle.std.specs.List.{list_all}
 use Rattle.std.proofs.Math.ListN.{get_or}

@@ -1,7 +1,8 @@
 -- All can come to rest, and so all operations to their ends. All filters are unloaded, one after the other; then nothing of them is left:
 -- no filter keeps an operation and none is owed a post callback, and each operation passes all filters and is carried out.
 -- Here p is the program, m, n are moments, f, g are filters, o, q are operations, Q says something of a moment.
-use Rattle.std.proofs.Common.{◌≡◌, ◌≢◌, ℕ, zero, suc, ◌+◌, ◌<◌, ◌≤◌, Bool, true, false, List, [], ◌∷◌, ◌++◌, length, Some, None, ap, sym, refl, ◌∙◌, arith, inl, inr, sum_by}
+use Rattle.std.proofs.Common.{◌≡◌, ◌≢◌, ℕ, zero, suc, ◌+◌, ◌<◌, ◌≤◌, Bool, true, false, List, [], ◌∷◌}
+use Rattle.std.proofs.Common.{◌++◌, length, Some, None, ap, sym, refl, ◌∙◌, arith, inl, inr, sum_by}
 use Rattle.std.specs.Prelude.{not, ◌&&◌, ◌==◌, if◌then◌else◌, nat_lt, option_and_then}
 use Rattle.std.specs.List.{list_all}
 use Rattle.std.proofs.Math.ListN.{get_or}
@@ -17,7 +18,8 @@ use Rattle.flt_model.specs.Moves.{calls_pre, skip_at, lower_at, carried_out, is_
 use Rattle.flt_model.specs.Program.{HasDistinctAltitudes, filter_at, filter_of, no_filter, callbacks_at, has_pre}
 use Rattle.flt_model.specs.Runs.{Moment, run_from, after, next}
 use Rattle.flt_model.specs.Steps.{Transition, Make, Local, Board}
-use Rattle.flt_model.specs.World.{Store, Frame, Route, Visit, Position, Detached, Down, Up, Visiting, no_route, actor_at, arrival_at, presence_at, route_at, visit_at, is_attached, is_settled, with_route}
+use Rattle.flt_model.specs.World.{Store, Frame, Route, Visit, Position, Detached, Down, Up, Visiting, no_route, actor_at}
+use Rattle.flt_model.specs.World.{arrival_at, presence_at, route_at, visit_at, is_attached, is_settled, with_route}
 use Rattle.flt_sound.specs.Progress.{is_unloading, is_winding_up, AllCanRest, AreOrderly, CanRest, OperationsCanComplete}
 use Rattle.flt_sound.proofs.sums.Counts.{one_if-same}
 use Rattle.flt_sound.proofs.points.Placed.{Laws}

@@ -2,7 +2,8 @@
 -- the filter is left: then a move takes some of it away (`Loses`), and if that starts a callback, it ends, leaving no more than there
 -- was. So the size of what is left says how often.
 -- Here p is the program, m the moment, f the filter at an altitude, s the store, o an operation, n counts an element.
-use Rattle.std.proofs.Common.{◌≡◌, ◌≢◌, ℕ, zero, suc, ◌+◌, ◌-◌, ◌<◌, ◌≤◌, Bool, true, false, List, [], ◌∷◌, ◌++◌, length, Option, Some, None, ap, sym, subst, refl, ◌∙◌, arith, inl, inr, ◌⊎◌, sum_by}
+use Rattle.std.proofs.Common.{◌≡◌, ◌≢◌, ℕ, zero, suc, ◌+◌, ◌-◌, ◌<◌, ◌≤◌, Bool, true, false, List, [], ◌∷◌, ◌++◌}
+use Rattle.std.proofs.Common.{length, Option, Some, None, ap, sym, subst, refl, ◌∙◌, arith, inl, inr, ◌⊎◌, sum_by}
 use Rattle.std.specs.Prelude.{not, ◌&&◌, ◌||◌, ◌==◌, if◌then◌else◌, find, position, option_and_then}
 use Rattle.std.specs.List.{list_all, position_or_len}
 use Rattle.std.proofs.Math.ListN.{get_or}
@@ -18,12 +19,16 @@ use Rattle.flt_model.specs.declared.moves.Key.{Key}
 use Rattle.flt_model.specs.declared.moves.Key.TheVariants.{Stream, Instance}
 use Rattle.flt_model.specs.declared.moves.Move.TheVariants as moves
 use Rattle.flt_model.specs.Effects.{Step, after_unlink, freed_by_drop}
-use Rattle.flt_model.specs.Moves.{post_of, drain_by, is_frame_of, other_frames, is_entry_of, other_entries, canceled_by, work_of, work_by, unlink_by, is_drained, stores, starts}
+use Rattle.flt_model.specs.Moves.{post_of, drain_by, is_frame_of, other_frames, is_entry_of, other_entries}
+use Rattle.flt_model.specs.Moves.{canceled_by, work_of, work_by, unlink_by, is_drained, stores, starts}
 use Rattle.flt_model.specs.Program.{filter_of, callbacks_at, body_for, is_canceled}
 use Rattle.flt_model.specs.Runs.{Moment, run_from, after, next}
 use Rattle.flt_model.specs.Steps.{Transition, Make, Local, Board}
 use Rattle.flt_model.specs.World as world
-use Rattle.flt_model.specs.World.{World, Store, Entry, Frame, Route, Item, Link, Visit, Presence, Attached, Detaching, Detached, no_route, no_context, activation_at, presence_at, queue_at, item_at, route_at, visit_at, context_at, linked_at, is_attached, is_detaching, is_linked_to, same_key, with_route, with_queue, with_presence, with_link, drop_reference}
+use Rattle.flt_model.specs.World.{World, Store, Entry, Frame, Route, Item, Link, Visit, Presence, Attached, Detaching}
+use Rattle.flt_model.specs.World.{Detached, no_route, no_context, activation_at, presence_at, queue_at, item_at, route_at}
+use Rattle.flt_model.specs.World.{visit_at, context_at, linked_at, is_attached, is_detaching, is_linked_to, same_key}
+use Rattle.flt_model.specs.World.{with_route, with_queue, with_presence, with_link, drop_reference}
 use Rattle.flt_sound.specs.Progress.{AreOrderly, is_own_step, is_unloading, CanUnload, FiltersCanUnload}
 use Rattle.flt_model.specs.Trace.{one_if}
 use Rattle.flt_sound.proofs.sums.Counts.{one_if-same, one_if-other}
@@ -31,7 +36,8 @@ use Rattle.flt_sound.proofs.sums.Differences.{others_sum}
 use Rattle.flt_sound.proofs.sums.Eaches.{within}
 use Rattle.flt_sound.proofs.points.Kept.{Kept}
 use Rattle.flt_sound.proofs.points.Placed.{Laws}
-use Rattle.flt_sound.proofs.rest.Parts.{frame_is, frames_in, item_is, link_is, linked_is, frames_of, items_of, links_of, drained_by, other_counts}
+use Rattle.flt_sound.proofs.rest.Parts.{frame_is, frames_in, item_is, link_is, linked_is, frames_of}
+use Rattle.flt_sound.proofs.rest.Parts.{items_of, links_of, drained_by, other_counts}
 use Rattle.flt_sound.proofs.rest.Gone.{Rests, rests_after, rests_on}
 use Rattle.flt_sound.proofs.progress.Waiting.{accepted_of}
 use Rattle.flt_sound.proofs.progress.Dwindling.{open_in, open_of, push_open, entries_of, size, Dwindles}

@@ -1,7 +1,8 @@
 -- Why callbacks can't deadlock. An activation that can't go on waits for a lock that another one of its filter holds; that one hasn't
 -- ended, and if it waits too, it waits for a lock of greater rank. So the ranks say how often one can go from one to the next.
 -- Here p is the program, m the moment, a and b are activations, g their filter, n a lock's place.
-use Rattle.std.proofs.Common.{◌≡◌, ℕ, zero, suc, ◌+◌, ◌<◌, ◌≤◌, Bool, true, false, List, [], ◌∷◌, length, Option, Some, None, ap, sym, subst, refl, ◌∙◌, arith, inl, inr, ◌⊎◌}
+use Rattle.std.proofs.Common.{◌≡◌, ℕ, zero, suc, ◌+◌, ◌<◌, ◌≤◌, Bool, true, false, List, [], ◌∷◌, length}
+use Rattle.std.proofs.Common.{Option, Some, None, ap, sym, subst, refl, ◌∙◌, arith, inl, inr, ◌⊎◌}
 use Rattle.std.specs.Prelude.{not, ◌&&◌, ◌||◌, ◌==◌, if◌then◌else◌, option_map, is_some}
 use Rattle.std.specs.List.{All, list_all}
 use Rattle.std.proofs.Math.ListN.{get_or, get_or-map}

@@ -2,7 +2,8 @@
 -- and no step brings anything of it back. Its visits are then settled and its contexts freed, by the sums that the invariant keeps: an
 -- unsettled visit and a context's reference would have to stand somewhere.
 -- Here p is the program, m the moment, k its invariant, f the filter, a an activation, v a visit, x a context.
-use Rattle.std.proofs.Common.{◌≡◌, ◌≢◌, ℕ, zero, suc, ◌<◌, Bool, true, false, List, [], ◌∷◌, ◌++◌, length, map, replicate, Option, Some, None, ap, sym, subst, refl, ◌∙◌, arith, inl, inr}
+use Rattle.std.proofs.Common.{◌≡◌, ◌≢◌, ℕ, zero, suc, ◌<◌, Bool, true, false, List, [], ◌∷◌, ◌++◌, length, map}
+use Rattle.std.proofs.Common.{replicate, Option, Some, None, ap, sym, subst, refl, ◌∙◌, arith, inl, inr}
 use Rattle.std.specs.Prelude.{if◌then◌else◌, option_map, option_and_then}
 use Rattle.std.proofs.Math.ListN.{get_or}
 use Rattle.std.proofs.lemmas.Bool.{cases_eq, cases_lt}
@@ -18,7 +19,8 @@ use Rattle.flt_model.specs.LocalSteps.{after_action, after_statement, goes_on_to
 use Rattle.flt_model.specs.Variables.{with_number, with_context_in, with_operation_in, expression_value}
 use Rattle.flt_model.specs.Runs.{Moment, start, after, next, run, run_from}
 use Rattle.flt_model.specs.Steps.{Transition, Make, Local, Board, list_step, moved_on}
-use Rattle.flt_model.specs.World.{World, Activation, Holder, Attached, Detached, opening, holders_at, nobody, no_actor, actor_at, activation_at, presence_at, queue_at}
+use Rattle.flt_model.specs.World.{World, Activation, Holder, Attached, Detached, opening, holders_at}
+use Rattle.flt_model.specs.World.{nobody, no_actor, actor_at, activation_at, presence_at, queue_at}
 use Rattle.flt_sound.specs.Rest.{IsGone, UnloadingLeaksNothing}
 use Rattle.flt_sound.specs.Soundness.{AreAccepted}
 use Rattle.flt_sound.proofs.sums.Eaches.{Each, within}

@@ -37,7 +37,9 @@ use Rattle.flt_sound.proofs.points.Placed.{call_here}
 use Rattle.flt_sound.proofs.points.Rows.{AtCall, at_call, owned_operation, operation_is}
 use Rattle.flt_sound.proofs.calls.Effects.{own_filter}
 use Rattle.flt_sound.proofs.ends.Frames.{given_visit, owned_visit}
-use Rattle.flt_sound.proofs.rest.Others.{LeavesIt, deleted_apart, referenced_apart, released_apart, taken_apart, given_up_apart, value_read, value_written, file_read, irp_tested, complete_apart, complete_post_apart, returns_apart, fallible_apart}
+use Rattle.flt_sound.proofs.rest.Others.{LeavesIt, deleted_apart, referenced_apart, released_apart, taken_apart}
+use Rattle.flt_sound.proofs.rest.Others.{given_up_apart, value_read, value_written, file_read, irp_tested, complete_apart}
+use Rattle.flt_sound.proofs.rest.Others.{complete_post_apart, returns_apart, fallible_apart}
 
 module _ {p : List Filter} {m : Moment} {a : ℕ} (s : Shadow) (st : Statement) (rest : List Statement)
     (at : IsAt p m a (with_rest s (st ∷ rest))) (f : ℕ) (ne : own_filter at ≢ f) (there : a < length m.world.activations) where

@@ -1,7 +1,8 @@
 -- A step of an activation leaves no more of another filter than was there: it writes its own filter's queue, makes its own filter's links
 -- and work items, and a frame that it makes is its own filter's, since the visit is. Here w is the world, a the activation, f the other
 -- filter, s a store.
-use Rattle.std.proofs.Common.{◌≡◌, ◌≢◌, ℕ, ◌<◌, ◌≤◌, Bool, true, false, List, [], ◌∷◌, ◌++◌, length, Option, Some, None, ap, sym, refl, ◌∙◌, arith}
+use Rattle.std.proofs.Common.{◌≡◌, ◌≢◌, ℕ, ◌<◌, ◌≤◌, Bool, true, false, List, [], ◌∷◌, ◌++◌}
+use Rattle.std.proofs.Common.{length, Option, Some, None, ap, sym, refl, ◌∙◌, arith}
 use Rattle.std.specs.Prelude.{if◌then◌else◌, is_some}
 use Rattle.std.proofs.Math.ListN.{set}
 use Rattle.std.proofs.lemmas.List.{get_or-set_other}
@@ -28,7 +29,9 @@ use Rattle.flt_tree.specs.declared.variable.OperationVariable.TheVariants.{Data}
 use Rattle.flt_tree.specs.declared.variable.RemovedVariable.{RemovedVariable}
 use Rattle.flt_model.specs.declared.event.Answer.TheVariants.{Returned, CompletesPre, CompletesPost}
 use Rattle.flt_model.specs.declared.event.Event.{Event}
-use Rattle.flt_model.specs.Calls.{link_of, put_link, allocate, got, get_by, kept, set_there, cannot_set, set_by, unlinked, delete_by, deleted, referenced, released, taken, given_up, enqueued, insert_by, removed, defer_by, queue_by, complete_by, complete_post_by}
+use Rattle.flt_model.specs.Calls.{link_of, put_link, allocate, got, get_by, kept, set_there, cannot_set, set_by}
+use Rattle.flt_model.specs.Calls.{unlinked, delete_by, deleted, referenced, released, taken, given_up, enqueued}
+use Rattle.flt_model.specs.Calls.{insert_by, removed, defer_by, queue_by, complete_by, complete_post_by}
 use Rattle.flt_model.specs.Effects.{Step, after_unlink}
 use Rattle.flt_model.specs.Program.{callbacks_at, routine_of}
 use Rattle.flt_model.specs.Reads.{put_value, read_value_of, write_value_of, read_file_of, test_irp_of}
@@ -37,7 +40,9 @@ use Rattle.flt_model.specs.Settling.{Way, Passes, Frames, Ends, Rises, Stays, wa
 use Rattle.flt_model.specs.Steps.{fallible_step}
 use Rattle.flt_model.specs.Variables.{context_in, operation_in, named_in, with_old}
 use Rattle.flt_model.specs.World as world
-use Rattle.flt_model.specs.World.{World, Store, Activation, Entry, Item, Link, Route, no_context, no_route, nobody, activation_at, actor_at, context_at, is_attached, is_freed, linked_at, presence_at, queue_at, route_at, visit_at, add_reference, drop_reference, with_context, with_link, with_queue, with_route}
+use Rattle.flt_model.specs.World.{World, Store, Activation, Entry, Item, Link, Route, no_context, no_route, nobody, activation_at}
+use Rattle.flt_model.specs.World.{actor_at, context_at, is_attached, is_freed, linked_at, presence_at, queue_at, route_at, visit_at}
+use Rattle.flt_model.specs.World.{add_reference, drop_reference, with_context, with_link, with_queue, with_route}
 use Rattle.flt_sound.proofs.sums.Counts.{one_if-other}
 use Rattle.flt_sound.proofs.rest.Holding.{AreHeld, held_on, locks_stay, taken_held, given_up_held}
 use Rattle.flt_sound.proofs.rest.Visiting.{AreVisited, same_visited, settled_visited}

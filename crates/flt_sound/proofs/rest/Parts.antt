@@ -1,7 +1,8 @@
 -- What there is of a filter: frames, entries in its queue, work items and links, counted, and activations that go on. The machine's test
 -- before a teardown ends finds all of it gone (`emptied`, `drained_by`). A step that isn't the filter's own leaves no more (`Apart`).
 -- Here f is a filter, s and new are stores, w is a world.
-use Rattle.std.proofs.Common.{◌≡◌, ℕ, zero, suc, ◌≤◌, Bool, true, false, List, [], ◌∷◌, length, Option, Some, None, ap, sym, subst, refl, ◌∙◌, arith, inl, inr, sum_by}
+use Rattle.std.proofs.Common.{◌≡◌, ℕ, zero, suc, ◌≤◌, Bool, true, false, List, [], ◌∷◌, length, Option}
+use Rattle.std.proofs.Common.{Some, None, ap, sym, subst, refl, ◌∙◌, arith, inl, inr, sum_by}
 use Rattle.std.specs.Prelude.{not, ◌&&◌, ◌==◌}
 use Rattle.std.specs.List.{list_any}
 use Rattle.std.proofs.Math.ListN.{set, get_or}
@@ -11,7 +12,8 @@ use Rattle.std.proofs.lemmas.List.Sums.{sum_by-set, sum_by-cons}
 use Rattle.flt_model.specs.Moves.{is_frame_of, has_frame, is_item_of, is_linked_by, has_active, is_empty, is_drained}
 use Rattle.flt_model.specs.Trace.{one_if}
 use Rattle.flt_model.specs.World as world
-use Rattle.flt_model.specs.World.{World, Store, Actor, Activation, Frame, Route, Item, Link, Entry, no_actor, nobody, actor_at, activation_at, queue_at}
+use Rattle.flt_model.specs.World.{World, Store, Actor, Activation, Frame, Route, Item, Link}
+use Rattle.flt_model.specs.World.{Entry, no_actor, nobody, actor_at, activation_at, queue_at}
 use Rattle.flt_sound.proofs.sums.Counts.{one_if-same}
 
 -- ---- how much there is

@@ -1,7 +1,8 @@
 -- What one step of the machine makes of a filter that is detached, of which nothing is left: it stays detached, and nothing of it comes;
 -- and a filter whose teardown ends with the step has nothing left. First for the moves of the filter manager and of workers.
 -- Here p is the program, m the moment, w its world, f the filter, g another one, o an operation, P what is said of a step.
-use Rattle.std.proofs.Common.{◌≡◌, ◌≢◌, ℕ, ◌+◌, ◌<◌, ◌≤◌, Bool, true, false, List, [], ◌∷◌, length, Option, Some, None, ap, sym, subst, refl, ◌∙◌, arith, inl, inr, ◌⊎◌, sum_by}
+use Rattle.std.proofs.Common.{◌≡◌, ◌≢◌, ℕ, ◌+◌, ◌<◌, ◌≤◌, Bool, true, false, List, [], ◌∷◌, length, Option}
+use Rattle.std.proofs.Common.{Some, None, ap, sym, subst, refl, ◌∙◌, arith, inl, inr, ◌⊎◌, sum_by}
 use Rattle.std.specs.Prelude.{not, ◌&&◌, ◌||◌, if◌then◌else◌, nat_lt, find}
 use Rattle.std.proofs.Math.ListN.{set, get_or}
 use Rattle.std.proofs.Math.Seq.{get_or-append_seam}
@@ -17,10 +18,16 @@ use Rattle.flt_model.specs.declared.event.Event.{Event}
 use Rattle.flt_model.specs.declared.moves.Move.{Move}
 use Rattle.flt_model.specs.declared.moves.Move.TheVariants as moves
 use Rattle.flt_model.specs.Effects.{Step, after_unlink, freed_by_drop}
-use Rattle.flt_model.specs.Moves.{arrive, with_arrival, with_visit, fits_mode, calls_pre, pre_at, skip_at, lower_at, carried_out, post_of, post_by, post_at, last_frame, without_last, is_done, cancel, is_entry_of, other_entries, canceled_by, canceled, work_by, detach, is_frame_of, drain_by, drain, unlink_by, is_drained, detached, starts, stores, make}
+use Rattle.flt_model.specs.Moves.{arrive, with_arrival, with_visit, fits_mode, calls_pre, pre_at, skip_at, lower_at}
+use Rattle.flt_model.specs.Moves.{carried_out, post_of, post_by, post_at, last_frame, without_last, is_done, cancel}
+use Rattle.flt_model.specs.Moves.{is_entry_of, other_entries, canceled_by, canceled, work_by, detach, is_frame_of}
+use Rattle.flt_model.specs.Moves.{drain_by, drain, unlink_by, is_drained, detached, starts, stores, make}
 use Rattle.flt_model.specs.Program.{filter_of}
 use Rattle.flt_model.specs.World as world
-use Rattle.flt_model.specs.World.{World, Store, Actor, Arrival, Frame, Route, Item, Entry, Link, Presence, Attached, Detaching, Detached, Position, Down, Up, Visiting, no_actor, no_route, nobody, actor_at, activation_at, presence_at, queue_at, item_at, arrival_at, route_at, linked_at, is_attached, is_detaching, with_route, with_queue, with_presence}
+use Rattle.flt_model.specs.World.{World, Store, Actor, Arrival, Frame, Route, Item, Entry, Link, Presence, Attached}
+use Rattle.flt_model.specs.World.{Detaching, Detached, Position, Down, Up, Visiting, no_actor, no_route, nobody}
+use Rattle.flt_model.specs.World.{actor_at, activation_at, presence_at, queue_at, item_at, arrival_at, route_at}
+use Rattle.flt_model.specs.World.{linked_at, is_attached, is_detaching, with_route, with_queue, with_presence}
 use Rattle.flt_model.specs.Trace.{one_if}
 use Rattle.flt_model.specs.Variables.{starting}
 use Rattle.flt_sound.proofs.sums.Counts.{one_if-same}

@@ -1,7 +1,8 @@
 -- Where nothing is left of a filter, its visits are settled and its contexts freed: the invariant says where an unsettled visit stands and
 -- where a context's references stand, and there they would be the filter's.
 -- Here p is the program, m the moment, k its invariant, f the filter, g another, a an activation, v and u visits, x and y contexts.
-use Rattle.std.proofs.Common.{◌≡◌, ◌≢◌, ℕ, zero, suc, ◌≤◌, Bool, true, false, List, [], ◌∷◌, Option, Some, None, ap, sym, subst, refl, ◌∙◌, arith, inl, inr, sum_by}
+use Rattle.std.proofs.Common.{◌≡◌, ◌≢◌, ℕ, zero, suc, ◌≤◌, Bool, true, false, List, [], ◌∷◌, Option}
+use Rattle.std.proofs.Common.{Some, None, ap, sym, subst, refl, ◌∙◌, arith, inl, inr, sum_by}
 use Rattle.std.specs.Prelude.{◌==◌, if◌then◌else◌}
 use Rattle.std.proofs.Math.ListN.{get_or, get_or-map}
 use Rattle.std.proofs.lemmas.Bool.{cases_eq}
@@ -17,7 +18,8 @@ use Rattle.flt_model.specs.Runs.{Moment}
 use Rattle.flt_model.specs.Trace.{one_if}
 use Rattle.flt_model.specs.Violations.{in_queue, in_some, in_item}
 use Rattle.flt_model.specs.World as world
-use Rattle.flt_model.specs.World.{World, Store, Entry, Frame, Route, Item, Link, nobody, no_route, no_context, actor_at, activation_at, queue_at, item_at, route_at, visit_at, context_at, is_settled, is_freed, Holder, holders_at}
+use Rattle.flt_model.specs.World.{World, Store, Entry, Frame, Route, Item, Link, nobody, no_route, no_context, actor_at, activation_at}
+use Rattle.flt_model.specs.World.{queue_at, item_at, route_at, visit_at, context_at, is_settled, is_freed, Holder, holders_at}
 use Rattle.flt_sound.specs.Rest.{IsGone}
 use Rattle.flt_sound.proofs.sums.Belonging.{Belongs, BelongsItem}
 use Rattle.flt_sound.proofs.sums.Counts.{one_if-other}

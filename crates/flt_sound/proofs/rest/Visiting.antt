@@ -1,7 +1,8 @@
 -- Where an operation stands in a visit, an unsettled visit of it is there that will lead it on: one that doesn't drain. Settling that one
 -- moves the operation, and nothing else settles it. So an operation never gets stuck in a visit.
 -- Here s is a store, o an operation, v and u visits, r a route.
-use Rattle.std.proofs.Common.{◌≡◌, ◌≢◌, ℕ, ◌<◌, Bool, true, false, [], ◌∷◌, ◌++◌, length, Option, ap, sym, subst, refl, ◌∙◌, arith, inl, inr, ◌⊎◌}
+use Rattle.std.proofs.Common.{◌≡◌, ◌≢◌, ℕ, ◌<◌, Bool, true, false, [], ◌∷◌, ◌++◌, length}
+use Rattle.std.proofs.Common.{Option, ap, sym, subst, refl, ◌∙◌, arith, inl, inr, ◌⊎◌}
 use Rattle.std.specs.Prelude.{not, if◌then◌else◌}
 use Rattle.std.proofs.Math.ListN.{set, get_or, get_or-append}
 use Rattle.std.proofs.Math.Seq.{get_or-append_seam}

@@ -1,5 +1,6 @@
 -- The worked filter is accepted: it is well-formed, and its certificate has no fault at any point of its graph.
-use Rattle.std.proofs.Common.{◌≡◌, ℕ, zero, suc, ◌<◌, Bool, true, false, List, [], ◌∷◌, Option, Some, None, refl, ap, sym, subst, ◌∙◌, arith, inl, inr, lit≤}
+use Rattle.std.proofs.Common.{◌≡◌, ℕ, zero, suc, ◌<◌, Bool, true, false, List, [], ◌∷◌, Option}
+use Rattle.std.proofs.Common.{Some, None, refl, ap, sym, subst, ◌∙◌, arith, inl, inr, lit≤}
 use Rattle.std.specs.Prelude.{◌&&◌, not, is_none, slice_index_or, IsTrue}
 use Rattle.std.proofs.lemmas.Bool.{and_parts, cases_eq}
 use Rattle.flt_tree.specs.WellFormed as fine

@@ -1,7 +1,8 @@
 -- Where visits and references of contexts stand outside of variables, as numbers, and how those change with a queue, an item or the
 -- settling of a visit. The invariants add these numbers to what variables own: an unsettled visit stands in one place, and a context's
 -- count is the number of its references. Here v is a visit, x a context, f a filter, s a store.
-use Rattle.std.proofs.Common.{◌≡◌, ℕ, suc, ◌+◌, ◌<◌, Bool, true, false, List, [], ◌∷◌, ◌++◌, length, Option, Some, None, ap, sym, refl, arith, sum_by, inl, inr}
+use Rattle.std.proofs.Common.{◌≡◌, ℕ, suc, ◌+◌, ◌<◌, Bool, true, false, List, [], ◌∷◌, ◌++◌, length}
+use Rattle.std.proofs.Common.{Option, Some, None, ap, sym, refl, arith, sum_by, inl, inr}
 use Rattle.std.specs.Prelude.{if◌then◌else◌, find}
 use Rattle.std.specs.List.{before_first, after_first, position_or_len}
 use Rattle.std.proofs.Math.ListN.{set, get_or}

@@ -1,7 +1,8 @@
 -- The heart of the second invariant: an unsettled visit stands in one place. Each step keeps the sum of a visit's owners over all
 -- activations, queues and items (`owners_after`), and by that sum the machine's own count of owners, by the trace, is right: V4.
 -- Here v is a visit, a, b are activations, s is a shadow or a store, t the trace and es the events of a step.
-use Rattle.std.proofs.Common.{◌≡◌, ℕ, zero, suc, ◌+◌, ◌<◌, ◌≤◌, Bool, true, false, List, [], ◌∷◌, length, map, sym, subst, refl, arith, sum_by}
+use Rattle.std.proofs.Common.{◌≡◌, ℕ, zero, suc, ◌+◌, ◌<◌, ◌≤◌, Bool, true, false, List}
+use Rattle.std.proofs.Common.{[], ◌∷◌, length, map, sym, subst, refl, arith, sum_by}
 use Rattle.std.specs.Prelude.{not, ◌&&◌, ◌==◌, if◌then◌else◌}
 use Rattle.std.proofs.Math.ListN.{set, get_or}
 use Rattle.std.proofs.lemmas.List.Sums.{sum_by-set, sum_by-cons}

@@ -1,6 +1,7 @@
 -- The ledgers of changes to one context: it is allocated, referenced, released, linked, unlinked, written. The calls on contexts are
 -- made of these. Here a is the activation that calls, s the store before, y the context that changes, x any context, l a link.
-use Rattle.std.proofs.Common.{◌≡◌, ◌≢◌, ℕ, zero, suc, ◌+◌, ◌-◌, ◌<◌, ◌≤◌, Bool, true, false, List, [], ◌∷◌, ◌++◌, length, Some, None, ap, sym, subst, refl, ◌∙◌, arith, inl, inr}
+use Rattle.std.proofs.Common.{◌≡◌, ◌≢◌, ℕ, zero, suc, ◌+◌, ◌-◌, ◌<◌, ◌≤◌, Bool, true, false, List, []}
+use Rattle.std.proofs.Common.{◌∷◌, ◌++◌, length, Some, None, ap, sym, subst, refl, ◌∙◌, arith, inl, inr}
 use Rattle.std.specs.Prelude.{◌==◌, if◌then◌else◌}
 use Rattle.std.proofs.Math.ListN.{set, get_or, get_or-append}
 use Rattle.std.proofs.Math.Seq.{get_or-append_seam}

@@ -1,7 +1,8 @@
 -- What the state at a point says of the variables of an activation that stands there: a variable that the state holds surely owns an
 -- object, one that the state never holds owns none. So a call that passes the rules finds what it uses, and overwrites nothing held.
 -- Here i is the place of a variable among the slots, x the object, e the equation that the rule leaves.
-use Rattle.std.proofs.Common.{◌≡◌, ℕ, zero, suc, ◌+◌, ◌<◌, Bool, true, false, List, [], ◌∷◌, length, map, ap, sym, refl, ◌∙◌, arith, inl, inr}
+use Rattle.std.proofs.Common.{◌≡◌, ℕ, zero, suc, ◌+◌, ◌<◌, Bool, true, false, List, []}
+use Rattle.std.proofs.Common.{◌∷◌, length, map, ap, sym, refl, ◌∙◌, arith, inl, inr}
 use Rattle.std.specs.Prelude.{not, ◌&&◌, is_some, slice_index_or}
 use Rattle.std.proofs.Math.ListN.{set, get_or}
 use Rattle.std.proofs.lemmas.Bool.{and_parts, cases_eq, cases_lt}

@@ -9,7 +9,8 @@ use Rattle.flt_model.specs.declared.event.Event.{Event}
 use Rattle.flt_model.specs.declared.event.Event.TheVariants as event
 use Rattle.flt_model.specs.declared.event.Object.TheVariants.{Context, Visit}
 use Rattle.flt_model.specs.Effects.{loses_context}
-use Rattle.flt_model.specs.Settling.{Way, Passes, Frames, Ends, Rises, Stays, settles_visit, asks_for_frame, led, is_led, makes_frame, lead, settled_by}
+use Rattle.flt_model.specs.Settling.{Way, Passes, Frames, Ends, Rises, Stays, settles_visit, asks_for_frame}
+use Rattle.flt_model.specs.Settling.{led, is_led, makes_frame, lead, settled_by}
 use Rattle.flt_model.specs.Trace.{gains, loses, frees}
 use Rattle.flt_model.specs.Violations.{in_some}
 use Rattle.flt_model.specs.World.{Store, Entry, Route, Frame, queue_at, route_at, no_route, visit_at, with_route, with_queue}

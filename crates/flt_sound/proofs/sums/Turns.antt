@@ -1,7 +1,8 @@
 -- How the owners of a visit change with a step of an activation: what its variables gain and lose, what stands in queues and work
 -- items, and what is unsettled, in one equation (`Turns`). With it the second invariant, that an unsettled visit has one owner and is
 -- settled once, is kept by each step. Here s is the store before the step and new the one after, u, v are visits, f is a filter.
-use Rattle.std.proofs.Common.{◌≡◌, ℕ, ◌+◌, ◌<◌, Bool, true, false, List, [], ◌∷◌, ◌++◌, length, Option, Some, None, ap, sym, refl, ◌∙◌, arith}
+use Rattle.std.proofs.Common.{◌≡◌, ℕ, ◌+◌, ◌<◌, Bool, true, false, List, [], ◌∷◌, ◌++◌}
+use Rattle.std.proofs.Common.{length, Option, Some, None, ap, sym, refl, ◌∙◌, arith}
 use Rattle.std.specs.Prelude.{if◌then◌else◌}
 use Rattle.std.proofs.Math.ListN.{set}
 use Rattle.std.proofs.lemmas.List.{length-set}

@@ -1,4 +1,5 @@
-use Rattle.std.proofs.Common.{◌≡◌, suc, ◌-◌, ◌<◌, ◌%◌, ◌++◌, ◌∷◌, [], length, reverse, drop, refl, sym, ap, ◌∙◌, arith, slice_set, slice_index_or}
+use Rattle.std.proofs.Common.{◌≡◌, suc, ◌-◌, ◌<◌, ◌%◌, ◌++◌, ◌∷◌, [], length, reverse, drop}
+use Rattle.std.proofs.Common.{refl, sym, ap, ◌∙◌, arith, slice_set, slice_index_or}
 use Rattle.std.proofs.Math.Path.{subst}
 use Rattle.std.proofs.lemmas.List.{length-set, reverse-append}
 use Rattle.std.proofs.lemmas.Nat.{mod_below}

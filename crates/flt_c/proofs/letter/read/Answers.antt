@@ -27,7 +27,8 @@ pub loop-rest-preserved : goal.loop-rest-preserved
 loop-rest-preserved c =
     let put : c.put_run-else-n-eq0.new.out.items ≡ c.loop-rest.out.items ++ map other (take c.continuation-n.result c.loop-rest.rest.now) =
     c.in_ok-put_run-3.ensures ∙ ap (λ z. c.loop-rest.out.items ++ map other z) c.before-else-n-eq0.ensures in
-    subst (AreLetters c.args.file.now c.put_run-else-n-eq0.new.out.items c.join.new.s c.loop-rest.aside) (sym c.after-rest-else-n-eq0.ensures)
+    subst (AreLetters c.args.file.now c.put_run-else-n-eq0.new.out.items c.join.new.s c.loop-rest.aside)
+    (sym c.after-rest-else-n-eq0.ensures)
     (joined_on c.args.file.now c.loop-rest.out.items c.put_run-else-n-eq0.new.out.items c.loop-rest.s c.join.new.s c.loop-rest.aside
     c.loop-rest.rest.now c.continuation-n.result c.loop-rest.invariant c.continuation-n.ensures.value c.if-n-eq0.false
     c.continuation-n.ensures.within c.in_default-join.ensures.value put c.in_default-join.ensures.moves c.in_default-join.ensures.deepens)

@@ -1,5 +1,6 @@
 use Rattle.std.proofs.Common.{◌≡◌, ap, map, option_map, refl}
-use Rattle.flt_commands.proofs.Reported.{answers_asked, answers_of, cut_asked, held_asked, kept_shown, never_quiet, quiet_asked, remarked_after, says_of_pages, those_after, those_of}
+use Rattle.flt_commands.proofs.Reported.{answers_asked, answers_of, cut_asked, held_asked, kept_shown, never_quiet}
+use Rattle.flt_commands.proofs.Reported.{quiet_asked, remarked_after, says_of_pages, those_after, those_of}
 use Rattle.flt_words.specs.Request.{Check, Analyse, Thin, Run, Replay, Show, Extract, Pages, Emit, EmitInto, Compare, Serve, choice_of}
 use Rattle.flt_commands.specs.Attempts.{Does}
 use Rattle.flt_commands.proofs.commands.report_of.Goals as goal

@@ -3,7 +3,8 @@ use Rattle.std.proofs.lemmas.List.{length_push}
 use Rattle.flt_commands.proofs.Firsts.{and_false, unreadable, given_more, used_more}
 use Rattle.flt_commands.specs.Inputs.{Text, is_standard}
 use Rattle.flt_commands.proofs.inputs.read_behind.Goals as goal
-use Rattle.flt_commands.proofs.inputs.read_behind.Goals.{else-is_used-via-then-is_used+else-is_standard, else-is_used-via-else-is_used, then-is_used-2, else-is_used-2}
+use Rattle.flt_commands.proofs.inputs.read_behind.Goals.{else-is_used-via-then-is_used+else-is_standard, else-is_used-via-else-is_used}
+use Rattle.flt_commands.proofs.inputs.read_behind.Goals.{then-is_used-2, else-is_used-2}
 
 pub returns-then-is_standard-clause-err : goal.returns-then-is_standard-clause-err
 returns-then-is_standard-clause-err g c =

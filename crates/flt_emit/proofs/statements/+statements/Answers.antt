@@ -3,7 +3,8 @@ use Rattle.std.proofs.lemmas.Result.{on_ok_weaker}
 use Rattle.flt_emit.specs.Line.{label}
 use Rattle.flt_emit.specs.Scope.{scope_of}
 use Rattle.flt_emit.specs.Statements.{body_text, statement_text, with_lines}
-use Rattle.flt_emit.proofs.Walks.{acts, calls, returning, chooses, choice_none, choice_some, repeats, points_next, body_next, acted, called, left, enclosed}
+use Rattle.flt_emit.proofs.Walks.{acts, calls, returning, chooses, choice_none, choice_some, repeats}
+use Rattle.flt_emit.proofs.Walks.{points_next, body_next, acted, called, left, enclosed}
 use Rattle.flt_emit.proofs.statements.+statements.Goals as goal
 
 pub body-loop-found-preserved : goal.body-loop-found-preserved

@@ -9,5 +9,6 @@ loop-look-init c = record {
   clear = at_start c.in_ok-walk.walk.pending;
   wide = opened_wide c.args.graph.now c.args.callback c.points.result c.in_ok-walk.walk c.in_ok-by_point.by_point.lists c.in_ok-walk.ensures
       c.points.ensures c.in_ok-by_point.ensures;
-  by_point = none_by_point c.args.callback c.points.result c.in_ok-by_point.by_point.lists c.args.findings.now c.in_ok-by_point.ensures c.requires;
+  by_point = none_by_point c.args.callback c.points.result c.in_ok-by_point.by_point.lists
+      c.args.findings.now c.in_ok-by_point.ensures c.requires;
 }

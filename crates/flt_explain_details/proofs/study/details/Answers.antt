@@ -1,5 +1,6 @@
 use Rattle.std.proofs.Common.{rules}
-use Rattle.flt_explain_details.proofs.MoreDetails.{all_details, as_many, found_at, number_within, one_detail_more, one_like_more, one_longer}
+use Rattle.flt_explain_details.proofs.MoreDetails.{all_details, as_many, found_at, number_within}
+use Rattle.flt_explain_details.proofs.MoreDetails.{one_detail_more, one_like_more, one_longer}
 use Rattle.flt_explain_details.proofs.study.details.Goals as goal
 
 pub at-shown-requires : goal.at-shown-requires

@@ -12,7 +12,8 @@ returns c =
       drawn = string_bytes c.in_ok-broken_rows.broken_rows;
       are = rw c.as_slice.ensures at c.in_ok-broken_rows.ensures;
       whole = c.in_ok-extend_from_slice.ensures.items
-          ∙ ap (λ z. z ++ c.as_bytes-2.result.now) (c.in_ok-out.ensures ∙ ap (λ n. numbered n c.as_bytes.result.now) c.file_line-first.ensures
+          ∙ ap (λ z. z ++ c.as_bytes-2.result.now) (c.in_ok-out.ensures
+          ∙ ap (λ n. numbered n c.as_bytes.result.now) c.file_line-first.ensures
           ∙ ap (λ z. numbered first z) c.as_bytes.ensures.value)
           ∙ ap (λ z. added ++ z) c.as_bytes-2.ensures.value;
     }

@@ -67,7 +67,19 @@ returns c = record {
       c.loop-entry.scene c.args.journal.now (omega (arith, c.loop-entry-test.false, ap length c.entries-entry-items.ensures))
       c.loop-entry.invariant.clear c.loop-entry.invariant.refused;
   each =
-      omega (arith, c.loop-entry.invariant.each, c.loop-entry-test.false, c.loop-entry.auto.entry-index-end, ap length c.entries-entry-items.ensures);
+      omega (
+        arith,
+        c.loop-entry.invariant.each,
+        c.loop-entry-test.false,
+        c.loop-entry.auto.entry-index-end,
+        ap length c.entries-entry-items.ensures,
+      );
   on =
-      omega (arith, c.loop-entry.invariant.on, c.loop-entry-test.false, c.loop-entry.auto.entry-index-end, ap length c.entries-entry-items.ensures);
+      omega (
+        arith,
+        c.loop-entry.invariant.on,
+        c.loop-entry-test.false,
+        c.loop-entry.auto.entry-index-end,
+        ap length c.entries-entry-items.ensures,
+      );
 }

@@ -4,7 +4,8 @@ use Rattle.std.proofs.lemmas.Result.{on_ok_weaker}
 use Rattle.flt_tree.specs.Measures.{points_of}
 use Rattle.flt_graph.specs.Points.{entry}
 use Rattle.flt_graph.specs.declared.graph.Point.{Point}
-use Rattle.flt_graph.proofs.Added.{added_if, added_repeat, added_more, added_all, added_plain, entry_last, entry_next, is_plain, points_more, points_plain, points_repeat}
+use Rattle.flt_graph.proofs.Added.{added_if, added_repeat, added_more, added_all, added_plain, entry_last}
+use Rattle.flt_graph.proofs.Added.{entry_next, is_plain, points_more, points_plain, points_repeat}
 use Rattle.flt_graph.proofs.lowering.+lower.Goals as goal
 use Rattle.flt_graph.proofs.lowering.+lower.Goals.{add_block-then-left-eq0, add_block-else-left-eq0}
 

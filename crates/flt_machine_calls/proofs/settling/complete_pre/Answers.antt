@@ -25,7 +25,12 @@ returns-clause-planned c =
     let s = c.args.store.now in
     let a = c.args.caller.now.activation in
     let named : Named = record { visit = c.operation.result; context = c.named_in.result } in
-    let completion : Completion = record { call = call.CompletePendedPreOperation c.whose.result; answer = c.pre_answer-answer.result; named = named; settled = c.settled_by.result } in
+    let completion : Completion = record {
+      call = call.CompletePendedPreOperation c.whose.result;
+      answer = c.pre_answer-answer.result;
+      named = named;
+      settled = c.settled_by.result;
+    } in
     IfOk-weaker c.plan_completion.result
     (λ (plan : Plan). (actors : List machine.Actor) (acts : List machine.Activation) (granted refused : List Statement) →
     IsPlanned (world_of s actors acts) a plan [] granted refused (completes (world_of s actors acts) a completion granted))
@@ -49,7 +54,12 @@ returns-clause-own c =
     let s = c.args.store.now in
     let a = c.args.caller.now.activation in
     let named : Named = record { visit = c.operation.result; context = c.named_in.result } in
-    let completion : Completion = record { call = call.CompletePendedPreOperation c.whose.result; answer = c.pre_answer-answer.result; named = named; settled = c.settled_by.result } in
+    let completion : Completion = record {
+      call = call.CompletePendedPreOperation c.whose.result;
+      answer = c.pre_answer-answer.result;
+      named = named;
+      settled = c.settled_by.result;
+    } in
     IfOk-weaker c.plan_completion.result
     (λ (plan : Plan). (actors : List machine.Actor) (acts : List machine.Activation) (granted refused : List Statement) →
     IsPlanned (world_of s actors acts) a plan [] granted refused (completes (world_of s actors acts) a completion granted))

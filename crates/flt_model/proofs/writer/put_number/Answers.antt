@@ -1,5 +1,6 @@
 use Rattle.std.proofs.Common.{arith}
-use Rattle.flt_model.proofs.DecimalDigits.{one_digit, two_digits, three_digits, four_digits, five_digits, more_digits, number_written, rest_written}
+use Rattle.flt_model.proofs.DecimalDigits.{one_digit, two_digits, three_digits, four_digits, five_digits}
+use Rattle.flt_model.proofs.DecimalDigits.{more_digits, number_written, rest_written}
 use Rattle.flt_model.proofs.writer.put_number.Goals as goal
 
 pub returns-then-tens-eq0-clause-ok : goal.returns-then-tens-eq0-clause-ok

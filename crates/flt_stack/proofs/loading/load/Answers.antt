@@ -35,7 +35,8 @@ returns-clause-loads c accepted all distinct counted =
     let both = all_covered c.spelled_is_well_formed.ensures c.spells_at_most_one.ensures c.one_graph_at_most.ensures
     c.one_certificate_is_spelled.ensures files filters accepted read.graphs.items read.certificates.items c.in_default.ensures.ok all in
     let many : length c.args.files.now ≡ length read.trees.items =
-    sym (length-map c.args.files.now (λ f. spec.file f.0.now f.1.now)) ∙ (sym (as_many_read files filters _ _ c.in_default.ensures.ok).filters
+    sym (length-map c.args.files.now (λ f. spec.file f.0.now f.1.now))
+    ∙ (sym (as_many_read files filters _ _ c.in_default.ensures.ok).filters
     ∙ length-map read.trees.items (λ (t : Tree). t.filter)) in
     read_loads files filters read.graphs.items read.certificates.items c.in_default.ensures.ok accepted c.load_lowered.result both.0
     distinct

@@ -3,7 +3,8 @@ use Rattle.std.specs.Prelude.{option_map}
 use Rattle.flt_model.specs.Program.{filters_of}
 use Rattle.flt_model.specs.Streams.{Text}
 use Rattle.flt_stack_prepare.specs.ScriptText.{Commands, may_follow}
-use Rattle.flt_stack_prepare.proofs.ScriptLaws.{Reached, Finds, at_start, one_line, only_script, whole_script, is_reached_script, first_fault, no_script, all_commands, some_left, none_left}
+use Rattle.flt_stack_prepare.proofs.ScriptLaws.{Reached, Finds, at_start, one_line, only_script, whole_script, is_reached_script}
+use Rattle.flt_stack_prepare.proofs.ScriptLaws.{first_fault, no_script, all_commands, some_left, none_left}
 use Rattle.flt_stack_prepare.proofs.reader.read.Goals as goal
 
 pub loop-left-init : goal.loop-left-init

@@ -1,6 +1,7 @@
 use Rattle.std.proofs.Common.{[], ◌∷◌, ◌++◌, length, sym, ap, ◌∙◌}
 use Rattle.flt_syntax.specs.Cursor.{Input}
-use Rattle.flt_syntax.proofs.Cut.{init_step, feed_spaces_step, blank_step, less_by_spaces, comment_step, less_by_comment, token_here, token_spaces_step, less_by_token, fault_step, end_step}
+use Rattle.flt_syntax.proofs.Cut.{init_step, feed_spaces_step, blank_step, less_by_spaces, comment_step, less_by_comment}
+use Rattle.flt_syntax.proofs.Cut.{token_here, token_spaces_step, less_by_token, fault_step, end_step}
 use Rattle.flt_syntax.proofs.lex.tokens.Goals as goal
 
 pub loop-rest-init : goal.loop-rest-init

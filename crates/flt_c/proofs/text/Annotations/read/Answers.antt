@@ -14,7 +14,8 @@ loop-rest-preserved-then-run-gt0 c =
     c.plain_count-run.ensures.value ∙ ap (λ plain. plain_count plain c.loop-rest.rest.now) c.plain_in.ensures in
     let added : text_in c.add_run.new.self ≡ add_run c.args.number text s (take c.plain_count-run.result c.loop-rest.rest.now) =
     c.in_ok-add_run.ensures ∙ ap (add_run c.args.number text s) c.before-then-run-gt0.ensures in
-    subst (IsRead c.args.number (text_in c.args.self.now) c.args.file.now (text_in c.add_run.new.self) c.pass.new.s) (sym c.after-rest.ensures)
+    subst (IsRead c.args.number (text_in c.args.self.now) c.args.file.now (text_in c.add_run.new.self) c.pass.new.s)
+    (sym c.after-rest.ensures)
     (run_on c.args.number (text_in c.args.self.now) c.args.file.now text (text_in c.add_run.new.self) s c.pass.new.s c.loop-rest.rest.now
     c.plain_count-run.result c.loop-rest.invariant c.if-run-gt0.true count c.plain_count-run.ensures.within added c.pass.ensures)
 
@@ -41,6 +42,8 @@ loop-rest-preserved-then-takes_marker c =
     let text = text_in c.loop-rest.self in
     let s = c.loop-rest.s in
     let rest = c.loop-rest.rest.now in
-    subst (IsRead c.args.number (text_in c.args.self.now) c.args.file.now text c.take_marker.new.s) (sym c.after-rest-then-takes_marker.ensures)
+    subst (IsRead c.args.number (text_in c.args.self.now) c.args.file.now text c.take_marker.new.s)
+    (sym c.after-rest-then-takes_marker.ensures)
     (marker_on c.args.number text (text_in c.args.self.now) c.args.file.now s c.take_marker.new.s rest c.loop-rest.invariant
-    (sym c.takes_marker.ensures.value ∙ c.if-takes_marker.true) (c.takes_marker.ensures.within c.if-takes_marker.true) c.take_marker.ensures)
+    (sym c.takes_marker.ensures.value ∙ c.if-takes_marker.true)
+    (c.takes_marker.ensures.within c.if-takes_marker.true) c.take_marker.ensures)

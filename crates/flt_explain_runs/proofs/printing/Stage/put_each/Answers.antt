@@ -3,7 +3,8 @@ use Rattle.flt_explain_runs.specs.Printing.{ArePrinted, IsMore, look_of}
 use Rattle.flt_explain_runs.specs.Readings.{sources_read}
 use Rattle.flt_explain_runs.specs.Reported.{IsCut}
 use Rattle.flt_explain_runs.specs.declared.fault.ExplainFault.TheVariants.{OutOfMemory}
-use Rattle.flt_explain_runs.proofs.Several.{appends_none, cut_here, printed_empty, printed_more, printed_none, rest_out, whole_printed, whole_sent}
+use Rattle.flt_explain_runs.proofs.Several.{appends_none, cut_here, printed_empty, printed_more}
+use Rattle.flt_explain_runs.proofs.Several.{printed_none, rest_out, whole_printed, whole_sent}
 use Rattle.flt_explain_runs.proofs.Studied.{last_studied, one_taken, placed_here, studied_here}
 use Rattle.flt_explain_runs.proofs.printing.Stage.put_each.Goals as goal
 
@@ -14,7 +15,8 @@ put_part-requires-clause-text g c =
 
 pub add_part-requires : goal.add_part-requires
 add_part-requires g c = record {
-  text = last_studied c.args.self.now.trees.now c.args.each.now c.last-item.result c.requires.texts c.in-len1-up.len_at_least c.last-item.is;
+  text = last_studied c.args.self.now.trees.now c.args.each.now c.last-item.result
+      c.requires.texts c.in-len1-up.len_at_least c.last-item.is;
 }
 
 pub returns-in_default-clause-printed : goal.returns-in_default-clause-printed

@@ -17,8 +17,10 @@ returns-then-is_full_for-clause-disabled c =
     let decides =
     decided_now c.args.loaded.now _ c.args.self.now c.args.step c.is_active_for-active.result
     (Some c.in-Some.decision) c.self.view_is c.is_active_for-active.ensures
-    c.in-Some.ensures.decided in
-    (λ same. absurd (cc), λ disabled. absurd (not_disabled c.args.loaded.now c.args.self.now c.args.step c.in-Some.decision c.requires.own decides disabled))
+    c.in-Some.ensures.decided in (
+      λ same. absurd (cc),
+      λ disabled. absurd (not_disabled c.args.loaded.now c.args.self.now c.args.step c.in-Some.decision c.requires.own decides disabled),
+    )
 
 pub returns-then-is_full_for-clause-full : goal.returns-then-is_full_for-clause-full
 returns-then-is_full_for-clause-full c =
@@ -39,8 +41,10 @@ returns-in_err-events-clause-disabled c =
     decided_now c.args.loaded.now _ c.args.self.now c.args.step c.is_active_for-active.result
     (Some c.in-Some.decision) c.self.view_is c.is_active_for-active.ensures
     c.in-Some.ensures.decided in
-    let fails : c.from_residual.result ≡ Err fault.OutOfMemory = search rules in
-    (λ same. absurd (cc), λ disabled. absurd (not_disabled c.args.loaded.now c.args.self.now c.args.step c.in-Some.decision c.requires.own decides disabled))
+    let fails : c.from_residual.result ≡ Err fault.OutOfMemory = search rules in (
+      λ same. absurd (cc),
+      λ disabled. absurd (not_disabled c.args.loaded.now c.args.self.now c.args.step c.in-Some.decision c.requires.own decides disabled),
+    )
 
 pub returns-clause-own : goal.returns-clause-own
 returns-clause-own c =
@@ -64,8 +68,10 @@ returns-clause-disabled c =
     let decides =
     decided_now c.args.loaded.now _ c.args.self.now c.args.step c.is_active_for-active.result
     (Some c.in-Some.decision) c.self.view_is c.is_active_for-active.ensures
-    c.in-Some.ensures.decided in
-    (λ same. absurd (cc), λ disabled. absurd (not_disabled c.args.loaded.now c.args.self.now c.args.step c.in-Some.decision c.requires.own decides disabled))
+    c.in-Some.ensures.decided in (
+      λ same. absurd (cc),
+      λ disabled. absurd (not_disabled c.args.loaded.now c.args.self.now c.args.step c.in-Some.decision c.requires.own decides disabled),
+    )
 
 pub returns-clause-next : goal.returns-clause-next
 returns-clause-next c =

@@ -11,14 +11,28 @@ standing_after-later-requires-clause-leads c =
     goes_on c.args.loaded.now c.args.self.now c.args.advanced.now c.args.grant c.args.caller.now c.args.instruction
     c.standings_have_points.ensures.told c.requires.own c.requires.advance c.requires.fresh
     c.requires.caller c.requires.instruction c.in_ok-plan.plan
-    (record { free = c.requires.free; planned = subst (λ (b : Situation). PlansStep c.args.loaded.now b.store c.args.caller.now c.args.grant c.in_ok-plan.plan) c.self.view_is c.in_ok-plan.ensures.planned; ends = c.in_ok-plan.ensures.ends; takes = c.in_ok-plan.ensures.takes; own = c.in_ok-plan.ensures.own })
+    (record {
+      free = c.requires.free;
+      planned = subst (λ (b : Situation). PlansStep c.args.loaded.now b.store c.args.caller.now c.args.grant c.in_ok-plan.plan)
+          c.self.view_is c.in_ok-plan.ensures.planned;
+      ends = c.in_ok-plan.ensures.ends;
+      takes = c.in_ok-plan.ensures.takes;
+      own = c.in_ok-plan.ensures.own;
+    })
 
 pub standing_after-later-requires-clause-free : goal.standing_after-later-requires-clause-free
 standing_after-later-requires-clause-free c =
     takes_free c.args.loaded.now c.args.self.now c.args.advanced.now c.args.grant c.args.caller.now c.args.instruction
     c.standings_have_points.ensures.told c.requires.own c.requires.advance c.requires.fresh
     c.requires.caller c.requires.instruction c.in_ok-plan.plan
-    (record { free = c.requires.free; planned = subst (λ (b : Situation). PlansStep c.args.loaded.now b.store c.args.caller.now c.args.grant c.in_ok-plan.plan) c.self.view_is c.in_ok-plan.ensures.planned; ends = c.in_ok-plan.ensures.ends; takes = c.in_ok-plan.ensures.takes; own = c.in_ok-plan.ensures.own })
+    (record {
+      free = c.requires.free;
+      planned = subst (λ (b : Situation). PlansStep c.args.loaded.now b.store c.args.caller.now c.args.grant c.in_ok-plan.plan)
+          c.self.view_is c.in_ok-plan.ensures.planned;
+      ends = c.in_ok-plan.ensures.ends;
+      takes = c.in_ok-plan.ensures.takes;
+      own = c.in_ok-plan.ensures.own;
+    })
 
 pub standing_after-later-requires-clause-small : goal.standing_after-later-requires-clause-small
 standing_after-later-requires-clause-small c =
@@ -39,6 +53,13 @@ returns-clause-committed c =
     commits_to c.args.loaded.now c.args.self.now c.args.advanced.now c.args.grant c.args.caller.now c.args.instruction
     c.standings_have_points.ensures.told c.requires.own c.requires.advance c.requires.fresh
     c.requires.caller c.requires.instruction c.in_ok-plan.plan
-    (record { free = c.requires.free; planned = subst (λ (b : Situation). PlansStep c.args.loaded.now b.store c.args.caller.now c.args.grant c.in_ok-plan.plan) c.self.view_is c.in_ok-plan.ensures.planned; ends = c.in_ok-plan.ensures.ends; takes = c.in_ok-plan.ensures.takes; own = c.in_ok-plan.ensures.own })
+    (record {
+      free = c.requires.free;
+      planned = subst (λ (b : Situation). PlansStep c.args.loaded.now b.store c.args.caller.now c.args.grant c.in_ok-plan.plan)
+          c.self.view_is c.in_ok-plan.ensures.planned;
+      ends = c.in_ok-plan.ensures.ends;
+      takes = c.in_ok-plan.ensures.takes;
+      own = c.in_ok-plan.ensures.own;
+    })
     c.standing_after-later.result (c.args.grant || not (leaves_choice_at c.args.instruction)) refl c.standing_after-later.ensures.later
     c.entry_of.result c.write_down.new.self c.put.new.self c.entry_of.ensures c.in_ok-write_down.ensures.ok c.put.ensures

@@ -20,7 +20,12 @@ invariant_of-self-2 c = record {
       (rw (c.reserve.ensures.items) at c.push_reserved.ensures.items) (rw (c.reserve-2.ensures.items) at c.push_reserved-2.ensures.items)
       c.in_ok-write.ensures.change c.in_ok-write.ensures.entry
       (λ p. subst (λ (s : Standing). Begins p (Some c.args.start) (Some s)) (sym c.in_ok-kept.ensures.kept) (c.standing_of.ensures p))));
-  counted = started_so (record { actors = c.self.inside.actors.items; standings = c.self.inside.standings.items; store = c.self.inside.store; entries = c.self.inside.journal })
+  counted = started_so (record {
+    actors = c.self.inside.actors.items;
+    standings = c.self.inside.standings.items;
+    store = c.self.inside.store;
+    entries = c.self.inside.journal;
+  })
       c.self.inside.active.items c.make_room.new.counts.items c.self.invariant c.make_room.ensures.same
       _ c.in_ok-kept.kept c.args.start.filter _ _ _ refl c.in_ok-make_room.ensures.room
       (rw (c.reserve.ensures.items) at c.push_reserved.ensures.items)

@@ -3,7 +3,8 @@ use Rattle.std.proofs.Math.ListN.{get_or}
 use Rattle.std.specs.List.{list_all}
 use Rattle.flt_model.specs.World.{Holder}
 use Rattle.flt_machine_store.specs.Holding.{at_place, is_free, is_of, weight}
-use Rattle.flt_machine_store.proofs.Holding.{free_new_alone, free_new_shared, free_own_alone, free_own_shared, same_place, stands, stands_so, walk_free, within}
+use Rattle.flt_machine_store.proofs.Holding.{free_new_alone, free_new_shared, free_own_alone, free_own_shared}
+use Rattle.flt_machine_store.proofs.Holding.{same_place, stands, stands_so, walk_free, within}
 use Rattle.flt_machine_store.proofs.holders.Holders.is_free_for.Goals as goal
 
 pub returns-then-self : goal.returns-then-self

@@ -2,7 +2,8 @@ use Rattle.std.proofs.Common.{rules, ◌≡◌, ◌-◌, None, Some, true, ap, s
 use Rattle.std.proofs.Math.ListN.{get_or}
 use Rattle.flt_model.specs.World.{Holder}
 use Rattle.flt_machine_store.specs.Holding.{at_place, is_of, standing, weight}
-use Rattle.flt_machine_store.proofs.Holding.{alone_less, count_less, none_stand, noted_less, noted_none, others_all, others_stand, same_place, stands, walk_others, within}
+use Rattle.flt_machine_store.proofs.Holding.{alone_less, count_less, none_stand, noted_less, noted_none, others_all}
+use Rattle.flt_machine_store.proofs.Holding.{others_stand, same_place, stands, walk_others, within}
 use Rattle.flt_machine_store.proofs.holders.Holders.remove.Goals as goal
 
 pub returns-then-self : goal.returns-then-self

@@ -10,4 +10,5 @@ returns-in-Ok-clause-answered g c =
 
 pub returns-in-Err-Invalid-clause-answered : goal.returns-in-Err-Invalid-clause-answered
 returns-in-Err-Invalid-clause-answered g c =
-    not_read _ c.refusing.result c.args.self.now c.args.body.now (c.in-Err-Invalid.ensures.invalid (ap Err c.in-Err-Invalid.field-0-is)) c.refusing.ensures
+    not_read _ c.refusing.result c.args.self.now c.args.body.now
+    (c.in-Err-Invalid.ensures.invalid (ap Err c.in-Err-Invalid.field-0-is)) c.refusing.ensures

@@ -10,7 +10,8 @@ returns-in-Ok-clause-cancelled g c =
 
 pub returns-in-Err-NotEnabled-clause-cancelled : goal.returns-in-Err-NotEnabled-clause-cancelled
 returns-in-Err-NotEnabled-clause-cancelled g c =
-    disabled_is_cancel c.args.loaded.now c.args.self.now.board c.args.serial c.unmade.result.stays c.unmade.result.made c.apply.new.self.board
+    disabled_is_cancel c.args.loaded.now c.args.self.now.board c.args.serial
+    c.unmade.result.stays c.unmade.result.made c.apply.new.self.board
     c.unmade.result.next.items (c.apply.ensures.disabled.0 (c.in-Err-NotEnabled.is ∙ ap Err c.in-Err-NotEnabled.field-0-is))
     (ap (λ (v : Guarded). v.board) c.in-Err-NotEnabled.ensures.refused.0) c.unmade.ensures.stays c.unmade.ensures.made c.unmade.ensures.next
 
