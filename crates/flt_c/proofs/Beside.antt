@@ -11,7 +11,7 @@ use Rattle.flt_c.specs.declared.fault.FaultKind.{FaultKind}
 use Rattle.flt_c.specs.declared.mode.Mode.{Mode}
 use Rattle.flt_c.specs.declared.mode.Mode.TheVariants as m
 use Rattle.flt_c.specs.declared.place.Place.{Place}
-use Rattle.flt_c.specs.declared.place.Placed.{Placed}
+use Rattle.flt_c.specs.declared.place.PlacedByte.{PlacedByte}
 use Rattle.flt_c.specs.declared.scan.Scanner.{Scanner}
 use Rattle.flt_c.specs.Fronts.{is_lenient}
 use Rattle.flt_c.specs.Laws.{IsAt, beside}
@@ -27,7 +27,7 @@ Follows at true place = at.start ≤ place.start
 Follows at false place = at ≡ place
 
 -- each byte stands beside the one before, or begins a line further on; the last ends a line
-abbrev pub Chain : List ℕ → Place → Bool → List Placed → Type 0
+abbrev pub Chain : List ℕ → Place → Bool → List PlacedByte → Type 0
 Chain file at fresh [] = fresh ≡ true
 Chain file at fresh (p ∷ ps) = Follows at fresh p.place × (IsAt file p.place p.byte × Chain file (beside p.place) (p.byte == 10) ps)
 
@@ -68,17 +68,17 @@ follows at fresh place text h = elim h [ inl h ↦ rw h.0 h.1 | inr h ↦ rw h.1
 
 -- ---- one byte more
 
-abbrev GoesOn : List ℕ → Scanner → List Placed → Type 0
+abbrev GoesOn : List ℕ → Scanner → List PlacedByte → Type 0
 GoesOn file s ps = (at : Place) (fresh : Bool) → Expects s at fresh → Chain file at fresh ps
 
-record Stepped (file : List ℕ) (s : Scanner) (b : ℕ) (next : Scanner) (ps : List Placed) : Type 0 where
+record Stepped (file : List ℕ) (s : Scanner) (b : ℕ) (next : Scanner) (ps : List PlacedByte) : Type 0 where
   at : next.at ≡ past s.at b
   last : next.last ≡ s.at
   here : place_of file s.at.start ≡ s.at
   byte : slice_index file s.at.start ≡ b
   on : GoesOn file next ps
 
-module _ (file : List ℕ) (s : Scanner) (b : ℕ) (next : Scanner) (ps : List Placed) (st : Stepped file s b next ps) where
+module _ (file : List ℕ) (s : Scanner) (b : ℕ) (next : Scanner) (ps : List PlacedByte) (st : Stepped file s b next ps) where
   later : (n : ℕ) → n ≤ s.at.start → n ≤ (waiting_in next.mode next).start
   later n h = by (is_star next.mode)
     where
@@ -235,7 +235,7 @@ expects_on s next n e at fresh h =
       | inr h ↦ elim (differ (sym (text_is_note s.mode on.outside) ∙ h.0)) [ ]
     ]
 
-chains : (file : List ℕ) {s : Scanner} {z : List ℕ} {text : List Placed} → Reads s z text → IsIn file s z → GoesOn file s text
+chains : (file : List ℕ) {s : Scanner} {z : List ℕ} {text : List PlacedByte} → Reads s z text → IsIn file s z → GoesOn file s text
 chains file (ended {s = s} h) i at fresh e = at_the_end file s i h at fresh e
 chains file (byte {s = s} {next = next} {b = b} {z = z} {ps = ps} c h r) i at fresh e =
     let on = moved s b next h in
@@ -251,7 +251,7 @@ chains file (joined {s = s} {next = next} {z = z} p h r) i at fresh e =
     chains file r (joined_in file s next z i p h) at fresh (expects_on s next (continuation z) h at fresh e)
 
 -- the bytes of a file's text, where a line may begin anywhere in the file
-pub chained : (file : List ℕ) (text : List Placed) → annotations file ≡ Ok text → Chain file first_place true text
+pub chained : (file : List ℕ) (text : List PlacedByte) → annotations file ≡ Ok text → Chain file first_place true text
 chained file text e =
     chains file (reads file zero start text e)
     (record { at = refl; rest = refl; counted = omega arith; star = λ h. elim (differ h) [ ] })

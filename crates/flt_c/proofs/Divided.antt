@@ -15,7 +15,7 @@ use Rattle.flt_c.specs.declared.front.Front.{Front}
 use Rattle.flt_c.specs.declared.front.Front.TheVariants as f
 use Rattle.flt_c.specs.declared.mode.Mode.{Mode}
 use Rattle.flt_c.specs.declared.mode.Mode.TheVariants as m
-use Rattle.flt_c.specs.declared.place.Placed.{Placed}
+use Rattle.flt_c.specs.declared.place.PlacedByte.{PlacedByte}
 use Rattle.flt_c.specs.declared.scan.Scanner.{Scanner}
 use Rattle.flt_c.specs.Fronts.{depth_after, front_after, front_within, is_code, is_lenient, next_depth, next_front, settled}
 use Rattle.flt_c.specs.Modes.{in_line_text, is_blank, is_block, is_note, line_end, turn, unended}
@@ -24,10 +24,10 @@ use Rattle.flt_c.specs.Scan.{added, added_in, continuation, or_group, start}
 
 -- ---- the bytes of a text
 
-abbrev bytes : List Placed → List ℕ
+abbrev bytes : List PlacedByte → List ℕ
 bytes ps = map (λ p. p.byte) ps
 
-bytes_of_both : (ps qs : List Placed) → bytes (ps ++ qs) ≡ bytes ps ++ bytes qs
+bytes_of_both : (ps qs : List PlacedByte) → bytes (ps ++ qs) ≡ bytes ps ++ bytes qs
 bytes_of_both [] qs = refl
 bytes_of_both (p ∷ ps) qs = ap (λ l. p.byte ∷ l) (bytes_of_both ps qs)
 
@@ -308,7 +308,7 @@ spliced_over (b ∷ z) h =
 
 -- ---- all of it
 
-rests : {s : Scanner} {z : List ℕ} {text : List Placed} → Reads s z text → Rest s.mode s.front s.depth (spliced zero z) (bytes text)
+rests : {s : Scanner} {z : List ℕ} {text : List PlacedByte} → Reads s z text → Rest s.mode s.front s.depth (spliced zero z) (bytes text)
 rests (ended {s = s} h) = at_end s s.mode h
 rests (byte {s = s} {next = next} {b = b} {z = z} {ps = ps} c h r) =
     let on = moved s b next h in

@@ -7,7 +7,7 @@ use Rattle.flt_c.specs.declared.fault.FaultKind.{FaultKind}
 use Rattle.flt_c.specs.declared.fault.FaultKind.TheVariants as k
 use Rattle.flt_c.specs.declared.mode.Mode.{Mode}
 use Rattle.flt_c.specs.declared.place.Place.{Place}
-use Rattle.flt_c.specs.declared.place.Placed.{Placed}
+use Rattle.flt_c.specs.declared.place.PlacedByte.{PlacedByte}
 use Rattle.flt_c.specs.declared.scan.Scanner.{Scanner}
 use Rattle.flt_c.specs.Fronts.{is_lenient, next_depth, next_front}
 use Rattle.flt_c.specs.Modes.{is_note, turn}
@@ -39,19 +39,19 @@ pub same_ok : {A : Type 0} (x y : A) → okay x ≡ okay y → x ≡ y
 same_ok x y e = ap (or_else x) e
 
 -- what a front was put before
-front_ok : (front : List Placed) (r : Result (List Placed) Fault) (ps : List Placed) → with_front front r ≡ Ok ps →
-    (qs : List Placed) × (r ≡ Ok qs) × (front ++ qs ≡ ps)
+front_ok : (front : List PlacedByte) (r : Result (List PlacedByte) Fault) (ps : List PlacedByte) → with_front front r ≡ Ok ps →
+    (qs : List PlacedByte) × (r ≡ Ok qs) × (front ++ qs ≡ ps)
 front_ok front (Ok qs) ps e = (qs, refl, same_ok (front ++ qs) ps e)
 front_ok front (Err f) ps e = elim (not_ok f ps e) [ ]
 
 -- ---- what was read
 
 -- a text was read from here on: to the end, after a byte, or after a continuation
-pub data Reads : Scanner → List ℕ → List Placed → Type 0 where
+pub data Reads : Scanner → List ℕ → List PlacedByte → Type 0 where
   ended : {s : Scanner} → open_at_end s ≡ None → Reads s [] (last_line s)
-  byte : {s next : Scanner} {b : ℕ} {z : List ℕ} {ps : List Placed} → continuation (b ∷ z) ≡ 0 → step s b ≡ Ok next → Reads next z ps →
+  byte : {s next : Scanner} {b : ℕ} {z : List ℕ} {ps : List PlacedByte} → continuation (b ∷ z) ≡ 0 → step s b ≡ Ok next → Reads next z ps →
       Reads s (b ∷ z) (added s b ++ ps)
-  joined : {s next : Scanner} {z : List ℕ} {ps : List Placed} → 0 < continuation z → join s (continuation z) ≡ Ok next →
+  joined : {s next : Scanner} {z : List ℕ} {ps : List PlacedByte} → 0 < continuation z → join s (continuation z) ≡ Ok next →
       Reads next (drop (continuation z) z) ps → Reads s z ps
 
 drop_nil : (k : ℕ) → drop {A = ℕ} k [] ≡ []
@@ -63,14 +63,14 @@ drop_rest zero b z h = absurd (omega arith)
 drop_rest (suc n) b z h = let q : suc n - 1 ≡ n = omega arith in rw q refl
 
 abbrev ReadsOn : List ℕ → Type 0
-ReadsOn z = (left : ℕ) (s : Scanner) (text : List Placed) → read left s z ≡ Ok text → Reads s (drop left z) text
+ReadsOn z = (left : ℕ) (s : Scanner) (text : List PlacedByte) → read left s z ≡ Ok text → Reads s (drop left z) text
 
-at_end : (s : Scanner) (o : Option FaultKind) (text : List Placed) → open_at_end s ≡ o → end_by s o ≡ Ok text → Reads s [] text
+at_end : (s : Scanner) (o : Option FaultKind) (text : List PlacedByte) → open_at_end s ≡ o → end_by s o ≡ Ok text → Reads s [] text
 at_end s (Some kind) text c e = elim (not_ok (blamed s kind) text e) [ ]
 at_end s None text c e = subst (Reads s []) (same_ok (last_line s) text e) (ended c)
 
 by_byte : (s : Scanner) (b : ℕ) (z : List ℕ) → continuation (b ∷ z) ≡ 0 → ReadsOn z → (r : Result Scanner Fault) →
-    step s b ≡ r → (text : List Placed) →
+    step s b ≡ r → (text : List PlacedByte) →
     (r >>= (λ next. with_front (added s b) (read zero next z))) ≡ Ok text → Reads s (b ∷ z) text
 by_byte s b z c on (Err f) h text e = elim (not_ok f text e) [ ]
 by_byte s b z c on (Ok next) h text e =
@@ -78,13 +78,13 @@ by_byte s b z c on (Ok next) h text e =
     subst (Reads s (b ∷ z)) parts.2 (byte c h (on zero next parts.0 parts.1))
 
 by_join : (s : Scanner) (b : ℕ) (z : List ℕ) → 0 < continuation (b ∷ z) → ReadsOn z → (r : Result Scanner Fault) →
-    join s (continuation (b ∷ z)) ≡ r → (text : List Placed) → (r >>= (λ next. read (continuation (b ∷ z) - 1) next z)) ≡ Ok text →
+    join s (continuation (b ∷ z)) ≡ r → (text : List PlacedByte) → (r >>= (λ next. read (continuation (b ∷ z) - 1) next z)) ≡ Ok text →
     Reads s (b ∷ z) text
 by_join s b z p on (Err f) h text e = elim (not_ok f text e) [ ]
 by_join s b z p on (Ok next) h text e =
     joined p h (subst (λ l. Reads next l text) (drop_rest (continuation (b ∷ z)) b z p) (on (continuation (b ∷ z) - 1) next text e))
 
-by_first : (s : Scanner) (b : ℕ) (z : List ℕ) → ReadsOn z → (x : Bool) → (continuation (b ∷ z) == 0) ≡ x → (text : List Placed) →
+by_first : (s : Scanner) (b : ℕ) (z : List ℕ) → ReadsOn z → (x : Bool) → (continuation (b ∷ z) == 0) ≡ x → (text : List PlacedByte) →
     (if x then step s b >>= (λ next. with_front (added s b) (read zero next z))
     else join s (continuation (b ∷ z)) >>= (λ next. read (continuation (b ∷ z) - 1) next z)) ≡ Ok text →
     Reads s (b ∷ z) text

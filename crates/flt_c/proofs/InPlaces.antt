@@ -11,7 +11,7 @@ use Rattle.flt_c.specs.declared.laying.PlaceFlaw.{PlaceFlaw}
 use Rattle.flt_c.specs.declared.lock.LockLine.{LockLine}
 use Rattle.flt_c.specs.declared.lock.LockLine.TheVariants as l
 use Rattle.flt_c.specs.declared.place.Place.{Place}
-use Rattle.flt_c.specs.declared.place.Placed.{Placed}
+use Rattle.flt_c.specs.declared.place.PlacedByte.{PlacedByte}
 use Rattle.flt_c.specs.declared.text.Line.{Line}
 use Rattle.flt_c.specs.Files.{flawed, grown, with_files, without_expressions, ◌>>=◌}
 use Rattle.flt_c.specs.InPlace.{AreInC, EachByteIsInItsPlace, IsInC, crowded, gap, laid, laid_of, laid_unless}
@@ -58,22 +58,22 @@ column_from at (b ∷ z) (suc m) h = column_from (past at b) z m (past_column_up
 
 -- ---- a text as its bytes and the places of its lines
 
-abbrev bytes_of : List Placed → List ℕ
+abbrev bytes_of : List PlacedByte → List ℕ
 bytes_of ps = map (λ p. p.byte) ps
 
 abbrev line_at : ℕ → Place → Line
 line_at number place = record { file = number; place = place }
 
-abbrev lines_of : ℕ → Bool → List Placed → List Line
+abbrev lines_of : ℕ → Bool → List PlacedByte → List Line
 lines_of number fresh [] = []
 lines_of number true (p ∷ ps) = line_at number p.place ∷ lines_of number (p.byte == 10) ps
 lines_of number false (p ∷ ps) = lines_of number (p.byte == 10) ps
 
-put_bytes : (number : ℕ) (ps : List Placed) (text : Text) → (put_all number text ps).bytes ≡ text.bytes ++ bytes_of ps
+put_bytes : (number : ℕ) (ps : List PlacedByte) (text : Text) → (put_all number text ps).bytes ≡ text.bytes ++ bytes_of ps
 put_bytes number [] text = sym (append-nil text.bytes)
 put_bytes number (p ∷ ps) text = put_bytes number ps (put number text p) ∙ append_assoc text.bytes (p.byte ∷ []) (bytes_of ps)
 
-put_lines : (number : ℕ) (ps : List Placed) (text : Text) → (put_all number text ps).lines ≡ text.lines ++ lines_of number text.fresh ps
+put_lines : (number : ℕ) (ps : List PlacedByte) (text : Text) → (put_all number text ps).lines ≡ text.lines ++ lines_of number text.fresh ps
 put_lines number [] text = sym (append-nil text.lines)
 put_lines number (p ∷ ps) text = put_lines number ps (put number text p) ∙ by text.fresh text.lines
   where
@@ -127,7 +127,7 @@ abbrev Meets : Bool → ℕ → Place → Place → Type 0
 Meets true last at here = (here.line ≡ last + 1) × (here.column ≡ 1)
 Meets false last at here = (last ≡ at.line) × ((here.line ≡ at.line) × (here.column ≡ at.column))
 
-is_in : (file : List ℕ) (p : Placed) (here : Place) → IsAt file p.place p.byte → here.line ≡ p.place.line → here.column ≡ p.place.column →
+is_in : (file : List ℕ) (p : PlacedByte) (here : Place) → IsAt file p.place p.byte → here.line ≡ p.place.line → here.column ≡ p.place.column →
     IsInC file here p.byte
 is_in file p here i l c = (p.place.start, (ap (λ (q : Place). q.line) i.0 ∙ sym l, (ap (λ (q : Place). q.column) i.0 ∙ sym c, i.1)))
 
@@ -190,7 +190,7 @@ plain_on file here on b last z lines e i r = (
   subst (λ x. AreInC file (past_by here x) (laid last x z lines)) (sym e) r,
 )
 
-laid_on : (file : List ℕ) (ps : List Placed) (line : LockLine) (fresh : Bool) (at here : Place) (last : ℕ) → Chain file at fresh ps →
+laid_on : (file : List ℕ) (ps : List PlacedByte) (line : LockLine) (fresh : Bool) (at here : Place) (last : ℕ) → Chain file at fresh ps →
     crowded last (lines_of 0 fresh ps) ≡ None → IsOn file at last → Meets fresh last at here →
     AreInC file here (laid last fresh (plain_from line (bytes_of ps)) (lines_of 0 fresh ps))
 laid_on file [] line true at here last c w on m = tt
@@ -241,7 +241,7 @@ abbrev is_ok : Result (List ℕ) PlaceFlaw → Bool
 is_ok (Ok z) = true
 is_ok (Err flaw) = false
 
-text_laid : (file text : List ℕ) (ps : List Placed) → annotations file ≡ Ok ps →
+text_laid : (file text : List ℕ) (ps : List PlacedByte) → annotations file ≡ Ok ps →
     (o : Option Place) → crowded 0 (put_all 0 empty ps).lines ≡ o →
     laid_unless o (plain_text (put_all 0 empty ps)) ≡ Ok text → AreInC file first_place text
 text_laid file text ps a (Some at) w e = elim (differ (ap is_ok e)) [ ]
@@ -259,14 +259,14 @@ text_laid file text ps a None w e =
 abbrev laid_after : Result Text FileFlaw → Result (List ℕ) PlaceFlaw
 laid_after r = laid_of (without_expressions (r >>= (λ more. with_files 1 more [])))
 
-grown_laid : (file text : List ℕ) (ps : List Placed) → annotations file ≡ Ok ps → (x y : Bool) →
+grown_laid : (file text : List ℕ) (ps : List PlacedByte) → annotations file ≡ Ok ps → (x y : Bool) →
     laid_after (if x then flawed 0 Bare else (if y then flawed 0 Long else Ok (put_all 0 empty ps))) ≡ Ok text →
     AreInC file first_place text
 grown_laid file text ps a true y e = elim (differ (ap is_ok e)) [ ]
 grown_laid file text ps a false true e = elim (differ (ap is_ok e)) [ ]
 grown_laid file text ps a false false e = text_laid file text ps a (crowded 0 (put_all 0 empty ps).lines) refl e
 
-read_laid : (file text : List ℕ) (r : Result (List Placed) Fault) →
+read_laid : (file text : List ℕ) (r : Result (List PlacedByte) Fault) →
     annotations file ≡ r → laid_after (grown 0 empty (after 0 empty r)) ≡ Ok text →
     AreInC file first_place text
 read_laid file text (Err f) a e = elim (differ (ap is_ok e)) [ ]

@@ -5,7 +5,7 @@ use Rattle.std.proofs.lemmas.Bool.{eqb-true}
 use Rattle.std.specs.Prelude.{◌==◌, Result, Ok, Err}
 use Rattle.flt_c.specs.declared.fault.Fault.{Fault}
 use Rattle.flt_c.specs.declared.place.Place.{Place}
-use Rattle.flt_c.specs.declared.place.Placed.{Placed}
+use Rattle.flt_c.specs.declared.place.PlacedByte.{PlacedByte}
 use Rattle.flt_c.specs.declared.scan.Scanner.{Scanner}
 use Rattle.flt_c.specs.Places.{past, past_continuation}
 use Rattle.flt_c.specs.Scan.{continuation, join, step, added, with_front, read, annotations}
@@ -18,12 +18,12 @@ pub record IsRead (number : ℕ) (before : Text) (file : List ℕ) (text : Text)
   pub column : s.at.column ≤ s.at.start + 1
   pub depth : s.depth ≤ s.at.start
 
-put_more : (number : ℕ) (text : Text) (xs ys : List Placed) → put_all number text (xs ++ ys) ≡ put_all number (put_all number text xs) ys
+put_more : (number : ℕ) (text : Text) (xs ys : List PlacedByte) → put_all number text (xs ++ ys) ≡ put_all number (put_all number text xs) ys
 put_more number text [] ys = refl
 put_more number text (x ∷ xs) ys = put_more number (put number text x) xs ys
 
 -- what is read after some bytes is read after the text with these
-pub after_front : (number : ℕ) (text : Text) (front : List Placed) (r : Result (List Placed) Fault) →
+pub after_front : (number : ℕ) (text : Text) (front : List PlacedByte) (r : Result (List PlacedByte) Fault) →
     after number text (with_front front r) ≡ after number (put_all number text front) r
 after_front number text front (Ok ps) = ap (λ t. Ok t) (put_more number text front ps)
 after_front number text front (Err f) = refl

@@ -9,7 +9,7 @@ use Rattle.flt_c.specs.declared.fault.Fault.{Fault}
 use Rattle.flt_c.specs.declared.files.FileFlaw.{FileFlaw}
 use Rattle.flt_c.specs.declared.files.Flaw.TheVariants.{Faulty, Large, Bare, Long}
 use Rattle.flt_c.specs.declared.place.Place.{Place}
-use Rattle.flt_c.specs.declared.place.Placed.{Placed}
+use Rattle.flt_c.specs.declared.place.PlacedByte.{PlacedByte}
 use Rattle.flt_c.specs.declared.text.Line.{Line}
 use Rattle.flt_c.specs.Files.{flawed, gathered, grown, with_file, with_files, without_expressions, ◌>>=◌}
 use Rattle.flt_c.specs.Laws.{EachByteStands, IsAt, IsFurther, Stands, beside, beside_in, first_line}
@@ -63,7 +63,7 @@ lines_with : (fresh : Bool) (lines more : List Line) (line : Line) →
 lines_with true lines more line = sym (append_assoc lines (line ∷ []) more)
 lines_with false lines more line = refl
 
-put_front : (files : List (List ℕ)) (number : ℕ) (text : Text) (at : Place) (p : Placed) → IsFront files text (line_at number at) →
+put_front : (files : List (List ℕ)) (number : ℕ) (text : Text) (at : Place) (p : PlacedByte) → IsFront files text (line_at number at) →
     Follows at text.fresh p.place → IsAt (get_or files number []) p.place p.byte →
     IsFront files (put number text p) (line_at number (beside p.place))
 put_front files number text at p front f i bytes lines r =
@@ -79,7 +79,7 @@ record IsGrown (files : List (List ℕ)) (number : ℕ) (text : Text) : Type 0 w
   front : IsFront files text (line_at number at)
   fresh : text.fresh ≡ true
 
-put_all_front : (files : List (List ℕ)) (number : ℕ) (ps : List Placed) (text : Text) (at : Place) →
+put_all_front : (files : List (List ℕ)) (number : ℕ) (ps : List PlacedByte) (text : Text) (at : Place) →
     IsFront files text (line_at number at) →
     Chain (get_or files number []) at text.fresh ps → IsGrown files number (put_all number text ps)
 put_all_front files number [] text at front c = record { at = at; front = front; fresh = c }
@@ -111,7 +111,7 @@ grown_by false true f g more all e = elim (not_ok g all e) [ ]
 grown_by false false f g more all e = same_ok more all e
 
 read_front : (files : List (List ℕ)) (number : ℕ) (text : Text) (file : List ℕ) → get_or files number [] ≡ file → text.fresh ≡ true →
-    IsFront files text (line_at number first_place) → (r : Result (List Placed) Fault) → annotations file ≡ r → (more : Text) →
+    IsFront files text (line_at number first_place) → (r : Result (List PlacedByte) Fault) → annotations file ≡ r → (more : Text) →
     grown number text (after number text r) ≡ Ok more → IsGrown files number more
 read_front files number text file there fresh front (Err f) a more e = elim (not_ok (record { file = number; flaw = Faulty f }) more e) [ ]
 read_front files number text file there fresh front (Ok ps) a more e =

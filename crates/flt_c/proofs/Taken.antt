@@ -11,30 +11,30 @@ use Rattle.flt_c.specs.declared.fault.FaultKind.TheVariants as k
 use Rattle.flt_c.specs.declared.mode.Mode.{Mode}
 use Rattle.flt_c.specs.declared.mode.Mode.TheVariants as m
 use Rattle.flt_c.specs.declared.place.Place.{Place}
-use Rattle.flt_c.specs.declared.place.Placed.{Placed}
+use Rattle.flt_c.specs.declared.place.PlacedByte.{PlacedByte}
 use Rattle.flt_c.specs.declared.scan.Scanner.{Scanner}
 use Rattle.flt_c.specs.Fronts.{is_lenient}
 use Rattle.flt_c.specs.Laws.{Has, IsTaken, NoByteIsLeftOut, is_other, noted, noted_by}
 use Rattle.flt_c.specs.Modes.{is_blank, is_note, line_marked, block_marked, turn}
 use Rattle.flt_c.specs.Scan.{added, added_in, continuation, join, start, step}
 
-abbrev one : ℕ → Place → Placed
+abbrev one : ℕ → Place → PlacedByte
 one b at = record { byte = b; place = at }
 
 -- ---- in a longer text
 
-has_more : (xs ys : List Placed) (p : Placed) → Has ys p → Has (xs ++ ys) p
+has_more : (xs ys : List PlacedByte) (p : PlacedByte) → Has ys p → Has (xs ++ ys) p
 has_more [] ys p h = h
 has_more (x ∷ xs) ys p h = inr (has_more xs ys p h)
 
-taken_more : (file : List ℕ) (xs ys : List Placed) (p : Placed) → IsTaken file ys p → IsTaken file (xs ++ ys) p
+taken_more : (file : List ℕ) (xs ys : List PlacedByte) (p : PlacedByte) → IsTaken file ys p → IsTaken file (xs ++ ys) p
 taken_more file xs ys p h = elim h [ inl h ↦ inl (has_more xs ys p h) | inr h ↦ inr h ]
 
-all_more : (file : List ℕ) (xs ys ps : List Placed) → AllByRecursion (IsTaken file ys) ps → AllByRecursion (IsTaken file (xs ++ ys)) ps
+all_more : (file : List ℕ) (xs ys ps : List PlacedByte) → AllByRecursion (IsTaken file ys) ps → AllByRecursion (IsTaken file (xs ++ ys)) ps
 all_more file xs ys [] h = tt
 all_more file xs ys (p ∷ ps) h = (taken_more file xs ys p h.0, all_more file xs ys ps h.1)
 
-both : (file : List ℕ) (text ps qs : List Placed) → AllByRecursion (IsTaken file text) ps → AllByRecursion (IsTaken file text) qs →
+both : (file : List ℕ) (text ps qs : List PlacedByte) → AllByRecursion (IsTaken file text) ps → AllByRecursion (IsTaken file text) qs →
     AllByRecursion (IsTaken file text) (ps ++ qs)
 both file text [] qs h g = g
 both file text (p ∷ ps) qs h g = (h.0, both file text ps qs h.1 g)
@@ -70,14 +70,14 @@ noted_over s next (b ∷ z) h e =
 -- ---- one byte more
 
 -- what is read on is taken, and a `*` that waits
-record IsTakenFrom (file : List ℕ) (s : Scanner) (z : List ℕ) (text : List Placed) : Type 0 where
+record IsTakenFrom (file : List ℕ) (s : Scanner) (z : List ℕ) (text : List PlacedByte) : Type 0 where
   bytes : AllByRecursion (IsTaken file text) (noted zero s z)
   star : is_star s.mode ≡ true → IsTaken file text (one 42 s.last)
 
 not_marker : (new : Mode) → Err k.Marker ≡ Ok new → ⊥
 not_marker new e = cc
 
-module _ (file : List ℕ) (s : Scanner) (b : ℕ) (next : Scanner) (ps : List Placed) (last : next.last ≡ s.at)
+module _ (file : List ℕ) (s : Scanner) (b : ℕ) (next : Scanner) (ps : List PlacedByte) (last : next.last ≡ s.at)
     (there : slice_index file s.at.start ≡ b)
     (waits : is_star next.mode ≡ true → IsTaken file ps (one 42 next.last)) where
   star_waits : b ≡ 42 → is_star next.mode ≡ true → IsTaken file ps (one b s.at)
@@ -141,7 +141,7 @@ module _ (file : List ℕ) (s : Scanner) (b : ℕ) (next : Scanner) (ps : List P
 
 -- ---- all bytes
 
-taken : (file : List ℕ) {s : Scanner} {z : List ℕ} {text : List Placed} → Reads s z text → IsIn file s z → IsTakenFrom file s z text
+taken : (file : List ℕ) {s : Scanner} {z : List ℕ} {text : List PlacedByte} → Reads s z text → IsIn file s z → IsTakenFrom file s z text
 taken file (ended {s = s} h) i =
     record { bytes = tt; star = λ w. elim (differ (sym (star_is_open s (is_lenient s.front s.depth) s.mode h) ∙ w)) [ ] }
 taken file (byte {s = s} {next = next} {b = b} {z = z} {ps = ps} c h r) i =

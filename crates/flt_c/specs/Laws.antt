@@ -6,7 +6,7 @@ use Rattle.flt_c.specs.declared.fault.Fault.{Fault}
 use Rattle.flt_c.specs.declared.mode.Mode.{Mode}
 use Rattle.flt_c.specs.declared.mode.Mode.TheVariants as m
 use Rattle.flt_c.specs.declared.place.Place.{Place}
-use Rattle.flt_c.specs.declared.place.Placed.{Placed}
+use Rattle.flt_c.specs.declared.place.PlacedByte.{PlacedByte}
 use Rattle.flt_c.specs.declared.scan.Scanner.{Scanner}
 use Rattle.flt_c.specs.declared.text.Line.{Line}
 use Rattle.flt_c.specs.Files.{extracted}
@@ -62,7 +62,7 @@ EachByteStands = (files : List (List ℕ)) (text : Text) → extracted files ≡
 -- ---- no byte of an annotation is left out
 
 -- what was read leads on, or nothing does
-abbrev pub on : Result Scanner Fault → (Scanner → List Placed) → List Placed
+abbrev pub on : Result Scanner Fault → (Scanner → List PlacedByte) → List PlacedByte
 on (Ok next) noted = noted next
 on (Err f) noted = []
 
@@ -73,11 +73,11 @@ is_other m.BlockMarked b = b == 45
 is_other _ b = false
 
 -- a byte that is read of an annotation, after its marker
-abbrev pub noted_by : Scanner → ℕ → List Placed
+abbrev pub noted_by : Scanner → ℕ → List PlacedByte
 noted_by s b = if is_note s.mode && not (is_other s.mode b) then record { byte = b; place = s.at } ∷ [] else []
 
 -- the bytes that are read of annotations, of a continuation `left` bytes are left over
-abbrev pub noted : ℕ → Scanner → List ℕ → List Placed
+abbrev pub noted : ℕ → Scanner → List ℕ → List PlacedByte
 noted left s [] = []
 noted (suc left) s (b ∷ z) = noted left s z
 noted zero s (b ∷ z) =
@@ -85,21 +85,21 @@ noted zero s (b ∷ z) =
     if n == 0 then noted_by s b ++ on (step s b) (λ next. noted zero next z) else on (join s n) (λ next. noted (n - 1) next z)
 
 -- a byte of the `*/` that ends an annotation
-abbrev pub IsClosing : List ℕ → Placed → Type 0
+abbrev pub IsClosing : List ℕ → PlacedByte → Type 0
 IsClosing file p =
     ((p.byte ≡ 42) × (slice_index file (p.place.start + 1) ≡ 47))
     ⊎ ((p.byte ≡ 47) × ((before : ℕ) × ((before + 1 ≡ p.place.start) × (slice_index file before ≡ 42))))
 
 -- a byte is in a text with its place
-abbrev pub Has : List Placed → Placed → Type 0
+abbrev pub Has : List PlacedByte → PlacedByte → Type 0
 Has [] p = ⊥
 Has (first ∷ rest) p = (first ≡ p) ⊎ Has rest p
 
 -- or of a `*/`
-abbrev pub IsTaken : List ℕ → List Placed → Placed → Type 0
+abbrev pub IsTaken : List ℕ → List PlacedByte → PlacedByte → Type 0
 IsTaken file text p = Has text p ⊎ IsClosing file p
 
 -- each byte that is read of an annotation is in the text, but a `*/`
 abbrev pub NoByteIsLeftOut : Type 0
-NoByteIsLeftOut = (file : List ℕ) (text : List Placed) →
+NoByteIsLeftOut = (file : List ℕ) (text : List PlacedByte) →
     annotations file ≡ Ok text → AllByRecursion (IsTaken file text) (noted zero start file)

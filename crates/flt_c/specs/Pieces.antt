@@ -4,7 +4,7 @@ use Rattle.std.specs.Prelude.{◌≡◌, ℕ, zero, suc, ◌-◌, Bool, true, fa
 use Rattle.std.specs.Prelude.{◌==◌, nat_lt, List, [], ◌∷◌, ◌++◌, codes, map, Option, Some, None, Ok}
 use Rattle.flt_c.specs.declared.front.Front.{Front}
 use Rattle.flt_c.specs.declared.front.Front.TheVariants.{Nothing}
-use Rattle.flt_c.specs.declared.place.Placed.{Placed}
+use Rattle.flt_c.specs.declared.place.PlacedByte.{PlacedByte}
 use Rattle.flt_c.specs.Fronts.{depth_after, front_after, is_lenient}
 use Rattle.flt_c.specs.Scan.{annotations, continuation}
 
@@ -109,5 +109,5 @@ pub data ArePieces : Front → ℕ → List ℕ → List ℕ → Type 0 where
 
 -- a file that is read is a sequence of pieces, and its text is that of their comments
 abbrev pub FilesArePieces : Type 0
-FilesArePieces = (file : List ℕ) (text : List Placed) → annotations file ≡ Ok text →
+FilesArePieces = (file : List ℕ) (text : List PlacedByte) → annotations file ≡ Ok text →
     ArePieces Nothing 0 (spliced zero file) (map (λ p. p.byte) text)

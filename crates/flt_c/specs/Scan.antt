@@ -8,9 +8,9 @@ use Rattle.flt_c.specs.declared.front.Front.TheVariants.{Nothing}
 use Rattle.flt_c.specs.declared.mode.Mode.{Mode}
 use Rattle.flt_c.specs.declared.mode.Mode.TheVariants as m
 use Rattle.flt_c.specs.declared.place.Place.{Place}
-use Rattle.flt_c.specs.declared.place.Placed.{Placed}
-use Rattle.flt_c.specs.declared.scan.Opened.{Opened}
-use Rattle.flt_c.specs.declared.scan.Opened.TheVariants as o
+use Rattle.flt_c.specs.declared.place.PlacedByte.{PlacedByte}
+use Rattle.flt_c.specs.declared.scan.Opening.{Opening}
+use Rattle.flt_c.specs.declared.scan.Opening.TheVariants as o
 use Rattle.flt_c.specs.declared.scan.Scanner.{Scanner}
 use Rattle.flt_c.specs.Fronts.{next_front, next_depth, is_lenient, begins_directive}
 use Rattle.flt_c.specs.Modes.{is_blank, is_note, turn, unended}
@@ -19,7 +19,7 @@ use Rattle.flt_c.specs.Places.{past, past_continuation, first_place}
 -- ---- where reading is
 
 -- whether something that has an end of its own begins with this byte, or began with the one before
-abbrev pub opened_by : Mode → Mode → Opened
+abbrev pub opened_by : Mode → Mode → Opening
 opened_by old (m.LineMark wanted) = if wanted == 64 then o.Before else o.No
 opened_by old (m.BlockMark wanted) = if wanted == 64 then o.Before else o.No
 opened_by m.String m.String = o.No
@@ -31,7 +31,7 @@ opened_by old m.Character = o.Here
 opened_by old _ = o.No
 
 -- where it began
-abbrev pub opened_at : Scanner → Opened → Place
+abbrev pub opened_at : Scanner → Opening → Place
 opened_at s o.No = s.opened
 opened_at s o.Here = s.at
 opened_at s o.Before = s.last
@@ -126,11 +126,11 @@ start = record {
 -- ---- the text
 
 -- one byte with its place
-abbrev pub placed : ℕ → Place → List Placed
+abbrev pub placed : ℕ → Place → List PlacedByte
 placed b at = record { byte = b; place = at } ∷ []
 
 -- what a byte adds: itself, after the marker; the end of a block ends a line, so a `*` waits for the byte after it
-abbrev pub added_in : Mode → Scanner → ℕ → List Placed
+abbrev pub added_in : Mode → Scanner → ℕ → List PlacedByte
 added_in m.LineText s b = placed b s.at
 added_in m.LineMarked s b = if is_blank b then placed b s.at else []
 added_in m.BlockMarked s b = if is_blank b then placed b s.at else []
@@ -140,11 +140,11 @@ added_in m.BlockTextStar s b =
 added_in _ s b = []
 
 -- the same, by what is being read
-abbrev pub added : Scanner → ℕ → List Placed
+abbrev pub added : Scanner → ℕ → List PlacedByte
 added s b = added_in s.mode s b
 
 -- an annotation that the file ends in ends there
-abbrev pub last_line : Scanner → List Placed
+abbrev pub last_line : Scanner → List PlacedByte
 last_line s = if is_note s.mode then placed 10 s.at else []
 
 -- ---- a file
@@ -159,17 +159,17 @@ abbrev pub open_at_end : Scanner → Option FaultKind
 open_at_end s = or_group s (unended (is_lenient s.front s.depth) s.mode)
 
 -- bytes before what is read on
-abbrev pub with_front : List Placed → Result (List Placed) Fault → Result (List Placed) Fault
+abbrev pub with_front : List PlacedByte → Result (List PlacedByte) Fault → Result (List PlacedByte) Fault
 with_front front (Ok ps) = Ok (front ++ ps)
 with_front front (Err f) = Err f
 
 -- the end, by what isn't closed there
-abbrev pub end_by : Scanner → Option FaultKind → Result (List Placed) Fault
+abbrev pub end_by : Scanner → Option FaultKind → Result (List PlacedByte) Fault
 end_by s None = Ok (last_line s)
 end_by s (Some kind) = Err (blamed s kind)
 
 -- what the end of a file adds
-abbrev pub end : Scanner → Result (List Placed) Fault
+abbrev pub end : Scanner → Result (List PlacedByte) Fault
 end s = end_by s (open_at_end s)
 
 infixl 10 ◌>>=◌
@@ -179,7 +179,7 @@ abbrev pub ◌>>=◌ : {A B : Type 0} → Result A Fault → (A → Result B Fau
 (Err e) >>= f = Err e
 
 -- what is read of a text: of a continuation `left` bytes are left over
-abbrev pub read : ℕ → Scanner → List ℕ → Result (List Placed) Fault
+abbrev pub read : ℕ → Scanner → List ℕ → Result (List PlacedByte) Fault
 read left s [] = end s
 read (suc left) s (b ∷ z) = read left s z
 read zero s (b ∷ z) =
@@ -187,5 +187,5 @@ read zero s (b ∷ z) =
     if n == 0 then step s b >>= (λ next. with_front (added s b) (read zero next z)) else join s n >>= (λ next. read (n - 1) next z)
 
 -- the bytes of a file's annotations with their places, or the first fault that reading meets
-abbrev pub annotations : List ℕ → Result (List Placed) Fault
+abbrev pub annotations : List ℕ → Result (List PlacedByte) Fault
 annotations file = read zero start file

@@ -1,7 +1,7 @@
 -- The text that annotations make, and where each line of it begins in C. This project's own rule.
 use Rattle.std.specs.Prelude.{ℕ, Bool, true, if◌then◌else◌, ◌==◌, List, [], ◌∷◌, ◌++◌, Result, Ok, Err}
 use Rattle.flt_c.specs.declared.fault.Fault.{Fault}
-use Rattle.flt_c.specs.declared.place.Placed.{Placed}
+use Rattle.flt_c.specs.declared.place.PlacedByte.{PlacedByte}
 use Rattle.flt_c.specs.declared.text.Annotations.{Annotations}
 use Rattle.flt_c.specs.declared.text.Line.{Line}
 use Rattle.flt_c.specs.Locks.{plain}
@@ -17,7 +17,7 @@ abbrev pub empty : Text
 empty = record { bytes = []; lines = []; fresh = true }
 
 -- one byte more, from a file: a line that begins with it has its place
-abbrev pub put : ℕ → Text → Placed → Text
+abbrev pub put : ℕ → Text → PlacedByte → Text
 put file text p = record {
   bytes = text.bytes ++ (p.byte ∷ []);
   lines = if text.fresh then text.lines ++ (record { file = file; place = p.place } ∷ []) else text.lines;
@@ -25,12 +25,12 @@ put file text p = record {
 }
 
 -- some bytes more
-abbrev pub put_all : ℕ → Text → List Placed → Text
+abbrev pub put_all : ℕ → Text → List PlacedByte → Text
 put_all file text [] = text
 put_all file text (p ∷ ps) = put_all file (put file text p) ps
 
 -- what was read of a file after a text
-abbrev pub after : ℕ → Text → Result (List Placed) Fault → Result Text Fault
+abbrev pub after : ℕ → Text → Result (List PlacedByte) Fault → Result Text Fault
 after file text (Ok ps) = Ok (put_all file text ps)
 after file text (Err f) = Err f
 

@@ -14,7 +14,7 @@ pub struct Place {
 
 /// A byte of the text, and the place in the file that it comes from.
 #[derive(Clone, Copy)]
-pub struct Placed {
+pub struct PlacedByte {
     pub byte: u8,
     pub place: Place,
 }

@@ -36,27 +36,27 @@ pub struct Scanner {
 
 /// Whether something begins at a byte, or began at the byte before.
 #[derive(Clone, Copy)]
-pub enum Opened {
+pub enum Opening {
     No,
     Here,
     Before,
 }
 
 /// Whether a mode begins something that has an end of its own.
-fn opened_by(old: Mode, new: Mode) -> Opened
+fn opened_by(old: Mode, new: Mode) -> Opening
     ensures { result ≡ spec.opened_by old new }
 {
     match new {
-        Mode::LineMark(b'@') | Mode::BlockMark(b'@') => Opened::Before,
+        Mode::LineMark(b'@') | Mode::BlockMark(b'@') => Opening::Before,
         Mode::String => match old {
-            Mode::String | Mode::StringEscape => Opened::No,
-            _ => Opened::Here,
+            Mode::String | Mode::StringEscape => Opening::No,
+            _ => Opening::Here,
         },
         Mode::Character => match old {
-            Mode::Character | Mode::CharacterEscape => Opened::No,
-            _ => Opened::Here,
+            Mode::Character | Mode::CharacterEscape => Opening::No,
+            _ => Opening::Here,
         },
-        _ => Opened::No,
+        _ => Opening::No,
     }
 }
 
@@ -65,9 +65,9 @@ fn note_opening(s: &mut Scanner, new: Mode)
     ensures { s.new ≡ runs.with_opening s.old new }
 {
     match opened_by(s.mode, new) {
-        Opened::No => {}
-        Opened::Here => s.opened = s.at,
-        Opened::Before => s.opened = s.last,
+        Opening::No => {}
+        Opening::Here => s.opened = s.at,
+        Opening::Before => s.opened = s.last,
     }
 }
 

@@ -16,7 +16,7 @@ use Rattle.flt_c_drift.specs.Runs.{is_calm, is_code_word, is_idle_in, is_in, is_
 use Rattle.flt_c_drift.specs.Runs.{run_count, run_in, run_taken, with_word, word_run}
 use Rattle.flt_c_drift.specs.declared.reader.Code.{Code}
 use Rattle.flt_c_drift.specs.declared.reader.Line.{Line}
-use Rattle.flt_c_drift.specs.declared.reader.Spoken.{Spoken}
+use Rattle.flt_c_drift.specs.declared.reader.WordState.{WordState}
 use Rattle.flt_c_drift.specs.declared.run.Run.{Run}
 use Rattle.flt_c_drift.specs.declared.run.Run.TheVariants as r
 
@@ -185,7 +185,7 @@ record IsWord (p : Part) (s : State) : Type 0 where
   word : is_empty s.word ≡ false
   kind : is_word_of p s ≡ true
 
-spoken_same : (at : ℕ) (p : Part) (brace : Bool) (spoken : Spoken) → spoken.part ≡ p → spoken_with at p false brace spoken ≡ spoken
+spoken_same : (at : ℕ) (p : Part) (brace : Bool) (spoken : WordState) → spoken.part ≡ p → spoken_with at p false brace spoken ≡ spoken
 spoken_same at p brace spoken e =
     let all : spoken_with at p false brace spoken ≡ record {
       part = spoken.part;
@@ -196,7 +196,7 @@ spoken_same at p brace spoken e =
     } = rw e refl in
     all
 
-abbrev with_spoken : List ℕ → Spoken → State → State
+abbrev with_spoken : List ℕ → WordState → State → State
 with_spoken word spoken s = record {
   word = word;
   spoken = spoken;

@@ -11,7 +11,7 @@ use Rattle.flt_c_drift.specs.Parts.{is_blank, is_code, is_note}
 use Rattle.flt_c_drift.specs.Tokens.{Written, is_empty, length_at, none, parted, tokens_of, written, written_in}
 use Rattle.flt_c_drift.specs.declared.lock.Argument.{Argument}
 use Rattle.flt_c_drift.specs.declared.lock.Argument.TheVariants as argument
-use Rattle.flt_c_drift.specs.declared.lock.Known.{Known}
+use Rattle.flt_c_drift.specs.declared.lock.ExpressionLock.{ExpressionLock}
 use Rattle.flt_c_drift.specs.declared.lock.Lock.{Lock}
 use Rattle.flt_c_drift.specs.declared.lock.Locks.{Locks}
 use Rattle.flt_c_drift.specs.declared.mark.Mark.{Mark}
@@ -21,7 +21,7 @@ use Rattle.flt_c_drift.specs.declared.mark.MarkKind.TheVariants as k
 pub record Declared : Type 0 where
   pub name : List ℕ
   pub tokens : List ℕ
-  pub known : Known
+  pub known : ExpressionLock
 
 abbrev pub declared_of : Lock → Declared
 declared_of lock = record { name = lock.name.items; tokens = lock.tokens.items; known = lock.known }
@@ -59,7 +59,7 @@ place_of [] tokens = None
 place_of (lock ∷ locks) tokens = if bytes_eq lock.tokens tokens then Some lock.known.lock else place_of locks tokens
 
 -- what is known of the first lock of a name
-abbrev pub known_of : List Declared → List ℕ → Option Known
+abbrev pub known_of : List Declared → List ℕ → Option ExpressionLock
 known_of [] name = None
 known_of (lock ∷ locks) name = if bytes_eq lock.name name then Some lock.known else known_of locks name
 
@@ -78,7 +78,7 @@ or_next None next = next
 or_next (Some place) next = place
 
 -- the lock that a line declares, whose expression ends before a place
-abbrev pub new_lock : ℕ → LockState → Known
+abbrev pub new_lock : ℕ → LockState → ExpressionLock
 new_lock at s = record {
   lock = or_next (place_of s.declared (tokens_of s.expression)) (length s.declared);
   expression = record { start = s.expression.start; length = length_at at s.expression };
@@ -279,7 +279,7 @@ is_still p b s = is_no_argument s.argument && is_same_line p b s.line
 
 -- ---- locks that annotations take and release
 
-abbrev pub guard_by : Option Known → ℕ → List ℕ → ℕ → Mark
+abbrev pub guard_by : Option ExpressionLock → ℕ → List ℕ → ℕ → Mark
 guard_by (Some it) call name at =
     record { kind = k.Guards (record { call = call; lock = Some it.lock }); start = it.expression.start; length = it.expression.length }
 guard_by None call name at = record { kind = k.Guards (record { call = call; lock = None }); start = at; length = length name }

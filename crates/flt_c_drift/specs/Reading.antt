@@ -16,7 +16,7 @@ use Rattle.flt_c_drift.specs.declared.mark.MarkKind.TheVariants as k
 use Rattle.flt_c_drift.specs.declared.reader.Code.{Code}
 use Rattle.flt_c_drift.specs.declared.reader.Line.{Line}
 use Rattle.flt_c_drift.specs.declared.reader.Reader.{Reader}
-use Rattle.flt_c_drift.specs.declared.reader.Spoken.{Spoken}
+use Rattle.flt_c_drift.specs.declared.reader.WordState.{WordState}
 use Rattle.flt_c_drift.specs.declared.reader.Stage.{Stage}
 use Rattle.flt_c_drift.specs.declared.reader.Stage.TheVariants as stage
 use Rattle.flt_c_drift.specs.declared.word.Before.{Before}
@@ -28,7 +28,7 @@ use Rattle.flt_c_drift.specs.declared.word.Entry.TheVariants as entry
 -- it is read, where it began, and its function; the functions that make calls, the locks, and the marks so far
 pub record State : Type 0 where
   pub word : List ℕ
-  pub spoken : Spoken
+  pub spoken : WordState
   pub line : Line
   pub code : Code
   pub stage : Stage
@@ -60,11 +60,11 @@ abbrev pub seen : Line → Letter → Part
 seen line letter = if line.remark && is_note letter.part then part.Other else letter.part
 
 -- what the word is after which a word stands; both are of one part
-abbrev pub before_word : Spoken → Before
+abbrev pub before_word : WordState → Before
 before_word spoken = if same_part spoken.before_part spoken.part then spoken.before else before.Nothing
 
 -- what is known after a word
-abbrev pub spoken_after : Spoken → List ℕ → Spoken
+abbrev pub spoken_after : WordState → List ℕ → WordState
 spoken_after spoken word =
     record { part = spoken.part; begin = spoken.begin; opens = spoken.opens; before = before_of word; before_part = spoken.part }
 
@@ -85,7 +85,7 @@ named_entry major (Some operation) at = entry.Name (Some operation)
 named_entry major None at = if major then entry.Name None else at
 
 -- an entry of a table begins with a `{` and the name of a major function
-abbrev pub code_after : Spoken → List ℕ → Code → Code
+abbrev pub code_after : WordState → List ℕ → Code → Code
 code_after spoken word code =
     record {
       brace = code.brace;
@@ -283,7 +283,7 @@ left p s = if not (is_aside p) && is_under_way s.stage then refused s.opened 5 s
 -- ---- letters
 
 -- where a word begins that a letter belongs to
-abbrev pub spoken_with : ℕ → Part → Bool → Bool → Spoken → Spoken
+abbrev pub spoken_with : ℕ → Part → Bool → Bool → WordState → WordState
 spoken_with at p begins brace spoken = record {
   part = p;
   begin = if begins then at else spoken.begin;

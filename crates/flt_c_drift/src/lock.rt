@@ -15,7 +15,7 @@ const MAX_LOCKS: usize = 8;
 
 /// A lock that is declared with an expression, without its name.
 #[derive(Clone, Copy)]
-pub(crate) struct Known {
+pub(crate) struct ExpressionLock {
     /// The place of the first lock that is declared with the same expression among the declared ones, from 0.
     pub lock: usize,
     /// The bytes of the expression.
@@ -27,7 +27,7 @@ pub(crate) struct Known {
 pub(crate) struct Lock {
     name: Vec<u8>,
     tokens: Vec<u8>,
-    known: Known,
+    known: ExpressionLock,
 }
 
 /// The first argument of a lock's call in code. The number of the call is its place among the calls of locks, from 0.
@@ -236,7 +236,7 @@ impl Locks {
     }
 
     /// The lock of a name, if it is declared with an expression.
-    fn known(&self, name: &[u8]) -> Option<Known>
+    fn known(&self, name: &[u8]) -> Option<ExpressionLock>
         ensures { result ≡ spec.known_of (spec.locks_in self.now).declared name.now }
     {
         for lock in self.declared.as_slice() {
@@ -250,14 +250,14 @@ impl Locks {
     // ---- annotations
 
     /// The lock that a line declares, which ends at a place.
-    fn new_lock(&self, at: usize) -> Known
+    fn new_lock(&self, at: usize) -> ExpressionLock
         ensures { result ≡ spec.new_lock at (spec.locks_in self.now) }
     {
         let lock = match self.place_of(self.expression.tokens()) {
             Some(place) => place,
             None => self.declared.len(),
         };
-        Known {
+        ExpressionLock {
             lock,
             expression: Span {
                 start: self.expression.start(),

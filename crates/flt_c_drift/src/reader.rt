@@ -16,7 +16,7 @@ use std::alloc::{AllocError, Global};
 
 /// The state of a word that is being read.
 #[derive(Clone, Copy)]
-pub(crate) struct Spoken {
+pub(crate) struct WordState {
     /// The part that it belongs to.
     part: Part,
     /// The number of bytes of the file before it.
@@ -71,7 +71,7 @@ pub(crate) struct Reader {
     alloc: Global,
     /// The word that is being read.
     word: Vec<u8>,
-    spoken: Spoken,
+    spoken: WordState,
     line: Line,
     code: Code,
     stage: Stage,
@@ -96,7 +96,7 @@ fn seen(line: Line, letter: Letter) -> Part
 }
 
 /// The role of the word before, if it belongs to the same part.
-fn before_word(spoken: Spoken) -> Before
+fn before_word(spoken: WordState) -> Before
     ensures { result ≡ spec.before_word spoken }
 {
     if same_part(spoken.before_part, spoken.part) {
@@ -117,10 +117,10 @@ fn lock_call_before(before: Before) -> Option<usize>
 }
 
 /// The state of reading a word, after a word.
-fn spoken_after(spoken: Spoken, word: &[u8]) -> Spoken
+fn spoken_after(spoken: WordState, word: &[u8]) -> WordState
     ensures { result ≡ spec.spoken_after spoken word.now }
 {
-    Spoken {
+    WordState {
         before: before_of(word),
         before_part: spoken.part,
         ..spoken
@@ -148,7 +148,7 @@ fn named_entry(major: bool, operation: Option<usize>, entry: Entry) -> Entry
 }
 
 /// The state of the code after a word.
-fn code_after(spoken: Spoken, word: &[u8], code: Code) -> Code
+fn code_after(spoken: WordState, word: &[u8], code: Code) -> Code
     ensures { result ≡ spec.code_after spoken word.now code }
 {
     let entry = if is_code(spoken.part) && spoken.opens {
@@ -254,7 +254,7 @@ impl Reader {
         Reader {
             alloc,
             word: Vec::new(alloc),
-            spoken: Spoken {
+            spoken: WordState {
                 part: Part::Other,
                 begin: 0,
                 opens: false,

@@ -4,9 +4,9 @@ use crate::View;
 use atomic_table::{Play, Split, TableRule};
 
 /// The words and the views are those that the steps so far leave, and each step is one of the three kinds.
-pub(crate) struct Recorded;
+pub(crate) struct CancelRule;
 
-impl TableRule<u8, View, ()> for Recorded {
+impl TableRule<u8, View, ()> for CancelRule {
     ghost use Rattle.flt_cancel.specs.Rule.{Kept};
     ghost use Rattle.flt_cancel.specs.Steps.{newcomer};
 

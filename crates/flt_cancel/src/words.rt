@@ -6,12 +6,12 @@ ghost use Rattle.flt_cancel.specs.declared.step.Step.TheVariants.{Ask, Collect};
 ghost use Rattle.flt_rules.specs.Limits.{max_operations};
 
 use crate::View;
-use crate::rule::{Asks, Collects, Recorded};
+use crate::rule::{Asks, CancelRule, Collects};
 use atomic_table::Table;
 use std::alloc::Global;
 
 /// A table of words under the rule, with no slot.
-pub(crate) type RuledTable = Table<u8, View, (), Recorded, Global>;
+pub(crate) type RuledTable = Table<u8, View, (), CancelRule, Global>;
 
 /// A right to ask and to collect in a table. It has no bytes.
 pub(crate) type Token = atomic_table::Seat<u8, View>;

@@ -13,7 +13,7 @@ use Rattle.flt_explain_forms.specs.declared.unread.UnreadFile.{UnreadFile}
 use Rattle.flt_explain_forms.specs.Lines.{AreLines}
 use Rattle.flt_explain_runs.specs.Reported.{AreWhole, IsAllButLast}
 use Rattle.flt_explain_runs.specs.Whole.{Look}
-use Rattle.flt_explain_runs.specs.declared.explaining.Told.{Told}
+use Rattle.flt_explain_runs.specs.declared.explaining.ExplainOutput.{ExplainOutput}
 use Rattle.flt_explain_warning_details.specs.declared.options.WarningOptions.{WarningOptions}
 use Rattle.flt_words.specs.declared.request.Form.{Form}
 use Rattle.flt_words.specs.declared.request.Form.TheVariants.{Html, Human, Lines, LinesWithRuns, Sarif, SarifWithRuns, Short}
@@ -46,7 +46,7 @@ memory_only failures old new OutOfMemory failed held = refl
 memory_only failures old new Write failed held = absurd (failed refl (ap failures held))
 
 -- where memory runs out it is so, since it is so anyway
-pub cut_always : {X : Type 0} (result : Result Told CommandFault) → X → IfErr result (λ e. e ≡ OutOfMemory → X)
+pub cut_always : {X : Type 0} (result : Result ExplainOutput CommandFault) → X → IfErr result (λ e. e ≡ OutOfMemory → X)
 cut_always (Ok t) is = tt
 cut_always (Err e) is = λ short. is
 
@@ -56,7 +56,7 @@ pub nothing_after : (drifts : Text) (form : Form) (options : WarningOptions) (st
 nothing_after drifts form options states sources old = explain.nothing_out (Appends-nil old)
 
 -- the drifts went out, and some of what is told of the texts
-pub early_sent : (old between new : Option Text) (drifts : Text) (own e : Told) → Appends old between drifts →
+pub early_sent : (old between new : Option Text) (drifts : Text) (own e : ExplainOutput) → Appends old between drifts →
     Appends between new (take own.sent own.explained.output.items) → e.explained.output.items ≡ drifts ++ own.explained.output.items →
     e.sent ≡ length drifts + min own.sent (length own.explained.output.items) → Appends old new (take e.sent e.explained.output.items)
 early_sent old between new drifts own e first rest output sent =

@@ -28,7 +28,7 @@ use Rattle.flt_explain_runs.specs.Reported.{AreAllReports, AreParts, IsNoticeRep
 use Rattle.flt_explain_runs.specs.Reported as reports
 use Rattle.flt_explain_runs.specs.Whole.{Look}
 use Rattle.flt_explain_details.specs.Reports.{IsJudged, IsKnown, texts_of}
-use Rattle.flt_explain_runs.specs.declared.explaining.Told.{Told}
+use Rattle.flt_explain_runs.specs.declared.explaining.ExplainOutput.{ExplainOutput}
 use Rattle.flt_explain_details.specs.declared.sources.Source.{Source}
 use Rattle.flt_explain_warning_details.specs.Options.{warned_status}
 use Rattle.flt_explain_warning_details.specs.declared.detail.WarningDetail.{WarningDetail}
@@ -38,8 +38,8 @@ use Rattle.flt_words.specs.declared.request.Part.{Part}
 use Rattle.flt_words.specs.declared.request.Form.{Form}
 use Rattle.flt_words.specs.declared.request.Form.TheVariants.{Html, Human, Lines, LinesWithRuns, Sarif, SarifWithRuns, Short}
 use Rattle.json.specs.Token.{Token}
-use Rattle.flt_explain_details.specs.declared.judged.Judged.{Judged as Found}
-use Rattle.flt_explain_details.specs.declared.judged.Judged.TheVariants.{Unread, Known}
+use Rattle.flt_explain_details.specs.declared.judged.TextJudgement.{Judged as Found}
+use Rattle.flt_explain_details.specs.declared.judged.TextJudgement.TheVariants.{Unread, Known}
 use Rattle.flt_tree.specs.declared.tree.Tree.{Tree}
 use Rattle.flt_model.specs.Program.{by_altitude}
 use Rattle.flt_model.specs.Runs.{breaks}
@@ -280,7 +280,7 @@ module _ (law : Law) (runs : LawOfRuns) (nowhere : SpelledFailsNowhere) where
       let zeros = both_zero is.own _ (sym is.greatest ∙ good) in in_results options _ _ 0 sources is.results is.own is.found zeros.0
 
   told_well : (form : Form) (options : WarningOptions) (drifted : List DriftedFile) (sources : List Source) (missed : List UnreadFile)
-      (t : Told) → IsTold form options drifted sources missed t → t.explained.status ≡ 0 → EachBreaksNothing (texts_of sources)
+      (t : ExplainOutput) → IsTold form options drifted sources missed t → t.explained.status ≡ 0 → EachBreaksNothing (texts_of sources)
   told_well Human options drifted sources missed t told good =
       all_reported options told.filters sources t.explained.output.items t.explained.status told.are good
   told_well Short options drifted sources missed t told good =

@@ -10,12 +10,12 @@ use Rattle.flt_explain_forms.specs.declared.unread.UnreadFile.{UnreadFile}
 use Rattle.flt_joined.specs.Made.{AreJoined}
 use Rattle.flt_joined.specs.Texts.{AreNamed, Given, Refused, given_of, givens, refused_at}
 use Rattle.flt_joined.specs.declared.given.GivenFile.{GivenFile}
-use Rattle.flt_joined.specs.declared.joined.Joined.{Joined}
+use Rattle.flt_joined.specs.declared.joined.JoinedTexts.{JoinedTexts}
 use Rattle.flt_places.specs.declared.files.SourceFile.{SourceFile}
 use Rattle.flt_explain_runs.specs.Whole.{IsPrint, Look, look_for}
 use Rattle.flt_explain_runs.specs.declared.explaining.Asking.{Asking}
-use Rattle.flt_explain_runs.specs.declared.explaining.Told.{Told}
-use Rattle.flt_explain_runs.specs.declared.noted.Noted.{Noted}
+use Rattle.flt_explain_runs.specs.declared.explaining.ExplainOutput.{ExplainOutput}
+use Rattle.flt_explain_runs.specs.declared.noted.Note.{Note}
 use Rattle.flt_explain_warning_details.specs.declared.options.WarningOptions.{WarningOptions}
 use Rattle.flt_words.specs.declared.request.Form.{Form}
 use Rattle.flt_commands.proofs.Firsts.{mapped_twice}
@@ -31,7 +31,7 @@ use Rattle.flt_commands.specs.Explain as explain
 use Rattle.flt_commands.specs.Inputs.{Giving, Text, unread_names}
 use Rattle.flt_commands.specs.Remarks.{unread_in, unread_lines}
 use Rattle.flt_commands.specs.declared.answer.Answer.{Answer}
-use Rattle.flt_commands.specs.declared.explain.Asked.{Asked}
+use Rattle.flt_commands.specs.declared.explain.ExplainOptions.{ExplainOptions}
 use Rattle.flt_commands.specs.declared.explain.Explanation.{Explanation}
 use Rattle.flt_commands.specs.declared.explain.Explanation.TheVariants.{Told as Said, Unwritten}
 use Rattle.flt_commands.specs.declared.failure.Failure.{Failure}
@@ -52,7 +52,7 @@ holds_some : (form : Form) (journal : Option Text) (name : Text) → journal ≡
 holds_some form journal name same = rw same tt
 
 -- a report has these notes, if they are those of one that is asked for so
-pub reported : (asked : Asked) (asking : Asking) (sources : List Source) (t : Told) (notes : List Noted) →
+pub reported : (asked : ExplainOptions) (asking : Asking) (sources : List Source) (t : ExplainOutput) (notes : List Note) →
     asking.coloured ≡ asked.coloured → asking.states ≡ asked.states → asking.options ≡ asked.options →
     IsPrint (look_for asking) sources t.noted t.explained.output.items t.explained.status → notes ≡ t.noted →
     HasReport (look_of asked) sources notes
@@ -64,7 +64,7 @@ reported asked asking sources t notes coloured states options print same = recor
 
 -- ---- of the texts that files make
 
-module _ (form : Form) (look : Look) (allowed : List Text) (journal : Option Text) (files : List GivenFile) (joined : Joined)
+module _ (form : Form) (look : Look) (allowed : List Text) (journal : Option Text) (files : List GivenFile) (joined : JoinedTexts)
     (own : List SourceFile) (drifted : List DriftedFile) (sources : List Source) (are : AreJoined files joined)
     (named : AreNamed (told_name form) (givens files) own) (compared : AreDrifted allowed (givens files) drifted)
     (made : AllZip (IsSourceIn own) joined.texts.items sources) where
@@ -77,7 +77,7 @@ module _ (form : Form) (look : Look) (allowed : List Text) (journal : Option Tex
   }
 
   -- what is told of them
-  pub joined_told : (unread : List UnreadFile) (result : Result Told CommandFault) →
+  pub joined_told : (unread : List UnreadFile) (result : Result ExplainOutput CommandFault) →
       IfOk result (IsToldWith form look journal drifted sources unread) →
       IfOk result (IsToldOfFiles form look allowed journal (givens files) (refused_names files joined.refused.items)
       (bytes_in joined.texts.items) unread)
@@ -92,7 +92,7 @@ module _ (form : Form) (look : Look) (allowed : List Text) (journal : Option Tex
   joined_told unread (Err e) is = tt
 
   -- where that is cut short
-  pub joined_cut : (options : WarningOptions) (states : ℕ) (old new : Option Text) (result : Result Told CommandFault) →
+  pub joined_cut : (options : WarningOptions) (states : ℕ) (old new : Option Text) (result : Result ExplainOutput CommandFault) →
       IfErr result (λ e. e ≡ OutOfMemory → IsCutAfter (first_in form drifted) form options states sources old new) →
       IfErr result (λ e. e ≡ OutOfMemory → IsCutOfFiles form options states allowed (givens files) old new)
   joined_cut options states old new (Ok t) cut = tt
@@ -145,7 +145,7 @@ module _ (gives : Giving) (is_c : Bool) (form : Form) (options : WarningOptions)
 
   -- what is said of them
   pub explained_of : (look : Look) (journal : Option Text) (f : NamedFiles) (refused texts : List Text) (codes : List (Option Text))
-      (unread : List UnreadFile) (told : Told) (said : Explanation) → AreFoundIn is_c gives files f →
+      (unread : List UnreadFile) (told : ExplainOutput) (said : Explanation) → AreFoundIn is_c gives files f →
       unread_names unread ≡ unread_names f.unread.items ++ refused → codes ≡ codes_in (givens f.read.items) →
       IsToldOfFiles form look allowed journal (givens f.read.items) refused texts unread told →
       IsToldOrUnwritten told unread journal said → IsExplained gives is_c form look allowed journal files codes texts (said_of said)
@@ -175,7 +175,7 @@ module _ (gives : Giving) (is_c : Bool) (form : Form) (options : WarningOptions)
   )
 
 -- what went out of it
-pub sent_of_said : {O : Type 0} (taken : O → Option Text) (old new : O) (form : Form) (journal : Option Text) (told : Told)
+pub sent_of_said : {O : Type 0} (taken : O → Option Text) (old new : O) (form : Form) (journal : Option Text) (told : ExplainOutput)
     (unread : List UnreadFile) (said : Explanation) → Appends (taken old) (taken new) (take told.sent told.explained.output.items) →
     (HoldsBack form journal → new ≡ old) → IsToldOrUnwritten told unread journal said → IsSent (taken old) (taken new) (said_of said)
 sent_of_said taken old new form journal told unread (Said t others) sent held (same, all) = rw same sent
@@ -183,7 +183,7 @@ sent_of_said taken old new form journal told unread (Unwritten name why) sent he
     rw (held (holds_some form journal name.now same)) (Appends-nil (taken old))
 
 -- which files aren't read
-pub unread_of_said : (journal : Option Text) (told : Told) (unread : List UnreadFile) (lines : List ℕ) (said : Explanation) →
+pub unread_of_said : (journal : Option Text) (told : ExplainOutput) (unread : List UnreadFile) (lines : List ℕ) (said : Explanation) →
     lines ≡ flat_map unread_lines unread → IsToldOrUnwritten told unread journal said →
     IfOk (said_of said) (λ answer. lines ≡ unread_in answer)
 unread_of_said journal told unread lines (Said t others) are (same, all) = rw all are

@@ -11,10 +11,10 @@ use Rattle.flt_explain_flows.specs.Running.{run_of}
 use Rattle.flt_explain_flows.specs.declared.flows.Flow.{Flow}
 use Rattle.flt_model.specs.Program.{by_altitude, filters_of}
 use Rattle.flt_explain_runs.specs.Noted.{own_of}
-use Rattle.flt_explain_runs.specs.declared.noted.Noted.{Noted}
+use Rattle.flt_explain_runs.specs.declared.noted.Note.{Note}
 use Rattle.flt_explain_runs.specs.Rows.{own_files}
 use Rattle.flt_places.specs.declared.files.Files.{Files}
-use Rattle.flt_search.specs.declared.judging.Broken.{Broken}
+use Rattle.flt_search.specs.declared.judging.BreakingJournal.{BreakingJournal}
 use Rattle.flt_tree.specs.declared.tree.Tree.{Tree}
 use Rattle.flt_commands.specs.FindingRuns as spec
 use Rattle.flt_commands.specs.FindingRuns.{AreRunsOf, AreTrees, IsAdded, IsNext, IsOneMore, run_by}
@@ -38,7 +38,7 @@ module _ (all : List Source) (i : ℕ) (d : Source) (within : i < length all) wh
       rw one_source_more
       (spec.one_more are (subst (λ n. IsOneMore n (get_or all i d) trees files numbers more further others) counted_before is))
 
-module _ (trees : List Tree) (files : List Files) (numbers : List ℕ) (all : List Noted) (i : ℕ) (one : Noted) (within : i < length all)
+module _ (trees : List Tree) (files : List Files) (numbers : List ℕ) (all : List Note) (i : ℕ) (one : Note) (within : i < length all)
     (is : one ≡ get_or all i one) where
   one_note : take (i + 1) all ≡ take i all ++ one ∷ []
   one_note =
@@ -52,7 +52,7 @@ module _ (trees : List Tree) (files : List Files) (numbers : List ℕ) (all : Li
   one_more_run runs after are next = rw one_note (spec.one_note_more one are next)
 
 -- what is found of the run of a finding whose outcome is this: its flow, or that its journal is no run
-module _ (trees : List Tree) (files : List Files) (numbers : List ℕ) (n : Noted) (b : Broken) (runs : List FindingRun) (own : List Tree)
+module _ (trees : List Tree) (files : List Files) (numbers : List ℕ) (n : Note) (b : BreakingJournal) (runs : List FindingRun) (own : List Tree)
     (own_file : List Files) (found : Option Flow) (same : own ≡ own_of trees n.filter n.scheduled)
     (named : own_file ≡ own_files files n.filter n.scheduled)
     (is : MatchOption found (run_of (by_altitude (filters_of own)) b.journal ≡ None) (IsFlow own own_file b.journal)) where

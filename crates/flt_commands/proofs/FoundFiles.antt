@@ -13,7 +13,7 @@ use Rattle.flt_joined.specs.declared.given.GivenFile.{GivenFile}
 use Rattle.flt_commands.specs.Annotated.{AreFlawed, AreFoundIn, GivesBy, GivesFound, gives_annotations, gives_if_c, is_taken_for_c}
 use Rattle.flt_commands.specs.Inputs.{Giving, IsMissing, Text, is_standard, missing, read, unread_names}
 use Rattle.flt_commands.specs.declared.annotated.NamedFiles.{NamedFiles}
-use Rattle.flt_commands.specs.declared.unread.Unread.{Unread}
+use Rattle.flt_commands.specs.declared.unread.InputFault.{InputFault}
 
 -- ---- of one name
 
@@ -39,7 +39,7 @@ module _ (all : Bool) (gives : Giving) (name : Text) (file : Text) (is : is_take
   found_by found text code named are coded = rw (named, coded) (is, (given, are))
 
   -- a C file gives its annotations
-  pub found_in_c : (result : Result (Result GivenFile Unread) AllocError) →
+  pub found_in_c : (result : Result (Result GivenFile InputFault) AllocError) →
       IfOk result (λ done. IfOk done (λ g. g.name.now ≡ name)) → IfOk result (λ done. IfOk done (λ g. AreAnnotations file g.text.items)) →
       IfOk result (λ done. IfOk done (λ g. option_map (λ code. code.items) g.code ≡ Some file)) →
       IfOk result (λ done. IfOk done (λ g. GivesFound all gives (given_of g)))
@@ -48,7 +48,7 @@ module _ (all : Bool) (gives : Giving) (name : Text) (file : Text) (is : is_take
   found_in_c (Err e) named are code = tt
 
   -- or none
-  pub flawed : (result : Result (Result GivenFile Unread) AllocError) → IfOk result (λ done. OnErr done (AreFlawed file)) →
+  pub flawed : (result : Result (Result GivenFile InputFault) AllocError) → IfOk result (λ done. OnErr done (AreFlawed file)) →
       IfOk result (λ done. OnErr done (gives_annotations all gives name None))
   flawed (Ok (Ok g)) are = tt
   flawed (Ok (Err why)) are =

@@ -3,7 +3,7 @@ use Rattle.std.proofs.Common.{◌≡◌, ◌∙◌, ℕ, suc, ◌+◌, ◌<◌, 
 use Rattle.std.proofs.Math.Seq.{take-suc}
 use Rattle.std.proofs.KnownBytes.{Appends-nil, Appends-trans}
 use Rattle.std.specs.Io.KnownBytes.{Appends}
-use Rattle.flt_explain_details.specs.declared.sources.Explained.{Explained}
+use Rattle.flt_explain_details.specs.declared.sources.Printout.{Printout}
 use Rattle.flt_explain_details.specs.declared.sources.Source.{Source}
 use Rattle.flt_explain_forms.specs.Lines.{AreLines, AreLinesFrom, IsPart}
 use Rattle.flt_explain_forms.specs.RunMember.{no_member, no_run}
@@ -13,7 +13,7 @@ use Rattle.flt_commands.specs.Inputs.{Text}
 use Rattle.flt_commands.specs.InTurn.{AreFirstLines, IsTextMore}
 
 -- what is told of a text by itself is one text more behind others
-pub text_more : (style : Style) (options : WarningOptions) (s : Source) (before after : Explained) (old new : Option Text)
+pub text_more : (style : Style) (options : WarningOptions) (s : Source) (before after : Printout) (old new : Option Text)
     (printed : List ℕ) (status : ℕ) →
     AreLines style options (s ∷ []) None printed status → after.output.items ≡ before.output.items ++ printed →
     after.status ≡ max before.status status → Appends old new printed → IsTextMore style options s before after old new
@@ -55,7 +55,7 @@ source_more all i d within =
 
 -- the lines of the texts so far and of the next one
 pub one_more_told : (all : List Source) (i : ℕ) (d : Source) → i < length all →
-    (style : Style) (options : WarningOptions) (before after : Explained) (old new : Option Text) →
+    (style : Style) (options : WarningOptions) (before after : Printout) (old new : Option Text) →
     AreLines style options (take i all) None before.output.items before.status →
     IsTextMore style options (get_or all i d) before after old new →
     AreLines style options (take (i + 1) all) None after.output.items after.status
@@ -64,13 +64,13 @@ one_more_told all i d within style options before after old new are more =
     (lines_push style options 0 (take i all) (get_or all i d) [] before.output.items more.part before.status more.own are more.is)
 
 -- all that is told so far went out
-pub more_sent : (style : Style) (options : WarningOptions) (s : Source) (before after : Explained) (old between new : Option Text) →
+pub more_sent : (style : Style) (options : WarningOptions) (s : Source) (before after : Printout) (old between new : Option Text) →
     Appends old between before.output.items → IsTextMore style options s before after between new → Appends old new after.output.items
 more_sent style options s before after old between new first more =
     rw more.output (Appends-trans old between new before.output.items more.part first more.sent)
 
 -- what went out is what is told of the first texts
-pub first_lines : (style : Style) (options : WarningOptions) (sources : List Source) (count : ℕ) (told : Explained)
+pub first_lines : (style : Style) (options : WarningOptions) (sources : List Source) (count : ℕ) (told : Printout)
     (old new : Option Text) →
     AreLines style options (take count sources) None told.output.items told.status → Appends old new told.output.items →
     AreFirstLines style options sources old new
@@ -79,7 +79,7 @@ first_lines style options sources count told old new are sent =
 
 -- the same where nothing went out since
 pub lines_cut : {O : Type 0} (taken : O → Option Text) (style : Style) (options : WarningOptions) (sources : List Source)
-    (count : ℕ) (told : Explained)
+    (count : ℕ) (told : Printout)
     (old between new : O) → AreLines style options (take count sources) None told.output.items told.status →
     Appends (taken old) (taken between) told.output.items → new ≡ between →
     AreFirstLines style options sources (taken old) (taken new)

@@ -8,7 +8,7 @@ use Rattle.flt_explain_details.specs.declared.sources.Source.{Source}
 use Rattle.flt_joined.specs.Made.{AreJoined, IsJoined}
 use Rattle.flt_joined.specs.Texts.{AreNamed, Given, Text, file_in, file_of, given_of, givens, groups_of, make_text}
 use Rattle.flt_joined.specs.declared.given.GivenFile.{GivenFile}
-use Rattle.flt_joined.specs.declared.joined.Joined.{Joined}
+use Rattle.flt_joined.specs.declared.joined.JoinedTexts.{JoinedTexts}
 use Rattle.flt_joined.specs.declared.joined.JoinedText.{JoinedText}
 use Rattle.flt_places.specs.declared.files.SourceFile.{SourceFile}
 use Rattle.flt_commands.specs.Sources.{IsSourceIn, IsSourceOf, IsWithin, bytes_in}
@@ -60,7 +60,7 @@ as_many told files own named =
     sym (length-map own file_in) ∙ ap length named ∙ length-map (givens files) (file_of told) ∙ length-map files given_of
 
 -- each text is in some of them
-pub all_within : (told : Text → Text) (files : List GivenFile) (joined : Joined) (own : List SourceFile) → AreJoined files joined →
+pub all_within : (told : Text → Text) (files : List GivenFile) (joined : JoinedTexts) (own : List SourceFile) → AreJoined files joined →
     AreNamed told (givens files) own → All (IsWithin (length own)) joined.texts.items
 all_within told files joined own are named =
     all_of (IsJoined files) (IsWithin (length own))
@@ -88,7 +88,7 @@ source_of_text told files own named group j s is of = record {
 }
 
 -- the sources of the texts are those of the files
-pub sources_of_files : (told : Text → Text) (files : List GivenFile) (joined : Joined) (own : List SourceFile) (sources : List Source) →
+pub sources_of_files : (told : Text → Text) (files : List GivenFile) (joined : JoinedTexts) (own : List SourceFile) (sources : List Source) →
     AreJoined files joined → AreNamed told (givens files) own → AllZip (IsSourceIn own) joined.texts.items sources →
     AllZip (IsSourceOf told) (filter make_text (groups_of (givens files))) sources
 sources_of_files told files joined own sources are named of =

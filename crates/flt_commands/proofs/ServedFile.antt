@@ -6,7 +6,7 @@ use Rattle.flt_joined.specs.Made.{IsOwn}
 use Rattle.flt_joined.specs.Texts.{AreAnnotations, file_in, file_of, given_of}
 use Rattle.flt_joined.specs.declared.given.GivenFile.{GivenFile}
 use Rattle.flt_explain_runs.specs.Whole.{IsPrint}
-use Rattle.flt_explain_runs.specs.declared.noted.Noted.{Noted}
+use Rattle.flt_explain_runs.specs.declared.noted.Note.{Note}
 use Rattle.flt_places.specs.declared.files.SourceFile.{SourceFile}
 use Rattle.flt_commands.specs.Annotated.{AreFlawed}
 use Rattle.flt_commands.specs.Inputs.{Text}
@@ -38,7 +38,7 @@ in_no_c name file g (Ok out) named same coded is = rw (named, same, coded) at is
 in_no_c name file g (Err e) named same coded is = tt
 
 -- what is printed of the text of a file
-pub printed_of : (g : GivenFile) (source : Source) (own : SourceFile) (notes : List Noted) (printed : Text) (status : ℕ) → IsOwn g →
+pub printed_of : (g : GivenFile) (source : Source) (own : SourceFile) (notes : List Note) (printed : Text) (status : ℕ) → IsOwn g →
     source.text.now ≡ g.text.items → source.files.all.now ≡ own ∷ [] → source.files.stands.now ≡ g.stands.items →
     file_in own ≡ file_of (λ name. name) (given_of g) → IsPrint look (source ∷ []) notes printed status → IsExplained (given_of g) printed
 printed_of g source own notes printed status is text all stands named print = record {

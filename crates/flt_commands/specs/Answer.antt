@@ -19,8 +19,8 @@ use Rattle.flt_commands.specs.declared.answer.Answer.{Answer}
 use Rattle.flt_commands.specs.declared.answer.Answer.TheVariants.{Accepted, Refused, Certificate, Judged, Explained}
 use Rattle.flt_commands.specs.declared.answer.Answer.TheVariants.{Extracted, Formatted, Pages, Ran, FileRefused, Shown}
 use Rattle.flt_commands.specs.declared.answer.Answer.TheVariants.{Emitted, NotEmitted, EmittedInto, Compared}
-use Rattle.flt_commands.specs.declared.emit.Unemitted.{Unemitted}
-use Rattle.flt_commands.specs.declared.emit.Unemitted.TheVariants.{Kinds, Create, Return, Unread}
+use Rattle.flt_commands.specs.declared.emit.EmitFault.{EmitFault}
+use Rattle.flt_commands.specs.declared.emit.EmitFault.TheVariants.{Kinds, Create, Return, Unread}
 
 -- `R01` to `R15`
 abbrev pub rule_name : Rule → List ℕ
@@ -66,7 +66,7 @@ mixture stream instance =
     ++ codes ")"
 
 -- why a text can't be emitted
-abbrev pub unemitted_line : Unemitted → List ℕ
+abbrev pub unemitted_line : EmitFault → List ℕ
 unemitted_line (Kinds line stream instance) = codes "not emitted line " ++ (decimal line ++ (codes " " ++ mixture stream instance))
 unemitted_line (Create line) = codes "not emitted line " ++ (decimal line ++ codes " a pre create that completes with STATUS_SUCCESS")
 unemitted_line (Return line) = codes "not emitted line " ++ (decimal line ++ codes " a return that does not fit its callback")

@@ -15,7 +15,7 @@ use Rattle.flt_emit_read.specs.Sources.{read_back}
 use Rattle.flt_emit_read.specs.Unfit.{first_unfit}
 use Rattle.flt_kinds.specs.Creates.{AreFound, Completes}
 use Rattle.flt_kinds.specs.Kinds.{AreKinds, IsMixed}
-use Rattle.flt_kinds.specs.declared.mixed.Mixed.{Mixed}
+use Rattle.flt_kinds.specs.declared.mixed.MixedContext.{MixedContext}
 use Rattle.flt_kinds.specs.declared.slot.Spot.{Spot}
 use Rattle.flt_print.specs.Reprinting.{without_places}
 use Rattle.flt_words.specs.declared.request.Part.{Part}
@@ -26,8 +26,8 @@ use Rattle.flt_commands.specs.Check.{HasPoints}
 use Rattle.flt_commands.specs.Inputs.{Text}
 use Rattle.flt_commands.specs.declared.answer.Answer.{Answer}
 use Rattle.flt_commands.specs.declared.answer.Answer.TheVariants.{Refused, Emitted, NotEmitted}
-use Rattle.flt_commands.specs.declared.emit.Unemitted.{Unemitted}
-use Rattle.flt_commands.specs.declared.emit.Unemitted.TheVariants.{Kinds, Create, Return, Unread}
+use Rattle.flt_commands.specs.declared.emit.EmitFault.{EmitFault}
+use Rattle.flt_commands.specs.declared.emit.EmitFault.TheVariants.{Kinds, Create, Return, Unread}
 use Rattle.flt_commands.specs.declared.failure.Failure.{Failure}
 
 -- ---- a part of a driver
@@ -64,16 +64,16 @@ abbrev pub line_of : Graph → Spot → ℕ
 line_of g at = line_at g at.callback at.point
 
 -- the lines of the statements that say that a context has two kinds
-abbrev pub mixed_lines : Graph → Mixed → Unemitted
+abbrev pub mixed_lines : Graph → MixedContext → EmitFault
 mixed_lines g m = Kinds (line_of g m.site) (line_of g m.stream) (line_of g m.instance)
 
 -- that of a statement at which a `pre create` completes with success
-abbrev pub create_line : Graph → Spot → Unemitted
+abbrev pub create_line : Graph → Spot → EmitFault
 create_line g at = Create (line_of g at)
 
 -- a context has two kinds
-pub record HasMixture (g : Graph) (why : Unemitted) : Type 0 where
-  pub mixed : Mixed
+pub record HasMixture (g : Graph) (why : EmitFault) : Type 0 where
+  pub mixed : MixedContext
   pub is : IsMixed g mixed
   pub lines : why ≡ mixed_lines g mixed
 
@@ -93,7 +93,7 @@ pub record ReturnsIn (f : Filter) (g : Graph) (line : ℕ) : Type 0 where
   pub is : first_unfit f ≡ Some line
 
 -- one of these; each source is read back
-abbrev pub IsHindered : Filter → Graph → Unemitted → Type 0
+abbrev pub IsHindered : Filter → Graph → EmitFault → Type 0
 IsHindered f g (Kinds line stream instance) = HasMixture g (Kinds line stream instance)
 IsHindered f g (Create line) = CompletesIn g line
 IsHindered f g (Return line) = ReturnsIn f g line

@@ -19,8 +19,8 @@ use Rattle.flt_explain_runs.specs.Noted.{AreNotes, first_journal}
 use Rattle.flt_explain_runs.specs.Reported.{AreReports, IsAllButLast, IsCut}
 use Rattle.flt_explain_runs.specs.Told.{Tells}
 use Rattle.flt_explain_runs.specs.Whole.{IsPrint, Look}
-use Rattle.flt_explain_runs.specs.declared.noted.Noted.{Noted}
-use Rattle.flt_explain_runs.specs.declared.explaining.Told.{Told}
+use Rattle.flt_explain_runs.specs.declared.noted.Note.{Note}
+use Rattle.flt_explain_runs.specs.declared.explaining.ExplainOutput.{ExplainOutput}
 use Rattle.flt_explain_details.specs.Reports.{texts_of}
 use Rattle.flt_explain_details.specs.declared.sources.Source.{Source}
 use Rattle.flt_commands.specs.Sources.{AreSources}
@@ -41,7 +41,7 @@ use Rattle.flt_commands.specs.Answer.{output, sent_of}
 use Rattle.flt_commands.specs.Html.{IsPageOn, IsPaged}
 use Rattle.flt_commands.specs.declared.answer.Answer.{Answer}
 use Rattle.flt_commands.specs.declared.answer.Answer.TheVariants.{Explained, Pages}
-use Rattle.flt_commands.specs.declared.explain.Asked.{Asked}
+use Rattle.flt_commands.specs.declared.explain.ExplainOptions.{ExplainOptions}
 use Rattle.flt_commands.specs.declared.explain.Explanation.{Explanation}
 use Rattle.flt_commands.specs.declared.explain.Explanation.TheVariants.{Told as Said, Unwritten}
 use Rattle.flt_commands.specs.declared.failure.Failure.{Failure}
@@ -53,21 +53,21 @@ told_name Short name = visible name
 told_name form name = name
 
 -- JSON objects with the runs of the noted findings
-pub record AreToldWithRuns (options : WarningOptions) (sources : List Source) (t : Told) : Type 0 where
+pub record AreToldWithRuns (options : WarningOptions) (sources : List Source) (t : ExplainOutput) : Type 0 where
   pub runs : Bor (List FindingRun)
   pub found : AreRuns sources t.noted runs.now
   pub lines : AreLines Object options sources (Some runs) t.explained.output.items t.explained.status
 
 -- a SARIF document with them
 pub record IsToldWithRuns (options : WarningOptions) (drifted : List DriftedFile) (sources : List Source) (unread : List UnreadFile)
-    (t : Told) : Type 0 where
+    (t : ExplainOutput) : Type 0 where
   pub runs : List FindingRun
   pub found : AreRuns sources t.noted runs
   pub document : IsSarif options sources unread runs drifted t.explained.output.items t.explained.status
 
 -- what is told in a form: reports, a sentence or a JSON object for each finding, a SARIF document, which has these drifts and tells of
 -- these files that they aren't read, or a page on reports, in which the drifts come before them
-abbrev pub IsTold : Form → WarningOptions → List DriftedFile → List Source → List UnreadFile → Told → Type 0
+abbrev pub IsTold : Form → WarningOptions → List DriftedFile → List Source → List UnreadFile → ExplainOutput → Type 0
 IsTold Human options drifted sources unread t = AreReports options sources t.explained.output.items t.explained.status
 IsTold Short options drifted sources unread t = AreLines Sentence options sources None t.explained.output.items t.explained.status
 IsTold Lines options drifted sources unread t = AreLines Object options sources None t.explained.output.items t.explained.status
@@ -79,7 +79,7 @@ IsTold Html options drifted sources unread t =
 
 -- what came of the findings of these texts in runs, of each that is reported by itself; nothing is looked for where that is neither told
 -- nor written into a file
-abbrev pub AreNotedFor : Form → Option Text → List Text → List Noted → Type 0
+abbrev pub AreNotedFor : Form → Option Text → List Text → List Note → Type 0
 AreNotedFor form (Some name) texts noted = AreNotes texts noted
 AreNotedFor Human None texts noted = AreNotes texts noted
 AreNotedFor Html None texts noted = AreNotes texts noted
@@ -88,23 +88,23 @@ AreNotedFor SarifWithRuns None texts noted = AreNotes texts noted
 AreNotedFor form None texts noted = noted ≡ []
 
 -- for people it is also told what came of findings in runs: in the notes' lines, and in no others
-abbrev pub IsNoteTold : Form → List Text → ℕ → Told → Type 0
+abbrev pub IsNoteTold : Form → List Text → ℕ → ExplainOutput → Type 0
 IsNoteTold Human texts states e = Tells texts states e.noted e.explained.output.items
 IsNoteTold _ texts states e = Unit {0}
 
 -- how it is printed: with colours or without, after how many states the search for runs ends, and which warnings are left out
-abbrev pub look_of : Asked → Look
+abbrev pub look_of : ExplainOptions → Look
 look_of asked = record { coloured = asked.coloured; states = asked.states; options = asked.options }
 
 -- a report on these texts has exactly these notes: one for each finding that it reports by itself
-pub record HasReport (look : Look) (sources : List Source) (notes : List Noted) : Type 0 where
+pub record HasReport (look : Look) (sources : List Source) (notes : List Note) : Type 0 where
   pub printed : Text
   pub status : ℕ
   pub print : IsPrint look sources notes printed status
 
 -- for people all of what is printed is the reports with the notes, to the letter; a page has these without colours, after these drifts,
 -- with pictures. The runs in other forms are those that a report has
-abbrev pub IsPrintTold : Form → Look → List DriftedFile → List Source → Told → Type 0
+abbrev pub IsPrintTold : Form → Look → List DriftedFile → List Source → ExplainOutput → Type 0
 IsPrintTold Human look drifted sources e = IsPrint look sources e.noted e.explained.output.items e.explained.status
 IsPrintTold Html look drifted sources e =
     IsPaged look (drifts_told Html drifted) sources e.noted e.explained.output.items e.explained.status
@@ -114,14 +114,14 @@ IsPrintTold _ look drifted sources e = Unit {0}
 
 -- all that is known of what is told of texts, with these drifts within a page or a document, and beside the files that aren't read
 pub record IsToldUnder (form : Form) (look : Look) (journal : Option Text) (drifted : List DriftedFile) (sources : List Source)
-    (unread : List UnreadFile) (e : Told) : Type 0 where
+    (unread : List UnreadFile) (e : ExplainOutput) : Type 0 where
   pub told : IsTold form look.options drifted sources unread e
   pub noted : AreNotedFor form journal (texts_of sources) e.noted
   pub notes : IsNoteTold form (texts_of sources) look.states e
   pub print : IsPrintTold form look drifted sources e
 
 -- this is what is told of texts, after drifts that are worth this status
-pub record IsAfter (drifts : Text) (worth : ℕ) (own e : Told) : Type 0 where
+pub record IsAfter (drifts : Text) (worth : ℕ) (own e : ExplainOutput) : Type 0 where
   pub output : e.explained.output.items ≡ drifts ++ own.explained.output.items
   pub status : e.explained.status ≡ max own.explained.status worth
   pub noted : e.noted ≡ own.noted
@@ -133,15 +133,15 @@ first_in form drifted = drifts_told form drifted
 
 -- the same after these drifts, or with them within it
 pub record IsToldWith (form : Form) (look : Look) (journal : Option Text) (drifted : List DriftedFile) (sources : List Source)
-    (unread : List UnreadFile) (e : Told) : Type 0 where
-  pub own : Told
+    (unread : List UnreadFile) (e : ExplainOutput) : Type 0 where
+  pub own : ExplainOutput
   pub told : IsToldUnder form look journal drifted sources unread own
   pub after : IsAfter (first_in form drifted) (drift_status look.options.is_strict drifted) own e
 
 -- the same of files that are read, of the texts that they make, and of the drifts of the C files among them but for kinds of these names;
 -- of the files these aren't read after all, and others aren't, either
 pub record IsToldOfFiles (form : Form) (look : Look) (allowed : List Text) (journal : Option Text) (files : List Given)
-    (refused texts : List Text) (unread : List UnreadFile) (e : Told) : Type 0 where
+    (refused texts : List Text) (unread : List UnreadFile) (e : ExplainOutput) : Type 0 where
   pub drifted : List DriftedFile
   pub compared : AreDrifted allowed files drifted
   pub sources : List Source
@@ -155,7 +155,7 @@ codes_in files = map (λ (g : Given). g.code) files
 
 -- the same of those of the files of these names that are read, of which these are C files
 pub record IsToldOf (gives : Giving) (is_c : Bool) (form : Form) (look : Look) (allowed : List Text) (journal : Option Text)
-    (names : List Text) (codes : List (Option Text)) (texts : List Text) (unread : List UnreadFile) (e : Told) : Type 0 where
+    (names : List Text) (codes : List (Option Text)) (texts : List Text) (unread : List UnreadFile) (e : ExplainOutput) : Type 0 where
   pub files : List Given
   pub missing : List Text
   pub found : AreFound is_c gives names files missing
@@ -204,7 +204,7 @@ said_of (Said told unread) = Ok (Explained told unread)
 said_of (Unwritten name why) = Err (CannotWrite name why)
 
 -- this is what is told; or the file that is named for a journal can't be written
-abbrev pub IsToldOrUnwritten : Told → List UnreadFile → Option Text → Explanation → Type 0
+abbrev pub IsToldOrUnwritten : ExplainOutput → List UnreadFile → Option Text → Explanation → Type 0
 IsToldOrUnwritten told unread journal (Said t others) = (t ≡ told) × (others.items ≡ unread)
 IsToldOrUnwritten told unread journal (Unwritten name why) = journal ≡ Some name.now
 
@@ -232,7 +232,7 @@ HoldsBack SarifWithRuns None = Unit {0}
 HoldsBack form None = ⊥
 
 -- what goes out before the end where nothing is held back: for people the reports of all texts but the last, else all lines
-abbrev pub GoesOutEarly : Form → WarningOptions → List Source → ℕ → Told → Type 0
+abbrev pub GoesOutEarly : Form → WarningOptions → List Source → ℕ → ExplainOutput → Type 0
 GoesOutEarly Human options sources states e = IsAllButLast options sources states (take e.sent e.explained.output.items)
 GoesOutEarly Short options sources states e = e.sent ≡ length e.explained.output.items
 GoesOutEarly Lines options sources states e = e.sent ≡ length e.explained.output.items

@@ -13,12 +13,12 @@ use Rattle.flt_explain_forms.specs.declared.run.FindingRun.{FindingRun}
 use Rattle.flt_model.specs.Program.{by_altitude, filters_of}
 use Rattle.flt_explain_runs.specs.Noted.{own_of, schedule_of}
 use Rattle.flt_explain_runs.specs.Rows.{own_files}
-use Rattle.flt_explain_runs.specs.declared.noted.Noted.{Noted}
+use Rattle.flt_explain_runs.specs.declared.noted.Note.{Note}
 use Rattle.flt_explain_runs.specs.declared.schedules.Schedule.{Schedule}
 use Rattle.flt_explain_runs.specs.declared.schedules.Schedule.TheVariants.{Breaks}
-use Rattle.flt_explain_runs.specs.declared.schedules.Scheduled.{Scheduled}
-use Rattle.flt_explain_runs.specs.declared.schedules.Scheduled.TheVariants.{Together, Alone}
-use Rattle.flt_search.specs.declared.judging.Broken.{Broken}
+use Rattle.flt_explain_runs.specs.declared.schedules.JointOutcome.{JointOutcome}
+use Rattle.flt_explain_runs.specs.declared.schedules.JointOutcome.TheVariants.{Together, Alone}
+use Rattle.flt_search.specs.declared.judging.BreakingJournal.{BreakingJournal}
 
 -- ---- trees
 
@@ -39,12 +39,12 @@ pub data AreTrees : List Source → List Tree → List Files → List ℕ → Ty
 -- ---- runs
 
 -- the numbers of the texts of the filters in whose runs something came of a finding
-abbrev pub own_numbers : List ℕ → ℕ → Scheduled → List ℕ
+abbrev pub own_numbers : List ℕ → ℕ → JointOutcome → List ℕ
 own_numbers numbers place (Together s) = numbers
 own_numbers numbers place (Alone s) = get_or numbers place 0 ∷ []
 
 -- the run of a noted finding, with its flow
-abbrev pub run_by : List ℕ → Noted → Broken → Flow → FindingRun
+abbrev pub run_by : List ℕ → Note → BreakingJournal → Flow → FindingRun
 run_by numbers n b flow = record {
   source = get_or numbers n.filter 0;
   finding = n.finding;
@@ -55,7 +55,7 @@ run_by numbers n b flow = record {
 }
 
 -- the run of a finding that breaks something is added; none is where its journal is no run of its filters
-pub data IsAdded (trees : List Tree) (files : List Files) (numbers : List ℕ) (n : Noted) (b : Broken) (runs : List FindingRun) :
+pub data IsAdded (trees : List Tree) (files : List Files) (numbers : List ℕ) (n : Note) (b : BreakingJournal) (runs : List FindingRun) :
     List FindingRun → Type 0 where
   no_flow : run_of (by_altitude (filters_of (own_of trees n.filter n.scheduled))) b.journal ≡ None →
       IsAdded trees files numbers n b runs runs
@@ -63,21 +63,21 @@ pub data IsAdded (trees : List Tree) (files : List Files) (numbers : List ℕ) (
       IsAdded trees files numbers n b runs (runs ++ run_by numbers n b f ∷ [])
 
 -- the same by what came of it
-abbrev pub IsNextBy : List Tree → List Files → List ℕ → Noted → List FindingRun → List FindingRun → Schedule → Type 0
+abbrev pub IsNextBy : List Tree → List Files → List ℕ → Note → List FindingRun → List FindingRun → Schedule → Type 0
 IsNextBy trees files numbers n runs after (Breaks b) = IsAdded trees files numbers n b runs after
 IsNextBy trees files numbers n runs after _ = after ≡ runs
 
-abbrev pub IsNext : List Tree → List Files → List ℕ → Noted → List FindingRun → List FindingRun → Type 0
+abbrev pub IsNext : List Tree → List Files → List ℕ → Note → List FindingRun → List FindingRun → Type 0
 IsNext trees files numbers n runs after = IsNextBy trees files numbers n runs after (schedule_of n.scheduled)
 
 -- the runs of all noted findings, in their order
-pub data AreRunsOf (trees : List Tree) (files : List Files) (numbers : List ℕ) : List Noted → List FindingRun → Type 0 where
+pub data AreRunsOf (trees : List Tree) (files : List Files) (numbers : List ℕ) : List Note → List FindingRun → Type 0 where
   no_note : AreRunsOf trees files numbers [] []
-  one_note_more : {ns : List Noted} {runs after : List FindingRun} (n : Noted) → AreRunsOf trees files numbers ns runs →
+  one_note_more : {ns : List Note} {runs after : List FindingRun} (n : Note) → AreRunsOf trees files numbers ns runs →
       IsNext trees files numbers n runs after → AreRunsOf trees files numbers (ns ++ n ∷ []) after
 
 -- the same of findings of these texts
-pub record AreRuns (sources : List Source) (notes : List Noted) (runs : List FindingRun) : Type 0 where
+pub record AreRuns (sources : List Source) (notes : List Note) (runs : List FindingRun) : Type 0 where
   pub trees : List Tree
   pub files : List Files
   pub numbers : List ℕ

@@ -1,7 +1,7 @@
 -- What is told line by line, one text's lines as soon as they are made. This project's own program.
 use Rattle.std.specs.Io.KnownBytes.{Appends}
 use Rattle.std.specs.Prelude.{◌≡◌, ℕ, List, ◌++◌, Option, None, max, take}
-use Rattle.flt_explain_details.specs.declared.sources.Explained.{Explained}
+use Rattle.flt_explain_details.specs.declared.sources.Printout.{Printout}
 use Rattle.flt_explain_details.specs.declared.sources.Source.{Source}
 use Rattle.flt_explain_forms.specs.Lines.{AreLines, IsPart}
 use Rattle.flt_explain_forms.specs.RunMember.{no_run}
@@ -10,7 +10,7 @@ use Rattle.flt_explain_warning_details.specs.declared.options.WarningOptions.{Wa
 use Rattle.flt_commands.specs.Inputs.{Text}
 
 -- the lines of one text more went out, and stand behind what was told before
-pub record IsTextMore (style : Style) (options : WarningOptions) (s : Source) (before after : Explained) (old new : Option Text) :
+pub record IsTextMore (style : Style) (options : WarningOptions) (s : Source) (before after : Printout) (old new : Option Text) :
     Type 0 where
   pub part : List ℕ
   pub own : ℕ

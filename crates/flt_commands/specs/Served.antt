@@ -9,7 +9,7 @@ use Rattle.flt_explain_forms.specs.declared.drifted.DriftedFile.{DriftedFile}
 use Rattle.flt_explain_forms.specs.declared.unread.UnreadFile.{UnreadFile}
 use Rattle.flt_server_frames.specs.Handling.{IsServed, IsServedSoFar, Reply}
 use Rattle.flt_explain_runs.specs.Whole.{IsPrint, Look}
-use Rattle.flt_explain_runs.specs.declared.noted.Noted.{Noted}
+use Rattle.flt_explain_runs.specs.declared.noted.Note.{Note}
 use Rattle.flt_explain_details.specs.declared.sources.Source.{Source}
 use Rattle.flt_joined.specs.Texts.{AreAnnotations, Given}
 use Rattle.flt_commands.specs.Sources.{IsSourceOf}
@@ -32,7 +32,7 @@ look = record { coloured = false; states = 40000; options = options_of (record {
 pub record IsExplained (g : Given) (printed : Text) : Type 0 where
   pub source : Source
   pub of : IsSourceOf (λ name. name) (g ∷ []) source
-  pub notes : List Noted
+  pub notes : List Note
   pub status : ℕ
   pub print : IsPrint look (source ∷ []) notes printed status
 

@@ -5,11 +5,11 @@ ghost use Rattle.std.specs.Prelude.{◌≡◌, ◌≢◌, IfErr, IfOk, IsTrue, O
 ghost use Rattle.flt_commands.specs.Explain as spec;
 
 use crate::drifts::tell_drifts;
-use crate::explain::{Asked, told};
+use crate::explain::{ExplainOptions, told};
 use crate::fault::CommandFault;
-use flt_explain_details::{Explained, Source};
+use flt_explain_details::{Printout, Source};
 use flt_explain_forms::{DriftedFile, UnreadFile, drift_status};
-use flt_explain_runs::{SearchWatch, Told};
+use flt_explain_runs::{ExplainOutput, SearchWatch};
 use flt_model::{Sink, put_all};
 use flt_words::Form;
 use std::alloc::{AllocError, Global};
@@ -17,14 +17,19 @@ use std::cmp::max;
 
 /// The output for texts after drifts that are worth this status, when so many bytes of all of it are written already. Without drifts no
 /// memory is requested: all may be written by then.
-fn told_after(first: Vec<u8>, worth: u8, sent: usize, own: Told) -> Result<Told, AllocError>
+fn told_after(
+    first: Vec<u8>,
+    worth: u8,
+    sent: usize,
+    own: ExplainOutput,
+) -> Result<ExplainOutput, AllocError>
     ensures after { IfOk result (spec.IsAfter first.items worth own) }
     ensures sent { IfOk result (λ e. e.sent ≡ sent) }
 {
     let status = max(own.explained.status, worth);
     if first.is_empty() {
-        return Ok(Told {
-            explained: Explained {
+        return Ok(ExplainOutput {
+            explained: Printout {
                 output: own.explained.output,
                 status,
             },
@@ -34,15 +39,15 @@ fn told_after(first: Vec<u8>, worth: u8, sent: usize, own: Told) -> Result<Told,
     }
     let mut output = first;
     output.extend_from_slice(own.explained.output.as_slice())?;
-    Ok(Told {
-        explained: Explained { output, status },
+    Ok(ExplainOutput {
+        explained: Printout { output, status },
         noted: own.noted,
         sent,
     })
 }
 
 /// Whether nothing is written before all is known.
-fn holds_back(asked: Asked<'_>) -> bool
+fn holds_back(asked: ExplainOptions<'_>) -> bool
     ensures yes { IsTrue result → spec.HoldsBack asked.entry.form (option_map (λ name. name.now) asked.entry.journal) }
     ensures no { result ≡ false → spec.HoldsBack asked.entry.form (option_map (λ name. name.now) asked.entry.journal) → ⊥ }
 {
@@ -72,13 +77,13 @@ fn first_drifts(
 /// The output for some texts, after some drifts, or with them within it. Nothing is written before all is known.
 fn explain_held<O: Sink, W: SearchWatch>(
     alloc: Global,
-    asked: Asked<'_>,
+    asked: ExplainOptions<'_>,
     drifted: &[DriftedFile<'_>],
     sources: &[Source<'_>],
     unread: &[UnreadFile],
     out: &mut O,
     watch: &mut W,
-) -> Result<Told, CommandFault>
+) -> Result<ExplainOutput, CommandFault>
     requires { spec.HoldsBack asked.form (option_map (λ name. name.now) asked.journal) }
     ensures told { IfOk result (spec.IsToldWith asked.entry.form (spec.look_of asked.entry)
         (option_map (λ name. name.now) asked.entry.journal) drifted.now sources.now unread.now) }
@@ -96,13 +101,13 @@ fn explain_held<O: Sink, W: SearchWatch>(
 /// The same where the first drifts are written at once, and the output for each text as soon as it is made.
 fn explain_early<O: Sink, W: SearchWatch>(
     alloc: Global,
-    asked: Asked<'_>,
+    asked: ExplainOptions<'_>,
     drifted: &[DriftedFile<'_>],
     sources: &[Source<'_>],
     unread: &[UnreadFile],
     out: &mut O,
     watch: &mut W,
-) -> Result<Told, CommandFault>
+) -> Result<ExplainOutput, CommandFault>
     ensures told { IfOk result (spec.IsToldWith asked.entry.form (spec.look_of asked.entry)
         (option_map (λ name. name.now) asked.entry.journal) drifted.now sources.now unread.now) }
     ensures sent { IfOk result (λ t. Appends (O.taken out.old) (O.taken out.new) (take t.sent t.explained.output.items)) }
@@ -127,13 +132,13 @@ fn explain_early<O: Sink, W: SearchWatch>(
 #[tactic(auto, using(crate::proofs::Sent::none_sent, crate::proofs::AfterDrifts::nothing_after))]
 pub(crate) fn explain_after<O: Sink, W: SearchWatch>(
     alloc: Global,
-    asked: Asked<'_>,
+    asked: ExplainOptions<'_>,
     drifted: &[DriftedFile<'_>],
     sources: &[Source<'_>],
     unread: &[UnreadFile],
     out: &mut O,
     watch: &mut W,
-) -> Result<Told, CommandFault>
+) -> Result<ExplainOutput, CommandFault>
     ensures told { IfOk result (spec.IsToldWith asked.entry.form (spec.look_of asked.entry)
         (option_map (λ name. name.now) asked.entry.journal) drifted.now sources.now unread.now) }
     ensures sent { IfOk result (λ t. Appends (O.taken out.old) (O.taken out.new) (take t.sent t.explained.output.items)) }

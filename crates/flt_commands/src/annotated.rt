@@ -8,7 +8,7 @@ ghost use Rattle.flt_joined.specs.Made.{IsOwn};
 ghost use Rattle.flt_joined.specs.Texts.{AreAnnotations, given_of};
 
 use crate::inputs::{Inputs, is_standard};
-use crate::unread::Unread;
+use crate::unread::InputFault;
 use flt_c_files::is_c_file;
 use flt_explain_forms::UnreadFile;
 use flt_joined::GivenFile;
@@ -26,7 +26,7 @@ pub(crate) fn annotated<'a>(
     alloc: Global,
     name: &'a str,
     file: Vec<u8>,
-) -> Result<Result<GivenFile<'a>, Unread>, AllocError>
+) -> Result<Result<GivenFile<'a>, InputFault>, AllocError>
     ensures name { IfOk result (λ done. IfOk done (λ g. g.name.now ≡ name.now)) }
     ensures text { IfOk result (λ done. IfOk done (λ g. AreAnnotations file.items g.text.items)) }
     ensures code { IfOk result (λ done. IfOk done (λ g. option_map (λ code. code.items) g.code ≡ Some file.items)) }
@@ -35,7 +35,7 @@ pub(crate) fn annotated<'a>(
 {
     match GivenFile::annotated(alloc, name, file)? {
         Ok(file) => Ok(Ok(file)),
-        Err(flaw) => Ok(Err(Unread::Flawed(flaw))),
+        Err(flaw) => Ok(Err(InputFault::Flawed(flaw))),
     }
 }
 
@@ -46,7 +46,7 @@ fn found_in<'a, I: Inputs>(
     inputs: &I,
     all: bool,
     name: &'a str,
-) -> Result<Result<GivenFile<'a>, Unread>, AllocError>
+) -> Result<Result<GivenFile<'a>, InputFault>, AllocError>
     ensures name { IfOk result (λ done. IfOk done (λ g. g.name.now ≡ name.now)) }
     ensures found { IfOk result (λ done. IfOk done (λ g. spec.GivesFound all (I.gives inputs.now) (given_of g))) }
     ensures own { IfOk result (λ done. IfOk done IsOwn) }
@@ -69,7 +69,7 @@ fn find_one<'a, I: Inputs>(
     all: bool,
     is_used: bool,
     name: &'a str,
-) -> Result<Result<GivenFile<'a>, Unread>, AllocError>
+) -> Result<Result<GivenFile<'a>, InputFault>, AllocError>
     ensures name { IfOk result (λ done. IfOk done (λ g. g.name.now ≡ name.now)) }
     ensures found { IfOk result (λ done. IfOk done (λ g. spec.GivesFound all (I.gives inputs.now) (given_of g))) }
     ensures own { IfOk result (λ done. IfOk done IsOwn) }
@@ -78,7 +78,7 @@ fn find_one<'a, I: Inputs>(
         ((is_standard_name name.now && is_used ≡ true) ⊎ spec.gives_annotations all (I.gives inputs.now) name.now None)) }
 {
     if is_used && is_standard(name) {
-        return Ok(Err(Unread::Again));
+        return Ok(Err(InputFault::Again));
     }
     found_in(alloc, inputs, all, name)
 }

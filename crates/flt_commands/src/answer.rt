@@ -4,11 +4,11 @@ ghost use Rattle.std.specs.Prelude.{◌≡◌, ◌≢◌, [], ◌∷◌, ◌++�
 ghost use Rattle.flt_commands.specs.Answer as spec;
 
 use crate::driver::{Driver, driver_status};
-use crate::emit::Unemitted;
+use crate::emit::EmitFault;
 use crate::outcomes::{Outcomes, files_status, printed_files};
 use flt_check::Refusal;
 use flt_explain_forms::UnreadFile;
-use flt_explain_runs::Told;
+use flt_explain_runs::ExplainOutput;
 use flt_model::{Verdict, Violation};
 use flt_rules::{Rule, number, text};
 use flt_stack_crew::{Ending, Ran};
@@ -28,7 +28,7 @@ pub enum Answer {
     /// The verdict about a journal.
     Judged(Verdict),
     /// Reports of texts, with the outcomes of the findings in runs; and the files that aren't read.
-    Explained(Told, Vec<UnreadFile>),
+    Explained(ExplainOutput, Vec<UnreadFile>),
     /// The text of the annotations of C files, or where its lines begin.
     Extracted(Vec<u8>),
     /// The outcomes of files that are laid out, and where their layouts go.
@@ -44,7 +44,7 @@ pub enum Answer {
     /// A part of the driver that an accepted text is.
     Emitted(Vec<u8>),
     /// Why an accepted text can't be emitted.
-    NotEmitted(Unemitted),
+    NotEmitted(EmitFault),
     /// The parts of the driver that an accepted text is are written, as far as that could be done.
     EmittedInto(Driver),
     /// The reports on C files that differ from their annotations.
@@ -203,9 +203,9 @@ impl fmt::Display for Place {
 
 /// The rule that a text breaks, in words.
 #[derive(Drop)]
-struct Broken(Rule);
+struct BrokenRule(Rule);
 
-impl fmt::Display for Broken {
+impl fmt::Display for BrokenRule {
     ghost output = { λ r. Some (spec.broken r.0) };
 
     fn fmt<W: fmt::Write>(&self, f: &mut fmt::Formatter<W>) -> fmt::Result {
@@ -224,7 +224,7 @@ impl fmt::Display for RefusalLine {
 
     fn fmt<W: fmt::Write>(&self, f: &mut fmt::Formatter<W>) -> fmt::Result {
         let place = Place(self.0);
-        let rule = Broken(self.0.rule);
+        let rule = BrokenRule(self.0.rule);
         write!(f, "refused {place} {rule}")
     }
 }
@@ -239,7 +239,7 @@ impl fmt::Display for FileRefusalLine {
     fn fmt<W: fmt::Write>(&self, f: &mut fmt::Formatter<W>) -> fmt::Result {
         let file = self.0;
         let place = Place(self.1);
-        let rule = Broken(self.1.rule);
+        let rule = BrokenRule(self.1.rule);
         write!(f, "refused file {file} {place} {rule}")
     }
 }
@@ -296,11 +296,11 @@ impl fmt::Display for Mixture {
 }
 
 /// The line that says why a text can't be emitted, without its end.
-fn unemitted_line(alloc: Global, why: Unemitted) -> Result<String, AllocError>
+fn unemitted_line(alloc: Global, why: EmitFault) -> Result<String, AllocError>
     ensures { IfOk result (λ line. string_bytes line ≡ spec.unemitted_line why) }
 {
     match why {
-        Unemitted::Kinds {
+        EmitFault::Kinds {
             line,
             stream,
             instance,
@@ -308,14 +308,14 @@ fn unemitted_line(alloc: Global, why: Unemitted) -> Result<String, AllocError>
             let mixture = Mixture(stream, instance);
             format!(in alloc; "not emitted line {line} {mixture}")
         }
-        Unemitted::Create { line } => {
+        EmitFault::Create { line } => {
             format!(in alloc;
                 "not emitted line {line} a pre create that completes with STATUS_SUCCESS"
             )
         }
-        Unemitted::Return { line } => {
+        EmitFault::Return { line } => {
             format!(in alloc; "not emitted line {line} a return that does not fit its callback")
         }
-        Unemitted::Unread => format!(in alloc; "not emitted a source that does not read back"),
+        EmitFault::Unread => format!(in alloc; "not emitted a source that does not read back"),
     }
 }

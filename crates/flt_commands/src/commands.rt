@@ -16,7 +16,7 @@ use crate::compare::compare_files;
 use crate::deadlock::tell_deadlock;
 use crate::emit::emit_files;
 use crate::emit_into::{emit_files_into, into_remark};
-use crate::explain::{Asked, pages_of};
+use crate::explain::{ExplainOptions, pages_of};
 use crate::explained::report_on_files;
 use crate::extract::extract_files;
 use crate::failure::Failure;
@@ -32,7 +32,7 @@ use crate::showing::show_files;
 use crate::texts::Texts;
 use crate::thin::thin_files;
 use flt_model::{Sink, put_all};
-use flt_stack_crew::{Unwatched, Watch};
+use flt_stack_crew::{NoWatch, Watch};
 use flt_syntax::fails_exactly_where_nothing_is_spelled;
 use flt_words::{Colour, Request, read_words};
 use std::alloc::Global;
@@ -126,7 +126,7 @@ fn report_of<'a, R: Threads + Wait + Sync, I: Inputs, P: Pictures, O: Sink, W: W
                 &Texts { inputs, whole },
                 script,
                 files,
-                &mut Unwatched,
+                &mut NoWatch,
                 &mut contents,
             );
             report_on(alloc, Vec::new(alloc), said, contents)
@@ -188,7 +188,7 @@ fn report_of<'a, R: Threads + Wait + Sync, I: Inputs, P: Pictures, O: Sink, W: W
             is_c,
             files,
         } => {
-            let asked = Asked {
+            let asked = ExplainOptions {
                 form,
                 coloured: is_coloured(colour, coloured),
                 states,

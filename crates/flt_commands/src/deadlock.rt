@@ -4,7 +4,7 @@
 use crate::answer::Answer;
 use crate::failure::Failure;
 use crate::report::Contents;
-use flt_explain_waits::{Blocked, waits_of};
+use flt_explain_waits::{BlockedActivation, waits_of};
 use flt_model::{Journal, JournalFault, read};
 use flt_stack_crew::{Ending, Ran, Watch};
 use flt_syntax::{ParseError, parse};
@@ -81,7 +81,7 @@ fn put_place(
     out: &mut String,
     text: &[u8],
     filter: &Filter,
-    wait: Blocked,
+    wait: BlockedActivation,
 ) -> Result<(), AllocError> {
     if let Some(callback) = callback_at(filter, wait.span) {
         put_bytes(out, bytes_at(text, callback.span))?;
@@ -99,7 +99,7 @@ fn put_line(
     out: &mut String,
     text: &[u8],
     filter: &Filter,
-    wait: Blocked,
+    wait: BlockedActivation,
 ) -> Result<(), AllocError> {
     let number = wait.activation;
     write!(out, "deadlock: activation {number} (")?;
@@ -120,7 +120,7 @@ fn put_wait(
     out: &mut String,
     texts: &[Vec<u8>],
     trees: &[Tree],
-    wait: Blocked,
+    wait: BlockedActivation,
 ) -> Result<(), AllocError> {
     for (text, tree) in texts.iter().zip(trees) {
         if above(trees, tree.filter.altitude) == wait.filter {

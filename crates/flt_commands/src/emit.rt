@@ -19,7 +19,7 @@ use flt_check::check;
 use flt_emit::{Allocation, emit, emit_header, emit_installation};
 use flt_emit_read::{is_read_back, reads_back_whole, unfit_return};
 use flt_graph::{Graph, Tree, lower};
-use flt_kinds::{ContextKinds, Mixed, Spot, completed_create, context_kinds};
+use flt_kinds::{ContextKinds, MixedContext, Spot, completed_create, context_kinds};
 use flt_syntax::parse;
 use flt_words::Part;
 use std::alloc::{AllocError, Global};
@@ -28,7 +28,7 @@ use std::sync::ledger::{Blank, Ledger};
 
 /// Why an accepted text can't be emitted. Lines are counted from 1.
 #[derive(Clone, Copy, Debug)]
-pub enum Unemitted {
+pub enum EmitFault {
     /// The context that a statement of `line` allocates or gives may be set on a stream and on the instance.
     Kinds {
         line: usize,
@@ -113,10 +113,10 @@ fn line_of(graph: &Graph, at: Spot) -> usize
 }
 
 /// The lines of the statements that say that a context has two kinds.
-pub(crate) fn mixed_lines(graph: &Graph, mixed: Mixed) -> Unemitted
+pub(crate) fn mixed_lines(graph: &Graph, mixed: MixedContext) -> EmitFault
     ensures { result ≡ spec.mixed_lines graph.now mixed }
 {
-    Unemitted::Kinds {
+    EmitFault::Kinds {
         line: line_of(graph, mixed.site),
         stream: line_of(graph, mixed.stream),
         instance: line_of(graph, mixed.instance),
@@ -124,10 +124,10 @@ pub(crate) fn mixed_lines(graph: &Graph, mixed: Mixed) -> Unemitted
 }
 
 /// The line in which an open is completed.
-pub(crate) fn create_in(graph: &Graph, at: Spot) -> Unemitted
+pub(crate) fn create_in(graph: &Graph, at: Spot) -> EmitFault
     ensures { result ≡ spec.create_line graph.now at }
 {
-    Unemitted::Create {
+    EmitFault::Create {
         line: line_of(graph, at),
     }
 }
@@ -148,11 +148,11 @@ fn emit_known(
         return Ok(Answer::NotEmitted(create_in(graph, at)));
     }
     if let Some(line) = unfit_return(tree) {
-        return Ok(Answer::NotEmitted(Unemitted::Return { line }));
+        return Ok(Answer::NotEmitted(EmitFault::Return { line }));
     }
     match part_of(alloc, part, tree, listed.as_slice())? {
         Some(bytes) => Ok(Answer::Emitted(bytes)),
-        None => Ok(Answer::NotEmitted(Unemitted::Unread)),
+        None => Ok(Answer::NotEmitted(EmitFault::Unread)),
     }
 }
 

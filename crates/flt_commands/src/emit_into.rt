@@ -17,7 +17,7 @@ ghost use Rattle.std.specs.Prelude.{◌≡◌, ◌<◌, [], ◌∷◌, None, IfE
 
 use crate::answer::Answer;
 use crate::driver::{Driver, DriverParts, driver_lines, names_in, put_driver};
-use crate::emit::{Unemitted, create_in, mixed_lines, source_of};
+use crate::emit::{EmitFault, create_in, mixed_lines, source_of};
 use crate::failure::Failure;
 use crate::inputs::{Inputs, Pictures, read_all};
 use crate::report::Contents;
@@ -100,11 +100,11 @@ fn write_filter<P: Pictures>(
         return Ok(Answer::NotEmitted(create_in(graph, at)));
     }
     if let Some(line) = unfit_return(tree) {
-        return Ok(Answer::NotEmitted(Unemitted::Return { line }));
+        return Ok(Answer::NotEmitted(EmitFault::Return { line }));
     }
     match write_known(alloc, inputs, folder, tree, listed.as_slice(), pictures)? {
         Some(driver) => Ok(Answer::EmittedInto(driver)),
-        None => Ok(Answer::NotEmitted(Unemitted::Unread)),
+        None => Ok(Answer::NotEmitted(EmitFault::Unread)),
     }
 }
 

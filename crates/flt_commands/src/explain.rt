@@ -27,13 +27,13 @@ use crate::inputs::{Inputs, Pictures};
 use crate::remarks::unread_lines;
 use crate::report::Contents;
 use crate::sources::{add_refused, bytes_in, codes_in, sources_of};
-use crate::unwritten::Unwritten;
-use flt_explain_details::{Explained, Source};
+use crate::unwritten::OutputFault;
+use flt_explain_details::{Printout, Source};
 use flt_explain_forms::{DriftedFile, Style, UnreadFile, lines, sarif};
 use flt_explain_pages::page;
-use flt_explain_runs::{Asking, Noted, SearchWatch, Told, explain, first_journal};
+use flt_explain_runs::{Asking, ExplainOutput, Note, SearchWatch, explain, first_journal};
 use flt_explain_warning_details::WarningOptions;
-use flt_joined::{GivenFile, Joined, join, source_files};
+use flt_joined::{GivenFile, JoinedTexts, join, source_files};
 use flt_model::Sink;
 use flt_stack_prepare::journal_bytes;
 use flt_words::{Form, visible};
@@ -66,14 +66,14 @@ fn told_names(alloc: Global, form: Form, files: &[GivenFile<'_>]) -> Result<Vec<
 #[derive(Drop)]
 pub enum Explanation<'a> {
     /// The output, and the files that aren't read.
-    Told(Told, Vec<UnreadFile>),
+    Told(ExplainOutput, Vec<UnreadFile>),
     /// The journal isn't written into the file of this name.
-    Unwritten(&'a str, Unwritten),
+    Unwritten(&'a str, OutputFault),
 }
 
 /// The options of `explain` for texts.
 #[derive(Clone, Copy)]
-pub struct Asked<'a> {
+pub struct ExplainOptions<'a> {
     pub form: Form,
     pub coloured: bool,
     /// The greatest number of states from which the search for runs of a text continues.
@@ -89,7 +89,7 @@ pub struct Asked<'a> {
 }
 
 /// The same options, for reports for people.
-fn asking(asked: Asked<'_>, is_held: bool) -> Asking
+fn asking(asked: ExplainOptions<'_>, is_held: bool) -> Asking
     ensures coloured { result.coloured ≡ asked.entry.coloured }
     ensures states { result.states ≡ asked.entry.states }
     ensures held { result.is_held ≡ is_held }
@@ -104,12 +104,12 @@ fn asking(asked: Asked<'_>, is_held: bool) -> Asking
 }
 
 /// Output without notes, all of which is written already.
-fn sent(alloc: Global, explained: Explained) -> Told
+fn sent(alloc: Global, explained: Printout) -> ExplainOutput
     ensures explained { result.explained ≡ explained }
     ensures noted { result.noted ≡ [] }
     ensures sent { result.sent ≡ length explained.output.items }
 {
-    Told {
+    ExplainOutput {
         sent: explained.output.len(),
         explained,
         noted: Items::new(alloc),
@@ -117,12 +117,12 @@ fn sent(alloc: Global, explained: Explained) -> Told
 }
 
 /// Output of which nothing is written yet.
-fn unsent(explained: Explained, noted: Items<Noted>) -> Told
+fn unsent(explained: Printout, noted: Items<Note>) -> ExplainOutput
     ensures explained { result.explained ≡ explained }
     ensures noted { result.noted ≡ noted }
     ensures sent { result.sent ≡ 0 }
 {
-    Told {
+    ExplainOutput {
         explained,
         noted,
         sent: 0,
@@ -132,12 +132,12 @@ fn unsent(explained: Explained, noted: Items<Noted>) -> Told
 /// The page on some texts, after these drifts, of which nothing has gone out.
 fn told_page<O: Sink, W: SearchWatch>(
     alloc: Global,
-    asked: Asked<'_>,
+    asked: ExplainOptions<'_>,
     drifted: &[DriftedFile<'_>],
     sources: &[Source<'_>],
     out: &mut O,
     watch: &mut W,
-) -> Result<Told, CommandFault>
+) -> Result<ExplainOutput, CommandFault>
     ensures page { IfOk result (λ t. IsPageOn asked.entry.options (drifts_told Form.Html drifted.now) sources.now
         t.explained.output.items t.explained.status) }
     ensures paged { IfOk result (λ t.
@@ -159,17 +159,17 @@ fn told_page<O: Sink, W: SearchWatch>(
     printed.extend_from_slice(told.explained.output.as_slice())?;
     let output = page_on(alloc, sources, printed.as_slice(), told.noted.as_slice())?;
     let status = told.explained.status;
-    Ok(unsent(Explained { output, status }, told.noted))
+    Ok(unsent(Printout { output, status }, told.noted))
 }
 
 /// The lines of some texts with the runs of their findings, before anything is written.
 fn lines_with_runs<O: Sink, W: SearchWatch>(
     alloc: Global,
-    asked: Asked<'_>,
+    asked: ExplainOptions<'_>,
     sources: &[Source<'_>],
     out: &mut O,
     watch: &mut W,
-) -> Result<Told, CommandFault>
+) -> Result<ExplainOutput, CommandFault>
     ensures told { IfOk result (spec.AreToldWithRuns asked.entry.options sources.now) }
     ensures print { IfOk result (λ t. spec.HasReport (spec.look_of asked.entry) sources.now t.noted) }
     ensures noted { IfOk result (λ t. AreNotes (texts_of sources.now) t.noted) }
@@ -193,13 +193,13 @@ fn lines_with_runs<O: Sink, W: SearchWatch>(
 /// The same as a document, with drifts, and files that aren't read.
 fn sarif_with_runs<O: Sink, W: SearchWatch>(
     alloc: Global,
-    asked: Asked<'_>,
+    asked: ExplainOptions<'_>,
     drifted: &[DriftedFile<'_>],
     sources: &[Source<'_>],
     unread: &[UnreadFile],
     out: &mut O,
     watch: &mut W,
-) -> Result<Told, CommandFault>
+) -> Result<ExplainOutput, CommandFault>
     ensures told { IfOk result (spec.IsToldWithRuns asked.entry.options drifted.now sources.now unread.now) }
     ensures print { IfOk result (λ t. spec.HasReport (spec.look_of asked.entry) sources.now t.noted) }
     ensures noted { IfOk result (λ t. AreNotes (texts_of sources.now) t.noted) }
@@ -226,13 +226,13 @@ fn sarif_with_runs<O: Sink, W: SearchWatch>(
 #[tactic(auto, using(crate::proofs::Sent::none_sent, crate::proofs::Faults::write_of, crate::proofs::Faults::memory_of))]
 fn told_in_turn<O: Sink, W: SearchWatch>(
     alloc: Global,
-    asked: Asked<'_>,
+    asked: ExplainOptions<'_>,
     drifted: &[DriftedFile<'_>],
     sources: &[Source<'_>],
     unread: &[UnreadFile],
     out: &mut O,
     watch: &mut W,
-) -> Result<Told, CommandFault>
+) -> Result<ExplainOutput, CommandFault>
     ensures told { IfOk result (spec.IsTold asked.entry.form asked.entry.options drifted.now sources.now unread.now) }
     ensures noted { IfOk result (λ t. spec.AreNotedFor asked.entry.form None (texts_of sources.now) t.noted) }
     ensures notes { IfOk result (spec.IsNoteTold asked.entry.form (texts_of sources.now) asked.entry.states) }
@@ -272,13 +272,13 @@ fn told_in_turn<O: Sink, W: SearchWatch>(
 #[tactic(auto, using(crate::proofs::Sent::none_sent, crate::proofs::Faults::memory_alone))]
 fn told_whole<O: Sink, W: SearchWatch>(
     alloc: Global,
-    asked: Asked<'_>,
+    asked: ExplainOptions<'_>,
     drifted: &[DriftedFile<'_>],
     sources: &[Source<'_>],
     unread: &[UnreadFile],
     out: &mut O,
     watch: &mut W,
-) -> Result<Told, CommandFault>
+) -> Result<ExplainOutput, CommandFault>
     ensures told { IfOk result (spec.IsTold asked.entry.form asked.entry.options drifted.now sources.now unread.now) }
     ensures noted { IfOk result (λ t. AreNotes (texts_of sources.now) t.noted) }
     ensures notes { IfOk result (spec.IsNoteTold asked.entry.form (texts_of sources.now) asked.entry.states) }
@@ -308,13 +308,13 @@ fn told_whole<O: Sink, W: SearchWatch>(
 #[tactic(auto, using(crate::proofs::Sent::cut_nowhere))]
 pub(crate) fn told<O: Sink, W: SearchWatch>(
     alloc: Global,
-    asked: Asked<'_>,
+    asked: ExplainOptions<'_>,
     drifted: &[DriftedFile<'_>],
     sources: &[Source<'_>],
     unread: &[UnreadFile],
     out: &mut O,
     watch: &mut W,
-) -> Result<Told, CommandFault>
+) -> Result<ExplainOutput, CommandFault>
     ensures told { IfOk result (spec.IsTold asked.entry.form asked.entry.options drifted.now sources.now unread.now) }
     ensures noted { IfOk result (λ t. spec.AreNotedFor asked.entry.form (option_map (λ name. name.now) asked.entry.journal)
         (texts_of sources.now) t.noted) }
@@ -339,13 +339,13 @@ pub(crate) fn told<O: Sink, W: SearchWatch>(
 #[tactic(auto, using(crate::proofs::Sources::within))]
 fn told_joined<O: Sink, W: SearchWatch>(
     alloc: Global,
-    asked: Asked<'_>,
+    asked: ExplainOptions<'_>,
     files: &[GivenFile<'_>],
-    joined: &Joined,
+    joined: &JoinedTexts,
     unread: &[UnreadFile],
     out: &mut O,
     watch: &mut W,
-) -> Result<Told, CommandFault>
+) -> Result<ExplainOutput, CommandFault>
     requires { AreJoined files.now joined.now }
     ensures told { IfOk result (spec.IsToldOfFiles asked.entry.form (spec.look_of asked.entry)
         (map (λ name. name.now) asked.entry.allowed.now)
@@ -380,9 +380,9 @@ fn write_journal<P: Pictures>(
     alloc: Global,
     inputs: &[&str],
     name: &str,
-    noted: &[Noted],
+    noted: &[Note],
     pictures: &mut P,
-) -> Result<Result<(), Unwritten>, AllocError>
+) -> Result<Result<(), OutputFault>, AllocError>
     ensures { IfOk result (λ done. OnOk done
         (spec.IsSpelledAs (P.written pictures.new) (pictures.new ≡ pictures.old) name.now (first_journal noted.now))) }
 {
@@ -400,7 +400,7 @@ fn keep<'a, P: Pictures>(
     alloc: Global,
     inputs: &[&'a str],
     journal: Option<&'a str>,
-    told: Told,
+    told: ExplainOutput,
     unread: Vec<UnreadFile>,
     pictures: &mut P,
 ) -> Result<Explanation<'a>, AllocError>
@@ -425,7 +425,7 @@ fn keep<'a, P: Pictures>(
 #[tactic(auto, using(crate::proofs::Sent::cut_short))]
 pub fn explain_files<'a, I: Inputs, P: Pictures, O: Sink, W: SearchWatch>(
     alloc: Global,
-    asked: Asked<'a>,
+    asked: ExplainOptions<'a>,
     inputs: &I,
     files: &[&'a str],
     pictures: &mut P,

@@ -10,7 +10,7 @@ ghost use Rattle.flt_words.specs.Request.{Choice, Explain};
 ghost use Rattle.flt_words.specs.declared.request.Colour.{Colour};
 
 use crate::clean::{covered_texts_break_nothing, driven_texts_break_nothing};
-use crate::explain::{Asked, explain_files};
+use crate::explain::{ExplainOptions, explain_files};
 use crate::fault::CommandFault;
 use crate::inputs::{Inputs, Pictures};
 use crate::remarks::explain_remark;
@@ -24,7 +24,7 @@ use std::alloc::Global;
 /// soon as it is made, unless all of it is held back.
 pub(crate) fn report_on_files<'a, I: Inputs, P: Pictures, O: Sink, W: SearchWatch>(
     alloc: Global,
-    asked: Asked<'a>,
+    asked: ExplainOptions<'a>,
     inputs: &I,
     files: &[&'a str],
     pictures: &mut P,

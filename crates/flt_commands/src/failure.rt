@@ -4,7 +4,7 @@ ghost use Rattle.std.specs.Prelude.{◌≡◌, IfOk, Some, string_bytes};
 ghost use Rattle.flt_commands.specs.Failure as spec;
 
 use crate::extract::flaw_line;
-use crate::unwritten::Unwritten;
+use crate::unwritten::OutputFault;
 use flt_c::Flaw;
 use flt_cert::CertFault;
 use flt_explain_details::SyntaxLine;
@@ -17,7 +17,7 @@ use std::fmt;
 #[derive(Debug, Drop)]
 pub enum Failure<'a> {
     CannotRead(&'a str),
-    CannotWrite(&'a str, Unwritten),
+    CannotWrite(&'a str, OutputFault),
     /// A run without a file.
     NoFile,
     /// More than `MAX_FILTERS` files.

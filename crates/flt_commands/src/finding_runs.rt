@@ -6,9 +6,9 @@ ghost use Rattle.flt_commands.specs.FindingRuns as spec;
 use flt_explain_details::Source;
 use flt_explain_flows::Flow;
 use flt_explain_forms::FindingRun;
-use flt_explain_runs::{Noted, Schedule, Scheduled, own_files, own_trees, schedule_of};
+use flt_explain_runs::{JointOutcome, Note, Schedule, own_files, own_trees, schedule_of};
 use flt_places::Files;
-use flt_search::Broken;
+use flt_search::BreakingJournal;
 use flt_syntax::{ParseError, parse};
 use flt_tree::Tree;
 use sqlite_items::Items;
@@ -16,7 +16,7 @@ use std::alloc::{AllocError, Global};
 
 /// The trees of texts that parse, their files, and the numbers of these texts among all, from 0.
 #[derive(Drop)]
-struct Parsed<'a> {
+struct ParsedTexts<'a> {
     trees: Vec<Tree>,
     files: Vec<Files<'a>>,
     numbers: Items<usize>,
@@ -25,7 +25,7 @@ struct Parsed<'a> {
 /// Adds the tree of a text, if it parses, with its files and the text's number.
 fn add_parsed<'a>(
     alloc: Global,
-    parsed: &mut Parsed<'a>,
+    parsed: &mut ParsedTexts<'a>,
     number: usize,
     source: Source<'a>,
 ) -> Result<(), AllocError>
@@ -45,10 +45,10 @@ fn add_parsed<'a>(
 }
 
 /// The trees of some texts.
-fn parsed_of<'a>(alloc: Global, sources: &[Source<'a>]) -> Result<Parsed<'a>, AllocError>
+fn parsed_of<'a>(alloc: Global, sources: &[Source<'a>]) -> Result<ParsedTexts<'a>, AllocError>
     ensures { IfOk result (λ p. spec.AreTrees sources.now p.trees.items p.files.items p.numbers) }
 {
-    let mut parsed = Parsed {
+    let mut parsed = ParsedTexts {
         trees: Vec::new(alloc),
         files: Vec::new(alloc),
         numbers: Items::new(alloc),
@@ -70,21 +70,21 @@ fn number_of(numbers: &[usize], tree: usize) -> usize
 }
 
 /// The numbers of the texts of the filters in whose runs a finding has its outcome.
-fn own_numbers(alloc: Global, numbers: &[usize], noted: &Noted) -> Result<Items<usize>, AllocError>
+fn own_numbers(alloc: Global, numbers: &[usize], noted: &Note) -> Result<Items<usize>, AllocError>
     ensures { IfOk result (λ own. own ≡ spec.own_numbers numbers.now noted.now.filter noted.now.scheduled) }
 {
     match &noted.scheduled {
-        Scheduled::Together(_) => Items::from_slice(alloc, numbers),
-        Scheduled::Alone(_) => Items::from_slice(alloc, &[number_of(numbers, noted.filter)]),
+        JointOutcome::Together(_) => Items::from_slice(alloc, numbers),
+        JointOutcome::Alone(_) => Items::from_slice(alloc, &[number_of(numbers, noted.filter)]),
     }
 }
 
 /// The run of a finding that has this outcome.
 fn run_by(
     alloc: Global,
-    parsed: &Parsed<'_>,
-    noted: &Noted,
-    broken: &Broken,
+    parsed: &ParsedTexts<'_>,
+    noted: &Note,
+    broken: &BreakingJournal,
     flow: Flow,
 ) -> Result<FindingRun, AllocError>
     ensures { IfOk result (λ run. run ≡ spec.run_by parsed.now.numbers noted.now broken.now flow) }
@@ -103,9 +103,9 @@ fn run_by(
 fn add_broken(
     alloc: Global,
     runs: &mut Vec<FindingRun>,
-    parsed: &Parsed<'_>,
-    noted: &Noted,
-    broken: &Broken,
+    parsed: &ParsedTexts<'_>,
+    noted: &Note,
+    broken: &BreakingJournal,
 ) -> Result<(), AllocError>
     ensures { IfOk result (λ _. spec.IsAdded parsed.now.trees.items parsed.now.files.items parsed.now.numbers noted.now broken.now
         runs.old.items runs.new.items) }
@@ -127,8 +127,8 @@ fn add_broken(
 fn add_run(
     alloc: Global,
     runs: &mut Vec<FindingRun>,
-    parsed: &Parsed<'_>,
-    noted: &Noted,
+    parsed: &ParsedTexts<'_>,
+    noted: &Note,
 ) -> Result<(), AllocError>
     ensures { IfOk result (λ _. spec.IsNext parsed.now.trees.items parsed.now.files.items parsed.now.numbers noted.now runs.old.items
         runs.new.items) }
@@ -147,7 +147,7 @@ fn add_run(
 pub(crate) fn runs_of(
     alloc: Global,
     sources: &[Source<'_>],
-    noted: &[Noted],
+    noted: &[Note],
 ) -> Result<Vec<FindingRun>, AllocError>
     ensures { IfOk result (λ runs. spec.AreRuns sources.now noted.now runs.items) }
 {

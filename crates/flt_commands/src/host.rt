@@ -10,13 +10,13 @@ use crate::commands::command;
 use crate::fault::CommandFault;
 use crate::folders::with_folders;
 use crate::inputs::is_standard;
-use crate::named::Named;
+use crate::named::SystemFiles;
 use crate::report::Report;
 use crate::search::WatchSearch;
 use crate::serving::serve_client;
 use crate::system::{Place, Reader, System};
-use crate::unread::Unread;
-use crate::unwritten::Unwritten;
+use crate::unread::InputFault;
+use crate::unwritten::OutputFault;
 use flt_model::{ReadFault, Writing};
 use flt_server_frames::{Incoming, ServeFault};
 use flt_stack_crew::Watch;
@@ -33,19 +33,19 @@ use std::thread::Threads;
 
 /// A file or a stream of the system that is read, with a count of its failures and the reason of the last one.
 #[derive(Drop)]
-struct Counted<R: Read + Drop> {
+struct CountedReader<R: Read + Drop> {
     inner: R,
     failures: u64,
     fault: Option<io::Error>,
 }
 
-impl<R: Read + Drop> Counted<R> {
+impl<R: Read + Drop> CountedReader<R> {
     /// A reader without failures.
-    fn new(inner: R) -> Counted<R>
+    fn new(inner: R) -> CountedReader<R>
         ensures inner { result.inner ≡ inner }
         ensures fine { result.failures ≡ 0 }
     {
-        Counted {
+        CountedReader {
             inner,
             failures: 0,
             fault: None,
@@ -53,7 +53,7 @@ impl<R: Read + Drop> Counted<R> {
     }
 }
 
-impl<R: Read + Drop> Reader for Counted<R> {
+impl<R: Read + Drop> Reader for CountedReader<R> {
     ghost left = { λ r. R.remaining r.inner };
 
     ghost failures = { λ r. r.failures };
@@ -69,15 +69,15 @@ impl<R: Read + Drop> Reader for Counted<R> {
         }
     }
 
-    fn why(&self) -> Option<Unread> {
+    fn why(&self) -> Option<InputFault> {
         match &self.fault {
-            Some(fault) => Some(Unread::of(fault)),
+            Some(fault) => Some(InputFault::of(fault)),
             None => None,
         }
     }
 }
 
-impl<R: Read + Drop> Incoming for Counted<R> {
+impl<R: Read + Drop> Incoming for CountedReader<R> {
     ghost left = { λ r. R.remaining r.inner };
 
     ghost failures = { λ r. r.failures };
@@ -96,9 +96,9 @@ struct Host<'a> {
 }
 
 impl System for Host<'_> {
-    type File = Counted<File>;
+    type File = CountedReader<File>;
 
-    type Input = Counted<Stdin>;
+    type Input = CountedReader<Stdin>;
 
     type Made = File;
 
@@ -118,11 +118,11 @@ impl System for Host<'_> {
 
     ghost puts = { λ _. Unseen };
 
-    fn open(&self, name: &str) -> Option<Counted<File>> {
+    fn open(&self, name: &str) -> Option<CountedReader<File>> {
         match fs::open(self.rt, name) {
             Ok(file) => {
                 self.fault.set(None);
-                Some(Counted::new(file))
+                Some(CountedReader::new(file))
             }
             Err(fault) => {
                 self.fault.set(Some(fault));
@@ -131,28 +131,28 @@ impl System for Host<'_> {
         }
     }
 
-    fn input(&self) -> Counted<Stdin> {
+    fn input(&self) -> CountedReader<Stdin> {
         self.fault.set(None);
-        Counted::new(self.rt.stdin())
+        CountedReader::new(self.rt.stdin())
     }
 
-    fn place(&self, name: &str, inputs: &[&str]) -> Result<Place, Unwritten> {
+    fn place(&self, name: &str, inputs: &[&str]) -> Result<Place, OutputFault> {
         match fs::symlink_metadata(self.rt, name) {
             Ok(found) if found.is_symlink() => self.place_led_to(name),
-            Ok(found) if found.is_dir() => Err(Unwritten::Folder),
+            Ok(found) if found.is_dir() => Err(OutputFault::Folder),
             Ok(found) if !found.is_file() => Ok(Place::Stream),
-            Ok(found) if self.is_among(&found, inputs) => Err(Unwritten::Input),
+            Ok(found) if self.is_among(&found, inputs) => Err(OutputFault::Input),
             Ok(_) => self.place_of_file(name),
             Err(fault) if fault.kind() == io::ErrorKind::NotFound => Ok(Place::File),
-            Err(fault) => Err(Unwritten::Refused(fault)),
+            Err(fault) => Err(OutputFault::Refused(fault)),
         }
     }
 
-    fn stream(&self, name: &str) -> Result<File, Unwritten> {
+    fn stream(&self, name: &str) -> Result<File, OutputFault> {
         self.open_to_write(name)
     }
 
-    fn create(&self, name: &str) -> Result<Option<File>, Unwritten> {
+    fn create(&self, name: &str) -> Result<Option<File>, OutputFault> {
         match OpenOptions::new()
             .write(true)
             .create_new(true)
@@ -160,14 +160,14 @@ impl System for Host<'_> {
         {
             Ok(file) => Ok(Some(file)),
             Err(fault) if fault.kind() == io::ErrorKind::AlreadyExists => Ok(None),
-            Err(fault) => Err(Unwritten::Refused(fault)),
+            Err(fault) => Err(OutputFault::Refused(fault)),
         }
     }
 
-    fn put(&self, file: File, made: &str, name: &str) -> Result<(), Unwritten> {
+    fn put(&self, file: File, made: &str, name: &str) -> Result<(), OutputFault> {
         match self.try_put(&file, made, name) {
             Ok(()) => Ok(()),
-            Err(fault) => Err(Unwritten::Refused(fault)),
+            Err(fault) => Err(OutputFault::Refused(fault)),
         }
     }
 
@@ -175,9 +175,9 @@ impl System for Host<'_> {
         let _ = fs::remove_file(self.rt, made);
     }
 
-    fn why(&self, name: &str) -> Unread {
+    fn why(&self, name: &str) -> InputFault {
         match self.fault.get() {
-            Some(fault) => Unread::of(&fault),
+            Some(fault) => InputFault::of(&fault),
             None => self.why_long(name),
         }
     }
@@ -185,32 +185,32 @@ impl System for Host<'_> {
 
 impl Host<'_> {
     /// Why the file of a name isn't read, of which no call failed.
-    fn why_long(&self, name: &str) -> Unread {
+    fn why_long(&self, name: &str) -> InputFault {
         match fs::metadata(self.rt, path_of(name)) {
-            Ok(found) if found.is_file() => Unread::TooLong,
-            _ => Unread::Endless,
+            Ok(found) if found.is_file() => InputFault::TooLong,
+            _ => InputFault::Endless,
         }
     }
 
     /// The place to which a symbolic link leads, if that isn't a file or a folder. A process names its own streams by such links.
-    fn place_led_to(&self, name: &str) -> Result<Place, Unwritten> {
+    fn place_led_to(&self, name: &str) -> Result<Place, OutputFault> {
         match fs::metadata(self.rt, name) {
             Ok(found) if !found.is_file() && !found.is_dir() => Ok(Place::Stream),
-            _ => Err(Unwritten::Link),
+            _ => Err(OutputFault::Link),
         }
     }
 
     /// The place of a regular file, if it may be written.
-    fn place_of_file(&self, name: &str) -> Result<Place, Unwritten> {
+    fn place_of_file(&self, name: &str) -> Result<Place, OutputFault> {
         self.open_to_write(name)?;
         Ok(Place::File)
     }
 
     /// The file of a name, opened for writing as it is.
-    fn open_to_write(&self, name: &str) -> Result<File, Unwritten> {
+    fn open_to_write(&self, name: &str) -> Result<File, OutputFault> {
         match OpenOptions::new().write(true).open(self.rt, name) {
             Ok(file) => Ok(file),
-            Err(fault) => Err(Unwritten::Refused(fault)),
+            Err(fault) => Err(OutputFault::Refused(fault)),
         }
     }
 
@@ -292,18 +292,18 @@ impl WatchSearch for Progress<'_> {
 
 /// A stream of the system that is written, with the reason of its last failure.
 #[derive(Drop)]
-struct Told<W: Write + Drop> {
+struct CheckedWriter<W: Write + Drop> {
     inner: W,
     fault: Option<io::Error>,
 }
 
-impl<W: Write + Drop> Told<W> {
-    fn new(inner: W) -> Told<W> {
-        Told { inner, fault: None }
+impl<W: Write + Drop> CheckedWriter<W> {
+    fn new(inner: W) -> CheckedWriter<W> {
+        CheckedWriter { inner, fault: None }
     }
 }
 
-impl<W: Write + Drop> Write for Told<W> {
+impl<W: Write + Drop> Write for CheckedWriter<W> {
     ghost contents = { λ told. W.contents told.inner };
 
     fn write(&mut self, buf: &[u8]) -> io::Result<usize> {
@@ -347,7 +347,7 @@ fn say_out_of_memory(rt: &HostRuntime) {
 }
 
 /// Says on the standard error why the standard output didn't take the answer, if it didn't.
-fn say_unwritten(rt: &HostRuntime, out: &Told<Stdout>) {
+fn say_unwritten(rt: &HostRuntime, out: &CheckedWriter<Stdout>) {
     if let Some(fault) = out.fault {
         let _ = eprintln!(rt; "error: cannot write: {fault}");
     }
@@ -436,13 +436,13 @@ fn execute<R: Threads + Wait + Sync>(
         lines: 0,
     };
     let coloured = shows_colours(rt)?;
-    let mut out = Writing::new(Told::new(rt.stdout()));
+    let mut out = Writing::new(CheckedWriter::new(rt.stdout()));
     let result = command(
         threads,
         rt.alloc(),
         words,
-        &Named::new(&host),
-        &mut Named::new(&host),
+        &SystemFiles::new(&host),
+        &mut SystemFiles::new(&host),
         coloured,
         &mut out,
         &mut Writing::new(rt.stderr()),
@@ -474,7 +474,12 @@ fn report_of<R: Threads + Wait + Sync>(
 }
 
 /// Says on the standard error why a server ended without a status.
-fn say_unserved(rt: &HostRuntime, fault: ServeFault, input: &Counted<Stdin>, out: &Told<Stdout>) {
+fn say_unserved(
+    rt: &HostRuntime,
+    fault: ServeFault,
+    input: &CountedReader<Stdin>,
+    out: &CheckedWriter<Stdout>,
+) {
     match fault {
         ServeFault::OutOfMemory => say_out_of_memory(rt),
         ServeFault::Read => {
@@ -491,8 +496,8 @@ fn say_unserved(rt: &HostRuntime, fault: ServeFault, input: &Counted<Stdin>, out
 fn serve_streams(rt: &HostRuntime) -> Option<u8>
     ensures { IfSome result ServesSomehow }
 {
-    let mut input = Counted::new(rt.stdin());
-    let mut out = Writing::new(Told::new(rt.stdout()));
+    let mut input = CountedReader::new(rt.stdin());
+    let mut out = Writing::new(CheckedWriter::new(rt.stdout()));
     match serve_client(rt.alloc(), &mut input, &mut out) {
         Ok(status) => Some(status),
         Err(fault) => {

@@ -17,11 +17,11 @@ ghost use Rattle.flt_commands.specs.Html as spec;
 use flt_explain_details::{Page, Source};
 use flt_explain_html::{ShownText, html_page};
 use flt_explain_picture::picture;
-use flt_explain_runs::{Noted, Schedule, Scheduled, only, own_files};
+use flt_explain_runs::{JointOutcome, Note, Schedule, only, own_files};
 use flt_explain_timeline::Timeline;
 use flt_model::Verdict;
 use flt_places::{Files, SourceFile, lines_of};
-use flt_search::Broken;
+use flt_search::BreakingJournal;
 use flt_syntax::{ParseError, Tree, parse};
 use sqlite_items::Items;
 use std::alloc::{AllocError, Global};
@@ -89,19 +89,19 @@ fn shown_texts(alloc: Global, sources: &[Source<'_>]) -> Result<Items<ShownText>
 
 /// The texts that parse, and their trees.
 #[derive(Drop)]
-struct Parsed<'a> {
+struct ParsedTexts<'a> {
     texts: Vec<Vec<u8>>,
     /// The files of each.
     files: Vec<Files<'a>>,
     trees: Items<Tree>,
 }
 
-impl<'a> Parsed<'a> {
+impl<'a> ParsedTexts<'a> {
     /// Those of some texts that parse.
-    fn of(alloc: Global, sources: &[Source<'a>]) -> Result<Parsed<'a>, AllocError>
+    fn of(alloc: Global, sources: &[Source<'a>]) -> Result<ParsedTexts<'a>, AllocError>
         ensures { IfOk result (λ parsed. AreParsed (texts_of sources.now) (filters_of parsed.trees)) }
     {
-        let mut parsed = Parsed {
+        let mut parsed = ParsedTexts {
             texts: Vec::new(alloc),
             files: Vec::new(alloc),
             trees: Items::new(alloc),
@@ -142,7 +142,7 @@ fn only_text(texts: &[Vec<u8>], number: usize) -> &[Vec<u8>] {
 }
 
 /// The run that breaks something, if there is one.
-fn run_in(schedule: &Schedule) -> Option<&Broken>
+fn run_in(schedule: &Schedule) -> Option<&BreakingJournal>
     ensures { option_copied result ≡ spec.run_in schedule.now }
 {
     match schedule {
@@ -156,11 +156,11 @@ fn run_in(schedule: &Schedule) -> Option<&Broken>
 }
 
 /// The run of a finding, if it has one.
-fn run_of(noted: &Noted) -> Option<&Broken>
+fn run_of(noted: &Note) -> Option<&BreakingJournal>
     ensures { option_copied result ≡ spec.run_of noted.now }
 {
     match &noted.scheduled {
-        Scheduled::Together(schedule) | Scheduled::Alone(schedule) => run_in(schedule),
+        JointOutcome::Together(schedule) | JointOutcome::Alone(schedule) => run_in(schedule),
     }
 }
 
@@ -170,7 +170,7 @@ fn drawn(
     trees: &[Tree],
     texts: &[Vec<u8>],
     files: &[Files<'_>],
-    run: &Broken,
+    run: &BreakingJournal,
 ) -> Result<Items<u8>, AllocError>
     ensures { IfOk result (IsPicture (title_of (filters_of trees.now) (verdicts.Breaks run.now.violation run.now.entry))) }
 {
@@ -183,9 +183,9 @@ fn drawn(
 /// The picture of the run of a finding.
 fn picture_of(
     alloc: Global,
-    parsed: &Parsed<'_>,
-    noted: &Noted,
-    run: &Broken,
+    parsed: &ParsedTexts<'_>,
+    noted: &Note,
+    run: &BreakingJournal,
 ) -> Result<Items<u8>, AllocError>
     ensures { IfOk result (spec.IsDrawn parsed.now.trees noted.now run.now) }
 {
@@ -193,8 +193,8 @@ fn picture_of(
     let texts = parsed.texts.as_slice();
     let files = own_files(parsed.files.as_slice(), noted.filter, &noted.scheduled);
     match noted.scheduled {
-        Scheduled::Together(_) => drawn(alloc, trees, texts, files, run),
-        Scheduled::Alone(_) => {
+        JointOutcome::Together(_) => drawn(alloc, trees, texts, files, run),
+        JointOutcome::Alone(_) => {
             let own = only(trees, noted.filter);
             drawn(alloc, own, only_text(texts, noted.filter), files, run)
         }
@@ -204,11 +204,11 @@ fn picture_of(
 /// Adds the picture of the run of a finding, if it has one.
 fn add_picture(
     alloc: Global,
-    parsed: &Parsed<'_>,
-    noted: &Noted,
+    parsed: &ParsedTexts<'_>,
+    noted: &Note,
     pictures: &mut Items<Items<u8>>,
 ) -> Result<(), AllocError>
-    ensures { OnOk result ((notes : List Noted) → spec.AreDrawn parsed.now.trees notes pictures.old →
+    ensures { OnOk result ((notes : List Note) → spec.AreDrawn parsed.now.trees notes pictures.old →
         spec.AreDrawn parsed.now.trees (notes ++ noted.now ∷ []) pictures.new) }
 {
     match run_of(noted) {
@@ -224,11 +224,11 @@ fn add_picture(
 fn pictures_of(
     alloc: Global,
     sources: &[Source<'_>],
-    noted: &[Noted],
+    noted: &[Note],
 ) -> Result<Items<Items<u8>>, AllocError>
     ensures { IfOk result (spec.HasPictures sources.now noted.now) }
 {
-    let parsed = Parsed::of(alloc, sources)?;
+    let parsed = ParsedTexts::of(alloc, sources)?;
     let mut pictures = Items::new(alloc);
     for one in noted {
         add_picture(alloc, &parsed, one, &mut pictures)?;
@@ -243,7 +243,7 @@ pub(crate) fn page_on(
     alloc: Global,
     sources: &[Source<'_>],
     printed: &[u8],
-    noted: &[Noted],
+    noted: &[Note],
 ) -> Result<Vec<u8>, AllocError>
     ensures { IfOk result (λ page. spec.HasPage sources.now noted.now printed.now page.items) }
 {

@@ -6,7 +6,7 @@ ghost use Rattle.flt_commands.specs.InTurn as spec;
 ghost use Rattle.flt_explain_forms.specs.Lines.{AreLines};
 
 use crate::fault::CommandFault;
-use flt_explain_details::{Explained, Source};
+use flt_explain_details::{Printout, Source};
 use flt_explain_forms::{Style, lines};
 use flt_explain_warning_details::WarningOptions;
 use flt_model::{Sink, put_all};
@@ -20,7 +20,7 @@ fn put_text<O: Sink>(
     style: Style,
     options: WarningOptions,
     source: Source<'_>,
-    told: &mut Explained,
+    told: &mut Printout,
     out: &mut O,
 ) -> Result<(), CommandFault>
     ensures text { OnOk result (spec.IsTextMore style options source.entry told.old told.new (O.taken out.old) (O.taken out.new)) }
@@ -43,7 +43,7 @@ pub(crate) fn lines_in_turn<O: Sink>(
     options: WarningOptions,
     sources: &[Source<'_>],
     out: &mut O,
-) -> Result<Explained, CommandFault>
+) -> Result<Printout, CommandFault>
     ensures told { IfOk result (λ e. AreLines style options sources.now None e.output.items e.status) }
     ensures sent { IfOk result (λ e. Appends (O.taken out.old) (O.taken out.new) e.output.items) }
     ensures fine { OnOk result (O.failures out.new ≡ O.failures out.old) }
@@ -51,7 +51,7 @@ pub(crate) fn lines_in_turn<O: Sink>(
     ensures memory { IfErr result (λ e. e ≡ CommandFault.OutOfMemory →
         spec.AreFirstLines style options sources.now (O.taken out.old) (O.taken out.new)) }
 {
-    let mut told = Explained {
+    let mut told = Printout {
         output: Vec::new(alloc),
         status: 0,
     };

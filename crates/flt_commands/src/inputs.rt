@@ -12,8 +12,8 @@ ghost use Rattle.flt_commands.specs.System as system;
 use crate::failure::Failure;
 use crate::pieces::Pieces;
 use crate::system::Reader;
-use crate::unread::Unread;
-use crate::unwritten::Unwritten;
+use crate::unread::InputFault;
+use crate::unwritten::OutputFault;
 use flt_explain_forms::UnreadFile;
 use std::alloc::{AllocError, Global};
 use std::cmp::min;
@@ -46,8 +46,8 @@ pub trait Inputs {
         ensures { IfOk result (λ found. gives self.now name.now found) };
 
     /// Why a name gave nothing, as far as that is known.
-    fn why(&self, _name: &str) -> Unread {
-        Unread::Failed
+    fn why(&self, _name: &str) -> InputFault {
+        InputFault::Failed
     }
 }
 
@@ -70,7 +70,7 @@ pub trait Pictures {
         inputs: &[&str],
         name: &str,
         bytes: &[u8],
-    ) -> Result<Result<(), Unwritten>, AllocError>
+    ) -> Result<Result<(), OutputFault>, AllocError>
         ensures done { IfOk result (λ done. OnOk done (written self.new name.now bytes.now)) }
         ensures wrote { IfOk result (λ done. OnOk done (attempts.Grows (tried self.old) (tried self.new)
             (attempts.Wrote name.now bytes.now ∷ []))) }
@@ -81,7 +81,7 @@ pub trait Pictures {
 
     /// Writes these bytes as a new file of this name. Returns false if something of this name is there, which stays as it is; or why no
     /// file could be made.
-    fn write_new(&mut self, name: &str, bytes: &[u8]) -> Result<bool, Unwritten>
+    fn write_new(&mut self, name: &str, bytes: &[u8]) -> Result<bool, OutputFault>
         ensures done { IfOk result (λ is_new. attempts.IsDone (written self.new) (attempts.made is_new name.now bytes.now)) }
         ensures made { IfOk result (λ is_new. attempts.Grows (tried self.old) (tried self.new)
             (attempts.made is_new name.now bytes.now ∷ [])) }
@@ -271,14 +271,14 @@ fn read_one<I: Inputs>(
     inputs: &I,
     is_used: bool,
     name: &str,
-) -> Result<Result<Vec<u8>, Unread>, AllocError>
+) -> Result<Result<Vec<u8>, InputFault>, AllocError>
     ensures given { IfOk result (λ found. IfOk found (λ text. I.gives inputs.now name.now (Some text.items))) }
     ensures once { IfOk result (λ found. OnOk found (spec.is_standard name.now && is_used ≡ false)) }
     ensures missing { IfOk result (λ found. OnErr found
         ((spec.is_standard name.now && is_used ≡ true) ⊎ I.gives inputs.now name.now None)) }
 {
     if is_used && is_standard(name) {
-        return Ok(Err(Unread::Again));
+        return Ok(Err(InputFault::Again));
     }
     match inputs.read(alloc, name)? {
         Some(text) => Ok(Ok(text)),

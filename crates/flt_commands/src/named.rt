@@ -7,8 +7,8 @@ ghost use Rattle.flt_commands.specs.System as spec;
 use crate::inputs::{Inputs, Pictures, read_pieces_within, read_text_within, read_within};
 use crate::pieces::Pieces;
 use crate::system::{Place, Reader, System};
-use crate::unread::Unread;
-use crate::unwritten::Unwritten;
+use crate::unread::InputFault;
+use crate::unwritten::OutputFault;
 use std::alloc::{AllocError, Global};
 use std::cell::Cell;
 use std::io::{self, Write};
@@ -17,7 +17,7 @@ use std::io::{self, Write};
 fn read_opened<R: Reader + Drop>(
     alloc: Global,
     reader: R,
-    fault: &Cell<Option<Unread>>,
+    fault: &Cell<Option<InputFault>>,
 ) -> Result<Option<Vec<u8>>, AllocError>
     requires { R.failures reader ≡ 0 }
     ensures all { IfOk result (λ found. IfSome found (λ v. spec.AreAll (R.left reader) v.items)) }
@@ -33,7 +33,7 @@ fn read_opened<R: Reader + Drop>(
 fn read_opened_text<R: Reader + Drop>(
     alloc: Global,
     reader: R,
-    fault: &Cell<Option<Unread>>,
+    fault: &Cell<Option<InputFault>>,
 ) -> Result<Option<Vec<u8>>, AllocError>
     requires { R.failures reader ≡ 0 }
     ensures all { IfOk result (λ found. IfSome found (λ v. spec.AreKept (R.left reader) v.items)) }
@@ -49,7 +49,7 @@ fn read_opened_text<R: Reader + Drop>(
 fn read_opened_pieces<R: Reader + Drop>(
     alloc: Global,
     reader: R,
-    fault: &Cell<Option<Unread>>,
+    fault: &Cell<Option<InputFault>>,
 ) -> Result<Option<Pieces>, AllocError>
     requires { R.failures reader ≡ 0 }
     ensures all { IfOk result (λ found. IfSome found (λ p. spec.AreAll (R.left reader) p)) }
@@ -62,20 +62,20 @@ fn read_opened_pieces<R: Reader + Drop>(
 }
 
 /// Has a writer take all of these bytes.
-fn fill<M: Write>(file: &mut M, bytes: &[u8]) -> Result<(), Unwritten>
+fn fill<M: Write>(file: &mut M, bytes: &[u8]) -> Result<(), OutputFault>
     ensures { OnOk result (Appends (M.contents file.old) (M.contents file.new) bytes.now) }
 {
     match file.write_all(bytes) {
         Ok(()) => match file.flush() {
             Ok(()) => Ok(()),
-            Err(fault) => Err(Unwritten::Refused(fault)),
+            Err(fault) => Err(OutputFault::Refused(fault)),
         },
-        Err(fault) => Err(Unwritten::Refused(fault)),
+        Err(fault) => Err(OutputFault::Refused(fault)),
     }
 }
 
 /// Writes these bytes into the pipe or the device of a name.
-fn pour<S: System>(system: &S, name: &str, bytes: &[u8]) -> Result<(), Unwritten>
+fn pour<S: System>(system: &S, name: &str, bytes: &[u8]) -> Result<(), OutputFault>
     ensures { OnOk result (spec.IsFilled (S.makes system.now) name.now bytes.now) }
 {
     let mut file = system.stream(name)?;
@@ -94,7 +94,12 @@ fn part_of(alloc: Global, name: &str, number: u32) -> Result<String, AllocError>
 
 /// Writes these bytes into a new file of a name, and puts it in the place of another; or leaves no such file. False if its own name is
 /// taken.
-fn put_part<S: System>(system: &S, part: &str, name: &str, bytes: &[u8]) -> Result<bool, Unwritten>
+fn put_part<S: System>(
+    system: &S,
+    part: &str,
+    name: &str,
+    bytes: &[u8],
+) -> Result<bool, OutputFault>
     ensures { IfOk result (λ done. IsTrue done →
         spec.IsFilled (S.makes system.now) part.now bytes.now × S.puts system.now part.now name.now) }
 {
@@ -122,7 +127,7 @@ fn replace<S: System>(
     system: &S,
     name: &str,
     bytes: &[u8],
-) -> Result<Result<(), Unwritten>, AllocError>
+) -> Result<Result<(), OutputFault>, AllocError>
     ensures { IfOk result (λ done. OnOk done (spec.IsWritten (S.makes system.now) (S.puts system.now) name.now bytes.now)) }
 {
     for number in 1..=PARTS {
@@ -134,11 +139,11 @@ fn replace<S: System>(
         }
     }
     let fault = io::Error::from(io::ErrorKind::AlreadyExists);
-    Ok(Err(Unwritten::Refused(fault)))
+    Ok(Err(OutputFault::Refused(fault)))
 }
 
 /// Writes these bytes into a new file of a name, or leaves none. Returns false if something of this name is there, which stays as it is.
-fn add_new<S: System>(system: &S, name: &str, bytes: &[u8]) -> Result<bool, Unwritten>
+fn add_new<S: System>(system: &S, name: &str, bytes: &[u8]) -> Result<bool, OutputFault>
     ensures new { IfOk result (λ is_new. IsTrue is_new → spec.IsFilled (S.makes system.now) name.now bytes.now) }
     ensures taken { IfOk result (λ is_new. is_new ≡ false → S.has system.now name.now) }
 {
@@ -157,19 +162,19 @@ fn add_new<S: System>(system: &S, name: &str, bytes: &[u8]) -> Result<bool, Unwr
 
 /// The files of a system by their names, and its standard input as `-`.
 #[derive(Drop)]
-pub struct Named<'a, S: System> {
+pub struct SystemFiles<'a, S: System> {
     pub system: &'a S,
     /// Why a read of the last opened file failed, if one did.
-    fault: Cell<Option<Unread>>,
+    fault: Cell<Option<InputFault>>,
 }
 
-impl<'a, S: System> Named<'a, S> {
+impl<'a, S: System> SystemFiles<'a, S> {
     /// Those of this system.
-    pub fn new(system: &'a S) -> Named<'a, S>
+    pub fn new(system: &'a S) -> SystemFiles<'a, S>
         ensures { result.system.now ≡ system.now }
     {
         let fault = Cell::new(None);
-        Named { system, fault }
+        SystemFiles { system, fault }
     }
 
     /// The result for a name under which nothing could be opened.
@@ -181,7 +186,7 @@ impl<'a, S: System> Named<'a, S> {
     }
 }
 
-impl<S: System> Inputs for Named<'_, S> {
+impl<S: System> Inputs for SystemFiles<'_, S> {
     ghost use Rattle.flt_commands.specs.System.{IsGiven};
 
     ghost gives = { λ named. IsGiven (S.holds named.system.now) (S.lacks named.system.now) (S.fails named.system.now) };
@@ -216,7 +221,7 @@ impl<S: System> Inputs for Named<'_, S> {
         }
     }
 
-    fn why(&self, name: &str) -> Unread {
+    fn why(&self, name: &str) -> InputFault {
         match self.fault.get() {
             Some(why) => why,
             None => self.system.why(name),
@@ -224,7 +229,7 @@ impl<S: System> Inputs for Named<'_, S> {
     }
 }
 
-impl<S: System> Pictures for Named<'_, S> {
+impl<S: System> Pictures for SystemFiles<'_, S> {
     ghost use Rattle.flt_commands.specs.System.{IsWritten};
     ghost use Rattle.std.specs.Prelude.{None};
 
@@ -241,7 +246,7 @@ impl<S: System> Pictures for Named<'_, S> {
         inputs: &[&str],
         name: &str,
         bytes: &[u8],
-    ) -> Result<Result<(), Unwritten>, AllocError> {
+    ) -> Result<Result<(), OutputFault>, AllocError> {
         match self.system.place(name, inputs) {
             Ok(Place::Stream) => Ok(pour(self.system, name, bytes)),
             Ok(Place::File) => replace(alloc, self.system, name, bytes),
@@ -249,7 +254,7 @@ impl<S: System> Pictures for Named<'_, S> {
         }
     }
 
-    fn write_new(&mut self, name: &str, bytes: &[u8]) -> Result<bool, Unwritten> {
+    fn write_new(&mut self, name: &str, bytes: &[u8]) -> Result<bool, OutputFault> {
         add_new(self.system, name, bytes)
     }
 }

@@ -10,7 +10,7 @@ use crate::explain::Explanation;
 use crate::failure::Failure;
 use crate::unwritten::unwritten_lines;
 use flt_explain_forms::UnreadFile;
-use flt_explain_runs::{Noted, first_journal};
+use flt_explain_runs::{Note, first_journal};
 use flt_words::visible;
 use std::alloc::{AllocError, Global};
 use std::fmt;
@@ -70,7 +70,7 @@ pub(crate) fn unread_lines(alloc: Global, files: &[UnreadFile]) -> Result<Vec<u8
 }
 
 /// The line that says that no journal is written into the file of a name, if no finding has one; else nothing.
-fn unfound_line(alloc: Global, name: &str, noted: &[Noted]) -> Result<Vec<u8>, AllocError>
+fn unfound_line(alloc: Global, name: &str, noted: &[Note]) -> Result<Vec<u8>, AllocError>
     ensures { IfOk result (λ line. line.items ≡ spec.unfound_for name.now (first_journal noted.now)) }
 {
     match first_journal(noted) {

@@ -57,7 +57,7 @@ fn read_journal<'a>(alloc: Global, written: Pieces) -> Result<Journal, Failure<'
 
 /// A journal on some filters, and the verdict about it.
 #[derive(Drop)]
-pub(crate) struct Replayed {
+pub(crate) struct JudgedJournal {
     pub(crate) trees: Vec<Tree>,
     pub(crate) journal: Journal,
     pub(crate) verdict: Verdict,
@@ -68,7 +68,7 @@ pub(crate) fn replay_all<'a>(
     alloc: Global,
     written: Pieces,
     texts: &[Vec<u8>],
-) -> Result<Replayed, Failure<'a>>
+) -> Result<JudgedJournal, Failure<'a>>
     ensures ok { IfOk result (λ r. spec.IsVerdict written (map (λ text. text.items) texts.now) r.verdict) }
     ensures filters { IfOk result (λ r. AreSpelled (map (λ text. text.items) texts.now) (filters_of r.trees.items)) }
     ensures spelled { IfOk result (λ r. written ≡ spelling r.journal) }
@@ -83,7 +83,7 @@ pub(crate) fn replay_all<'a>(
         Some(number) => Err(Failure::Altitude(number)),
         None => {
             let verdict = replay(alloc, trees.as_slice(), &journal)?;
-            Ok(Replayed {
+            Ok(JudgedJournal {
                 trees,
                 journal,
                 verdict,
@@ -102,7 +102,7 @@ fn replay_texts<'a>(
     ensures said { spec.Judges written (map (λ text. text.items) texts.now) result }
     ensures kept { journal.old ≡ None → IsKeptAs journal.new written result }
 {
-    let Replayed {
+    let JudgedJournal {
         trees: _,
         journal: entries,
         verdict,

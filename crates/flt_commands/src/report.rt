@@ -11,7 +11,7 @@ use crate::explain::Explanation;
 use crate::failure::Failure;
 use crate::fault::CommandFault;
 use flt_explain_forms::UnreadFile;
-use flt_explain_runs::Told;
+use flt_explain_runs::ExplainOutput;
 use flt_model::Journal;
 use flt_stack_crew::Ending;
 use std::alloc::{AllocError, Global};
@@ -64,7 +64,7 @@ impl Report {
         alloc: Global,
         contents: Contents,
         codes: Vec<Option<Vec<u8>>>,
-        told: Told,
+        told: ExplainOutput,
         unread: &[UnreadFile],
         remark: Vec<u8>,
     ) -> Report

@@ -1,7 +1,7 @@
 //! The progress of searches for runs.
 
 use flt_explain_runs::SearchWatch;
-use flt_stack_crew::Unwatched;
+use flt_stack_crew::NoWatch;
 use flt_words::DEFAULT_STATES;
 
 /// Hears how far the searches for runs of `explain` have come. Nothing that it does changes the findings.
@@ -10,7 +10,7 @@ pub trait WatchSearch {
     fn searched(&mut self, states: u32, most: u32);
 }
 
-impl WatchSearch for Unwatched {
+impl WatchSearch for NoWatch {
     fn searched(&mut self, _states: u32, _most: u32) {}
 }
 

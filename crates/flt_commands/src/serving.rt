@@ -9,7 +9,7 @@ ghost use Rattle.flt_explain_runs.specs.Whole.{look_for};
 use crate::annotated::annotated;
 use crate::drifts::{drifted_files, tell_drifts};
 use crate::remarks::lines_on_file;
-use crate::unread::Unread;
+use crate::unread::InputFault;
 use flt_c_files::is_c_file;
 use flt_explain_details::Source;
 use flt_explain_runs::{Asking, UnwatchedSearch, explain};
@@ -93,7 +93,7 @@ fn printed_with_drifts(alloc: Global, file: &GivenFile<'_>) -> Result<Vec<u8>, A
 }
 
 /// The lines of `explain` on a C file that isn't read.
-fn printed_of_unread(alloc: Global, name: &str, why: Unread) -> Result<Vec<u8>, AllocError>
+fn printed_of_unread(alloc: Global, name: &str, why: InputFault) -> Result<Vec<u8>, AllocError>
     ensures { IfOk result (λ out. spec.IsUnread name.now out.items) }
 {
     let file = why.file(alloc, name)?;

@@ -13,9 +13,9 @@ use crate::answer::Answer;
 use crate::failure::Failure;
 use crate::inputs::{Inputs, Pictures, read_with_journal};
 use crate::pieces::Pieces;
-use crate::replay::{Replayed, replay_all};
+use crate::replay::{JudgedJournal, replay_all};
 use crate::report::Contents;
-use crate::unwritten::Unwritten;
+use crate::unwritten::OutputFault;
 use flt_explain_picture::picture;
 use flt_explain_timeline::Timeline;
 use flt_model::{Journal, Verdict};
@@ -36,11 +36,11 @@ fn draw<P: Pictures>(
     alloc: Global,
     inputs: &[&str],
     name: &str,
-    replayed: &Replayed,
+    replayed: &JudgedJournal,
     texts: &[Vec<u8>],
     timeline: &Timeline<'_>,
     pictures: &mut P,
-) -> Result<Result<(), Unwritten>, AllocError>
+) -> Result<Result<(), OutputFault>, AllocError>
     ensures { IfOk result (λ done. OnOk done ((drawn : List ℕ)
         × IsPicture (title_of (filters_of replayed.now.trees.items) replayed.now.verdict) drawn × P.written pictures.new name.now drawn)) }
 {
@@ -56,7 +56,7 @@ fn show<'a, P: Pictures>(
     is_asked: bool,
     inputs: &[&str],
     name: Option<&'a str>,
-    replayed: &Replayed,
+    replayed: &JudgedJournal,
     texts: &[Vec<u8>],
     pictures: &mut P,
 ) -> Result<Answer, Failure<'a>>

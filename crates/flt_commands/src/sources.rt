@@ -6,7 +6,7 @@ ghost use Rattle.flt_commands.specs.Inputs.{unread_names};
 ghost use Rattle.flt_commands.specs.Sources as spec;
 ghost use Rattle.flt_joined.specs.Texts.{givens, name_by};
 
-use crate::unread::Unread;
+use crate::unread::InputFault;
 use flt_c::FileFlaw;
 use flt_explain_details::Source;
 use flt_explain_forms::UnreadFile;
@@ -87,7 +87,7 @@ pub(crate) fn add_refused(
 {
     for flaw in refused {
         let name = name_of(files, flaw.file);
-        let file = Unread::Flawed(flaw.flaw).file(alloc, name)?;
+        let file = InputFault::Flawed(flaw.flaw).file(alloc, name)?;
         unread.push(file)?;
     }
     Ok(())

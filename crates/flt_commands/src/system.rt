@@ -5,8 +5,8 @@ ghost use Rattle.std.specs.Io.KnownBytes.{ReadConsumes};
 ghost use Rattle.std.specs.Prelude.{◌≡◌, ◌≢◌, ℕ, List, Option, IfNone, IfSome, OnErr, OnOk, IfOk, codes};
 ghost use Rattle.flt_commands.specs.System.{CanFail};
 
-use crate::unread::Unread;
-use crate::unwritten::Unwritten;
+use crate::unread::InputFault;
+use crate::unwritten::OutputFault;
 use flt_model::ReadFault;
 use std::io::Write;
 
@@ -26,7 +26,7 @@ pub trait Reader {
         ensures failed { OnErr result (failures self.new ≢ failures self.old) };
 
     /// Why `take` failed last, as far as that is known; none if it didn't.
-    fn why(&self) -> Option<Unread> {
+    fn why(&self) -> Option<InputFault> {
         None
     }
 }
@@ -83,26 +83,26 @@ pub trait System {
         ensures failing { CanFail Self.Input.failures → fails self.now };
 
     /// The place of a name, if it may be written: no symbolic link, no folder, and none of the inputs of these names.
-    fn place(&self, name: &str, inputs: &[&str]) -> Result<Place, Unwritten>;
+    fn place(&self, name: &str, inputs: &[&str]) -> Result<Place, OutputFault>;
 
     /// The pipe or the device of a name.
-    fn stream(&self, name: &str) -> Result<Self::Made, Unwritten>
+    fn stream(&self, name: &str) -> Result<Self::Made, OutputFault>
         ensures { IfOk result (λ file. makes self.now name.now (Self.Made.contents file)) };
 
     /// A new and empty file of a name; none if the name is taken.
-    fn create(&self, name: &str) -> Result<Option<Self::Made>, Unwritten>
+    fn create(&self, name: &str) -> Result<Option<Self::Made>, OutputFault>
         ensures made { IfOk result (λ made. IfSome made (λ file. makes self.now name.now (Self.Made.contents file))) }
         ensures taken { IfOk result (λ made. IfNone made (has self.now name.now)) };
 
     /// Puts a file that was made under one name in the place of another, once the system keeps its bytes.
-    fn put(&self, file: Self::Made, made: &str, name: &str) -> Result<(), Unwritten>
+    fn put(&self, file: Self::Made, made: &str, name: &str) -> Result<(), OutputFault>
         ensures { OnOk result (puts self.now made.now name.now) };
 
     /// Removes a file that was made under a name.
     fn discard(&self, made: &str);
 
     /// Why the file of a name wasn't read, which was opened last and of which no read failed, as far as that is known.
-    fn why(&self, _name: &str) -> Unread {
-        Unread::Failed
+    fn why(&self, _name: &str) -> InputFault {
+        InputFault::Failed
     }
 }

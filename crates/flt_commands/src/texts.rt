@@ -6,7 +6,7 @@ ghost use Rattle.std.specs.Str.{bytes_eq};
 
 use crate::inputs::Inputs;
 use crate::pieces::Pieces;
-use crate::unread::Unread;
+use crate::unread::InputFault;
 use std::alloc::{AllocError, Global};
 
 /// Inputs of which all but one are texts: as many bytes of these are kept as a text may have, and one more.
@@ -54,7 +54,7 @@ impl<I: Inputs> Inputs for Texts<'_, I> {
         Ok(Some(pieces))
     }
 
-    fn why(&self, name: &str) -> Unread {
+    fn why(&self, name: &str) -> InputFault {
         self.inputs.why(name)
     }
 }

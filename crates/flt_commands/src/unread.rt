@@ -11,7 +11,7 @@ use std::io;
 
 /// Why nothing is read for a name.
 #[derive(Clone, Copy, Debug)]
-pub enum Unread {
+pub enum InputFault {
     /// There is no such file.
     Missing,
     Folder,
@@ -73,33 +73,33 @@ fn missing_words(name: &str) -> &'static str {
     }
 }
 
-impl Unread {
+impl InputFault {
     /// The reason that the system gives for a call that failed.
-    pub fn of(fault: &io::Error) -> Unread {
+    pub fn of(fault: &io::Error) -> InputFault {
         match fault.kind() {
-            io::ErrorKind::NotFound | io::ErrorKind::NotADirectory => Unread::Missing,
-            io::ErrorKind::IsADirectory => Unread::Folder,
-            io::ErrorKind::PermissionDenied => Unread::Denied,
-            io::ErrorKind::InvalidFilename => Unread::LongName,
-            io::ErrorKind::FilesystemLoop => Unread::Circle,
-            _ => Unread::Refused(*fault),
+            io::ErrorKind::NotFound | io::ErrorKind::NotADirectory => InputFault::Missing,
+            io::ErrorKind::IsADirectory => InputFault::Folder,
+            io::ErrorKind::PermissionDenied => InputFault::Denied,
+            io::ErrorKind::InvalidFilename => InputFault::LongName,
+            io::ErrorKind::FilesystemLoop => InputFault::Circle,
+            _ => InputFault::Refused(*fault),
         }
     }
 
     /// Why nothing is read for a name, in words.
     fn words(self, alloc: Global, name: &str) -> Result<String, AllocError> {
         let words = match self {
-            Unread::Missing => missing_words(name),
-            Unread::Folder => "this is a folder, and no `*.flt` in it is read",
-            Unread::Denied => "reading it isn't permitted",
-            Unread::LongName => "its name is too long",
-            Unread::Circle => "its symbolic links lead in a circle",
-            Unread::TooLong => "it has more than 67,108,864 bytes",
-            Unread::Endless => "it has no end within 67,108,864 bytes",
-            Unread::Again => "the standard input is read once, for the first `-`",
-            Unread::Flawed(flaw) => return annotation_flaw_words(alloc, flaw),
-            Unread::Refused(fault) => return format!(in alloc; "reading it failed: {fault}"),
-            Unread::Failed => "reading it failed",
+            InputFault::Missing => missing_words(name),
+            InputFault::Folder => "this is a folder, and no `*.flt` in it is read",
+            InputFault::Denied => "reading it isn't permitted",
+            InputFault::LongName => "its name is too long",
+            InputFault::Circle => "its symbolic links lead in a circle",
+            InputFault::TooLong => "it has more than 67,108,864 bytes",
+            InputFault::Endless => "it has no end within 67,108,864 bytes",
+            InputFault::Again => "the standard input is read once, for the first `-`",
+            InputFault::Flawed(flaw) => return annotation_flaw_words(alloc, flaw),
+            InputFault::Refused(fault) => return format!(in alloc; "reading it failed: {fault}"),
+            InputFault::Failed => "reading it failed",
         };
         String::from_str(alloc, words)
     }
@@ -107,18 +107,18 @@ impl Unread {
     /// How to fix that.
     fn help(self) -> &'static str {
         match self {
-            Unread::Missing =>
+            InputFault::Missing =>
                 "a name is a path from the current folder, or `-` for the standard input; R01 to R15, W00 to W07, V1 to V8, E01 to E08, calls and statuses alone are pages",
-            Unread::Folder => "name a file in it, or a folder that has texts",
-            Unread::Denied => "see who may read it",
-            Unread::LongName => "a part of a path has at most 255 bytes",
-            Unread::Circle => "name the file that is meant",
-            Unread::TooLong | Unread::Endless =>
+            InputFault::Folder => "name a file in it, or a folder that has texts",
+            InputFault::Denied => "see who may read it",
+            InputFault::LongName => "a part of a path has at most 255 bytes",
+            InputFault::Circle => "name the file that is meant",
+            InputFault::TooLong | InputFault::Endless =>
                 "a text has at most 65,536 bytes, a journal 1,000,000 entries",
-            Unread::Again => "name each input once",
-            Unread::Flawed(_) =>
+            InputFault::Again => "name each input once",
+            InputFault::Flawed(_) =>
                 "an annotation is what follows `//@flt` in its line, or `/*@flt` up to `*/`",
-            Unread::Refused(_) | Unread::Failed => "copy it into a file first",
+            InputFault::Refused(_) | InputFault::Failed => "copy it into a file first",
         }
     }
 

@@ -6,7 +6,7 @@ use std::io;
 
 /// Why a file isn't written.
 #[derive(Clone, Copy, Debug)]
-pub enum Unwritten {
+pub enum OutputFault {
     /// Its name is that of a symbolic link, which may lead to another's file.
     Link,
     /// It is one of the inputs, whatever its name.
@@ -16,14 +16,14 @@ pub enum Unwritten {
     Refused(io::Error),
 }
 
-impl Unwritten {
+impl OutputFault {
     /// How to fix that.
     fn help(self) -> &'static str {
         match self {
-            Unwritten::Link => "name the file that it leads to",
-            Unwritten::Input => "name another file",
-            Unwritten::Folder => "name a file in it",
-            Unwritten::Refused(_) =>
+            OutputFault::Link => "name the file that it leads to",
+            OutputFault::Input => "name another file",
+            OutputFault::Folder => "name a file in it",
+            OutputFault::Refused(_) =>
                 "it takes a folder with room for a new file, and the right to write there",
         }
     }
@@ -31,10 +31,10 @@ impl Unwritten {
     /// Why it isn't written, in words.
     fn words(self, alloc: Global) -> Result<String, AllocError> {
         match self {
-            Unwritten::Link => String::from_str(alloc, "it is a symbolic link"),
-            Unwritten::Input => String::from_str(alloc, "it is one of the inputs"),
-            Unwritten::Folder => String::from_str(alloc, "this is a folder"),
-            Unwritten::Refused(fault) => format!(in alloc; "{fault}"),
+            OutputFault::Link => String::from_str(alloc, "it is a symbolic link"),
+            OutputFault::Input => String::from_str(alloc, "it is one of the inputs"),
+            OutputFault::Folder => String::from_str(alloc, "this is a folder"),
+            OutputFault::Refused(fault) => format!(in alloc; "{fault}"),
         }
     }
 }
@@ -43,7 +43,7 @@ impl Unwritten {
 pub(crate) fn unwritten_lines(
     alloc: Global,
     name: &str,
-    why: Unwritten,
+    why: OutputFault,
 ) -> Result<Vec<u8>, AllocError> {
     let words = why.words(alloc)?;
     let help = why.help();

@@ -11,7 +11,7 @@ pub enum Release {
 
 /// A context that lost its link, and whether it was freed if the link's reference was dropped.
 #[derive(Clone, Copy, PartialEq)]
-pub struct Unlinked {
+pub struct UnlinkedContext {
     pub context: usize,
     pub release: Release,
 }
@@ -20,7 +20,7 @@ pub struct Unlinked {
 #[derive(Clone, Copy, PartialEq)]
 pub enum SetAnswer {
     /// The context is linked; the one that was linked there before isn't any more.
-    Done(Option<Unlinked>),
+    Done(Option<UnlinkedContext>),
     /// The filter is closed.
     Deleting,
     /// The context is linked already, or freed.

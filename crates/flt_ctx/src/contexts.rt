@@ -8,12 +8,12 @@ ghost use Rattle.std.specs.Prelude.{option_map, IsSome, Some, None, set, if◌th
 ghost use Rattle.flt_ctx.specs.Contexts.{context_at, is_freed, linked_at, order_of, add_reference, drop_reference, put_value};
 ghost use Rattle.flt_ctx.specs.Contexts.{with_link, put_link, after_unlink, is_closed, cannot_link, CanLink, IsReplaced};
 ghost use Rattle.flt_ctx.specs.declared.answers.SetAnswer.TheVariants as answer;
-ghost use Rattle.flt_ctx.specs.declared.answers.Unlinked.{Unlinked};
+ghost use Rattle.flt_ctx.specs.declared.answers.UnlinkedContext.{UnlinkedContext};
 ghost use Rattle.flt_ctx.specs.declared.answers.Release.TheVariants.{Freed};
 ghost use Rattle.flt_ctx.specs.declared.key.Key.{Key};
 
 use crate::OutOfMemory;
-use crate::answers::{Release, SetAnswer, Unlinked};
+use crate::answers::{Release, SetAnswer, UnlinkedContext};
 use crate::key::{Key, Target};
 use crate::links::{
     Link, Row, TARGET_LISTS, add_named, context_of, find_node, place_of, put_context,
@@ -295,8 +295,8 @@ impl Contexts {
     }
 
     /// Unlinks the context that is linked there. The link's reference passes to the caller who wants it, otherwise it is dropped.
-    pub fn delete_at(&mut self, key: Key, want_old: bool) -> Option<Unlinked>
-        ensures found { option_map (λ (u : Unlinked). u.context) result ≡ linked_at self.old key }
+    pub fn delete_at(&mut self, key: Key, want_old: bool) -> Option<UnlinkedContext>
+        ensures found { option_map (λ (u : UnlinkedContext). u.context) result ≡ linked_at self.old key }
         ensures released { IfSome result (λ u. (u.release ≡ Freed) ↔
             ((want_old ≡ false) × ((context_at self.old u.context).references ≡ 1))) }
         ensures unlinked { IfSome result (λ u. self.new ≡ after_unlink self.old u.context want_old) }
@@ -304,7 +304,7 @@ impl Contexts {
     {
         let context = self.linked_at(key)?;
         let release = self.unlink(context, want_old);
-        Some(Unlinked { context, release })
+        Some(UnlinkedContext { context, release })
     }
 
     /// Unlinks the context, and drops the link's reference. A context without a link stays as it is.
@@ -441,7 +441,7 @@ impl Contexts {
                     Ok(SetAnswer::Defined(other))
                 } else {
                     let release = self.replace(other, context, want_old);
-                    Ok(SetAnswer::Done(Some(Unlinked {
+                    Ok(SetAnswer::Done(Some(UnlinkedContext {
                         context: other,
                         release,
                     })))

@@ -21,7 +21,7 @@ mod key;
 mod links;
 mod stream_set;
 
-pub use answers::{Release, SetAnswer, Unlinked};
+pub use answers::{Release, SetAnswer, UnlinkedContext};
 pub use contexts::Contexts;
 pub use key::{Key, Target};
 /// The answer of `new`, `alloc` and `set` if memory is refused.

@@ -14,7 +14,7 @@ use Rattle.flt_explain_details.specs.Alike.{AreLike, IsLike}
 use Rattle.flt_explain_details.specs.Stages.{AreDetails, AreDetailsBy, IsDetail}
 use Rattle.flt_explain_details.specs.Tracing.{AreTraces, IsShown}
 use Rattle.flt_explain_details.specs.declared.study.Detail.{Detail}
-use Rattle.flt_explain_details.specs.declared.tracing.Shown.{Shown}
+use Rattle.flt_explain_details.specs.declared.tracing.FindingTrace.{FindingTrace}
 use Rattle.flt_explain_details.specs.declared.tracing.Traces.{Traces}
 
 more_zip : {A B : Type 0} (R : A → B → Type 0) (xs : List A) (ys : List B) (i : ℕ) (x : A) (y : B) → i < length xs → x ≡ get_or xs i x →
@@ -47,9 +47,9 @@ the_same : {A : Type 0} (xs : List A) (n k : ℕ) (x y : A) → slice_get xs n �
 the_same xs n k x y is at there = let here = subst (λ m. slice_get xs m ≡ Some y) at there in cc
 
 -- the next finding, by what shows it
-pub one_detail_more : (files : Files) (lines text : Text) (f : Filter) (g : Graph) (found : List Finding) (shown : List Shown) (n : ℕ)
+pub one_detail_more : (files : Files) (lines text : Text) (f : Filter) (g : Graph) (found : List Finding) (shown : List FindingTrace) (n : ℕ)
     (e : Finding)
-    (s : Shown) (d : Detail) (all more : List Detail) →
+    (s : FindingTrace) (d : Detail) (all more : List Detail) →
     lines ≡ text → n ≡ length all → slice_get found n ≡ Some e → slice_get shown n ≡ Some s →
     AreDetailsBy files text f g found shown all → IsDetail files lines f g e s d → more ≡ all ++ d ∷ [] → AreDetailsBy files text f g found
     shown more
@@ -62,7 +62,7 @@ one_detail_more files lines text f g found shown n e s d all more same long is_o
           let at : k ≡ n = last ∙ sym long in
           subst (λ (t : Text). IsDetail files t f g e' s' d') same
           (subst (λ (x : Detail). IsDetail files lines f g e' s' x) here
-          (subst (λ (x : Shown). IsDetail files lines f g e' x d) (the_same shown n k s s' is_shown at shown_is)
+          (subst (λ (x : FindingTrace). IsDetail files lines f g e' x d) (the_same shown n k s s' is_shown at shown_is)
           (subst (λ (x : Finding). IsDetail files lines f g x s d) (the_same found n k e e' is_one at finding_is) new)))
 
 -- one more detail is like an earlier one, or like none

@@ -34,7 +34,7 @@ use Rattle.flt_explain_details.specs.Page.{line_told}
 use Rattle.flt_explain_details.specs.Subjects.{head_of, subject_told}
 use Rattle.flt_explain_details.specs.Tracing.{cause_of, way_of}
 use Rattle.flt_explain_details.specs.declared.case.Case.{Case}
-use Rattle.flt_explain_details.specs.declared.tracing.Shown.{Shown}
+use Rattle.flt_explain_details.specs.declared.tracing.FindingTrace.{FindingTrace}
 
 -- a finding of a text whose lines are in files, and what shows it
 pub record Circumstances : Type 0 where
@@ -43,7 +43,7 @@ pub record Circumstances : Type 0 where
   pub filter : Filter
   pub graph : Graph
   pub finding : Finding
-  pub shown : Option Shown
+  pub shown : Option FindingTrace
 
 -- those of a case of the program
 abbrev pub of_case : Case → Circumstances
@@ -103,7 +103,7 @@ lock_name x l = declared.lock_name x.filter.locks l
 
 -- that path
 unfoldable pub path : Circumstances → Option Way
-path x = option_and_then (λ (s : Shown). way_of s.answer) x.shown
+path x = option_and_then (λ (s : FindingTrace). way_of s.answer) x.shown
 
 -- what is so where it ends
 unfoldable pub state : Circumstances → Option State

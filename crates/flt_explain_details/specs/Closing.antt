@@ -10,8 +10,8 @@ use Rattle.flt_syntax.specs.declared.fault.FaultKind.TheVariants.{E01, E02, E03,
 use Rattle.flt_syntax.specs.declared.fault.SyntaxFault.{SyntaxFault}
 use Rattle.flt_tree.specs.declared.filter.Position.{Position}
 use Rattle.flt_explain.specs.declared.finding.Finding.{Finding}
-use Rattle.flt_explain_details.specs.declared.judged.Judged.{Judged}
-use Rattle.flt_explain_details.specs.declared.judged.Judged.TheVariants.{Unread, Known}
+use Rattle.flt_explain_details.specs.declared.judged.TextJudgement.{TextJudgement}
+use Rattle.flt_explain_details.specs.declared.judged.TextJudgement.TheVariants.{Unread, Known}
 
 -- `R01` to `R15`
 abbrev pub rule_name : Rule → List ℕ
@@ -55,6 +55,6 @@ abbrev pub fault_closing : Files → SyntaxFault → List ℕ
 fault_closing files f = syntax_line (fault_in files f) ++ 10 ∷ []
 
 -- the last line of a report
-abbrev pub closing : Files → Judged → List ℕ
+abbrev pub closing : Files → TextJudgement → List ℕ
 closing files (Unread f) = fault_closing files f
 closing files (Known tree graph found) = findings_closing files found

@@ -9,8 +9,8 @@ use Rattle.flt_graph.specs.Lowering.{IsLowered}
 use Rattle.flt_graph.specs.declared.graph.Graph.{Graph}
 use Rattle.flt_explain.specs.Findings.{AreFindings}
 use Rattle.flt_explain.specs.declared.finding.Finding.{Finding}
-use Rattle.flt_explain_details.specs.declared.judged.Judged.{Judged}
-use Rattle.flt_explain_details.specs.declared.judged.Judged.TheVariants.{Unread, Known}
+use Rattle.flt_explain_details.specs.declared.judged.TextJudgement.{TextJudgement}
+use Rattle.flt_explain_details.specs.declared.judged.TextJudgement.TheVariants.{Unread, Known}
 use Rattle.flt_explain_details.specs.declared.sources.Source.{Source}
 
 -- a text spells a tree, which has these points, and this is what is found: nothing exactly where a certificate covers the points,
@@ -21,7 +21,7 @@ pub record IsKnown (text : Text) (tree : Tree) (graph : Graph) (found : List Fin
   pub findings : AreFindings graph found
 
 -- what a text is: it has this first fault, or it is known
-abbrev pub IsJudged : Text → Judged → Type 0
+abbrev pub IsJudged : Text → TextJudgement → Type 0
 IsJudged text (Unread f) = Fails text f
 IsJudged text (Known tree graph found) = IsKnown text tree graph found
 
@@ -31,7 +31,7 @@ findings_status [] = 0
 findings_status (f ∷ fs) = 1
 
 -- the same; 2 where the text doesn't parse
-abbrev pub status_of : Judged → ℕ
+abbrev pub status_of : TextJudgement → ℕ
 status_of (Unread f) = 2
 status_of (Known tree graph found) = findings_status found
 

@@ -28,7 +28,7 @@ use Rattle.flt_explain_details.specs.declared.study.Route.{Route}
 use Rattle.flt_explain_details.specs.declared.study.Stage.{Stage}
 use Rattle.flt_explain_details.specs.declared.study.WayKind.{WayKind}
 use Rattle.flt_explain_details.specs.declared.study.WayKind.TheVariants.{Clean, Behind, Unreached, Unknown}
-use Rattle.flt_explain_details.specs.declared.tracing.Shown.{Shown}
+use Rattle.flt_explain_details.specs.declared.tracing.FindingTrace.{FindingTrace}
 use Rattle.flt_explain_details.specs.declared.tracing.Traces.{Traces}
 
 -- where a point of a callback stands
@@ -88,23 +88,23 @@ AreShownStages text g callback a None stages other =
 AreShownStages text g callback a (Some like) stages other = (stages ≡ []) × (other ≡ None)
 
 -- how a finding is reached, by what shows it
-pub record IsRoute (text : Text) (f : Filter) (g : Graph) (found : Finding) (shown : Shown) (r : Route) : Type 0 where
+pub record IsRoute (text : Text) (f : Filter) (g : Graph) (found : Finding) (shown : FindingTrace) (r : Route) : Type 0 where
   pub kind : r.kind ≡ kind_of shown.answer
   pub stages : AreShownStages text g found.callback shown.answer r.like r.stages r.other
   pub origin : IsMadeBy text f g found.callback found.subject (cause_of (Some shown)) r.origin
   pub state : option_copied r.state ≡ state_at_end found.subject (way_of shown.answer)
 
 -- what is said of a finding, by what shows it, with each place in it
-pub record IsDetail (files : Files) (text : Text) (f : Filter) (g : Graph) (found : Finding) (shown : Shown) (d : Detail) : Type 0 where
+pub record IsDetail (files : Files) (text : Text) (f : Filter) (g : Graph) (found : Finding) (shown : FindingTrace) (d : Detail) : Type 0 where
   pub finding : d.finding ≡ found
   pub marks : AreMarks text f g found.callback found.point found.subject d.marks
   pub words : AreWords files text f g found (Some shown) d.words
   pub route : IsRoute text f g found shown d.route
 
 -- what is said of each of some findings, by what shows it
-abbrev pub AreDetailsBy : Files → Text → Filter → Graph → List Finding → List Shown → List Detail → Type 0
+abbrev pub AreDetailsBy : Files → Text → Filter → Graph → List Finding → List FindingTrace → List Detail → Type 0
 AreDetailsBy files text f g found shown details =
-    (k : ℕ) (e : Finding) (s : Shown) (d : Detail) → slice_get found k ≡ Some e → slice_get shown k ≡ Some s →
+    (k : ℕ) (e : Finding) (s : FindingTrace) (d : Detail) → slice_get found k ≡ Some e → slice_get shown k ≡ Some s →
     slice_get details k ≡ Some d → IsDetail files text f g e s d
 
 -- what is said of some findings, in their order: as many as there are, each by what shows it

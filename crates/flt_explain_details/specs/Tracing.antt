@@ -14,7 +14,7 @@ use Rattle.flt_explain_ways.specs.declared.facts.Fact.{Fact}
 use Rattle.flt_explain_ways.specs.declared.facts.Fact.TheVariants as fact
 use Rattle.flt_explain_ways.specs.declared.facts.VariableStatus.{VariableStatus}
 use Rattle.flt_explain_ways.specs.declared.facts.VariableStatus.TheVariants as is
-use Rattle.flt_explain_ways.specs.declared.grouping.Traced.{Traced}
+use Rattle.flt_explain_ways.specs.declared.grouping.TracedFinding.{TracedFinding}
 use Rattle.flt_explain_ways.specs.declared.origin.Cause.{Cause}
 use Rattle.flt_explain_ways.specs.declared.origin.Origin.{Origin}
 use Rattle.flt_explain_ways.specs.Told.{IsAnswer}
@@ -22,7 +22,7 @@ use Rattle.flt_explain_ways.specs.declared.answer.Answer.{Answer}
 use Rattle.flt_explain_ways.specs.declared.answer.Answer.TheVariants as answer
 use Rattle.flt_explain_ways.specs.declared.answer.Way.{Way}
 use Rattle.flt_explain_ways.specs.declared.answer.Ways.{Ways}
-use Rattle.flt_explain_details.specs.declared.tracing.Shown.{Shown}
+use Rattle.flt_explain_details.specs.declared.tracing.FindingTrace.{FindingTrace}
 use Rattle.flt_explain_details.specs.declared.tracing.Traces.{Traces}
 
 -- ---- what breaks a rule
@@ -117,23 +117,23 @@ IsOriginBy g e answer.Unreached o = IsWithoutWay g e o
 IsOriginBy g e answer.Unknown o = IsWithoutWay g e o
 
 -- what shows a finding: paths to it, or that there are none, and where what is found comes from
-pub record IsShown (g : Graph) (e : Finding) (s : Shown) : Type 0 where
+pub record IsShown (g : Graph) (e : Finding) (s : FindingTrace) : Type 0 where
   pub answer : IsAnswer g e s.answer
   pub origin : IsOriginBy g e s.answer s.origin
 
 -- ---- what is put together
 
 -- what made a finding so, by what shows it; nothing where that isn't known
-abbrev pub cause_of : Option Shown → Option Cause
+abbrev pub cause_of : Option FindingTrace → Option Cause
 cause_of None = None
 cause_of (Some s) = option_map (λ (o : Origin). o.cause) s.origin
 
 -- a finding with its number and what made it so
-abbrev pub traced : ℕ → Finding → List Shown → Traced
+abbrev pub traced : ℕ → Finding → List FindingTrace → TracedFinding
 traced n f shown = record { number = n; finding = f; cause = cause_of (slice_get shown n) }
 
 -- the same of each of some, whose numbers go on from one
-abbrev pub traced_from : ℕ → List Finding → List Shown → List Traced
+abbrev pub traced_from : ℕ → List Finding → List FindingTrace → List TracedFinding
 traced_from n [] shown = []
 traced_from n (f ∷ fs) shown = traced n f shown ∷ traced_from (n + 1) fs shown
 
@@ -160,6 +160,6 @@ is_answer_behind (answer.Behind found) = true
 is_answer_behind _ = false
 
 -- whether each path to a finding that was found breaks another rule before
-abbrev pub is_behind : Option Shown → Bool
+abbrev pub is_behind : Option FindingTrace → Bool
 is_behind None = false
 is_behind (Some s) = is_answer_behind s.answer

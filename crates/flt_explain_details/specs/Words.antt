@@ -10,26 +10,26 @@ use Rattle.flt_explain_details.specs.Advice.Notes.{note}
 use Rattle.flt_explain_details.specs.Case.{Circumstances}
 use Rattle.flt_explain_details.specs.Subjects.{head_of, subject_told}
 use Rattle.flt_explain_details.specs.declared.study.Words.{Words}
-use Rattle.flt_explain_details.specs.declared.tracing.Shown.{Shown}
+use Rattle.flt_explain_details.specs.declared.tracing.FindingTrace.{FindingTrace}
 
 -- what is known of a finding
-abbrev pub known : Files → Text → Filter → Graph → Finding → Option Shown → Circumstances
+abbrev pub known : Files → Text → Filter → Graph → Finding → Option FindingTrace → Circumstances
 known files text f g found shown = record { files = files; text = text; filter = f; graph = g; finding = found; shown = shown }
 
 -- what is wrong
-unfoldable pub title_of : Files → Text → Filter → Graph → Finding → Option Shown → Text
+unfoldable pub title_of : Files → Text → Filter → Graph → Finding → Option FindingTrace → Text
 title_of files text f g found shown = title (known files text f g found shown)
 
 -- how to fix it
-unfoldable pub help_of : Files → Text → Filter → Graph → Finding → Option Shown → Text
+unfoldable pub help_of : Files → Text → Filter → Graph → Finding → Option FindingTrace → Text
 help_of files text f g found shown = help (known files text f g found shown)
 
 -- that the rule is stricter there than the driver kit, or that numbers rule out the path; or nothing
-unfoldable pub note_of : Files → Text → Filter → Graph → Finding → Option Shown → Text
+unfoldable pub note_of : Files → Text → Filter → Graph → Finding → Option FindingTrace → Text
 note_of files text f g found shown = note (known files text f g found shown)
 
 -- what is said of a finding of a graph, by what shows it
-pub record AreWords (files : Files) (text : Text) (f : Filter) (g : Graph) (found : Finding) (shown : Option Shown) (w : Words)
+pub record AreWords (files : Files) (text : Text) (f : Filter) (g : Graph) (found : Finding) (shown : Option FindingTrace) (w : Words)
     : Type 0 where
   pub title : w.title.items ≡ title_of files text f g found shown
   pub help : w.help.items ≡ help_of files text f g found shown

@@ -8,7 +8,7 @@ use crate::operands::lock_word;
 use crate::page::Part;
 use crate::scene::Scene;
 use crate::subjects::subject_words;
-use crate::tracing::Shown;
+use crate::tracing::FindingTrace;
 use flt_abs::Abs;
 use flt_explain::{Finding, Subject};
 use flt_explain_ways::{Cause, Step, VariableStatus, Way};
@@ -20,7 +20,7 @@ use flt_rules::{LockKind, LockNumber, Operation, Place};
 pub(crate) struct Case<'a> {
     pub(crate) scene: Scene<'a>,
     pub(crate) finding: Finding,
-    pub(crate) shown: Option<&'a Shown>,
+    pub(crate) shown: Option<&'a FindingTrace>,
 }
 
 /// The only status in a set.
@@ -36,7 +36,11 @@ fn only_status(digit: u8) -> Option<VariableStatus>
 }
 
 impl<'a> Case<'a> {
-    pub(crate) fn of(scene: &Scene<'a>, finding: &Finding, shown: Option<&'a Shown>) -> Case<'a>
+    pub(crate) fn of(
+        scene: &Scene<'a>,
+        finding: &Finding,
+        shown: Option<&'a FindingTrace>,
+    ) -> Case<'a>
         ensures scene { result.scene ≡ scene.now }
         ensures finding { result.finding ≡ finding.now }
         ensures shown { result.shown ≡ shown.entry }

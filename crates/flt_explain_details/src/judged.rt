@@ -11,7 +11,7 @@ use std::alloc::{AllocError, Global};
 
 /// The verdict on a text: it doesn't parse, or it has this tree, this graph and these findings.
 #[derive(Drop)]
-pub enum Judged {
+pub enum TextJudgement {
     Unread(SyntaxFault),
     Known(Tree, Graph, Items<Finding>),
 }
@@ -21,28 +21,28 @@ pub enum Judged {
 /// # Errors
 ///
 /// `AllocError` if a growth is refused.
-pub fn judge(alloc: Global, text: &[u8]) -> Result<Judged, AllocError>
+pub fn judge(alloc: Global, text: &[u8]) -> Result<TextJudgement, AllocError>
     ensures { IfOk result (spec.IsJudged text.now) }
 {
     match parse(alloc, text) {
         Ok(tree) => {
             let graph = lower(alloc, &tree)?;
             let found = findings(alloc, &graph)?;
-            Ok(Judged::Known(tree, graph, found))
+            Ok(TextJudgement::Known(tree, graph, found))
         }
-        Err(ParseError::Syntax(fault)) => Ok(Judged::Unread(fault)),
+        Err(ParseError::Syntax(fault)) => Ok(TextJudgement::Unread(fault)),
         Err(ParseError::OutOfMemory) => Err(AllocError),
     }
 }
 
-impl Judged {
+impl TextJudgement {
     /// The exit status: 0 without findings, 1 with findings, 2 if the text doesn't parse.
     pub fn status(&self) -> u8
         ensures { result ≡ spec.status_of self.now }
     {
         match self {
-            Judged::Unread(_) => 2,
-            Judged::Known(_, _, found) => match found.as_slice() {
+            TextJudgement::Unread(_) => 2,
+            TextJudgement::Known(_, _, found) => match found.as_slice() {
                 [] => 0,
                 [_, ..] => 1,
             },

@@ -20,12 +20,12 @@ mod tracing;
 
 pub use branches::{step_call_outcome, step_outcome, tell_branch};
 pub use closing::{RuleName, SyntaxLine, fault_line, fault_name, findings_line};
-pub use judged::{Judged, judge};
+pub use judged::{TextJudgement, judge};
 pub use names::call_name;
 pub use operands::{Marks, tokens_of, word_of};
 pub use page::{Page, Part, line_words};
 pub use scene::Scene;
-pub use sources::{Explained, Source};
+pub use sources::{Printout, Source};
 pub use study::{Detail, Maker, Route, Stage, WayKind, Words, details, state_at_end, words_of};
 pub use subjects::fact_word;
-pub use tracing::{Shown, Traces};
+pub use tracing::{FindingTrace, Traces};

@@ -23,7 +23,7 @@ impl<'a> Source<'a> {
 
 /// The output, and the exit status: 0 without findings, 1 with findings or with a warning that counts, 2 if a text doesn't parse.
 #[derive(Drop)]
-pub struct Explained {
+pub struct Printout {
     pub output: Vec<u8>,
     pub status: u8,
 }

@@ -16,7 +16,7 @@ use crate::page::Page;
 use crate::scene::Scene;
 use crate::sources::Source;
 use crate::subjects::state_word;
-use crate::tracing::{Shown, Traces};
+use crate::tracing::{FindingTrace, Traces};
 use flt_explain::{Finding, Subject};
 use flt_explain_ways::{Answer, Cause, Step, Way};
 use flt_graph::Graph;
@@ -212,7 +212,7 @@ fn origin_of(
     scene: &Scene<'_>,
     callback: usize,
     subject: Subject,
-    shown: &Shown,
+    shown: &FindingTrace,
 ) -> Result<Option<Maker>, AllocError>
     ensures { IfOk result
         (spec.IsMadeBy scene.now.lines.now scene.now.tree.now.filter scene.now.graph.now callback subject
@@ -296,7 +296,7 @@ pub fn words_of(
     alloc: Global,
     scene: &Scene<'_>,
     finding: &Finding,
-    shown: Option<&Shown>,
+    shown: Option<&FindingTrace>,
 ) -> Result<Words, AllocError>
     ensures { IfOk result
         (words.AreWords scene.now.files scene.now.lines.now scene.now.tree.now.filter scene.now.graph.now finding.now
@@ -322,7 +322,7 @@ fn shown_stages(
     alloc: Global,
     scene: &Scene<'_>,
     callback: usize,
-    shown: &Shown,
+    shown: &FindingTrace,
     like: Option<usize>,
 ) -> Result<(Items<Stage>, Option<Items<Stage>>), AllocError>
     ensures { IfOk result (λ all.
@@ -342,7 +342,7 @@ fn route_by(
     alloc: Global,
     scene: &Scene<'_>,
     finding: &Finding,
-    shown: &Shown,
+    shown: &FindingTrace,
     like: Option<usize>,
 ) -> Result<Route, AllocError>
     ensures route { IfOk result
@@ -367,7 +367,7 @@ fn detail_by(
     alloc: Global,
     scene: &Scene<'_>,
     finding: &Finding,
-    shown: &Shown,
+    shown: &FindingTrace,
     like: Option<usize>,
 ) -> Result<Detail, AllocError>
     ensures detail { IfOk result (spec.IsDetail scene.now.files scene.now.lines.now scene.now.tree.now.filter scene.now.graph.now

@@ -8,8 +8,8 @@ ghost use Rattle.flt_explain_ways.specs.Told.{IsAnswer};
 
 use flt_explain::{Finding, Subject};
 use flt_explain_ways::{
-    Answer, Cause, Fact, Group, Origin, Situation, Traced, VariableStatus, Way, Ways, fact_about,
-    groups, origin_at, origin_on, ways,
+    Answer, Cause, Fact, Group, Origin, Situation, TracedFinding, VariableStatus, Way, Ways,
+    fact_about, groups, origin_at, origin_on, ways,
 };
 use flt_graph::Graph;
 use flt_rules::Rule;
@@ -18,7 +18,7 @@ use std::alloc::{AllocError, Global};
 
 /// The trace of a finding: the answer of the search for a path to it, and the origin of its fact, if that is known.
 #[derive(Drop)]
-pub struct Shown {
+pub struct FindingTrace {
     pub answer: Answer,
     pub origin: Option<Origin>,
 }
@@ -27,7 +27,7 @@ pub struct Shown {
 #[derive(Drop)]
 pub struct Traces {
     /// The trace of each finding, by its number.
-    pub shown: Items<Shown>,
+    pub shown: Items<FindingTrace>,
     pub groups: Items<Group>,
 }
 
@@ -196,12 +196,12 @@ fn shown_by(
     graph: &Graph,
     finding: &Finding,
     answer: Answer,
-) -> Result<Shown, AllocError>
+) -> Result<FindingTrace, AllocError>
     requires { IsAnswer graph.now finding.now answer }
     ensures { IfOk result (spec.IsShown graph.now finding.now) }
 {
     let origin = origin_by(alloc, graph, finding, &answer)?;
-    Ok(Shown { answer, origin })
+    Ok(FindingTrace { answer, origin })
 }
 
 /// The finding of a number that is there.
@@ -214,7 +214,11 @@ fn finding_at(found: &[Finding], number: usize) -> &Finding
 }
 
 /// The trace of each finding of a text.
-fn trace_all(alloc: Global, graph: &Graph, found: &[Finding]) -> Result<Items<Shown>, AllocError>
+fn trace_all(
+    alloc: Global,
+    graph: &Graph,
+    found: &[Finding],
+) -> Result<Items<FindingTrace>, AllocError>
     ensures { IfOk result (AllZip (spec.IsShown graph.now) found.now) }
 {
     let mut answers = ways(alloc, graph, found)?;
@@ -229,7 +233,7 @@ fn trace_all(alloc: Global, graph: &Graph, found: &[Finding]) -> Result<Items<Sh
 }
 
 /// The cause of the fact of a trace's origin.
-fn cause(shown: Option<&Shown>) -> Option<Cause>
+fn cause(shown: Option<&FindingTrace>) -> Option<Cause>
     ensures { result ≡ spec.cause_of (option_copied shown.entry) }
 {
     match &shown?.origin {
@@ -242,14 +246,14 @@ fn cause(shown: Option<&Shown>) -> Option<Cause>
 fn grouped(
     alloc: Global,
     found: &[Finding],
-    shown: &Items<Shown>,
+    shown: &Items<FindingTrace>,
 ) -> Result<Items<Group>, AllocError>
     ensures { IfOk result (λ all. all ≡ groups_of (spec.traced_from 0 found.now shown.now)) }
 {
     let mut all = Items::new(alloc);
     let mut number: usize = 0;
     for finding in found {
-        all.push(Traced {
+        all.push(TracedFinding {
             number,
             finding: *finding,
             cause: cause(shown.get(number)),
@@ -259,7 +263,7 @@ fn grouped(
     groups(alloc, all.as_slice())
 }
 
-impl Shown {
+impl FindingTrace {
     /// The path to a finding, and the other one if there are two.
     pub fn ways(&self) -> (Option<&Way>, Option<&Way>)
         ensures way { option_copied result.0 ≡ spec.way_of self.now.answer }
@@ -287,7 +291,7 @@ impl Traces {
 
     /// The trace of the finding of a number that is there.
     #[tactic(auto, using(std::proofs::lemmas::Option::slice_get_read))]
-    pub(crate) fn at(&self, number: usize) -> &Shown
+    pub(crate) fn at(&self, number: usize) -> &FindingTrace
         requires { number < length self.now.shown }
         ensures { slice_get self.now.shown number ≡ Some result.now }
     {
@@ -295,21 +299,21 @@ impl Traces {
     }
 
     /// The trace of the finding of a number.
-    pub(crate) fn shown_at(&self, number: usize) -> Option<&Shown>
+    pub(crate) fn shown_at(&self, number: usize) -> Option<&FindingTrace>
         ensures { option_copied result ≡ slice_get self.now.shown number }
     {
         self.shown.get(number)
     }
 
     /// The trace of a finding.
-    pub fn shown(&self, traced: &Traced) -> Option<&Shown>
+    pub fn shown(&self, traced: &TracedFinding) -> Option<&FindingTrace>
         ensures { option_copied result ≡ slice_get self.now.shown traced.now.number }
     {
         self.shown_at(traced.number)
     }
 
     /// Whether each path to a finding that was found breaks another rule before.
-    pub fn is_behind(&self, traced: &Traced) -> bool
+    pub fn is_behind(&self, traced: &TracedFinding) -> bool
         ensures { result ≡ spec.is_behind (slice_get self.now.shown traced.now.number) }
     {
         match self.shown(traced) {

@@ -9,25 +9,25 @@ use Rattle.flt_explain_flows.specs.Running.{Entered, Goes, IsEntered, Stops, ent
 use Rattle.flt_explain_flows.specs.declared.running.Active.{Active}
 use Rattle.flt_explain_flows.specs.declared.running.Course.{Course}
 use Rattle.flt_explain_flows.specs.declared.running.Run.{Run}
-use Rattle.flt_explain_flows.specs.declared.running.Taken.{Taken}
+use Rattle.flt_explain_flows.specs.declared.running.EntryActivation.{EntryActivation}
 
 -- what is kept of entries, after what is kept of others before them
-abbrev pub with_before : List Taken → Run → Run
+abbrev pub with_before : List EntryActivation → Run → Run
 with_before all run = record run { taken = all ++ run.taken }
 
 -- the same, if the entries are enabled
-abbrev pub ran_after : List Taken → Option Run → Option Run
+abbrev pub ran_after : List EntryActivation → Option Run → Option Run
 ran_after all ran = option_map (with_before all) ran
 
-kept_of : (all : List Taken) (taken : Taken) (ran : Option Run) →
+kept_of : (all : List EntryActivation) (taken : EntryActivation) (ran : Option Run) →
     ran_after all (option_map (with_first taken) ran) ≡ ran_after (all ++ taken ∷ []) ran
 kept_of all taken None = refl
 kept_of all taken (Some run) =
-    ap (λ (xs : List Taken). Some (let kept : Run = record run { taken = xs } in kept)) (sym (append_assoc all (taken ∷ []) run.taken))
+    ap (λ (xs : List EntryActivation). Some (let kept : Run = record run { taken = xs } in kept)) (sym (append_assoc all (taken ∷ []) run.taken))
 
-kept_none : (all : List Taken) (actives : List Active) →
+kept_none : (all : List EntryActivation) (actives : List Active) →
     ran_after all (Some (record { taken = []; actives = actives })) ≡ Some (record { taken = all; actives = actives })
-kept_none all actives = ap (λ (xs : List Taken). Some (let kept : Run = record { taken = xs; actives = actives } in kept)) (append-nil all)
+kept_none all actives = ap (λ (xs : List EntryActivation). Some (let kept : Run = record { taken = xs; actives = actives } in kept)) (append-nil all)
 
 module _ (p : List Filter) where
   -- an entry, before others
@@ -42,7 +42,7 @@ module _ (p : List Filter) where
   entered_none s = refl
 
   -- the next entry is made
-  made_next : (s after : Course) (all : List Taken) (taken : Taken) (whole : Option Run) (es : List JournalEntry)
+  made_next : (s after : Course) (all : List EntryActivation) (taken : EntryActivation) (whole : Option Run) (es : List JournalEntry)
       (place : ℕ) (d : JournalEntry) →
       place < length es → entry_of p s (get_or es place d) ≡ Goes taken after → ran_after all (ran_from p s (drop place es)) ≡ whole →
       ran_after (all ++ taken ∷ []) (ran_from p after (drop (place + 1) es)) ≡ whole
@@ -53,38 +53,38 @@ module _ (p : List Filter) where
       ∙ ap (λ (ws : List JournalEntry). ran_after all (ran_from p s ws)) (sym (drop-cons es place d within)) ∙ so
 
   -- the next entry isn't enabled
-  stopped_next : (s : Course) (all : List Taken) (whole : Option Run) (es : List JournalEntry) (place : ℕ) (d : JournalEntry) →
+  stopped_next : (s : Course) (all : List EntryActivation) (whole : Option Run) (es : List JournalEntry) (place : ℕ) (d : JournalEntry) →
       place < length es → entry_of p s (get_or es place d) ≡ Stops → ran_after all (ran_from p s (drop place es)) ≡ whole → whole ≡ None
   stopped_next s all whole es place d within is so =
       sym so ∙ ap (λ (ws : List JournalEntry). ran_after all (ran_from p s ws)) (drop-cons es place d within)
       ∙ ap (ran_after all) (entered_on s (get_or es place d) (drop (suc place) es) Stops is)
 
   -- the same, where the entries are lent
-  pub ran_on : (s after : Course) (all grown : List Taken) (found : Option Taken) (taken : Taken) (whole : Option Run)
+  pub ran_on : (s after : Course) (all grown : List EntryActivation) (found : Option EntryActivation) (taken : EntryActivation) (whole : Option Run)
       (lent es : List JournalEntry) (place : ℕ) (d : JournalEntry) → lent ≡ es → place < length lent →
       IsEntered found after (entry_of p s (get_or lent place d)) → found ≡ Some taken → grown ≡ all ++ taken ∷ [] →
       ran_after all (ran_from p s (drop place es)) ≡ whole → ran_after grown (ran_from p after (drop (place + 1) es)) ≡ whole
   ran_on s after all grown found taken whole lent es place d same within entered is longer so =
       let is_taken : entry_of p s (get_or lent place d) ≡ Goes taken after =
-      subst (λ (f : Option Taken). IsEntered f after (entry_of p s (get_or lent place d))) is entered in
+      subst (λ (f : Option EntryActivation). IsEntered f after (entry_of p s (get_or lent place d))) is entered in
       let P : List JournalEntry → Type 0 = λ ws. place < length ws → entry_of p s (get_or ws place d) ≡ Goes taken after →
       ran_after (all ++ taken ∷ []) (ran_from p after (drop (place + 1) es)) ≡ whole in
-      ap (λ (ts : List Taken). ran_after ts (ran_from p after (drop (place + 1) es))) longer
+      ap (λ (ts : List EntryActivation). ran_after ts (ran_from p after (drop (place + 1) es))) longer
       ∙ subst P (sym same) (λ w e. made_next s after all taken whole es place d w e so) within is_taken
 
   -- where an entry can't be made, there is no run of all
-  pub ran_nowhere : (s after : Course) (all : List Taken) (found : Option Taken) (whole : Option Run)
+  pub ran_nowhere : (s after : Course) (all : List EntryActivation) (found : Option EntryActivation) (whole : Option Run)
       (lent es : List JournalEntry) (place : ℕ)
       (d : JournalEntry) → lent ≡ es → place < length lent → IsEntered found after (entry_of p s (get_or lent place d)) → found ≡ None →
       ran_after all (ran_from p s (drop place es)) ≡ whole → whole ≡ None
   ran_nowhere s after all found whole lent es place d same within entered is so =
       let is_stopped : entry_of p s (get_or lent place d) ≡ Stops =
-      subst (λ (f : Option Taken). IsEntered f after (entry_of p s (get_or lent place d))) is entered in
+      subst (λ (f : Option EntryActivation). IsEntered f after (entry_of p s (get_or lent place d))) is entered in
       let P : List JournalEntry → Type 0 = λ ws. place < length ws → entry_of p s (get_or ws place d) ≡ Stops → whole ≡ None in
       subst P (sym same) (λ w e. stopped_next s all whole es place d w e so) within is_stopped
 
   -- no entry comes next
-  pub ran_all : (s : Course) (all : List Taken) (whole : Option Run) (es : List JournalEntry) (place : ℕ) → length es ≤ place →
+  pub ran_all : (s : Course) (all : List EntryActivation) (whole : Option Run) (es : List JournalEntry) (place : ℕ) → length es ≤ place →
       ran_after all (ran_from p s (drop place es)) ≡ whole → whole ≡ Some (record { taken = all; actives = s.actives })
   ran_all s all whole es place past so =
       sym so ∙ ap (λ (ws : List JournalEntry). ran_after all (ran_from p s ws)) (drop_all place es past)

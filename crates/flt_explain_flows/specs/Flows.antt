@@ -18,10 +18,10 @@ use Rattle.flt_explain_flows.specs.declared.flows.FlowActivation.{FlowActivation
 use Rattle.flt_explain_flows.specs.declared.flows.FlowStep.{FlowStep}
 use Rattle.flt_explain_flows.specs.declared.running.Active.{Active}
 use Rattle.flt_explain_flows.specs.declared.running.Run.{Run}
-use Rattle.flt_explain_flows.specs.declared.running.Taken.{Taken}
+use Rattle.flt_explain_flows.specs.declared.running.EntryActivation.{EntryActivation}
 
 -- the entry of a number as a step: its words are those that a timeline has for a row of this entry alone
-abbrev pub step_of : Timeline → ℕ → Taken → FlowStep
+abbrev pub step_of : Timeline → ℕ → EntryActivation → FlowStep
 step_of t entry taken = record {
   entry = entry;
   activation = taken.activation;
@@ -30,12 +30,12 @@ step_of t entry taken = record {
 }
 
 -- the entries from this number on
-unfoldable pub steps_from : Timeline → ℕ → List Taken → List FlowStep
+unfoldable pub steps_from : Timeline → ℕ → List EntryActivation → List FlowStep
 steps_from t entry [] = []
 steps_from t entry (taken ∷ more) = step_of t entry taken ∷ steps_from t (entry + 1) more
 
 -- all entries as steps
-abbrev pub steps_of : Timeline → List Taken → List FlowStep
+abbrev pub steps_of : Timeline → List EntryActivation → List FlowStep
 steps_of t taken = steps_from t 0 taken
 
 -- an activation: its filter's tree is the one of the same altitude

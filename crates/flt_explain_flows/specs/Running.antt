@@ -16,15 +16,15 @@ use Rattle.flt_replay_steps.specs.Unseen.{unseen}
 pub use Rattle.flt_explain_timeline.specs.Callbacks.{span_of}
 use Rattle.flt_explain_timeline.specs.Callbacks.{start_of}
 use Rattle.flt_explain_timeline.specs.Course.{operation_on, routine_of}
-use Rattle.flt_explain_timeline.specs.declared.telling.Started.{Started}
+use Rattle.flt_explain_timeline.specs.declared.telling.StartedCallback.{StartedCallback}
 use Rattle.flt_explain_flows.specs.declared.running.Active.{Active}
 use Rattle.flt_explain_flows.specs.declared.running.Course.{Course}
 use Rattle.flt_explain_flows.specs.declared.running.Run.{Run}
-use Rattle.flt_explain_flows.specs.declared.running.Taken.{Taken}
+use Rattle.flt_explain_flows.specs.declared.running.EntryActivation.{EntryActivation}
 
 -- the outcome of an entry: what is kept of it, and how far the journal was run after it; or it isn't enabled
 pub data Entered : Type 0 where
-  Goes : (taken : Taken) → (after : Course) → Entered
+  Goes : (taken : EntryActivation) → (after : Course) → Entered
   Stops : Entered
 
 -- ---- places
@@ -44,7 +44,7 @@ end_of (Some c) = c.end
 end_of None = nowhere
 
 -- the callback of an activation
-abbrev pub callback_at : List Filter → Started → Option Callback
+abbrev pub callback_at : List Filter → StartedCallback → Option Callback
 callback_at p started = slice_get (callbacks_at p started.filter) started.callback
 
 -- the place of the next step, by the statements that remain: at the end of a body that of the closing brace
@@ -55,7 +55,7 @@ next_span end (s ∷ rest) = span_of (out-Statement s)
 -- ---- moves
 
 -- the filter manager does something that starts no callback
-abbrev pub nobody : Taken
+abbrev pub nobody : EntryActivation
 nobody = record { activation = None; span = None }
 
 -- a callback has started, as the activation of this number: it is at its head
@@ -127,7 +127,7 @@ entry_of p s (entries.Move move) = move_entry p s move
 entry_of p s (entries.Go a steps grant) = go_entry p s a steps grant (slice_get s.actives a)
 
 -- what is kept of one more entry, before others
-abbrev pub with_first : Taken → Run → Run
+abbrev pub with_first : EntryActivation → Run → Run
 with_first taken run = record run { taken = taken ∷ run.taken }
 
 -- an entry and those after it
@@ -156,15 +156,15 @@ IsGone (Some span) w gone = gone ≡ Comes span w
 IsGone None w gone = gone ≡ Stays
 
 -- what is kept of an entry, and how far the journal was run
-abbrev pub GoesTo : Taken → Course → Entered → Type 0
+abbrev pub GoesTo : EntryActivation → Course → Entered → Type 0
 GoesTo taken after entered = entered ≡ Goes taken after
 
 -- the same, if the entry is enabled
-abbrev pub IsEntered : Option Taken → Course → Entered → Type 0
+abbrev pub IsEntered : Option EntryActivation → Course → Entered → Type 0
 IsEntered (Some taken) after entered = GoesTo taken after entered
 IsEntered None after entered = entered ≡ Stops
 
 -- what is kept of some entries, if all of them are enabled
-abbrev pub IsRan : Option (List Taken) → Course → Option Run → Type 0
+abbrev pub IsRan : Option (List EntryActivation) → Course → Option Run → Type 0
 IsRan (Some taken) after run = run ≡ Some (record { taken = taken; actives = after.actives })
 IsRan None after run = run ≡ None

@@ -7,7 +7,7 @@ ghost use Rattle.flt_explain_flows.specs.Flows as spec;
 ghost use Rattle.flt_explain_flows.specs.Running as running;
 
 use crate::naming::name_of;
-use crate::running::{Active, Run, Stage, Taken, run_of};
+use crate::running::{Active, EntryActivation, Run, Stage, run_of};
 use flt_explain_timeline::{Row, Timeline, filters_of, tree_at};
 use flt_model::{Journal, Verdict};
 use flt_places::Files;
@@ -57,7 +57,7 @@ fn step_of(
     alloc: Global,
     timeline: &Timeline<'_>,
     entry: usize,
-    taken: Taken,
+    taken: EntryActivation,
 ) -> Result<FlowStep, AllocError>
     ensures { IfOk result (λ step. step ≡ spec.step_of timeline.now entry taken) }
 {
@@ -79,7 +79,7 @@ fn step_of(
 fn steps_of(
     alloc: Global,
     timeline: &Timeline<'_>,
-    taken: &[Taken],
+    taken: &[EntryActivation],
 ) -> Result<Items<FlowStep>, AllocError>
     ensures { IfOk result (λ steps. steps ≡ spec.steps_of timeline.now taken.now) }
 {

@@ -8,7 +8,7 @@ ghost use Rattle.flt_replay_world.specs.Filters.{filters_behind};
 ghost use Rattle.flt_explain_timeline.specs.Course as told;
 ghost use Rattle.flt_explain_flows.specs.Running as spec;
 
-use flt_explain_timeline::{Started, callbacks_at, start_of};
+use flt_explain_timeline::{StartedCallback, callbacks_at, start_of};
 use flt_model::{Journal, JournalEntry, Move};
 use flt_replay_course::{make_move, step_seen, upcoming};
 use flt_replay_records::Upcoming;
@@ -21,13 +21,13 @@ use std::alloc::{AllocError, Global};
 /// A callback that has started, and the operation that it is about.
 #[derive(Clone, Copy)]
 pub(crate) struct Active {
-    pub(crate) started: Started,
+    pub(crate) started: StartedCallback,
     pub(crate) operation: Option<usize>,
 }
 
 /// The activation that starts or continues with an entry, and where that is; neither if the entry is another move of the filter manager.
 #[derive(Clone, Copy)]
-pub(crate) struct Taken {
+pub(crate) struct EntryActivation {
     pub(crate) activation: Option<usize>,
     pub(crate) span: Option<Span>,
 }
@@ -35,7 +35,7 @@ pub(crate) struct Taken {
 /// The run of a journal: an item for each entry, and each activation in the order in which they start.
 #[derive(Drop)]
 pub(crate) struct Run {
-    pub(crate) taken: Items<Taken>,
+    pub(crate) taken: Items<EntryActivation>,
     pub(crate) actives: Items<Active>,
 }
 
@@ -65,7 +65,7 @@ const NOWHERE: Span = Span {
 };
 
 /// The place of a callback's head.
-fn head_of(filters: &[&Filter], started: Started) -> Span
+fn head_of(filters: &[&Filter], started: StartedCallback) -> Span
     ensures { result ≡ spec.head_of (slice_get (callbacks_in (filters_behind filters.now) started.filter) started.callback) }
 {
     match callbacks_at(filters, started.filter).get(started.callback) {
@@ -75,7 +75,7 @@ fn head_of(filters: &[&Filter], started: Started) -> Span
 }
 
 /// The place of a callback's closing brace.
-fn end_of(filters: &[&Filter], started: Started) -> Span
+fn end_of(filters: &[&Filter], started: StartedCallback) -> Span
     ensures { result ≡ spec.end_of (slice_get (callbacks_in (filters_behind filters.now) started.filter) started.callback) }
 {
     match callbacks_at(filters, started.filter).get(started.callback) {
@@ -189,21 +189,25 @@ impl<'a> Course<'a> {
         stage: &Stage<'_, 'a>,
         activation: usize,
         routine: Option<usize>,
-    ) -> Result<Taken, AllocError>
+    ) -> Result<EntryActivation, AllocError>
         ensures { IfOk result (λ taken. spec.GoesTo taken self.new
             (spec.after_start (filters_behind stage.now.filters.now) self.old.world self.old.actives activation routine)) }
     {
         let started = start_of(stage.filters, &self.world, activation, routine);
         let operation = self.operation_on(activation);
         self.actives.push(Active { started, operation })?;
-        Ok(Taken {
+        Ok(EntryActivation {
             activation: Some(activation),
             span: Some(head_of(stage.filters, started)),
         })
     }
 
     /// Makes a move; none if it isn't enabled.
-    fn take_move(&mut self, stage: &Stage<'_, 'a>, step: Move) -> Result<Option<Taken>, AllocError>
+    fn take_move(
+        &mut self,
+        stage: &Stage<'_, 'a>,
+        step: Move,
+    ) -> Result<Option<EntryActivation>, AllocError>
         requires { filters_behind stage.now.filters.now ≡ stage.now.stack.now }
         ensures { IfOk result (λ taken. spec.IsEntered taken self.new (spec.move_entry stage.now.stack.now self.old step)) }
     {
@@ -215,7 +219,7 @@ impl<'a> Course<'a> {
         if self.world.activations.len() > before {
             return Ok(Some(self.start(stage, before, routine)?));
         }
-        Ok(Some(Taken {
+        Ok(Some(EntryActivation {
             activation: None,
             span: None,
         }))
@@ -228,7 +232,7 @@ impl<'a> Course<'a> {
         activation: usize,
         steps: u32,
         grant: bool,
-    ) -> Result<Option<Taken>, AllocError>
+    ) -> Result<Option<EntryActivation>, AllocError>
         requires { filters_behind stage.now.filters.now ≡ stage.now.stack.now }
         ensures { IfOk result (λ taken. spec.IsEntered taken self.new
             (spec.go_entry stage.now.stack.now self.old activation steps grant (slice_get self.old.actives activation))) }
@@ -238,7 +242,7 @@ impl<'a> Course<'a> {
         };
         let end = end_of(stage.filters, active.started);
         match go(&mut self.world, stage, activation, steps, grant, end)? {
-            Some(span) => Ok(Some(Taken {
+            Some(span) => Ok(Some(EntryActivation {
                 activation: Some(activation),
                 span: Some(span),
             })),
@@ -251,7 +255,7 @@ impl<'a> Course<'a> {
         &mut self,
         stage: &Stage<'_, 'a>,
         entry: JournalEntry,
-    ) -> Result<Option<Taken>, AllocError>
+    ) -> Result<Option<EntryActivation>, AllocError>
         requires { filters_behind stage.now.filters.now ≡ stage.now.stack.now }
         ensures { IfOk result (λ taken. spec.IsEntered taken self.new (spec.entry_of stage.now.stack.now self.old entry)) }
     {
@@ -270,7 +274,7 @@ impl<'a> Course<'a> {
         &mut self,
         stage: &Stage<'_, 'a>,
         journal: &Journal,
-    ) -> Result<Option<Items<Taken>>, AllocError>
+    ) -> Result<Option<Items<EntryActivation>>, AllocError>
         requires { filters_behind stage.now.filters.now ≡ stage.now.stack.now }
         ensures { IfOk result (λ found. spec.IsRan found self.new (spec.ran_from stage.now.stack.now self.old journal.now)) }
     {

@@ -4,10 +4,10 @@ use Rattle.std.proofs.Common.{refl, ap, sym, ◌∙◌, append_assoc, append-nil
 use Rattle.std.proofs.Math.Seq.{take-suc}
 use Rattle.json.specs.Token.{Token}
 use Rattle.flt_explain_forms.specs.Rules.{AreRules, IsRule}
-use Rattle.flt_explain_forms.specs.declared.rules.Reported.{Reported}
+use Rattle.flt_explain_forms.specs.declared.rules.ResultKind.{ResultKind}
 
 -- one rule more
-rules_push : (rs : List Reported) (r : Reported) (tokens part : List Token) →
+rules_push : (rs : List ResultKind) (r : ResultKind) (tokens part : List Token) →
     AreRules rs tokens → IsRule r part → AreRules (rs ++ r ∷ []) (tokens ++ part)
 rules_push [] r tokens part same is = (part, [], is, refl, ap (λ ts. ts ++ part) same ∙ sym (append-nil part))
 rules_push (t ∷ rs) r tokens part (first, rest, is_first, are, both) is = (
@@ -18,7 +18,7 @@ rules_push (t ∷ rs) r tokens part (first, rest, is_first, are, both) is = (
   ap (λ ts. ts ++ part) both ∙ append_assoc first rest part,
 )
 
-module _ (all : List Reported) (i : ℕ) (d : Reported) (within : i < length all) where
+module _ (all : List ResultKind) (i : ℕ) (d : ResultKind) (within : i < length all) where
   one_rule_more : take (i + 1) all ≡ take i all ++ get_or all i d ∷ []
   one_rule_more =
       let next : take (suc i) all ≡ take i all ++ get_or all i d ∷ [] = take-suc all i d within in

@@ -19,7 +19,7 @@ use Rattle.flt_explain_forms.specs.Results.{artifact_by, fingerprints, item, mes
 use Rattle.flt_explain_forms.specs.Rules.{of_rule}
 use Rattle.flt_explain_forms.specs.declared.drifted.DriftedFile.{DriftedFile}
 use Rattle.flt_explain_forms.specs.declared.file.Artifact.{Artifact}
-use Rattle.flt_explain_forms.specs.declared.rules.Reported.TheVariants.{Drifted}
+use Rattle.flt_explain_forms.specs.declared.rules.ResultKind.TheVariants.{Drifted}
 
 -- ---- places
 

@@ -5,7 +5,7 @@ use Rattle.std.specs.List.{slice_split}
 use Rattle.flt_explain_hints.specs.Telling.{notes_of, title_of}
 use Rattle.flt_explain_hints.specs.Trouble.{IsDescribed}
 use Rattle.flt_explain_hints.specs.declared.choices.Choices.{Choices}
-use Rattle.flt_explain_hints.specs.declared.choices.Expected.{Expected}
+use Rattle.flt_explain_hints.specs.declared.choices.ExpectedWord.{ExpectedWord}
 use Rattle.flt_explain_hints.specs.declared.open_call.OpenCall.{OpenCall}
 use Rattle.flt_explain_hints.specs.declared.troubles.Trouble.{Trouble}
 use Rattle.flt_columns.specs.Columns.{file_column_up_to}
@@ -77,7 +77,7 @@ place files f found =
 -- the words and symbols of the language that may stand there, and the names that the text declares
 abbrev pub choices : Choices → List Token
 choices c =
-    array_member (codes "expected") (text_items (map (λ (e : Expected). e.word.now) c.expected))
+    array_member (codes "expected") (text_items (map (λ (e : ExpectedWord). e.word.now) c.expected))
     ++ array_member (codes "names") (text_items (map (λ name. name.now) c.names))
 
 -- a fault of a file, with what is said of it and how to fix it

@@ -4,8 +4,8 @@ use Rattle.std.specs.Borrow.{Bor}
 use Rattle.flt_explain.specs.declared.finding.Finding.{Finding}
 use Rattle.flt_explain_details.specs.Reports.{IsJudged, name_of}
 use Rattle.flt_explain_details.specs.Stages.{AreDetails}
-use Rattle.flt_explain_details.specs.declared.judged.Judged.{Judged}
-use Rattle.flt_explain_details.specs.declared.judged.Judged.TheVariants.{Unread, Known}
+use Rattle.flt_explain_details.specs.declared.judged.TextJudgement.{TextJudgement}
+use Rattle.flt_explain_details.specs.declared.judged.TextJudgement.TheVariants.{Unread, Known}
 use Rattle.flt_explain_details.specs.declared.sources.Source.{Source}
 use Rattle.flt_explain_details.specs.declared.study.Detail.{Detail}
 use Rattle.flt_graph.specs.declared.graph.Graph.{Graph}
@@ -41,7 +41,7 @@ pub record AreShortLines (files : Files) (text : Text) (filter : Filter) (graph 
   pub lines : printed ≡ flat_map (short.finding_line files) details
 
 -- what is printed of a text: one line where it doesn't parse, else one for each finding; an object has its run, by the finding's number
-abbrev pub IsPrinted : Style → (ℕ → List Token) → Source → Judged → List ℕ → Type 0
+abbrev pub IsPrinted : Style → (ℕ → List Token) → Source → TextJudgement → List ℕ → Type 0
 IsPrinted Object run s (Unread f) printed = IsFaultLine s.files s.text.now printed
 IsPrinted Object run s (Known tree graph found) printed = AreFindingLines s.files run s.text.now tree.filter graph found printed
 IsPrinted Sentence run s (Unread f) printed = short.IsFaultLine s.files s.text.now printed
@@ -56,7 +56,7 @@ warning_lines Sentence files warned = flat_map (short.warning_line files) warned
 -- which comes of the same findings and warnings
 pub record IsPart (style : Style) (options : WarningOptions) (run : ℕ → List Token) (s : Source) (printed : List ℕ) (status : ℕ)
     : Type 0 where
-  pub judged : Judged
+  pub judged : TextJudgement
   pub is : IsJudged s.text.now judged
   pub warned : List WarningDetail
   pub are : AreWarned s options.allowed judged warned

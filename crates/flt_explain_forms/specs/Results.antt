@@ -21,7 +21,7 @@ use Rattle.flt_explain_forms.specs.Rules.{of_rule}
 use Rattle.flt_explain_forms.specs.Short.{place_of}
 use Rattle.flt_explain_forms.specs.declared.file.Artifact.{Artifact}
 use Rattle.flt_explain_forms.specs.declared.file.File.{File}
-use Rattle.flt_explain_forms.specs.declared.rules.Reported.TheVariants.{Broken, Unread}
+use Rattle.flt_explain_forms.specs.declared.rules.ResultKind.TheVariants.{Broken, Unread}
 use Rattle.flt_explain_forms.specs.declared.uri.Reference.{Reference}
 
 -- an object with these members, in an array

@@ -18,12 +18,12 @@ use Rattle.flt_explain_warnings.specs.declared.warning.Kind.TheVariants.{W00, W0
 use Rattle.json.specs.Token.{Token, begin_object, end_object, string}
 use Rattle.flt_explain_forms.specs.Members.{array_member, number_member, object_member, string_member, text_member}
 use Rattle.flt_explain_forms.specs.Paragraphs.{first_paragraph}
-use Rattle.flt_explain_forms.specs.declared.rules.Reported.{Reported}
+use Rattle.flt_explain_forms.specs.declared.rules.ResultKind.{ResultKind}
 use Rattle.flt_explain_forms.specs.declared.drifted.DriftedFile.{DriftedFile}
-use Rattle.flt_explain_forms.specs.declared.rules.Reported.TheVariants.{Broken, Drifted, Unread, Warned}
+use Rattle.flt_explain_forms.specs.declared.rules.ResultKind.TheVariants.{Broken, Drifted, Unread, Warned}
 
 -- all rules, all kinds of faults of a text, and all kinds of warnings, in their order
-unfoldable pub all : List Reported
+unfoldable pub all : List ResultKind
 all =
     Broken R01 ∷ Broken R02 ∷ Broken R03 ∷ Broken R04 ∷ Broken R05 ∷ Broken R06 ∷ Broken R07 ∷ Broken R08 ∷ Broken R09 ∷ Broken R10
     ∷ Broken R11 ∷ Broken R12 ∷ Broken R13 ∷ Broken R14 ∷ Broken R15
@@ -39,7 +39,7 @@ drift_kinds =
 -- ---- what is said of a rule
 
 -- its number, as `R02`
-abbrev pub id_of : Reported → List ℕ
+abbrev pub id_of : ResultKind → List ℕ
 id_of (Broken r) = rule_name r
 id_of (Unread k) = fault_name k
 id_of (Warned k) = kind_name k
@@ -79,28 +79,28 @@ drift_words drift.OtherOperation = codes "callback that is only registered or on
 drift_words drift.OtherLock = codes "lock that no annotation names"
 
 -- its words
-abbrev pub words_of : Reported → List ℕ
+abbrev pub words_of : ResultKind → List ℕ
 words_of (Broken r) = text r
 words_of (Unread k) = fault_words k
 words_of (Warned k) = kind_words k
 words_of (Drifted k) = drift_words k
 
 -- what a result of it is where nobody says anything else
-abbrev pub level_of : Reported → List ℕ
+abbrev pub level_of : ResultKind → List ℕ
 level_of (Broken r) = codes "error"
 level_of (Unread k) = codes "error"
 level_of (Warned k) = codes "warning"
 level_of (Drifted k) = codes "warning"
 
 -- how often it is right: a fault always; a rule forgets what goes together, and a warning and a drift guess what is meant
-abbrev pub precision_of : Reported → List ℕ
+abbrev pub precision_of : ResultKind → List ℕ
 precision_of (Broken r) = codes "high"
 precision_of (Unread k) = codes "very-high"
 precision_of (Warned k) = codes "medium"
 precision_of (Drifted k) = codes "medium"
 
 -- what hosts sort it under
-abbrev pub tag_of : Reported → List ℕ
+abbrev pub tag_of : ResultKind → List ℕ
 tag_of (Broken r) = codes "correctness"
 tag_of (Unread k) = codes "syntax"
 tag_of (Warned k) = codes "maintainability"
@@ -154,7 +154,7 @@ index_of_drift drift.NotRegistered = 35
 index_of_drift drift.OtherOperation = 35
 index_of_drift drift.OtherLock = 36
 
-abbrev pub index_of : Reported → ℕ
+abbrev pub index_of : ResultKind → ℕ
 index_of (Broken r) = index_of_rule r
 index_of (Unread k) = index_of_fault k
 index_of (Warned k) = index_of_kind k
@@ -162,19 +162,19 @@ index_of (Drifted k) = index_of_drift k
 
 -- ---- the members
 
-abbrev pub words_member : List ℕ → Reported → List Token
+abbrev pub words_member : List ℕ → ResultKind → List Token
 words_member name reported = object_member name (string_member (codes "text") (words_of reported))
 
-abbrev pub names : Reported → List Token
+abbrev pub names : ResultKind → List Token
 names reported = string_member (codes "name") (words_of reported) ++ words_member (codes "shortDescription") reported
 
-abbrev pub configuration : Reported → List Token
+abbrev pub configuration : ResultKind → List Token
 configuration reported = object_member (codes "defaultConfiguration") (string_member (codes "level") (level_of reported))
 
-abbrev pub tags : Reported → List Token
+abbrev pub tags : ResultKind → List Token
 tags reported = array_member (codes "tags") (string (tag_of reported) ∷ [])
 
-abbrev pub properties : Reported → List Token
+abbrev pub properties : ResultKind → List Token
 properties reported =
     object_member (codes "properties") (tags reported ++ (string_member (codes "precision") (precision_of reported)
     ++ string_member (codes "problem.severity") (level_of reported)))
@@ -193,7 +193,7 @@ help None = []
 help (Some page) = object_member (codes "help") (page_members page.now)
 
 -- a rule with its page
-abbrev pub rule_item : List ℕ → Reported → Option (Bor (List ℕ)) → List Token
+abbrev pub rule_item : List ℕ → ResultKind → Option (Bor (List ℕ)) → List Token
 rule_item id reported page =
     begin_object ∷ (string_member (codes "id") id ++ (names reported ++ (description page ++ (help page ++ (configuration reported
     ++ (properties reported ++ end_object ∷ []))))))
@@ -204,13 +204,13 @@ pub record IsPage (name : List ℕ) (page : Option (Bor (List ℕ))) : Type 0 wh
   pub begins : IfSome page (λ p. StartsWith p.now (title name))
 
 -- a rule with its own page
-pub record IsRule (reported : Reported) (tokens : List Token) : Type 0 where
+pub record IsRule (reported : ResultKind) (tokens : List Token) : Type 0 where
   pub page : Option (Bor (List ℕ))
   pub own : IsPage (id_of reported) page
   pub is : tokens ≡ rule_item (id_of reported) reported page
 
 -- these rules, in their order
-abbrev pub AreRules : List Reported → List Token → Type 0
+abbrev pub AreRules : List ResultKind → List Token → Type 0
 AreRules [] tokens = tokens ≡ []
 AreRules (r ∷ rs) tokens = (first : List Token) × (others : List Token) × IsRule r first × AreRules rs others × (tokens ≡ first ++ others)
 
@@ -261,5 +261,5 @@ tool rules = object_member (codes "tool") (driver rules)
 -- ---- of a result
 
 -- which rule a result is of: its number, and its place among the document's rules
-abbrev pub of_rule : Reported → List Token
+abbrev pub of_rule : ResultKind → List Token
 of_rule reported = string_member (codes "ruleId") (id_of reported) ++ number_member (codes "ruleIndex") (index_of reported)

@@ -7,8 +7,8 @@ use Rattle.flt_explain_hints.specs.Trouble.{IsDescribed}
 use Rattle.flt_explain_hints.specs.declared.troubles.Trouble.{Trouble}
 use Rattle.flt_explain_details.specs.Reports.{IsJudged}
 use Rattle.flt_explain_details.specs.Stages.{AreDetails}
-use Rattle.flt_explain_details.specs.declared.judged.Judged.{Judged}
-use Rattle.flt_explain_details.specs.declared.judged.Judged.TheVariants.{Unread, Known}
+use Rattle.flt_explain_details.specs.declared.judged.TextJudgement.{TextJudgement}
+use Rattle.flt_explain_details.specs.declared.judged.TextJudgement.TheVariants.{Unread, Known}
 use Rattle.flt_explain_details.specs.declared.sources.Source.{Source}
 use Rattle.flt_explain_details.specs.declared.study.Detail.{Detail}
 use Rattle.flt_graph.specs.declared.graph.Graph.{Graph}
@@ -47,7 +47,7 @@ pub record AreFindingResults (file : File) (run : ℕ → List Token) (s : Sourc
   pub results : tokens ≡ results_of file graph run details
 
 -- the results of a text: one where it doesn't parse, else one for each finding
-unfoldable pub HasResults : File → (ℕ → List Token) → Source → Judged → List Token → Type 0
+unfoldable pub HasResults : File → (ℕ → List Token) → Source → TextJudgement → List Token → Type 0
 HasResults file run s (Unread f) tokens = IsFaultResult file s tokens
 HasResults file run s (Known tree graph found) tokens = AreFindingResults file run s tree.filter graph found tokens
 
@@ -57,7 +57,7 @@ pub record IsPart (options : WarningOptions) (names : List (Bor (List ℕ))) (ru
     (status : ℕ) : Type 0 where
   pub file : File
   pub of : file ≡ file_of names s
-  pub judged : Judged
+  pub judged : TextJudgement
   pub is : IsJudged s.text.now judged
   pub warned : List WarningDetail
   pub are : AreWarned s options.allowed judged warned

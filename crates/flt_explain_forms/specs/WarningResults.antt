@@ -10,7 +10,7 @@ use Rattle.flt_explain_forms.specs.Results.{fingerprints, item, locations, marke
 use Rattle.flt_explain_forms.specs.Rules.{of_rule}
 use Rattle.flt_explain_forms.specs.Warning.{numbers}
 use Rattle.flt_explain_forms.specs.declared.file.File.{File}
-use Rattle.flt_explain_forms.specs.declared.rules.Reported.TheVariants.{Warned}
+use Rattle.flt_explain_forms.specs.declared.rules.ResultKind.TheVariants.{Warned}
 
 -- what breaks no rule is a warning
 abbrev pub level : List Token

@@ -17,7 +17,7 @@ use crate::short::{put_short_fault, put_short_lines, put_short_warnings};
 use crate::warned::{status_of, warned_of};
 use crate::warning::put_warnings;
 use flt_explain::Finding;
-use flt_explain_details::{Explained, Judged, Source, details, judge};
+use flt_explain_details::{Printout, Source, TextJudgement, details, judge};
 use flt_explain_hints::{describe, tell};
 use flt_explain_warning_details::{WarningDetail, WarningOptions};
 use flt_graph::Graph;
@@ -93,15 +93,15 @@ fn put_judged(
     runs: TextRuns<'_, '_>,
     number: usize,
     source: Source<'_>,
-    judged: &Judged,
+    judged: &TextJudgement,
 ) -> Result<Vec<u8>, AllocError>
     requires { IsJudged source.text.now judged.now }
     ensures { IfOk result (λ v. (printed : List ℕ) × spec.IsPrinted style (members_in runs.entry number) source.entry judged.now printed
         × (v.items ≡ out.items ++ printed)) }
 {
     match (style, judged) {
-        (Style::Object, Judged::Unread(fault)) => unread(alloc, out, source, *fault),
-        (Style::Object, Judged::Known(tree, graph, found)) => {
+        (Style::Object, TextJudgement::Unread(fault)) => unread(alloc, out, source, *fault),
+        (Style::Object, TextJudgement::Known(tree, graph, found)) => {
             known(
                 alloc,
                 out,
@@ -113,8 +113,10 @@ fn put_judged(
                 found.as_slice(),
             )
         }
-        (Style::Sentence, Judged::Unread(fault)) => put_short_fault(alloc, out, source, *fault),
-        (Style::Sentence, Judged::Known(tree, graph, found)) => {
+        (Style::Sentence, TextJudgement::Unread(fault)) => put_short_fault(
+            alloc, out, source, *fault,
+        ),
+        (Style::Sentence, TextJudgement::Known(tree, graph, found)) => {
             put_short_lines(alloc, out, source, tree, graph, found.as_slice())
         }
     }
@@ -145,7 +147,7 @@ fn put_source(
     runs: TextRuns<'_, '_>,
     number: usize,
     source: Source<'_>,
-) -> Result<Explained, AllocError>
+) -> Result<Printout, AllocError>
     ensures { IfOk result (λ e. (printed : List ℕ) × spec.IsPart style options (members_in runs.entry number) source.entry printed e.status
         × (e.output.items ≡ out.items ++ printed)) }
 {
@@ -154,7 +156,7 @@ fn put_source(
     let first = put_judged(alloc, out, style, runs, number, source, &judged)?;
     let shown = put_warned(alloc, first, style, &source.files, warned.as_slice())?;
     let output = put_clean_lines(shown, style, source.name(), &judged, warned.as_slice())?;
-    Ok(Explained {
+    Ok(Printout {
         output,
         status: status_of(options.is_strict, &judged, warned.as_slice()),
     })
@@ -174,18 +176,18 @@ fn put_sources(
     options: WarningOptions,
     runs: TextRuns<'_, '_>,
     sources: &[Source<'_>],
-) -> Result<Explained, AllocError>
+) -> Result<Printout, AllocError>
     ensures { IfOk result (λ e.
         spec.AreLinesFrom style options (members_in runs.entry) 0 sources.now out.items e.output.items e.status) }
 {
-    let mut told = Explained {
+    let mut told = Printout {
         output: out,
         status: 0,
     };
     for (number, source) in sources.iter().enumerate() {
         let before = told.status;
         let one = put_source(alloc, told.output, style, options, runs, number, *source)?;
-        told = Explained {
+        told = Printout {
             output: one.output,
             status: greater(before, one.status),
         };
@@ -200,7 +202,7 @@ fn with_runs(
     options: WarningOptions,
     sources: &[Source<'_>],
     runs: &[FindingRun],
-) -> Result<Explained, AllocError>
+) -> Result<Printout, AllocError>
     ensures { IfOk result (λ e.
         spec.AreLinesFrom style options (own_member sources.now runs.now) 0 sources.now [] e.output.items e.status) }
 {
@@ -219,7 +221,7 @@ fn without_runs(
     style: Style,
     options: WarningOptions,
     sources: &[Source<'_>],
-) -> Result<Explained, AllocError>
+) -> Result<Printout, AllocError>
     ensures { IfOk result (λ e. spec.AreLinesFrom style options no_member 0 sources.now [] e.output.items e.status) }
 {
     let runs = TextRuns {
@@ -244,7 +246,7 @@ pub fn lines(
     options: WarningOptions,
     sources: &[Source<'_>],
     runs: Option<&[FindingRun]>,
-) -> Result<Explained, AllocError>
+) -> Result<Printout, AllocError>
     ensures { IfOk result (λ e. spec.AreLines style options sources.now runs.entry e.output.items e.status) }
 {
     match runs {

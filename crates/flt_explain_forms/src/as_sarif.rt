@@ -25,7 +25,7 @@ use crate::unread::{UnreadFile, put_invocations};
 use crate::warned::{status_of, warned_of};
 use crate::warning_results::put_warning_results;
 use flt_explain::Finding;
-use flt_explain_details::{Explained, Judged, Source, details, judge};
+use flt_explain_details::{Printout, Source, TextJudgement, details, judge};
 use flt_explain_hints::{describe, tell};
 use flt_explain_warning_details::WarningOptions;
 use flt_graph::Graph;
@@ -94,15 +94,15 @@ fn put_judged(
     runs: FileRuns<'_, '_>,
     number: usize,
     source: Source<'_>,
-    judged: &Judged,
+    judged: &TextJudgement,
 ) -> Result<(), AllocError>
     requires { IsJudged source.text.now judged.now }
     ensures { IfOk result (λ _. (ts : List Token) × spec.HasResults file.now (flows_in runs.entry number) source.entry judged.now ts
         × Added writer.old writer.new ts) }
 {
     match judged {
-        Judged::Unread(fault) => put_unread(alloc, writer, file, source, *fault),
-        Judged::Known(tree, graph, found) => put_known(
+        TextJudgement::Unread(fault) => put_unread(alloc, writer, file, source, *fault),
+        TextJudgement::Known(tree, graph, found) => put_known(
             alloc,
             writer,
             file,
@@ -309,7 +309,7 @@ pub fn sarif<'s>(
     unread: &[UnreadFile],
     runs: &[FindingRun],
     drifted: &[DriftedFile<'s>],
-) -> Result<Explained, AllocError>
+) -> Result<Printout, AllocError>
     ensures { IfOk result (λ e. spec.IsSarif options sources.now unread.now runs.now drifted.now e.output.items e.status) }
 {
     let names = names_of(alloc, sources, drifted)?;
@@ -331,5 +331,5 @@ pub fn sarif<'s>(
     )?;
     let mut output = writer.into_inner();
     output.push(b'\n')?;
-    Ok(Explained { output, status })
+    Ok(Printout { output, status })
 }

@@ -9,7 +9,7 @@ use crate::as_lines::Style;
 use crate::members::{close_object, open_object};
 use crate::preface::put_preface;
 use flt_explain::Finding;
-use flt_explain_details::Judged;
+use flt_explain_details::TextJudgement;
 use flt_explain_warning_details::WarningDetail;
 use json::Writer;
 use std::alloc::AllocError;
@@ -33,12 +33,12 @@ fn is_nothing(found: &[Finding], warned: &[WarningDetail]) -> bool
 }
 
 /// Whether a text parses and has neither findings nor warnings.
-fn is_clean(judged: &Judged, warned: &[WarningDetail]) -> bool
+fn is_clean(judged: &TextJudgement, warned: &[WarningDetail]) -> bool
     ensures { result ≡ spec.is_clean judged.now warned.now }
 {
     match judged {
-        Judged::Unread(_) => false,
-        Judged::Known(_, _, found) => is_nothing(found.as_slice(), warned),
+        TextJudgement::Unread(_) => false,
+        TextJudgement::Known(_, _, found) => is_nothing(found.as_slice(), warned),
     }
 }
 
@@ -64,7 +64,7 @@ fn put_line(out: Vec<u8>, name: &str) -> Result<Vec<u8>, AllocError>
 fn put_object(
     out: Vec<u8>,
     name: &str,
-    judged: &Judged,
+    judged: &TextJudgement,
     warned: &[WarningDetail],
 ) -> Result<Vec<u8>, AllocError>
     ensures { IfOk result (λ v. v.items ≡ out.items ++ spec.clean_lines Object name.now judged.now warned.now) }
@@ -81,7 +81,7 @@ pub(crate) fn put_clean_lines(
     out: Vec<u8>,
     style: Style,
     name: &str,
-    judged: &Judged,
+    judged: &TextJudgement,
     warned: &[WarningDetail],
 ) -> Result<Vec<u8>, AllocError>
     ensures { IfOk result (λ v. v.items ≡ out.items ++ spec.clean_lines style name.now judged.now warned.now) }

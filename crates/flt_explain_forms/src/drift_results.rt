@@ -13,7 +13,7 @@ use crate::results::{
     put_fingerprints, put_message, put_not_suppressed, put_region as put_region_member,
     put_whole_artifact,
 };
-use crate::rules::{Reported, put_of_rule};
+use crate::rules::{ResultKind, put_of_rule};
 use flt_c_drift::{Drift, DriftKind, Span};
 use flt_c_drift_reports::{code, drift_sentence, has_difference};
 use flt_columns::column_of;
@@ -130,7 +130,7 @@ fn put_result_members(
     ensures { Adds result writer.old writer.new
         (spec.result_members artifact.now lines.now region words.now.items print.now kind) }
 {
-    put_of_rule(alloc, writer, Reported::Drifted(kind))?;
+    put_of_rule(alloc, writer, ResultKind::Drifted(kind))?;
     put_drift_level(writer, kind)?;
     put_message(alloc, writer, words)?;
     put_locations(alloc, writer, artifact, lines, region, words)?;

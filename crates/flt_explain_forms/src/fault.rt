@@ -11,7 +11,7 @@ use crate::preface::put_preface;
 use crate::short::place_of;
 use flt_columns::file_column_up_to;
 use flt_explain_details::{fault_name, line_words};
-use flt_explain_hints::{Choices, Expected, OpenCall, Told, Trouble};
+use flt_explain_hints::{Choices, ExpectedWord, FaultExplanation, OpenCall, Trouble};
 use flt_places::{Files, lines_of};
 use flt_syntax::SyntaxFault;
 use flt_tree::Position;
@@ -45,7 +45,7 @@ fn first_help<'a>(lines: &[&'a [u8]]) -> &'a [u8]
 
 /// How to fix a fault; empty if its notes don't say it.
 #[tactic(auto, unfolding(crate::specs::Fault::help_in))]
-pub(crate) fn help_of(alloc: Global, told: &Told) -> Result<Vec<u8>, AllocError>
+pub(crate) fn help_of(alloc: Global, told: &FaultExplanation) -> Result<Vec<u8>, AllocError>
     ensures { IfOk result (λ help. help.items ≡ spec.help_in told.now.notes.items) }
 {
     let lines = lines_of(alloc, told.notes.as_slice())?;
@@ -119,7 +119,10 @@ fn put_place(
 }
 
 /// The words that are expected, in order.
-fn words_of(alloc: Global, expected: &Items<Expected>) -> Result<Items<&'static [u8]>, AllocError>
+fn words_of(
+    alloc: Global,
+    expected: &Items<ExpectedWord>,
+) -> Result<Items<&'static [u8]>, AllocError>
     ensures { IfOk result (λ ws. map (λ w. w.now) ws ≡ map (λ e. e.word.now) expected.now) }
 {
     let mut words = Items::new(alloc);
@@ -132,7 +135,7 @@ fn words_of(alloc: Global, expected: &Items<Expected>) -> Result<Items<&'static 
 fn put_expected(
     alloc: Global,
     writer: &mut Writer,
-    expected: &Items<Expected>,
+    expected: &Items<ExpectedWord>,
 ) -> Result<(), AllocError>
     ensures { Adds result writer.old writer.new
         (array_member (codes "expected") (text_items (map (λ e. e.word.now) expected.now))) }
@@ -161,7 +164,7 @@ fn put_fault(
     writer: &mut Writer,
     files: &Files<'_>,
     trouble: &Trouble<'_>,
-    told: &Told,
+    told: &FaultExplanation,
     help: &Vec<u8>,
 ) -> Result<(), AllocError>
     ensures { Adds result writer.old writer.new
@@ -184,7 +187,7 @@ pub(crate) fn put_fault_line(
     out: Vec<u8>,
     files: &Files<'_>,
     trouble: &Trouble<'_>,
-    told: &Told,
+    told: &FaultExplanation,
     help: &Vec<u8>,
 ) -> Result<Vec<u8>, AllocError>
     ensures { IfOk result (λ v. v.items ≡ out.items ++

@@ -146,12 +146,12 @@ pub(crate) fn warning_key(
 
 /// A key and a number.
 #[derive(Drop)]
-struct Labelled<'a> {
+struct KeyedNumber<'a> {
     key: &'a str,
     number: usize,
 }
 
-impl fmt::Display for Labelled<'_> {
+impl fmt::Display for KeyedNumber<'_> {
     ghost output = { λ l. Some (spec.labelled l.key.now l.number) };
 
     fn fmt<W: fmt::Write>(&self, f: &mut fmt::Formatter<W>) -> fmt::Result {
@@ -185,7 +185,7 @@ fn times(before: &[Items<u8>], key: &[u8]) -> usize
 fn fingerprint(alloc: Global, before: &[Items<u8>], key: &str) -> Result<String, AllocError>
     ensures { IfOk result (λ print. string_bytes print ≡ spec.fingerprint before.now key.now) }
 {
-    let labelled = Labelled {
+    let labelled = KeyedNumber {
         key,
         number: times(before, key.as_bytes()),
     };

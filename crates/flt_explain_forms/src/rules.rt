@@ -24,48 +24,48 @@ use std::alloc::{AllocError, Global};
 
 /// The rule, the fault, the kind of warning or the kind of drift of a result.
 #[derive(Clone, Copy)]
-pub enum Reported {
+pub enum ResultKind {
     Broken(Rule),
     Unread(FaultKind),
     Warned(Kind),
     Drifted(DriftKind),
 }
 
-const REPORTED: [Reported; 31] = [
-    Reported::Broken(Rule::R01),
-    Reported::Broken(Rule::R02),
-    Reported::Broken(Rule::R03),
-    Reported::Broken(Rule::R04),
-    Reported::Broken(Rule::R05),
-    Reported::Broken(Rule::R06),
-    Reported::Broken(Rule::R07),
-    Reported::Broken(Rule::R08),
-    Reported::Broken(Rule::R09),
-    Reported::Broken(Rule::R10),
-    Reported::Broken(Rule::R11),
-    Reported::Broken(Rule::R12),
-    Reported::Broken(Rule::R13),
-    Reported::Broken(Rule::R14),
-    Reported::Broken(Rule::R15),
-    Reported::Unread(FaultKind::E01),
-    Reported::Unread(FaultKind::E02),
-    Reported::Unread(FaultKind::E03),
-    Reported::Unread(FaultKind::E04),
-    Reported::Unread(FaultKind::E05),
-    Reported::Unread(FaultKind::E06),
-    Reported::Unread(FaultKind::E07),
-    Reported::Unread(FaultKind::E08),
-    Reported::Warned(Kind::W00),
-    Reported::Warned(Kind::W01),
-    Reported::Warned(Kind::W02),
-    Reported::Warned(Kind::W03),
-    Reported::Warned(Kind::W04),
-    Reported::Warned(Kind::W05),
-    Reported::Warned(Kind::W06),
-    Reported::Warned(Kind::W07),
+const REPORTED: [ResultKind; 31] = [
+    ResultKind::Broken(Rule::R01),
+    ResultKind::Broken(Rule::R02),
+    ResultKind::Broken(Rule::R03),
+    ResultKind::Broken(Rule::R04),
+    ResultKind::Broken(Rule::R05),
+    ResultKind::Broken(Rule::R06),
+    ResultKind::Broken(Rule::R07),
+    ResultKind::Broken(Rule::R08),
+    ResultKind::Broken(Rule::R09),
+    ResultKind::Broken(Rule::R10),
+    ResultKind::Broken(Rule::R11),
+    ResultKind::Broken(Rule::R12),
+    ResultKind::Broken(Rule::R13),
+    ResultKind::Broken(Rule::R14),
+    ResultKind::Broken(Rule::R15),
+    ResultKind::Unread(FaultKind::E01),
+    ResultKind::Unread(FaultKind::E02),
+    ResultKind::Unread(FaultKind::E03),
+    ResultKind::Unread(FaultKind::E04),
+    ResultKind::Unread(FaultKind::E05),
+    ResultKind::Unread(FaultKind::E06),
+    ResultKind::Unread(FaultKind::E07),
+    ResultKind::Unread(FaultKind::E08),
+    ResultKind::Warned(Kind::W00),
+    ResultKind::Warned(Kind::W01),
+    ResultKind::Warned(Kind::W02),
+    ResultKind::Warned(Kind::W03),
+    ResultKind::Warned(Kind::W04),
+    ResultKind::Warned(Kind::W05),
+    ResultKind::Warned(Kind::W06),
+    ResultKind::Warned(Kind::W07),
 ];
 
-fn all() -> &'static [Reported]
+fn all() -> &'static [ResultKind]
     ensures { result.now ≡ spec.all }
 {
     &REPORTED
@@ -90,17 +90,17 @@ fn drift_kinds() -> &'static [DriftKind]
 // ---- what is said of a rule
 
 /// Its number, as `R02`.
-fn id_of(alloc: Global, reported: Reported) -> Result<String, AllocError>
+fn id_of(alloc: Global, reported: ResultKind) -> Result<String, AllocError>
     ensures { IfOk result (λ id. string_bytes id ≡ spec.id_of reported) }
 {
     match reported {
-        Reported::Broken(rule) => {
+        ResultKind::Broken(rule) => {
             let name = RuleName(rule);
             format!(in alloc; "{name}")
         }
-        Reported::Unread(kind) => String::from_str(alloc, fault_name(kind)),
-        Reported::Warned(kind) => String::from_str(alloc, kind.name()),
-        Reported::Drifted(kind) => String::from_str(alloc, code(kind)),
+        ResultKind::Unread(kind) => String::from_str(alloc, fault_name(kind)),
+        ResultKind::Warned(kind) => String::from_str(alloc, kind.name()),
+        ResultKind::Drifted(kind) => String::from_str(alloc, code(kind)),
     }
 }
 
@@ -150,45 +150,45 @@ fn drift_words(kind: DriftKind) -> &'static str
 }
 
 /// Its words.
-fn words_of(reported: Reported) -> &'static str
+fn words_of(reported: ResultKind) -> &'static str
     ensures { result.now ≡ spec.words_of reported }
 {
     match reported {
-        Reported::Broken(rule) => text(rule),
-        Reported::Unread(kind) => fault_words(kind),
-        Reported::Warned(kind) => kind_words(kind),
-        Reported::Drifted(kind) => drift_words(kind),
+        ResultKind::Broken(rule) => text(rule),
+        ResultKind::Unread(kind) => fault_words(kind),
+        ResultKind::Warned(kind) => kind_words(kind),
+        ResultKind::Drifted(kind) => drift_words(kind),
     }
 }
 
-fn level_of(reported: Reported) -> &'static str
+fn level_of(reported: ResultKind) -> &'static str
     ensures { result.now ≡ spec.level_of reported }
 {
     match reported {
-        Reported::Broken(_) | Reported::Unread(_) => "error",
-        Reported::Warned(_) | Reported::Drifted(_) => "warning",
+        ResultKind::Broken(_) | ResultKind::Unread(_) => "error",
+        ResultKind::Warned(_) | ResultKind::Drifted(_) => "warning",
     }
 }
 
 /// How often its results are true.
-fn precision_of(reported: Reported) -> &'static str
+fn precision_of(reported: ResultKind) -> &'static str
     ensures { result.now ≡ spec.precision_of reported }
 {
     match reported {
-        Reported::Broken(_) => "high",
-        Reported::Unread(_) => "very-high",
-        Reported::Warned(_) | Reported::Drifted(_) => "medium",
+        ResultKind::Broken(_) => "high",
+        ResultKind::Unread(_) => "very-high",
+        ResultKind::Warned(_) | ResultKind::Drifted(_) => "medium",
     }
 }
 
-fn tag_of(reported: Reported) -> &'static str
+fn tag_of(reported: ResultKind) -> &'static str
     ensures { result.now ≡ spec.tag_of reported }
 {
     match reported {
-        Reported::Broken(_) => "correctness",
-        Reported::Unread(_) => "syntax",
-        Reported::Warned(_) => "maintainability",
-        Reported::Drifted(_) => "correctness",
+        ResultKind::Broken(_) => "correctness",
+        ResultKind::Unread(_) => "syntax",
+        ResultKind::Warned(_) => "maintainability",
+        ResultKind::Drifted(_) => "correctness",
     }
 }
 
@@ -258,27 +258,27 @@ fn index_of_drift(kind: DriftKind) -> usize
 }
 
 /// Its place among all, from 0.
-fn index_of(reported: Reported) -> usize
+fn index_of(reported: ResultKind) -> usize
     ensures { result ≡ spec.index_of reported }
 {
     match reported {
-        Reported::Broken(rule) => index_of_rule(rule),
-        Reported::Unread(kind) => index_of_fault(kind),
-        Reported::Warned(kind) => index_of_kind(kind),
-        Reported::Drifted(kind) => index_of_drift(kind),
+        ResultKind::Broken(rule) => index_of_rule(rule),
+        ResultKind::Unread(kind) => index_of_fault(kind),
+        ResultKind::Warned(kind) => index_of_kind(kind),
+        ResultKind::Drifted(kind) => index_of_drift(kind),
     }
 }
 
 // ---- the members
 
-fn put_words(writer: &mut Writer, name: &str, reported: Reported) -> Result<(), AllocError>
+fn put_words(writer: &mut Writer, name: &str, reported: ResultKind) -> Result<(), AllocError>
     ensures { Adds result writer.old writer.new (string_member name.now (spec.words_of reported)) }
 {
     put_string(writer, name, words_of(reported))
 }
 
 /// Writes the words, as a message of this name.
-fn put_words_member(writer: &mut Writer, name: &str, reported: Reported) -> Result<(), AllocError>
+fn put_words_member(writer: &mut Writer, name: &str, reported: ResultKind) -> Result<(), AllocError>
     ensures { Adds result writer.old writer.new (spec.words_member name.now reported) }
 {
     put_key(writer, name)?;
@@ -287,20 +287,20 @@ fn put_words_member(writer: &mut Writer, name: &str, reported: Reported) -> Resu
     close_object(writer)
 }
 
-fn put_names(writer: &mut Writer, reported: Reported) -> Result<(), AllocError>
+fn put_names(writer: &mut Writer, reported: ResultKind) -> Result<(), AllocError>
     ensures { Adds result writer.old writer.new (spec.names reported) }
 {
     put_words(writer, "name", reported)?;
     put_words_member(writer, "shortDescription", reported)
 }
 
-fn put_level(writer: &mut Writer, name: &str, reported: Reported) -> Result<(), AllocError>
+fn put_level(writer: &mut Writer, name: &str, reported: ResultKind) -> Result<(), AllocError>
     ensures { Adds result writer.old writer.new (string_member name.now (spec.level_of reported)) }
 {
     put_string(writer, name, level_of(reported))
 }
 
-fn put_configuration(writer: &mut Writer, reported: Reported) -> Result<(), AllocError>
+fn put_configuration(writer: &mut Writer, reported: ResultKind) -> Result<(), AllocError>
     ensures { Adds result writer.old writer.new (spec.configuration reported) }
 {
     put_key(writer, "defaultConfiguration")?;
@@ -309,13 +309,13 @@ fn put_configuration(writer: &mut Writer, reported: Reported) -> Result<(), Allo
     close_object(writer)
 }
 
-fn put_tag(writer: &mut Writer, reported: Reported) -> Result<(), AllocError>
+fn put_tag(writer: &mut Writer, reported: ResultKind) -> Result<(), AllocError>
     ensures { Adds result writer.old writer.new (string (spec.tag_of reported) ∷ []) }
 {
     writer.string(tag_of(reported))
 }
 
-fn put_tags(writer: &mut Writer, reported: Reported) -> Result<(), AllocError>
+fn put_tags(writer: &mut Writer, reported: ResultKind) -> Result<(), AllocError>
     ensures { Adds result writer.old writer.new (spec.tags reported) }
 {
     put_key(writer, "tags")?;
@@ -324,13 +324,13 @@ fn put_tags(writer: &mut Writer, reported: Reported) -> Result<(), AllocError>
     close_array(writer)
 }
 
-fn put_precision(writer: &mut Writer, reported: Reported) -> Result<(), AllocError>
+fn put_precision(writer: &mut Writer, reported: ResultKind) -> Result<(), AllocError>
     ensures { Adds result writer.old writer.new (string_member (codes "precision") (spec.precision_of reported)) }
 {
     put_string(writer, "precision", precision_of(reported))
 }
 
-fn put_properties(writer: &mut Writer, reported: Reported) -> Result<(), AllocError>
+fn put_properties(writer: &mut Writer, reported: ResultKind) -> Result<(), AllocError>
     ensures { Adds result writer.old writer.new (spec.properties reported) }
 {
     put_key(writer, "properties")?;
@@ -392,7 +392,7 @@ fn put_rule_item(
     alloc: Global,
     writer: &mut Writer,
     id: &str,
-    reported: Reported,
+    reported: ResultKind,
     page: Option<&str>,
 ) -> Result<(), AllocError>
     ensures { Adds result writer.old writer.new (spec.rule_item id.now reported page.entry) }
@@ -408,7 +408,7 @@ fn put_rule_item(
 }
 
 /// Writes a rule with its page.
-fn put_rule(alloc: Global, writer: &mut Writer, reported: Reported) -> Result<(), AllocError>
+fn put_rule(alloc: Global, writer: &mut Writer, reported: ResultKind) -> Result<(), AllocError>
     ensures { IfOk result (λ _. (ts : List Token) × spec.IsRule reported ts × Added writer.old writer.new ts) }
 {
     let id = id_of(alloc, reported)?;
@@ -418,7 +418,7 @@ fn put_rule(alloc: Global, writer: &mut Writer, reported: Reported) -> Result<()
 }
 
 /// Writes rules, in their order.
-fn put_rules(alloc: Global, writer: &mut Writer, rules: &[Reported]) -> Result<(), AllocError>
+fn put_rules(alloc: Global, writer: &mut Writer, rules: &[ResultKind]) -> Result<(), AllocError>
     ensures { IfOk result (λ _. (ts : List Token) × spec.AreRules rules.now ts × Added writer.old writer.new ts) }
 {
     for reported in rules {
@@ -483,11 +483,11 @@ fn put_drift_rule(writer: &mut Writer, kind: DriftKind) -> Result<(), AllocError
 {
     open_object(writer)?;
     put_drift_id(writer, kind)?;
-    put_names(writer, Reported::Drifted(kind))?;
+    put_names(writer, ResultKind::Drifted(kind))?;
     put_meaning(writer, kind)?;
     put_drift_help(writer, kind)?;
-    put_configuration(writer, Reported::Drifted(kind))?;
-    put_properties(writer, Reported::Drifted(kind))?;
+    put_configuration(writer, ResultKind::Drifted(kind))?;
+    put_properties(writer, ResultKind::Drifted(kind))?;
     close_object(writer)
 }
 
@@ -593,14 +593,14 @@ pub(crate) fn put_tool(
 
 // ---- of a result
 
-fn put_id(alloc: Global, writer: &mut Writer, reported: Reported) -> Result<(), AllocError>
+fn put_id(alloc: Global, writer: &mut Writer, reported: ResultKind) -> Result<(), AllocError>
     ensures { Adds result writer.old writer.new (string_member (codes "ruleId") (spec.id_of reported)) }
 {
     let id = id_of(alloc, reported)?;
     put_string(writer, "ruleId", id.as_str())
 }
 
-fn put_index(writer: &mut Writer, reported: Reported) -> Result<(), AllocError>
+fn put_index(writer: &mut Writer, reported: ResultKind) -> Result<(), AllocError>
     ensures { Adds result writer.old writer.new (number_member (codes "ruleIndex") (spec.index_of reported)) }
 {
     put_number(writer, "ruleIndex", index_of(reported))
@@ -610,7 +610,7 @@ fn put_index(writer: &mut Writer, reported: Reported) -> Result<(), AllocError>
 pub(crate) fn put_of_rule(
     alloc: Global,
     writer: &mut Writer,
-    reported: Reported,
+    reported: ResultKind,
 ) -> Result<(), AllocError>
     ensures { Adds result writer.old writer.new (spec.of_rule reported) }
 {

@@ -4,7 +4,7 @@ ghost use Rattle.std.specs.Prelude.{◌≡◌, IfOk};
 ghost use Rattle.flt_explain_forms.specs.Warned as spec;
 ghost use Rattle.flt_explain_details.specs.Reports.{IsJudged};
 
-use flt_explain_details::{Judged, Source};
+use flt_explain_details::{Source, TextJudgement};
 use flt_explain_warning_details::{WarningDetail, warned_status, warning_details};
 use flt_explain_warnings::AllowedKinds;
 use sqlite_items::Items;
@@ -15,24 +15,24 @@ pub(crate) fn warned_of(
     alloc: Global,
     allowed: AllowedKinds,
     source: Source<'_>,
-    judged: &Judged,
+    judged: &TextJudgement,
 ) -> Result<Items<WarningDetail>, AllocError>
     ensures { IfOk result (λ warned. spec.AreWarned source.entry allowed judged.now warned) }
 {
     match judged {
-        Judged::Unread(_) => Ok(Items::new(alloc)),
-        Judged::Known(tree, graph, found) => {
+        TextJudgement::Unread(_) => Ok(Items::new(alloc)),
+        TextJudgement::Known(tree, graph, found) => {
             warning_details(alloc, source, tree, graph, found.as_slice(), allowed)
         }
     }
 }
 
 /// The status of a text with its warnings.
-pub(crate) fn status_of(is_strict: bool, judged: &Judged, warned: &[WarningDetail]) -> u8
+pub(crate) fn status_of(is_strict: bool, judged: &TextJudgement, warned: &[WarningDetail]) -> u8
     ensures { result ≡ spec.status_of is_strict judged.now warned.now }
 {
     match judged {
-        Judged::Unread(_) => 2,
-        Judged::Known(_, _, found) => warned_status(is_strict, found.as_slice(), warned),
+        TextJudgement::Unread(_) => 2,
+        TextJudgement::Known(_, _, found) => warned_status(is_strict, found.as_slice(), warned),
     }
 }

@@ -14,7 +14,7 @@ use crate::members::{
 use crate::results::{
     put_fingerprints, put_marked_location, put_marked_locations, put_message, put_not_suppressed,
 };
-use crate::rules::{Reported, put_of_rule};
+use crate::rules::{ResultKind, put_of_rule};
 use crate::warning::{put_numbers, put_warning_level};
 use flt_explain_warning_details::{RelatedPlace, WarningDetail};
 use flt_explain_warnings::Site;
@@ -161,7 +161,7 @@ fn put_result_members(
     ensures { Adds result writer.old writer.new
         (spec.result_members file.now print.now detail.now title.now.items head.now.items) }
 {
-    put_of_rule(alloc, writer, Reported::Warned(detail.kind))?;
+    put_of_rule(alloc, writer, ResultKind::Warned(detail.kind))?;
     put_warning_level(writer)?;
     put_message(alloc, writer, title)?;
     put_marked_locations(alloc, writer, file, detail.marks, title)?;

@@ -9,7 +9,7 @@ use Rattle.flt_tree.specs.Names.{Text}
 use Rattle.flt_explain_hints.specs.Names.{IsNew, declared_names}
 use Rattle.flt_explain_hints.specs.Trial.{Gap, MayStand, may_stand}
 use Rattle.flt_explain_hints.specs.declared.choices.Choices.{Choices}
-use Rattle.flt_explain_hints.specs.declared.choices.Expected.{Expected}
+use Rattle.flt_explain_hints.specs.declared.choices.ExpectedWord.{ExpectedWord}
 
 -- the symbols of the language, each with its kind
 abbrev pub symbols : List (Text × Kind)
@@ -32,7 +32,7 @@ unfoldable pub possible_names : Gap → List Text → List Text
 possible_names gap names = filter (may_stand gap) names
 
 -- a word as the table has it
-abbrev pub entry_of : Expected → Text × Kind
+abbrev pub entry_of : ExpectedWord → Text × Kind
 entry_of e = (e.word.now, e.kind)
 
 -- whether a word or symbol of a kind may stand there

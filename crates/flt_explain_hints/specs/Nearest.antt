@@ -6,7 +6,7 @@ use Rattle.flt_explain_nearest.specs.Nearest.{distance, nearer}
 use Rattle.flt_explain_nearest.specs.declared.nearest.Nearest.{Nearest}
 use Rattle.flt_tree.specs.Names.{Text}
 use Rattle.flt_explain_hints.specs.declared.choices.Choices.{Choices}
-use Rattle.flt_explain_hints.specs.declared.choices.Expected.{Expected}
+use Rattle.flt_explain_hints.specs.declared.choices.ExpectedWord.{ExpectedWord}
 
 -- how many letters of a word count: those behind what all final statuses begin with
 abbrev pub letters : Text → ℕ
@@ -26,7 +26,7 @@ none_yet = record { word = None; distance = 18446744073709551615 }
 
 -- the words that may stand in a place: those of the language, and behind them the names that the text declares
 abbrev pub words_of : Choices → List (Bor Text)
-words_of c = map (λ (e : Expected). e.word) c.expected ++ c.names
+words_of c = map (λ (e : ExpectedWord). e.word) c.expected ++ c.names
 
 -- the word that is nearest to what is written, of those that may stand there; none where several are
 unfoldable pub nearest_word : Text → Choices → Option (Bor Text)

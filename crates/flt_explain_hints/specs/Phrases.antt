@@ -9,7 +9,7 @@ use Rattle.flt_explain_hints.specs.Choices.{takes}
 use Rattle.flt_explain_hints.specs.Kinds.{begins_callback, is_context_variable, is_number_variable}
 use Rattle.flt_explain_hints.specs.Kinds.{is_operation_variable, is_status, is_variable}
 use Rattle.flt_explain_hints.specs.declared.choices.Choices.{Choices}
-use Rattle.flt_explain_hints.specs.declared.choices.Expected.{Expected}
+use Rattle.flt_explain_hints.specs.declared.choices.ExpectedWord.{ExpectedWord}
 use Rattle.flt_explain_hints.specs.declared.phrases.Phrase as declared
 use Rattle.flt_explain_hints.specs.declared.phrases.Phrase.TheVariants as parts
 
@@ -79,7 +79,7 @@ named_or (Some name) word = of_kind name
 named_or None word = of_word word
 
 -- the phrase for a word of the language
-abbrev pub phrase_for : Choices → Expected → Phrase
+abbrev pub phrase_for : Choices → ExpectedWord → Phrase
 phrase_for c e = named_or (kind_name e.kind e.word.now c) e.word.now
 
 -- ---- which are said

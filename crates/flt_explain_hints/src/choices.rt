@@ -26,7 +26,7 @@ const SYMBOLS: [(&[u8], Kind); 8] = [
 
 /// A word or symbol of the language, and its kind.
 #[derive(Clone, Copy)]
-pub struct Expected {
+pub struct ExpectedWord {
     pub word: &'static [u8],
     pub kind: Kind,
 }
@@ -35,7 +35,7 @@ pub struct Expected {
 #[derive(Drop)]
 pub struct Choices<'a> {
     /// The legal words of the language, then its legal symbols.
-    pub expected: Items<Expected>,
+    pub expected: Items<ExpectedWord>,
     pub takes_number: bool,
     pub takes_name: bool,
     /// The legal names among those that the text declares.
@@ -54,14 +54,14 @@ fn add_possible(
     alloc: Global,
     gap: Gap<'_>,
     table: &[(&'static [u8], Kind)],
-    found: &mut Items<Expected>,
+    found: &mut Items<ExpectedWord>,
 ) -> Result<(), AllocError>
     ensures { OnOk result (map spec.entry_of found.new ≡
         map spec.entry_of found.old ++ spec.possible (gap_of gap.entry) (map (λ e. (e.0.now, e.1)) table.now)) }
 {
     for entry in table {
         if may_stand(alloc, gap, entry.0)? {
-            found.push(Expected {
+            found.push(ExpectedWord {
                 word: entry.0,
                 kind: entry.1,
             })?;
@@ -71,7 +71,7 @@ fn add_possible(
 }
 
 /// The words and symbols of the language that are legal at a place.
-fn expected_in(alloc: Global, gap: Gap<'_>) -> Result<Items<Expected>, AllocError>
+fn expected_in(alloc: Global, gap: Gap<'_>) -> Result<Items<ExpectedWord>, AllocError>
     ensures { IfOk result
         (λ es. map spec.entry_of es ≡ spec.possible (gap_of gap.entry) vocabulary ++ spec.possible (gap_of gap.entry) spec.symbols) }
 {

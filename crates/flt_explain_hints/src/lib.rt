@@ -20,9 +20,9 @@ mod telling;
 mod trial;
 mod troubles;
 
-pub use choices::{Choices, Expected};
+pub use choices::{Choices, ExpectedWord};
 pub use hint::Hint;
 pub use open_call::OpenCall;
 pub use spot::Spot;
-pub use telling::{Told, tell};
+pub use telling::{FaultExplanation, tell};
 pub use troubles::{Trouble, describe};

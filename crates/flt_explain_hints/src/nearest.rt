@@ -4,7 +4,7 @@ ghost use Rattle.std.specs.Prelude.{◌≡◌, ◌≤◌, length, map, IfOk};
 ghost use Rattle.std.specs.List.{fold};
 ghost use Rattle.flt_explain_hints.specs.Nearest as spec;
 
-use crate::choices::{Choices, Expected};
+use crate::choices::{Choices, ExpectedWord};
 use flt_explain_nearest::Nearest;
 use std::alloc::{AllocError, Global};
 
@@ -31,7 +31,7 @@ fn nearest_expected<'a>(
     alloc: Global,
     written: &[u8],
     nearest: Nearest<'a>,
-    expected: &[Expected],
+    expected: &[ExpectedWord],
 ) -> Result<Nearest<'a>, AllocError>
     ensures { IfOk result (λ n. n ≡ fold (spec.or_nearer written.now) nearest.entry (map (λ e. e.word) expected.now)) }
 {

@@ -5,7 +5,7 @@ ghost use Rattle.std.specs.List.{list_any};
 ghost use Rattle.std.specs.Option.{option_map};
 ghost use Rattle.flt_explain_hints.specs.Phrases as spec;
 
-use crate::choices::{Choices, Expected};
+use crate::choices::{Choices, ExpectedWord};
 use crate::kinds::{
     begins_callback, is_context_variable, is_number_variable, is_operation_variable, is_status,
     is_variable,
@@ -77,7 +77,7 @@ fn kind_name(kind: Kind, word: &[u8], choices: &Choices<'_>) -> Option<&'static 
 }
 
 /// The phrase for a word of the language.
-fn phrase_for(expected: Expected, choices: &Choices<'_>) -> Phrase<'static>
+fn phrase_for(expected: ExpectedWord, choices: &Choices<'_>) -> Phrase<'static>
     ensures { spec.phrase_of result ≡ spec.phrase_for choices.now expected }
 {
     match kind_name(expected.kind, expected.word, choices) {
@@ -119,7 +119,7 @@ fn is_said(phrases: &[Phrase<'_>], phrase: Phrase<'_>) -> bool
 /// Adds the phrases for the legal words of the language, each kind once.
 fn add_expected(
     phrases: &mut Items<Phrase<'static>>,
-    expected: &[Expected],
+    expected: &[ExpectedWord],
     choices: &Choices<'_>,
 ) -> Result<(), AllocError>
     ensures { OnOk result (map spec.phrase_of phrases.new ≡ map spec.phrase_of phrases.old

@@ -17,7 +17,7 @@ use std::alloc::{AllocError, Global};
 
 /// The explanation of a text that doesn't parse, in words.
 #[derive(Drop)]
-pub struct Told {
+pub struct FaultExplanation {
     /// The expected and the found tokens: one line without its end.
     pub title: Vec<u8>,
     /// The text after the marks under the found token: the word that is probably meant, or nothing.
@@ -517,12 +517,16 @@ fn notes(
 /// # Errors
 ///
 /// `AllocError` if a growth is refused.
-pub fn tell(alloc: Global, trouble: &Trouble<'_>, line: &[u8]) -> Result<Told, AllocError>
+pub fn tell(
+    alloc: Global,
+    trouble: &Trouble<'_>,
+    line: &[u8],
+) -> Result<FaultExplanation, AllocError>
     ensures title { IfOk result (λ told. told.title.items ≡ spec.title_of trouble.now) }
     ensures meant { IfOk result (λ told. told.meant.items ≡ spec.meant_of trouble.now) }
     ensures notes { IfOk result (λ told. told.notes.items ≡ spec.notes_of trouble.now line.now) }
 {
-    let mut told = Told {
+    let mut told = FaultExplanation {
         title: Vec::new(alloc),
         meant: Vec::new(alloc),
         notes: Vec::new(alloc),

@@ -12,7 +12,7 @@ const MOST_NAMED: usize = 40;
 
 /// A line of a text, from 1, and the number of its filter, from the highest altitude.
 #[derive(Clone, Copy, PartialEq, Eq)]
-pub(crate) struct Named {
+pub(crate) struct NamedLine {
     pub(crate) filter: usize,
     pub(crate) line: usize,
 }
@@ -27,7 +27,7 @@ pub(crate) struct Course<'b, 'a> {
     /// The number of the next entry.
     next: usize,
     /// The lines that the entries of the last `go_to` named, each once.
-    named: Vec<Named>,
+    named: Vec<NamedLine>,
     /// Whether these named more lines.
     are_more: bool,
 }
@@ -64,7 +64,7 @@ impl<'b, 'a> Course<'b, 'a> {
     /// Keeps a line of the filter that an activation is of.
     fn name(&mut self, activation: usize, line: usize) -> Result<(), AllocError> {
         let filter = self.world.filter(activation);
-        let named = Named { filter, line };
+        let named = NamedLine { filter, line };
         if self.named.contains(&named) {
             return Ok(());
         }
@@ -136,7 +136,7 @@ impl<'b, 'a> Course<'b, 'a> {
     // ---- what is there
 
     /// The lines of the statements that were seen in the last `go_to`, each once, in the order of their first times.
-    pub(crate) fn named(&self) -> &[Named] {
+    pub(crate) fn named(&self) -> &[NamedLine] {
         self.named.as_slice()
     }
 

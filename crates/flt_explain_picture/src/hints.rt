@@ -1,6 +1,6 @@
 //! The lines of a text that a row names, as a hint for a pointer over its words.
 
-use crate::course::Named;
+use crate::course::NamedLine;
 use crate::title::shown;
 use flt_explain_timeline::Timeline;
 use flt_places::Lines;
@@ -76,7 +76,7 @@ impl<'a> Sources<'a> {
     }
 
     /// A line; empty if it isn't there.
-    fn line(&self, named: Named) -> &[u8] {
+    fn line(&self, named: NamedLine) -> &[u8] {
         for source in self.all.iter() {
             if source.filter == named.filter {
                 return source.lines.line(named.line);
@@ -89,7 +89,7 @@ impl<'a> Sources<'a> {
     pub(crate) fn hint(
         &self,
         alloc: Global,
-        lines: &[Named],
+        lines: &[NamedLine],
         are_more: bool,
     ) -> Result<String, AllocError> {
         let mut hint = String::new(alloc);

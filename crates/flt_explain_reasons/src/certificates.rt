@@ -3,7 +3,7 @@
 use crate::cursor::{Cursor, is_decimal, last_number};
 use crate::lines::{Line, Lines};
 use crate::trouble::{Subject, Trouble, asked, bytes_of, exact, found, line_end};
-use crate::wanted::Wanted;
+use crate::wanted::Expectation;
 use flt_rules::MAX_CALLBACKS;
 
 const CONTEXTS: [&str; 8] = ["c1", "c2", "c3", "c4", "c5", "c6", "c7", "arg"];
@@ -67,39 +67,42 @@ impl Standing {
 }
 
 /// A number that counts on.
-fn number(cursor: &mut Cursor<'_>, number: usize) -> Result<(), Wanted> {
+fn number(cursor: &mut Cursor<'_>, number: usize) -> Result<(), Expectation> {
     let word = cursor.word();
     let is_there = is_decimal(word) && last_number(word) == number as u64;
-    asked(is_there, Wanted::Number(number))?;
+    asked(is_there, Expectation::Number(number))?;
     cursor.pass_word();
-    asked(cursor.byte(b' '), Wanted::Blank)
+    asked(cursor.byte(b' '), Expectation::Blank)
 }
 
 /// The first line of a callback, or the last line.
-fn head(cursor: &mut Cursor<'_>, callback: usize) -> Result<(), Wanted> {
+fn head(cursor: &mut Cursor<'_>, callback: usize) -> Result<(), Expectation> {
     if 0 < callback && cursor.left.strip_prefix(b"end").is_some() {
-        return exact(cursor, "end", Wanted::End);
+        return exact(cursor, "end", Expectation::End);
     }
     asked(
         cursor.word() == b"callback".as_slice(),
-        Wanted::Callback(callback),
+        Expectation::Callback(callback),
     )?;
     cursor.pass_word();
-    asked(cursor.byte(b' '), Wanted::Blank)?;
+    asked(cursor.byte(b' '), Expectation::Blank)?;
     number(cursor, callback)?;
     let count = cursor.word();
     let many = last_number(count);
-    asked(is_decimal(count) && 1 <= many && many <= 512, Wanted::Count)?;
+    asked(
+        is_decimal(count) && 1 <= many && many <= 512,
+        Expectation::Count,
+    )?;
     cursor.pass_word();
     line_end(cursor)
 }
 
 /// The first line of this callback, or the last line if there are all callbacks.
-fn head_or_last(cursor: &mut Cursor<'_>, callback: usize) -> Result<(), Wanted> {
+fn head_or_last(cursor: &mut Cursor<'_>, callback: usize) -> Result<(), Expectation> {
     if callback < MAX_CALLBACKS {
         head(cursor, callback)
     } else {
-        exact(cursor, "end", Wanted::End)
+        exact(cursor, "end", Expectation::End)
     }
 }
 
@@ -109,28 +112,28 @@ fn among(
     callback: usize,
     least: usize,
     greatest: usize,
-) -> Result<(), Wanted> {
+) -> Result<(), Expectation> {
     let next = callback.saturating_add(1);
     match cursor.left {
-        [b'0'..=b'9', ..] if least < greatest => Err(Wanted::Rising(least, greatest)),
-        [b'0'..=b'9', ..] => Err(Wanted::Number(greatest)),
+        [b'0'..=b'9', ..] if least < greatest => Err(Expectation::Rising(least, greatest)),
+        [b'0'..=b'9', ..] => Err(Expectation::Number(greatest)),
         [b'e', b'n', b'd', ..] => head_or_last(cursor, next),
         _ if cursor.word() == b"callback".as_slice() => head_or_last(cursor, next),
-        _ if next < MAX_CALLBACKS => Err(Wanted::PointOr(next)),
-        _ => Err(Wanted::PointOrEnd),
+        _ if next < MAX_CALLBACKS => Err(Expectation::PointOr(next)),
+        _ => Err(Expectation::PointOrEnd),
     }
 }
 
 /// Digits of these variables.
-fn statuses(cursor: &mut Cursor<'_>, names: &[&'static str]) -> Result<(), Wanted> {
+fn statuses(cursor: &mut Cursor<'_>, names: &[&'static str]) -> Result<(), Expectation> {
     for name in names {
-        asked(cursor.digit(b'7'), Wanted::Status(name))?;
+        asked(cursor.digit(b'7'), Expectation::Status(name))?;
     }
-    asked(cursor.byte(b' '), Wanted::Blank)
+    asked(cursor.byte(b' '), Expectation::Blank)
 }
 
 /// The number of a lock that isn't among those taken, a bit for each; with it they are the result.
-fn lock(cursor: &mut Cursor<'_>, taken: u64, wanted: Wanted) -> Result<u64, Wanted> {
+fn lock(cursor: &mut Cursor<'_>, taken: u64, wanted: Expectation) -> Result<u64, Expectation> {
     let [digit, others @ ..] = cursor.left else {
         return Err(wanted);
     };
@@ -140,67 +143,67 @@ fn lock(cursor: &mut Cursor<'_>, taken: u64, wanted: Wanted) -> Result<u64, Want
     }
     let own = 1u64 << number;
     if taken & own != 0 {
-        return Err(Wanted::OtherLock);
+        return Err(Expectation::OtherLock);
     }
     cursor.left = others;
     Ok(taken | own)
 }
 
 /// The locks, up to the end of the line.
-fn locks(cursor: &mut Cursor<'_>) -> Result<(), Wanted> {
+fn locks(cursor: &mut Cursor<'_>) -> Result<(), Expectation> {
     if cursor.byte(b'-') {
         return line_end(cursor);
     }
-    let mut taken = lock(cursor, 0, Wanted::Locks)?;
+    let mut taken = lock(cursor, 0, Expectation::Locks)?;
     for _turn in 0..8 {
         let _is_shared = cursor.byte(b's');
         if cursor.left.is_empty() {
             return Ok(());
         }
-        asked(cursor.byte(b','), Wanted::LockEnd)?;
-        taken = lock(cursor, taken, Wanted::OtherLock)?;
+        asked(cursor.byte(b','), Expectation::LockEnd)?;
+        taken = lock(cursor, taken, Expectation::OtherLock)?;
     }
     line_end(cursor)
 }
 
 /// The state of a point.
-fn state(cursor: &mut Cursor<'_>) -> Result<(), Wanted> {
+fn state(cursor: &mut Cursor<'_>) -> Result<(), Expectation> {
     if cursor.byte(b'!') {
         return line_end(cursor);
     }
-    asked(cursor.digit(b'7'), Wanted::State)?;
+    asked(cursor.digit(b'7'), Expectation::State)?;
     statuses(cursor, CONTEXTS.as_slice())?;
     statuses(cursor, OPERATIONS.as_slice())?;
-    asked(cursor.digit(b'3'), Wanted::Modes)?;
-    asked(cursor.byte(b' '), Wanted::Blank)?;
-    asked(cursor.digit(b'3'), Wanted::Draining)?;
-    asked(cursor.byte(b' '), Wanted::Blank)?;
+    asked(cursor.digit(b'3'), Expectation::Modes)?;
+    asked(cursor.byte(b' '), Expectation::Blank)?;
+    asked(cursor.digit(b'3'), Expectation::Draining)?;
+    asked(cursor.byte(b' '), Expectation::Blank)?;
     locks(cursor)
 }
 
 /// The line of a point.
-fn point(cursor: &mut Cursor<'_>, own: usize) -> Result<(), Wanted> {
+fn point(cursor: &mut Cursor<'_>, own: usize) -> Result<(), Expectation> {
     number(cursor, own)?;
     state(cursor)
 }
 
 /// The first line.
-fn first(cursor: &mut Cursor<'_>) -> Result<(), Wanted> {
+fn first(cursor: &mut Cursor<'_>) -> Result<(), Expectation> {
     if cursor.left.strip_prefix(b"fltcert 2").is_some() {
-        return exact(cursor, "fltcert 2", Wanted::Format);
+        return exact(cursor, "fltcert 2", Expectation::Format);
     }
-    exact(cursor, "fltcert 1", Wanted::Format)
+    exact(cursor, "fltcert 1", Expectation::Format)
 }
 
 /// Reads a line, up to the mistake in it.
-fn read(cursor: &mut Cursor<'_>, subject: Subject) -> Result<(), Wanted> {
+fn read(cursor: &mut Cursor<'_>, subject: Subject) -> Result<(), Expectation> {
     match subject {
         Subject::First => first(cursor),
         Subject::Callback(callback) => head(cursor, callback),
         Subject::Point(_, own) => point(cursor, own),
         Subject::Among(callback, least, greatest) => among(cursor, callback, least, greatest),
-        Subject::Last => exact(cursor, "end", Wanted::End),
-        Subject::Behind | Subject::Entry(_) | Subject::Command(_) => Err(Wanted::Nothing),
+        Subject::Last => exact(cursor, "end", Expectation::End),
+        Subject::Behind | Subject::Entry(_) | Subject::Command(_) => Err(Expectation::Nothing),
     }
 }
 

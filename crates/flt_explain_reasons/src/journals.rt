@@ -5,7 +5,7 @@ use crate::lines::{Line, Lines};
 use crate::trouble::{
     Subject, Trouble, asked, bytes_of, exact, found, line_end, number_below, word,
 };
-use crate::wanted::Wanted;
+use crate::wanted::Expectation;
 use flt_rules::MAX_ENTRIES;
 
 /// A field after an entry's word.
@@ -41,39 +41,39 @@ fn fields_of(word: &[u8]) -> Option<&'static [Field]> {
     }
 }
 
-fn number(cursor: &mut Cursor<'_>) -> Result<(), Wanted> {
-    number_below(cursor, 1 << 32, Wanted::AnyNumber)
+fn number(cursor: &mut Cursor<'_>) -> Result<(), Expectation> {
+    number_below(cursor, 1 << 32, Expectation::AnyNumber)
 }
 
 /// A stream with its file, or the instance.
-fn key(cursor: &mut Cursor<'_>) -> Result<(), Wanted> {
+fn key(cursor: &mut Cursor<'_>) -> Result<(), Expectation> {
     let is_stream = cursor.word() == b"stream".as_slice();
-    word(cursor, Wanted::Key)?;
+    word(cursor, Expectation::Key)?;
     if !is_stream {
         return Ok(());
     }
-    asked(cursor.byte(b' '), Wanted::Blank)?;
+    asked(cursor.byte(b' '), Expectation::Blank)?;
     number(cursor)
 }
 
-fn read_field(cursor: &mut Cursor<'_>, field: Field) -> Result<(), Wanted> {
-    asked(cursor.byte(b' '), Wanted::Blank)?;
+fn read_field(cursor: &mut Cursor<'_>, field: Field) -> Result<(), Expectation> {
+    asked(cursor.byte(b' '), Expectation::Blank)?;
     match field {
         Field::Number => number(cursor),
-        Field::Operation => word(cursor, Wanted::Operation),
-        Field::Mode => word(cursor, Wanted::Mode),
+        Field::Operation => word(cursor, Expectation::Operation),
+        Field::Mode => word(cursor, Expectation::Mode),
         Field::Key => key(cursor),
-        Field::Answer => word(cursor, Wanted::Answer),
+        Field::Answer => word(cursor, Expectation::Answer),
     }
 }
 
 /// An entry, or the last line.
-fn entry(cursor: &mut Cursor<'_>) -> Result<(), Wanted> {
+fn entry(cursor: &mut Cursor<'_>) -> Result<(), Expectation> {
     if cursor.word() == b"end".as_slice() {
-        return exact(cursor, "end", Wanted::End);
+        return exact(cursor, "end", Expectation::End);
     }
     let Some(fields) = fields_of(cursor.word()) else {
-        return Err(Wanted::Entry);
+        return Err(Expectation::Entry);
     };
     cursor.pass_word();
     for one in fields {
@@ -83,12 +83,16 @@ fn entry(cursor: &mut Cursor<'_>) -> Result<(), Wanted> {
 }
 
 /// Reads a line, up to the mistake in it.
-fn read(cursor: &mut Cursor<'_>, subject: Subject) -> Result<(), Wanted> {
+fn read(cursor: &mut Cursor<'_>, subject: Subject) -> Result<(), Expectation> {
     match subject {
-        Subject::First => exact(cursor, "fltjournal 1", Wanted::FirstLine("fltjournal 1")),
+        Subject::First => exact(
+            cursor,
+            "fltjournal 1",
+            Expectation::FirstLine("fltjournal 1"),
+        ),
         Subject::Entry(_) => entry(cursor),
-        Subject::Last => exact(cursor, "end", Wanted::End),
-        _ => Err(Wanted::Nothing),
+        Subject::Last => exact(cursor, "end", Expectation::End),
+        _ => Err(Expectation::Nothing),
     }
 }
 

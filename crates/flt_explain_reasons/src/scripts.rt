@@ -3,7 +3,7 @@
 use crate::cursor::{Cursor, last_number};
 use crate::lines::Lines;
 use crate::trouble::{Subject, Trouble, asked, bytes_of, found, line_end, number_below, word};
-use crate::wanted::Wanted;
+use crate::wanted::Expectation;
 use flt_rules::MAX_OPERATIONS;
 use flt_tree::Tree;
 
@@ -47,31 +47,31 @@ impl Before<'_> {
 }
 
 /// An arrival: an operation, its mode and its file.
-fn arrival(cursor: &mut Cursor<'_>) -> Result<(), Wanted> {
+fn arrival(cursor: &mut Cursor<'_>) -> Result<(), Expectation> {
     let is_packet = matches!(cursor.word(), b"create" | b"cleanup");
-    word(cursor, Wanted::Operation)?;
-    asked(cursor.byte(b' '), Wanted::Blank)?;
+    word(cursor, Expectation::Operation)?;
+    asked(cursor.byte(b' '), Expectation::Blank)?;
     word(
         cursor,
         if is_packet {
-            Wanted::Packet
+            Expectation::Packet
         } else {
-            Wanted::Mode
+            Expectation::Mode
         },
     )?;
-    asked(cursor.byte(b' '), Wanted::Blank)?;
-    number_below(cursor, FILES, Wanted::File)
+    asked(cursor.byte(b' '), Expectation::Blank)?;
+    number_below(cursor, FILES, Expectation::File)
 }
 
 /// The altitude of a filter that may be detached.
-fn altitude(cursor: &mut Cursor<'_>, before: Before<'_>) -> Result<(), Wanted> {
+fn altitude(cursor: &mut Cursor<'_>, before: Before<'_>) -> Result<(), Expectation> {
     let own = *cursor;
-    number_below(cursor, 1 << 32, Wanted::AnyNumber)?;
+    number_below(cursor, 1 << 32, Expectation::AnyNumber)?;
     let altitude = last_number(own.word());
     let wanted = if !before.is_loaded(altitude) {
-        Wanted::LoadedAltitude
+        Expectation::LoadedAltitude
     } else if before.is_detached(altitude) {
-        Wanted::OtherAltitude
+        Expectation::OtherAltitude
     } else {
         return Ok(());
     };
@@ -80,20 +80,24 @@ fn altitude(cursor: &mut Cursor<'_>, before: Before<'_>) -> Result<(), Wanted> {
 }
 
 /// The operands after a command's word.
-fn operands(cursor: &mut Cursor<'_>, command: &[u8], before: Before<'_>) -> Result<(), Wanted> {
-    asked(cursor.byte(b' '), Wanted::Blank)?;
+fn operands(
+    cursor: &mut Cursor<'_>,
+    command: &[u8],
+    before: Before<'_>,
+) -> Result<(), Expectation> {
+    asked(cursor.byte(b' '), Expectation::Blank)?;
     match command {
         b"arrive" => arrival(cursor),
-        b"cancel" => number_below(cursor, OPERATIONS, Wanted::Serial),
+        b"cancel" => number_below(cursor, OPERATIONS, Expectation::Serial),
         b"detach" => altitude(cursor, before),
-        _ => number_below(cursor, 1 << 32, Wanted::AnyNumber),
+        _ => number_below(cursor, 1 << 32, Expectation::AnyNumber),
     }
 }
 
 /// Reads a line, up to the mistake in it.
-fn read(cursor: &mut Cursor<'_>, before: Before<'_>) -> Result<(), Wanted> {
+fn read(cursor: &mut Cursor<'_>, before: Before<'_>) -> Result<(), Expectation> {
     let command = cursor.word();
-    word(cursor, Wanted::Command)?;
+    word(cursor, Expectation::Command)?;
     operands(cursor, command, before)?;
     line_end(cursor)
 }

@@ -5,7 +5,7 @@ ghost use Rattle.std.specs.Prelude.{◌≡◌, IfOk};
 use crate::nearest::nearest_word;
 use crate::notice::{Kind, Reason};
 use crate::trouble::{Subject, Trouble, bytes_of};
-use crate::wanted::Wanted;
+use crate::wanted::Expectation;
 use std::alloc::{AllocError, Global};
 
 /// The greatest number of bytes of a line that are shown: more than any line of a certificate or a journal has.
@@ -88,7 +88,7 @@ fn note(
     found: &[u8],
 ) -> Result<Vec<u8>, AllocError> {
     let wanted = trouble.wanted;
-    if matches!(wanted, Wanted::NoReturn) {
+    if matches!(wanted, Expectation::NoReturn) {
         return Vec::from_slice(alloc, ENDS_IN_RETURN.as_bytes());
     }
     let expected = format!(in alloc; "expected {wanted}, found ")?;
@@ -132,7 +132,7 @@ fn message(alloc: Global, title: &Vec<u8>, note: &Vec<u8>) -> Result<Vec<u8>, Al
 }
 
 /// The word that is probably meant, if one is.
-fn meant(alloc: Global, wanted: Wanted, found: &[u8]) -> Result<Vec<u8>, AllocError> {
+fn meant(alloc: Global, wanted: Expectation, found: &[u8]) -> Result<Vec<u8>, AllocError> {
     match nearest_word(alloc, found, wanted.words())? {
         Some(word) => Vec::from_slice(alloc, word),
         None => Ok(Vec::new(alloc)),

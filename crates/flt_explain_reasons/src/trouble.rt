@@ -2,7 +2,7 @@
 
 use crate::cursor::{Cursor, is_decimal, last_number};
 use crate::lines::Line;
-use crate::wanted::Wanted;
+use crate::wanted::Expectation;
 
 /// The role of a line in its input.
 #[derive(Clone, Copy)]
@@ -32,21 +32,21 @@ pub(crate) struct Trouble<'a> {
     pub(crate) line: Option<Line<'a>>,
     /// The line from that place on.
     pub(crate) left: &'a [u8],
-    pub(crate) wanted: Wanted,
+    pub(crate) wanted: Expectation,
 }
 
 /// The error `wanted`, if it isn't there.
-pub(crate) fn asked(is_there: bool, wanted: Wanted) -> Result<(), Wanted> {
+pub(crate) fn asked(is_there: bool, wanted: Expectation) -> Result<(), Expectation> {
     if is_there { Ok(()) } else { Err(wanted) }
 }
 
 /// The line has no more bytes.
-pub(crate) fn line_end(cursor: &Cursor<'_>) -> Result<(), Wanted> {
-    asked(cursor.left.is_empty(), Wanted::LineEnd)
+pub(crate) fn line_end(cursor: &Cursor<'_>) -> Result<(), Expectation> {
+    asked(cursor.left.is_empty(), Expectation::LineEnd)
 }
 
 /// One of the words that are wanted.
-pub(crate) fn word(cursor: &mut Cursor<'_>, wanted: Wanted) -> Result<(), Wanted> {
+pub(crate) fn word(cursor: &mut Cursor<'_>, wanted: Expectation) -> Result<(), Expectation> {
     let own = cursor.word();
     asked(wanted.words().iter().any(|word| *word == own), wanted)?;
     cursor.pass_word();
@@ -57,8 +57,8 @@ pub(crate) fn word(cursor: &mut Cursor<'_>, wanted: Wanted) -> Result<(), Wanted
 pub(crate) fn number_below(
     cursor: &mut Cursor<'_>,
     bound: u64,
-    wanted: Wanted,
-) -> Result<(), Wanted> {
+    wanted: Expectation,
+) -> Result<(), Expectation> {
     let own = cursor.word();
     asked(is_decimal(own) && last_number(own) < bound, wanted)?;
     cursor.pass_word();
@@ -82,10 +82,10 @@ fn has_return(line: Option<Line<'_>>) -> bool {
 }
 
 /// The wanted thing in a line, by the result of reading it. If all of the line is read, it doesn't end in a line feed alone.
-fn wanted_by(line: Option<Line<'_>>, read: Result<(), Wanted>) -> Wanted {
+fn wanted_by(line: Option<Line<'_>>, read: Result<(), Expectation>) -> Expectation {
     match read {
-        Ok(()) if has_return(line) => Wanted::NoReturn,
-        Ok(()) => Wanted::LineFeed,
+        Ok(()) if has_return(line) => Expectation::NoReturn,
+        Ok(()) => Expectation::LineFeed,
         Err(wanted) => wanted,
     }
 }
@@ -95,7 +95,7 @@ pub(crate) fn found<'a>(
     subject: Subject,
     line: Option<Line<'a>>,
     cursor: Cursor<'a>,
-    read: Result<(), Wanted>,
+    read: Result<(), Expectation>,
 ) -> Trouble<'a> {
     Trouble {
         subject,
@@ -109,8 +109,8 @@ pub(crate) fn found<'a>(
 pub(crate) fn exact(
     cursor: &mut Cursor<'_>,
     words: &'static str,
-    wanted: Wanted,
-) -> Result<(), Wanted> {
+    wanted: Expectation,
+) -> Result<(), Expectation> {
     match cursor.left.strip_prefix(words.as_bytes()) {
         Some(left) => {
             cursor.left = left;

@@ -4,7 +4,7 @@ use std::fmt;
 
 /// A thing that is wanted at a place of a line.
 #[derive(Clone, Copy)]
-pub(crate) enum Wanted {
+pub(crate) enum Expectation {
     // Of all.
     /// The first line.
     FirstLine(&'static str),
@@ -87,18 +87,18 @@ const KEYS: [&[u8]; 2] = [b"stream", b"instance"];
 
 const ANSWERS: [&[u8]; 2] = [b"yes", b"no"];
 
-impl Wanted {
+impl Expectation {
     /// One byte is wanted.
     pub(crate) fn is_byte(self) -> bool {
         matches!(
             self,
-            Wanted::State
-                | Wanted::Status(_)
-                | Wanted::Modes
-                | Wanted::Draining
-                | Wanted::Locks
-                | Wanted::OtherLock
-                | Wanted::LockEnd
+            Expectation::State
+                | Expectation::Status(_)
+                | Expectation::Modes
+                | Expectation::Draining
+                | Expectation::Locks
+                | Expectation::OtherLock
+                | Expectation::LockEnd
         )
     }
 
@@ -106,20 +106,24 @@ impl Wanted {
     pub(crate) fn is_line(self) -> bool {
         matches!(
             self,
-            Wanted::FirstLine(_) | Wanted::Format | Wanted::Nothing | Wanted::End | Wanted::LineEnd
+            Expectation::FirstLine(_)
+                | Expectation::Format
+                | Expectation::Nothing
+                | Expectation::End
+                | Expectation::LineEnd
         )
     }
 
     /// The legal words, if one of few is wanted.
     pub(crate) fn words(self) -> &'static [&'static [u8]] {
         match self {
-            Wanted::Entry => &ENTRIES,
-            Wanted::Operation => &OPERATIONS,
-            Wanted::Mode => &MODES,
-            Wanted::Key => &KEYS,
-            Wanted::Answer => &ANSWERS,
-            Wanted::Packet => &PACKET,
-            Wanted::Command => &COMMANDS,
+            Expectation::Entry => &ENTRIES,
+            Expectation::Operation => &OPERATIONS,
+            Expectation::Mode => &MODES,
+            Expectation::Key => &KEYS,
+            Expectation::Answer => &ANSWERS,
+            Expectation::Packet => &PACKET,
+            Expectation::Command => &COMMANDS,
             _ => &[],
         }
     }
@@ -127,88 +131,94 @@ impl Wanted {
     /// How to fix a malformed place where this is wanted.
     pub(crate) fn help(self) -> &'static str {
         match self {
-            Wanted::FirstLine(_) | Wanted::Format =>
+            Expectation::FirstLine(_) | Expectation::Format =>
                 "the first line says which format follows, and in which version",
-            Wanted::Blank => "one blank separates fields",
-            Wanted::LineEnd => "nothing follows the last field of a line, not even a blank",
-            Wanted::LineFeed => "each line ends in a line feed, the last one too",
-            Wanted::NoReturn => "`sed -i 's/\\r$//' FILE` leaves LF alone at the end of each line",
-            Wanted::Nothing => "nothing follows the line `end`, not even an empty line",
-            Wanted::End =>
+            Expectation::Blank => "one blank separates fields",
+            Expectation::LineEnd => "nothing follows the last field of a line, not even a blank",
+            Expectation::LineFeed => "each line ends in a line feed, the last one too",
+            Expectation::NoReturn =>
+                "`sed -i 's/\\r$//' FILE` leaves LF alone at the end of each line",
+            Expectation::Nothing => "nothing follows the line `end`, not even an empty line",
+            Expectation::End =>
                 "a certificate has 16 callbacks, and a journal 1,000,000 entries at most",
-            Wanted::Callback(0) =>
+            Expectation::Callback(0) =>
                 "the second line is `callback 0 POINTS`, and the lines of its points follow",
-            Wanted::Callback(_) =>
+            Expectation::Callback(_) =>
                 "the points of a callback are followed by the next callback, `callback NUMBER POINTS`, or `end`",
-            Wanted::Number(_) | Wanted::Rising(_, _) =>
+            Expectation::Number(_) | Expectation::Rising(_, _) =>
                 "callbacks and the points of each count from 0, without leading zeros; after `fltcert 2` later points may be left out, and the others rise",
-            Wanted::PointOr(_) | Wanted::PointOrEnd =>
+            Expectation::PointOr(_) | Expectation::PointOrEnd =>
                 "a point is followed by one with a greater number, the next callback, `callback NUMBER POINTS`, or `end`",
-            Wanted::Count =>
+            Expectation::Count =>
                 "the line of a callback ends with how many points it has, 1 to 512; after `fltcert 1` as many lines follow",
-            Wanted::State | Wanted::Status(_) =>
+            Expectation::State | Expectation::Status(_) =>
                 "a point's number is followed by `!` if the point isn't reached, else by a digit for each variable: NULL 1, held 2 and stale 4, added",
-            Wanted::Modes => "the third field is the modes: IRP 1 and fast I/O 2, added",
-            Wanted::Draining =>
+            Expectation::Modes => "the third field is the modes: IRP 1 and fast I/O 2, added",
+            Expectation::Draining =>
                 "the fourth field is draining: not draining 1 and draining 2, added",
-            Wanted::Locks | Wanted::OtherLock | Wanted::LockEnd =>
+            Expectation::Locks | Expectation::OtherLock | Expectation::LockEnd =>
                 "the last field has the locks that are held, the oldest first, each once, as `0,1s` (`s` for a shared one), or `-` for none",
-            Wanted::Entry =>
+            Expectation::Entry =>
                 "an entry begins with `arrive`, `pre`, `skip`, `lower`, `post`, `cancel`, `canceled`, `work`, `detach`, `drain`, `unlink`, `detached` or `go`",
-            Wanted::Operation | Wanted::Mode => "what arrives: `arrive OPERATION MODE FILE`",
-            Wanted::Key =>
+            Expectation::Operation | Expectation::Mode =>
+                "what arrives: `arrive OPERATION MODE FILE`",
+            Expectation::Key =>
                 "an unlinking: `unlink ALTITUDE stream FILE` or `unlink ALTITUDE instance`",
-            Wanted::Answer => "what the system answered: `go ACTIVATION STEPS yes` or `no`",
-            Wanted::AnyNumber => "a number is decimal, without leading zeros, and below 2^32",
-            Wanted::Command =>
+            Expectation::Answer => "what the system answered: `go ACTIVATION STEPS yes` or `no`",
+            Expectation::AnyNumber => "a number is decimal, without leading zeros, and below 2^32",
+            Expectation::Command =>
                 "each line of a script is `arrive OPERATION MODE FILE`, `cancel SERIAL`, `detach ALTITUDE` or `refuse NUMBER`; no line is empty, none is a comment, and there is no `end`",
-            Wanted::Packet => "`create` and `cleanup` come as I/O request packets alone: `irp`",
-            Wanted::File => "files are numbered from 0, in decimal, without leading zeros",
-            Wanted::Serial =>
+            Expectation::Packet =>
+                "`create` and `cleanup` come as I/O request packets alone: `irp`",
+            Expectation::File => "files are numbered from 0, in decimal, without leading zeros",
+            Expectation::Serial =>
                 "operations are numbered from 0 in the order of their arrival, in decimal, without leading zeros",
-            Wanted::LoadedAltitude =>
+            Expectation::LoadedAltitude =>
                 "a script detaches filters of its stack alone: here those of the texts that parse",
-            Wanted::OtherAltitude => "a script detaches each filter once at most",
+            Expectation::OtherAltitude => "a script detaches each filter once at most",
         }
     }
 }
 
-impl fmt::Display for Wanted {
+impl fmt::Display for Expectation {
     fn fmt<W: fmt::Write>(&self, f: &mut fmt::Formatter<W>) -> fmt::Result {
         match self {
-            Wanted::FirstLine(line) => write!(f, "`{line}`"),
-            Wanted::Format => write!(f, "`fltcert 1` or `fltcert 2`"),
-            Wanted::Blank => write!(f, "a blank"),
-            Wanted::LineEnd => write!(f, "the end of the line"),
-            Wanted::LineFeed | Wanted::NoReturn => write!(f, "a line feed"),
-            Wanted::Nothing => write!(f, "nothing after `end`"),
-            Wanted::End => write!(f, "`end`"),
-            Wanted::Callback(0) => write!(f, "`callback 0`"),
-            Wanted::Callback(number) => write!(f, "`callback {number}` or `end`"),
-            Wanted::Number(number) => write!(f, "the number {number}"),
-            Wanted::Rising(least, greatest) => write!(f, "a number from {least} to {greatest}"),
-            Wanted::PointOr(callback) => write!(f, "a point, `callback {callback}` or `end`"),
-            Wanted::PointOrEnd => write!(f, "a point or `end`"),
-            Wanted::Count => write!(f, "a number of points, 1 to 512"),
-            Wanted::State => write!(f, "`!`, or the digit of `c0`, 1 to 7"),
-            Wanted::Status(name) => write!(f, "the digit of `{name}`, 1 to 7"),
-            Wanted::Modes => write!(f, "the digit of the modes, 1 to 3"),
-            Wanted::Draining => write!(f, "the digit of draining, 1 to 3"),
-            Wanted::Locks => write!(f, "`-`, or the number of a lock, 0 to 7"),
-            Wanted::OtherLock => write!(f, "the number of another lock, 0 to 7"),
-            Wanted::LockEnd => write!(f, "`,` or the end of the line"),
-            Wanted::Entry => write!(f, "an entry or `end`"),
-            Wanted::Operation => write!(f, "`create`, `read`, `write` or `cleanup`"),
-            Wanted::Mode => write!(f, "`irp` or `fast`"),
-            Wanted::Key => write!(f, "`stream` or `instance`"),
-            Wanted::Answer => write!(f, "`yes` or `no`"),
-            Wanted::AnyNumber => write!(f, "a number"),
-            Wanted::Command => write!(f, "`arrive`, `cancel`, `detach` or `refuse`"),
-            Wanted::Packet => write!(f, "`irp`"),
-            Wanted::File => write!(f, "a number below 1,024"),
-            Wanted::Serial => write!(f, "a number below 65,536"),
-            Wanted::LoadedAltitude => write!(f, "the altitude of one of the filters"),
-            Wanted::OtherAltitude => write!(f, "the altitude of another filter"),
+            Expectation::FirstLine(line) => write!(f, "`{line}`"),
+            Expectation::Format => write!(f, "`fltcert 1` or `fltcert 2`"),
+            Expectation::Blank => write!(f, "a blank"),
+            Expectation::LineEnd => write!(f, "the end of the line"),
+            Expectation::LineFeed | Expectation::NoReturn => write!(f, "a line feed"),
+            Expectation::Nothing => write!(f, "nothing after `end`"),
+            Expectation::End => write!(f, "`end`"),
+            Expectation::Callback(0) => write!(f, "`callback 0`"),
+            Expectation::Callback(number) => write!(f, "`callback {number}` or `end`"),
+            Expectation::Number(number) => write!(f, "the number {number}"),
+            Expectation::Rising(least, greatest) => write!(
+                f,
+                "a number from {least} to {greatest}"
+            ),
+            Expectation::PointOr(callback) => write!(f, "a point, `callback {callback}` or `end`"),
+            Expectation::PointOrEnd => write!(f, "a point or `end`"),
+            Expectation::Count => write!(f, "a number of points, 1 to 512"),
+            Expectation::State => write!(f, "`!`, or the digit of `c0`, 1 to 7"),
+            Expectation::Status(name) => write!(f, "the digit of `{name}`, 1 to 7"),
+            Expectation::Modes => write!(f, "the digit of the modes, 1 to 3"),
+            Expectation::Draining => write!(f, "the digit of draining, 1 to 3"),
+            Expectation::Locks => write!(f, "`-`, or the number of a lock, 0 to 7"),
+            Expectation::OtherLock => write!(f, "the number of another lock, 0 to 7"),
+            Expectation::LockEnd => write!(f, "`,` or the end of the line"),
+            Expectation::Entry => write!(f, "an entry or `end`"),
+            Expectation::Operation => write!(f, "`create`, `read`, `write` or `cleanup`"),
+            Expectation::Mode => write!(f, "`irp` or `fast`"),
+            Expectation::Key => write!(f, "`stream` or `instance`"),
+            Expectation::Answer => write!(f, "`yes` or `no`"),
+            Expectation::AnyNumber => write!(f, "a number"),
+            Expectation::Command => write!(f, "`arrive`, `cancel`, `detach` or `refuse`"),
+            Expectation::Packet => write!(f, "`irp`"),
+            Expectation::File => write!(f, "a number below 1,024"),
+            Expectation::Serial => write!(f, "a number below 65,536"),
+            Expectation::LoadedAltitude => write!(f, "the altitude of one of the filters"),
+            Expectation::OtherAltitude => write!(f, "the altitude of another filter"),
         }
     }
 }

@@ -10,9 +10,9 @@ use Rattle.flt_explain.specs.Subjects.{place}
 use Rattle.flt_explain.specs.declared.finding.Finding.{Finding}
 use Rattle.flt_explain_ways.specs.Grouping.{group, groups_in, groups_of, is_like, is_unlike, share}
 use Rattle.flt_explain_ways.specs.declared.grouping.Group.{Group}
-use Rattle.flt_explain_ways.specs.declared.grouping.Traced.{Traced}
+use Rattle.flt_explain_ways.specs.declared.grouping.TracedFinding.{TracedFinding}
 use Rattle.flt_explain_details.specs.Tracing.{traced, traced_from}
-use Rattle.flt_explain_details.specs.declared.tracing.Shown.{Shown}
+use Rattle.flt_explain_details.specs.declared.tracing.FindingTrace.{FindingTrace}
 use Rattle.flt_explain_reports.specs.Covering.{is_akin, AreFirsts, Covers, Rises}
 
 -- ---- lists
@@ -51,7 +51,7 @@ kept P p (x ∷ xs) each = by_test (p x) (kept P p xs each.1)
     by_test true rest = (each.0, rest)
     by_test false rest = rest
 
-fewer : (p : Traced → Bool) (xs : List Traced) → length (filter p xs) ≤ length xs
+fewer : (p : TracedFinding → Bool) (xs : List TracedFinding) → length (filter p xs) ≤ length xs
 fewer p xs = let e = length-filter p xs in let h = count_by-le-length p xs in omega (arith, e, h)
 
 stays : {A : Type 0} (p : A → Bool) (xs : List A) (x : A) → In x xs → p x ≡ true → In x (filter p xs)
@@ -70,37 +70,37 @@ stays p [] x none passes = absurd none
 -- ---- findings and their numbers
 
 -- the numbers of some findings rise
-abbrev Ascends : List Traced → Type 0
+abbrev Ascends : List TracedFinding → Type 0
 Ascends [] = ⊤
-Ascends (x ∷ xs) = Each (λ (y : Traced). x.number < y.number) xs × Ascends xs
+Ascends (x ∷ xs) = Each (λ (y : TracedFinding). x.number < y.number) xs × Ascends xs
 
-ascends_on : (p : Traced → Bool) (xs : List Traced) → Ascends xs → Ascends (filter p xs)
+ascends_on : (p : TracedFinding → Bool) (xs : List TracedFinding) → Ascends xs → Ascends (filter p xs)
 ascends_on p [] up = tt
 ascends_on p (x ∷ xs) up = by_test (p x) (ascends_on p xs up.1)
   where
     by_test : (b : Bool) → Ascends (filter p xs) → Ascends (if b then x ∷ filter p xs else filter p xs)
-    by_test true rest = (kept (λ (y : Traced). x.number < y.number) p xs up.0, rest)
+    by_test true rest = (kept (λ (y : TracedFinding). x.number < y.number) p xs up.0, rest)
     by_test false rest = rest
 
-module _ (shown : List Shown) where
-  from_on : (n : ℕ) (fs : List Finding) → Each (λ (t : Traced). n ≤ t.number) (traced_from n fs shown)
+module _ (shown : List FindingTrace) where
+  from_on : (n : ℕ) (fs : List Finding) → Each (λ (t : TracedFinding). n ≤ t.number) (traced_from n fs shown)
   from_on n [] = tt
   from_on n (f ∷ fs) = (
     omega arith,
-    weaker (λ (t : Traced). n + 1 ≤ t.number) (λ (t : Traced). n ≤ t.number) (traced_from (n + 1) fs shown)
+    weaker (λ (t : TracedFinding). n + 1 ≤ t.number) (λ (t : TracedFinding). n ≤ t.number) (traced_from (n + 1) fs shown)
         (λ t less. omega (arith, less)) (from_on (n + 1) fs),
   )
 
   ascending : (n : ℕ) (fs : List Finding) → Ascends (traced_from n fs shown)
   ascending n [] = tt
   ascending n (f ∷ fs) = (
-    weaker (λ (t : Traced). n + 1 ≤ t.number) (λ (t : Traced). n < t.number) (traced_from (n + 1) fs shown)
+    weaker (λ (t : TracedFinding). n + 1 ≤ t.number) (λ (t : TracedFinding). n < t.number) (traced_from (n + 1) fs shown)
         (λ t less. omega (arith, less)) (from_on (n + 1) fs),
     ascending (n + 1) fs,
   )
 
   -- a finding stands at its number, where the first has number n
-  abbrev IsAt : ℕ → List Finding → Traced → Type 0
+  abbrev IsAt : ℕ → List Finding → TracedFinding → Type 0
   IsAt n fs t = (k : ℕ) × (t.number ≡ n + k) × (slice_get fs k ≡ Some t.finding)
 
   placed : (n : ℕ) (fs : List Finding) → Each (IsAt n fs) (traced_from n fs shown)
@@ -123,7 +123,7 @@ module _ (shown : List Shown) where
 
 -- ---- groups
 
-firsts : (P : Traced → Type 0) (turns xs : List Traced) → Each P xs → Each (λ (g : Group). P g.first) (groups_in turns xs)
+firsts : (P : TracedFinding → Type 0) (turns xs : List TracedFinding) → Each P xs → Each (λ (g : Group). P g.first) (groups_in turns xs)
 firsts P [] xs each = tt
 firsts P (turn ∷ turns) [] each = tt
 firsts P (turn ∷ turns) (x ∷ xs) each = (each.0, firsts P turns (filter (is_unlike x) xs) (kept P (is_unlike x) xs each.1))
@@ -131,12 +131,12 @@ firsts P (turn ∷ turns) (x ∷ xs) each = (each.0, firsts P turns (filter (is_
 abbrev pub number_of : Group → ℕ
 number_of g = g.first.number
 
-rising : (turns xs : List Traced) → Ascends xs → Rises (map number_of (groups_in turns xs))
+rising : (turns xs : List TracedFinding) → Ascends xs → Rises (map number_of (groups_in turns xs))
 rising [] xs up = tt
 rising (turn ∷ turns) [] up = tt
 rising (turn ∷ turns) (x ∷ xs) up =
     let rest = filter (is_unlike x) xs in
-    let P = λ (t : Traced). x.number < t.number in
+    let P = λ (t : TracedFinding). x.number < t.number in
     let above = firsts P turns rest (kept P (is_unlike x) xs up.0) in (
       all_of (λ m. x.number < m) (map number_of (groups_in turns rest)) (mapped number_of (λ m. x.number < m) (groups_in turns rest) above),
       rising turns rest (ascends_on (is_unlike x) xs up.1),
@@ -148,7 +148,7 @@ akin_self f =
     (and_from (number f.rule == number f.rule) (place f.subject == place f.subject) (eq-eqb (number f.rule) (number f.rule) refl)
     (eq-eqb (place f.subject) (place f.subject) refl))
 
-akin_like : (x t : Traced) → is_like x t ≡ true → is_akin x.finding t.finding ≡ true
+akin_like : (x t : TracedFinding) → is_like x t ≡ true → is_akin x.finding t.finding ≡ true
 akin_like x t e =
     let callback = and_parts (x.finding.callback == t.finding.callback) _ e in
     let rule = and_parts (number x.finding.rule == number t.finding.rule) _ callback.1 in
@@ -157,30 +157,30 @@ akin_like x t e =
     (and_from (number x.finding.rule == number t.finding.rule) (place x.finding.subject == place t.finding.subject) rule.0 subject.0)
 
 -- the first of a group leads a finding: it is akin to it, and doesn't stand behind it
-record Leads (t : Traced) (gs : List Group) : Type 0 where
+record Leads (t : TracedFinding) (gs : List Group) : Type 0 where
   position : ℕ
   one : Group
   is_one : slice_get gs position ≡ Some one
   before : one.first.number ≤ t.number
   akin : is_akin one.first.finding t.finding ≡ true
 
-later : (t : Traced) (g : Group) (gs : List Group) → Leads t gs → Leads t (g ∷ gs)
+later : (t : TracedFinding) (g : Group) (gs : List Group) → Leads t gs → Leads t (g ∷ gs)
 later t g gs l = record { position = suc l.position; one = l.one; is_one = l.is_one; before = l.before; akin = l.akin }
 
-among : (P : Traced → Type 0) (xs : List Traced) (t : Traced) → Each P xs → In t xs → P t
+among : (P : TracedFinding → Type 0) (xs : List TracedFinding) (t : TracedFinding) → Each P xs → In t xs → P t
 among P [] t each none = absurd none
 among P (x ∷ xs) t each (inl same) = subst P same each.0
 among P (x ∷ xs) t each (inr rest) = among P xs t each.1 rest
 
-led : (turns xs : List Traced) → length xs ≤ length turns → Ascends xs → (t : Traced) → In t xs → Leads t (groups_in turns xs)
+led : (turns xs : List TracedFinding) → length xs ≤ length turns → Ascends xs → (t : TracedFinding) → In t xs → Leads t (groups_in turns xs)
 led turns [] enough up t none = absurd none
 led [] (x ∷ xs) enough up t there = absurd (omega (arith, enough))
 led (turn ∷ turns) (x ∷ xs) enough up t (inl same) = record {
   position = zero;
   one = group x (filter (is_like x) xs);
   is_one = refl;
-  before = subst (λ (y : Traced). x.number ≤ y.number) same (omega arith);
-  akin = subst (λ (y : Traced). is_akin x.finding y.finding ≡ true) same (akin_self x.finding);
+  before = subst (λ (y : TracedFinding). x.number ≤ y.number) same (omega arith);
+  akin = subst (λ (y : TracedFinding). is_akin x.finding y.finding ≡ true) same (akin_self x.finding);
 }
 led (turn ∷ turns) (x ∷ xs) enough up t (inr there) =
     let few = fewer (is_unlike x) xs in
@@ -193,7 +193,7 @@ led (turn ∷ turns) (x ∷ xs) enough up t (inr there) =
       position = zero;
       one = group x (filter (is_like x) xs);
       is_one = refl;
-      before = (let less = among (λ (y : Traced). x.number < y.number) xs t up.0 there in omega (arith, less));
+      before = (let less = among (λ (y : TracedFinding). x.number < y.number) xs t up.0 there in omega (arith, less));
       akin = akin_like x t e;
     }
     by_test false e on =
@@ -213,7 +213,7 @@ within (y ∷ ys) zero x is = omega arith
 within (y ∷ ys) (suc k) x is = let rest = within ys k x is in omega (arith, rest)
 
 -- the first findings of the groups are those to which all others are akin
-pub are_firsts : (found : List Finding) (shown : List Shown) → AreFirsts found (map number_of (groups_of (traced_from 0 found shown)))
+pub are_firsts : (found : List Finding) (shown : List FindingTrace) → AreFirsts found (map number_of (groups_of (traced_from 0 found shown)))
 are_firsts found shown = record {
   rise = rising xs xs (ascending shown 0 found);
   within = all_of (λ n. n < length found) (map number_of gs) (mapped number_of (λ n. n < length found) gs
@@ -221,7 +221,7 @@ are_firsts found shown = record {
   covers = covered;
 }
   where
-    xs : List Traced
+    xs : List TracedFinding
     xs = traced_from 0 found shown
 
     gs : List Group

@@ -5,7 +5,7 @@ use Rattle.std.specs.List.{slice_split}
 use Rattle.flt_explain.specs.declared.finding.Finding.{Finding}
 use Rattle.flt_graph.specs.Graph.{span_at}
 use Rattle.flt_graph.specs.declared.graph.Graph.{Graph}
-use Rattle.flt_explain_ways.specs.declared.grouping.Traced.{Traced}
+use Rattle.flt_explain_ways.specs.declared.grouping.TracedFinding.{TracedFinding}
 use Rattle.flt_places.specs.Files.{file_at, file_line}
 use Rattle.flt_places.specs.Places.{place_in}
 use Rattle.flt_places.specs.declared.files.Files.{Files}
@@ -17,7 +17,7 @@ use Rattle.flt_explain_details.specs.Closing.{rule_name}
 use Rattle.flt_explain_details.specs.Page.{line_told, shown}
 use Rattle.flt_explain_details.specs.Tracing.{other_way, way_of}
 use Rattle.flt_explain_details.specs.declared.study.Words.{Words}
-use Rattle.flt_explain_details.specs.declared.tracing.Shown.{Shown}
+use Rattle.flt_explain_details.specs.declared.tracing.FindingTrace.{FindingTrace}
 use Rattle.flt_explain_reports.specs.Heading.{at_file_place, heading, name_at}
 use Rattle.flt_explain_reports.specs.Indents.{headed}
 use Rattle.flt_explain_reports.specs.Shown.{shown_lines}
@@ -70,7 +70,7 @@ paths_told files home text g callback a =
     ++ (path_lines files home text g callback (codes "   = other path: ") (other_way a) ++ notes a)
 
 -- the lines that show a finding, and the paths to it; nothing where it isn't known what shows it
-unfoldable pub shown_part : Bool → Files → ℕ → Text → Graph → Finding → Text → Option Shown → Text
+unfoldable pub shown_part : Bool → Files → ℕ → Text → Graph → Finding → Text → Option FindingTrace → Text
 shown_part coloured files home text g found subject None = []
 shown_part coloured files home text g found subject (Some s) =
     shown_lines coloured files text g found subject s ++ paths_told files home text g found.callback s.answer
@@ -94,8 +94,8 @@ listed_from files home is_below before (n ∷ ns) =
     else before_line is_below ++ (line_told files home n ++ listed_from files home true n ns)
 
 -- the lines on which the others of a group stand, each once
-unfoldable pub others_told : Files → ℕ → List Traced → Text
-others_told files home others = listed_from files home false 0 (map (λ (t : Traced). t.finding.line) others)
+unfoldable pub others_told : Files → ℕ → List TracedFinding → Text
+others_told files home others = listed_from files home false 0 (map (λ (t : TracedFinding). t.finding.line) others)
 
 -- ---- how to fix it
 
@@ -114,7 +114,7 @@ note_told note = if length note == 0 then [] else headed (codes "   = note: ") (
 -- ---- all of it
 
 -- what is wrong and where, what shows it, where the others of its group are, and how to fix it
-unfoldable pub finding_report : Bool → Files → Text → Graph → Finding → Words → Option Shown → List Traced → Text
+unfoldable pub finding_report : Bool → Files → Text → Graph → Finding → Words → Option FindingTrace → List TracedFinding → Text
 finding_report coloured files text g found w s others =
     head_lines coloured files text g found w
     ++ (shown_part coloured files (home_of files text g found) text g found w.subject.items s

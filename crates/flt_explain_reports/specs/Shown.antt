@@ -14,7 +14,7 @@ use Rattle.flt_tree.specs.Names.{Text}
 use Rattle.flt_explain_ways.specs.declared.answer.Answer.{Answer}
 use Rattle.flt_explain_ways.specs.declared.answer.Way.{Way}
 use Rattle.flt_explain_details.specs.Tracing.{other_way, way_of}
-use Rattle.flt_explain_details.specs.declared.tracing.Shown.{Shown}
+use Rattle.flt_explain_details.specs.declared.tracing.FindingTrace.{FindingTrace}
 use Rattle.flt_explain_reports.specs.Excerpts.{excerpt}
 use Rattle.flt_explain_reports.specs.MarkOrder.{all_placed, greatest_line}
 use Rattle.flt_explain_reports.specs.MarkWords.{mark_told}
@@ -47,7 +47,7 @@ meeting_marks text g callback (Some way) (Some other) = mark_at text g callback 
 meeting_marks text g callback _ _ = []
 
 -- the marks of a finding in the order of their lines: where it comes from, its point, and where the paths meet
-unfoldable pub marks_of : Text → Graph → Finding → Shown → List (Mark Sign)
+unfoldable pub marks_of : Text → Graph → Finding → FindingTrace → List (Mark Sign)
 marks_of text g found s =
     all_placed (all_placed (all_placed [] (origin_marks text g found.callback s.origin))
     (mark_at text g found.callback found.point sign.Point ∷ []))
@@ -69,7 +69,7 @@ all_drawn coloured margin files file text g found subject a before (m ∷ marks)
     ++ all_drawn coloured margin files (file_at files m.site.place.line) text g found subject a (file_line files m.site.place.line) marks)
 
 -- all of them
-unfoldable pub shown_lines : Bool → Files → Text → Graph → Finding → Text → Shown → Text
+unfoldable pub shown_lines : Bool → Files → Text → Graph → Finding → Text → FindingTrace → Text
 shown_lines coloured files text g found subject s =
     all_drawn coloured (width (greatest_line files 0 (marks_of text g found s))) files
     (file_at files (site_of text (span_at g found.callback found.point)).place.line) text g found subject s.answer 0

@@ -8,7 +8,7 @@ use crate::excerpts::excerpt_of;
 use crate::heading::{name_at, tell_file_place, tell_heading};
 use crate::marks::{Drawing, Stroke};
 use flt_explain_details::{Page, Source, fault_name, line_words};
-use flt_explain_hints::{Spot, Told, Trouble, describe, tell};
+use flt_explain_hints::{FaultExplanation, Spot, Trouble, describe, tell};
 use flt_places::{Files, Lines, Site};
 use flt_tree::Position;
 use std::alloc::{AllocError, Global};
@@ -95,7 +95,7 @@ fn report_spot(
     coloured: bool,
     source: Source<'_>,
     spot: &Spot<'_>,
-    told: &Told,
+    told: &FaultExplanation,
 ) -> Result<(), AllocError>
     ensures { Writes result page.old page.new
         (spec.fault_report coloured source.entry.files source.entry.text.now spot.now told.now.title.items
@@ -125,7 +125,7 @@ fn lines_in(
     coloured: bool,
     source: Source<'_>,
     spot: &Spot<'_>,
-    told: &Told,
+    told: &FaultExplanation,
 ) -> Result<Vec<u8>, AllocError>
     ensures { IfOk result (λ lines. lines.items ≡
         spec.fault_report coloured source.entry.files source.entry.text.now spot.now told.now.title.items

@@ -11,8 +11,8 @@ use crate::indents::begin;
 use crate::shown_lines::draw_shown;
 use crate::way_lines::tell_way;
 use flt_explain::Finding;
-use flt_explain_details::{Page, Part, Scene, Shown, Words};
-use flt_explain_ways::{Answer, Traced};
+use flt_explain_details::{FindingTrace, Page, Part, Scene, Words};
+use flt_explain_ways::{Answer, TracedFinding};
 use flt_places::{Files, lines_of};
 use flt_rules::Rule;
 use std::alloc::{AllocError, Global};
@@ -105,7 +105,7 @@ fn tell_ways(
     home: usize,
     scene: &Scene<'_>,
     callback: usize,
-    shown: &Shown,
+    shown: &FindingTrace,
 ) -> Result<(), AllocError>
     ensures { Writes result page.old page.new
         (spec.paths_told scene.now.files home scene.now.lines.now scene.now.graph.now callback shown.now.answer) }
@@ -126,7 +126,7 @@ fn tell_shown(
     scene: &Scene<'_>,
     finding: &Finding,
     subject: &[u8],
-    shown: Option<&Shown>,
+    shown: Option<&FindingTrace>,
 ) -> Result<(), AllocError>
     ensures { Writes result page.old page.new
         (spec.shown_part coloured scene.now.files home scene.now.lines.now scene.now.graph.now finding.now subject.now
@@ -166,7 +166,7 @@ fn tell_others(
     page: &mut Page,
     files: Files<'_>,
     home: usize,
-    others: &[Traced],
+    others: &[TracedFinding],
 ) -> Result<(), AllocError>
     ensures { Writes result page.old page.new (spec.others_told files.entry home others.now) }
 {
@@ -232,8 +232,8 @@ pub(crate) fn report_finding(
     scene: &Scene<'_>,
     finding: &Finding,
     words: &Words,
-    shown: Option<&Shown>,
-    others: &[Traced],
+    shown: Option<&FindingTrace>,
+    others: &[TracedFinding],
 ) -> Result<(), AllocError>
     ensures { Writes result page.old page.new
         (spec.finding_report coloured scene.now.files scene.now.lines.now scene.now.graph.now finding.now words.now

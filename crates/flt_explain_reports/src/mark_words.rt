@@ -6,7 +6,7 @@ ghost use Rattle.flt_explain_details.specs.Page.{Writes};
 ghost use Rattle.flt_explain_reports.specs.MarkWords as spec;
 
 use flt_explain::{Finding, Subject};
-use flt_explain_details::{Page, Scene, Shown, fact_word, state_at_end, step_call_outcome};
+use flt_explain_details::{FindingTrace, Page, Scene, fact_word, state_at_end, step_call_outcome};
 use flt_explain_ways::{Fact, Step, VariableStatus, Way};
 use flt_graph::{Call, Instruction};
 use flt_rules::Rule;
@@ -232,7 +232,7 @@ fn tell_point(
     page: &mut Page,
     finding: &Finding,
     subject: &[u8],
-    shown: &Shown,
+    shown: &FindingTrace,
 ) -> Result<(), AllocError>
     ensures { Writes result page.old page.new (spec.point_told finding.now subject.now shown.now.answer) }
 {
@@ -253,7 +253,7 @@ pub(crate) fn tell_mark(
     scene: &Scene<'_>,
     finding: &Finding,
     subject: &[u8],
-    shown: &Shown,
+    shown: &FindingTrace,
     sign: Sign,
 ) -> Result<(), AllocError>
     ensures { Writes result page.old page.new (spec.mark_told scene.now.graph.now finding.now subject.now shown.now.answer sign) }

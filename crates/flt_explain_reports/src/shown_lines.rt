@@ -11,7 +11,7 @@ use crate::mark_order::{Mark, add_mark, greatest_line};
 use crate::mark_words::{Sign, tell_mark};
 use crate::marks::{Drawing, Stroke};
 use flt_explain::Finding;
-use flt_explain_details::{Page, Scene, Shown};
+use flt_explain_details::{FindingTrace, Page, Scene};
 use flt_explain_ways::{Cause, Origin};
 use std::alloc::{AllocError, Global};
 
@@ -52,7 +52,7 @@ fn add_meeting(
     marks: &mut Vec<Mark<Sign>>,
     scene: &Scene<'_>,
     callback: usize,
-    shown: &Shown,
+    shown: &FindingTrace,
 ) -> Result<(), AllocError>
     ensures { OnOk result (marks.new.items ≡ all_placed marks.old.items
         (spec.meeting_marks scene.now.lines.now scene.now.graph.now callback (way_of shown.now.answer) (other_way shown.now.answer))) }
@@ -74,7 +74,7 @@ fn marks_of(
     alloc: Global,
     scene: &Scene<'_>,
     finding: &Finding,
-    shown: &Shown,
+    shown: &FindingTrace,
 ) -> Result<Vec<Mark<Sign>>, AllocError>
     ensures { IfOk result (λ marks. marks.items ≡ spec.marks_of scene.now.lines.now scene.now.graph.now finding.now shown.now) }
 {
@@ -108,7 +108,7 @@ fn draw_marks(
     scene: &Scene<'_>,
     finding: &Finding,
     subject: &[u8],
-    shown: &Shown,
+    shown: &FindingTrace,
     marks: &[Mark<Sign>],
 ) -> Result<(), AllocError>
     ensures { Writes result page.old page.new
@@ -142,7 +142,7 @@ pub(crate) fn draw_shown(
     scene: &Scene<'_>,
     finding: &Finding,
     subject: &[u8],
-    shown: &Shown,
+    shown: &FindingTrace,
 ) -> Result<(), AllocError>
     ensures { Writes result page.old page.new
         (spec.shown_lines coloured scene.now.files scene.now.lines.now scene.now.graph.now finding.now subject.now shown.now) }

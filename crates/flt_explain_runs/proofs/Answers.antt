@@ -10,7 +10,7 @@ use Rattle.flt_search.specs.Found.{AreAnswers, IsAnswer}
 use Rattle.flt_search.specs.declared.answering.Answer.{Answer}
 use Rattle.flt_search.specs.declared.answering.Answer.TheVariants.{Breaks, NotWithin, Cut}
 use Rattle.flt_search.specs.declared.goal.Goal.{Goal}
-use Rattle.flt_search.specs.declared.judging.Broken.{Broken}
+use Rattle.flt_search.specs.declared.judging.BreakingJournal.{BreakingJournal}
 use Rattle.flt_explain.specs.declared.finding.Finding.{Finding}
 use Rattle.flt_explain.specs.declared.finding.Subject.TheVariants.{Context}
 use Rattle.flt_rules.specs.declared.rule.Rule.TheVariants.{R01}
@@ -84,11 +84,11 @@ pub together_found : (trees : List Tree) (n : ℕ) (f : Finding) (a : Option (Bo
 together_found trees n f (Some b) is = found_of trees n f b.now is
 together_found trees n f None is = tt
 
-may_of : (trees : List Tree) (n : ℕ) (f : Finding) (a : Answer) (b : Broken) → a ≡ Breaks b → IsTogetherFor trees n f a → MayMeet trees n
+may_of : (trees : List Tree) (n : ℕ) (f : Finding) (a : Answer) (b : BreakingJournal) → a ≡ Breaks b → IsTogetherFor trees n f a → MayMeet trees n
 may_of trees n f a b is together = (subst (IsTogetherFor trees n f) is together).1
 
 -- and they may meet then
-pub together_meets : (trees : List Tree) (n : ℕ) (f : Finding) (a : Option (Bor Answer)) (o : Bor Answer) (b : Broken) →
+pub together_meets : (trees : List Tree) (n : ℕ) (f : Finding) (a : Option (Bor Answer)) (o : Bor Answer) (b : BreakingJournal) →
     a ≡ Some o → o.now ≡ Breaks b →
     IsTogetherBy trees n f a → MayMeet trees n
 together_meets trees n f a o b there is together = may_of trees n f o.now b is (subst (IsTogetherBy trees n f) there together)

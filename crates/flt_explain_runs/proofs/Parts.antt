@@ -11,7 +11,7 @@ use Rattle.flt_explain_reasons.specs.declared.notice.Kind.{Kind}
 use Rattle.flt_explain_reasons.specs.declared.notice.Notice.{Notice}
 use Rattle.flt_explain_details.specs.Closing.{fault_closing, findings_closing}
 use Rattle.flt_explain_details.specs.declared.sources.Source.{Source}
-use Rattle.flt_explain_details.specs.declared.judged.Judged.TheVariants.{Unread, Known as Found}
+use Rattle.flt_explain_details.specs.declared.judged.TextJudgement.TheVariants.{Unread, Known as Found}
 use Rattle.flt_explain_reports.specs.Covering.{AreFirsts}
 use Rattle.flt_explain_warning_details.specs.Options.{warned_status}
 use Rattle.flt_explain_warning_details.specs.declared.options.WarningOptions.{WarningOptions}
@@ -22,9 +22,9 @@ use Rattle.flt_explain_runs.specs.Printing.{IsNotedOf, IsNoticePart, IsSaid, Pri
 use Rattle.flt_explain_runs.specs.Quiet.{quieted}
 use Rattle.flt_explain_runs.specs.Reported.{faults_in, stack_of}
 use Rattle.flt_explain_runs.specs.Whole.{IsKnownPrint, Look}
-use Rattle.flt_explain_runs.specs.declared.noted.Noted.{Noted}
+use Rattle.flt_explain_runs.specs.declared.noted.Note.{Note}
 use Rattle.flt_explain_runs.specs.declared.output.Output.{Output}
-use Rattle.flt_explain_runs.specs.declared.printing.Known.{Known}
+use Rattle.flt_explain_runs.specs.declared.printing.ParsedText.{ParsedText}
 use Rattle.flt_explain_runs.specs.declared.printing.Part.{Part}
 use Rattle.flt_explain_runs.proofs.Closing.{quiet_fault, quiet_findings, quiet_notice}
 use Rattle.flt_explain_runs.proofs.Said.{ends_quiet, said_more}
@@ -86,7 +86,7 @@ notice_parts look trees s kind n (Ok p) other is closes prints = notice_part loo
 notice_parts look trees s kind n (Err e) other is closes prints = tt
 
 -- of a text that parses
-pub known_is : (look : Look) (trees : List Tree) (files : List Files) (k : Known) (before : Output) (p : Part) →
+pub known_is : (look : Look) (trees : List Tree) (files : List Files) (k : ParsedText) (before : Output) (p : Part) →
     IsKnownIn look trees k → IsSaid trees look.states before →
     HasNotes trees k before.noted → AreFirsts k.found.now (numbers_in before.noted) →
     p.output.bytes.items ≡ before.bytes.items ++ quieted (findings_closing k.source.files k.found.now) → p.output.noted ≡ before.noted →
@@ -118,16 +118,16 @@ known_is look trees files k before p known said notes firsts added same status c
 }
 
 -- one note more
-numbers_more : (notes : List Noted) (n : Noted) → numbers_in (notes ++ n ∷ []) ≡ numbers_in notes ++ n.finding ∷ []
+numbers_more : (notes : List Note) (n : Note) → numbers_in (notes ++ n ∷ []) ≡ numbers_in notes ++ n.finding ∷ []
 numbers_more [] n = refl
 numbers_more (m ∷ notes) n = ap (λ ns. m.finding ∷ ns) (numbers_more notes n)
 
 -- one more note leaves the notes of what is known
-pub notes_more : (trees : List Tree) (k : Known) (old new : List Noted) (n : Noted) → HasNotes trees k old → IsNotedOf trees k old n →
+pub notes_more : (trees : List Tree) (k : ParsedText) (old new : List Note) (n : Note) → HasNotes trees k old → IsNotedOf trees k old n →
     new ≡ old ++ n ∷ [] → HasNotes trees k new
 notes_more trees k old new n notes is added = rw added (one_more notes is)
 
 -- one more note has its finding's number last
-pub numbers_with : (old new : List Noted) (n : Noted) (number : ℕ) → new ≡ old ++ n ∷ [] → n.finding ≡ number →
+pub numbers_with : (old new : List Note) (n : Note) (number : ℕ) → new ≡ old ++ n ∷ [] → n.finding ≡ number →
     numbers_in new ≡ numbers_in old ++ number ∷ []
 numbers_with old new n number added is = rw (added, numbers_more old n, is) refl

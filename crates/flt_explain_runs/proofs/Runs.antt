@@ -5,8 +5,8 @@ use Rattle.std.specs.Prelude.{◌≢◌}
 use Rattle.std.proofs.lemmas.List.{drop_more, map_more, reverse-append, take_more}
 use Rattle.std.proofs.lemmas.Slice.Zip.{AllZip-long}
 use Rattle.flt_explain_details.specs.Reports.{IsJudged}
-use Rattle.flt_explain_details.specs.declared.judged.Judged.{Judged}
-use Rattle.flt_explain_details.specs.declared.judged.Judged.TheVariants.{Unread, Known as Found}
+use Rattle.flt_explain_details.specs.declared.judged.TextJudgement.{TextJudgement}
+use Rattle.flt_explain_details.specs.declared.judged.TextJudgement.TheVariants.{Unread, Known as Found}
 use Rattle.flt_explain_runs.specs.declared.setters.Setter.{Setter}
 use Rattle.std.specs.Prelude.{Contains}
 use Rattle.std.specs.List.{AllZip}
@@ -21,28 +21,28 @@ use Rattle.flt_explain.specs.declared.finding.Finding.{Finding}
 use Rattle.flt_model.specs.Program.{filters_of}
 use Rattle.flt_explain_reports.specs.declared.reports.Report.{Report}
 use Rattle.flt_search.specs.Found.{IsFound}
-use Rattle.flt_search.specs.declared.judging.Broken.{Broken}
+use Rattle.flt_search.specs.declared.judging.BreakingJournal.{BreakingJournal}
 use Rattle.flt_explain_runs.specs.Schedules.{AreOutcomes, IsSchedule, IsScheduled}
 use Rattle.flt_explain_runs.specs.Violations.{violations_of}
 use Rattle.flt_explain_runs.specs.declared.schedules.Outcome.{Outcome}
 use Rattle.flt_explain_runs.specs.declared.schedules.Schedule.{Schedule}
 use Rattle.flt_explain_runs.specs.declared.schedules.Schedule.TheVariants.{Breaks}
-use Rattle.flt_explain_runs.specs.declared.schedules.Scheduled.{Scheduled}
-use Rattle.flt_explain_runs.specs.declared.schedules.Scheduled.TheVariants.{Together, Alone}
+use Rattle.flt_explain_runs.specs.declared.schedules.JointOutcome.{JointOutcome}
+use Rattle.flt_explain_runs.specs.declared.schedules.JointOutcome.TheVariants.{Together, Alone}
 use Rattle.flt_explain_runs.specs.declared.schedules.Suspect.{Suspect}
 use Rattle.flt_explain_runs.specs.Again.{GoesOn, IsAgainBy, IsAlone, IsOfJudged, IsSetter, IsOutcomeAgain, IsOutcomeOf as IsOutcomeIn}
 use Rattle.flt_explain_runs.specs.Again.{IsSetting, IsSuspectAgain, ended, line_ends}
 use Rattle.flt_model.specs.declared.verdict.Violation.{Violation}
 use Rattle.flt_explain_runs.specs.Noted.{IsAgain, IsAlso, IsBrokenBy, IsNear, schedule_of}
-use Rattle.flt_explain_runs.specs.declared.noted.Noted.{Noted}
+use Rattle.flt_explain_runs.specs.declared.noted.Note.{Note}
 use Rattle.flt_explain_runs.specs.Printing.{IsOutcomeOf, IsSuspectOf}
 use Rattle.flt_explain_runs.specs.declared.again.Setting.{Setting}
-use Rattle.flt_explain_runs.specs.declared.noted.Again.{Again}
-use Rattle.flt_explain_runs.specs.declared.noted.Again.TheVariants.{Runs, RunsNowhere}
-use Rattle.flt_explain_runs.specs.declared.printing.Known.{Known}
+use Rattle.flt_explain_runs.specs.declared.noted.SetterOutcome.{SetterOutcome}
+use Rattle.flt_explain_runs.specs.declared.noted.SetterOutcome.TheVariants.{Runs, RunsNowhere}
+use Rattle.flt_explain_runs.specs.declared.printing.ParsedText.{ParsedText}
 
 -- what comes of suspects is what comes of the findings that reports are of
-pub outcomes_of : (trees : List Tree) (k : Known) (g : Graph) (reports : List Report) (found : List Suspect) (all : List Outcome) →
+pub outcomes_of : (trees : List Tree) (k : ParsedText) (g : Graph) (reports : List Report) (found : List Suspect) (all : List Outcome) →
     g ≡ k.graph.now → AllZip (IsSuspectOf k.found.now) reports found → AreOutcomes trees k.place g found all →
     AllZip (IsOutcomeOf trees k) reports all
 outcomes_of trees k g [] [] [] same suspects are = tt
@@ -59,13 +59,13 @@ outcomes_of trees k g (r ∷ reports) (s ∷ found) (o ∷ all) same suspects ar
     } in
     (first, outcomes_of trees k g reports found all same suspects.1 are.1)
 
-found_by : (p : List Filter) (cs : List Callback) (g : Graph) (f : Finding) (a : Schedule) (b : Broken) →
+found_by : (p : List Filter) (cs : List Callback) (g : Graph) (f : Finding) (a : Schedule) (b : BreakingJournal) →
     IsSchedule p cs g f a → a ≡ Breaks b →
     IsFound p (violations_of f.rule) b
 found_by p cs g f a b is same = (subst (λ x. IsSchedule p cs g f x) same is).0
 
 -- in runs of one filter alone
-found_alone : (tree : Tree) (g : Graph) (f : Finding) (s : Scheduled) (b : Broken) →
+found_alone : (tree : Tree) (g : Graph) (f : Finding) (s : JointOutcome) (b : BreakingJournal) →
     IsScheduled (tree ∷ []) 0 g f s → schedule_of s ≡ Breaks b →
     IsFound (tree.filter ∷ []) (violations_of f.rule) b
 found_alone tree g f (Together a) b is same = found_by (tree.filter ∷ []) _ g f a b is.0 same
@@ -107,7 +107,7 @@ all_at P (x ∷ all) zero o each at = let same : x ≡ o = cc in subst P same (A
 all_at P (x ∷ all) (suc n) o each at = all_at P all n o (All-tail P x all each) at
 
 -- what comes of a finding there
-pub again_is : (text : Text) (found : List Finding) (s : Setting) (number : ℕ) (o : Outcome) (a : Again) → IsSetting text found s →
+pub again_is : (text : Text) (found : List Finding) (s : Setting) (number : ℕ) (o : Outcome) (a : SetterOutcome) → IsSetting text found s →
     IsOutcomeIn s number o → IsAgainBy o a → (f : Finding) → slice_get found number ≡ Some f → IsAgain text f a
 again_is text found s number o RunsNowhere setting its by f numbered = tt
 again_is text found s number o (Runs b) setting its by f numbered =
@@ -124,7 +124,7 @@ again_is text found s number o (Runs b) setting its by f numbered =
     }
 
 -- what the run of an earlier note at the same point breaks too
-pub also_is : (trees : List Tree) (place : ℕ) (found : List Finding) (earlier : List Noted) (finding : Finding) (number : ℕ) (n : Noted)
+pub also_is : (trees : List Tree) (place : ℕ) (found : List Finding) (earlier : List Note) (finding : Finding) (number : ℕ) (n : Note)
     (o : Option Violation) → slice_get earlier number ≡ Some n → IsNear place found finding n →
     IfSome o (λ v. IsBrokenBy trees n v × Contains (violations_of finding.rule) v) → IfSome o (IsAlso trees place found earlier finding)
 also_is trees place found earlier finding number n None noted near both = tt
@@ -170,7 +170,7 @@ goes_more text whole new more on added = record {
 }
 
 -- a setter that is found where the text goes on with what is added, at the line after its end, is one of this text
-pub setter_is : (text whole : Text) (added : List ℕ) (line : ℕ) (judged : Judged) (s : Option Setter) → GoesOn text whole →
+pub setter_is : (text whole : Text) (added : List ℕ) (line : ℕ) (judged : TextJudgement) (s : Option Setter) → GoesOn text whole →
     whole ≡ ended text ++ added → line ≡ line_ends (ended text) + 1 → IsJudged whole judged → IfSome s (IsOfJudged judged) →
     IfSome s (λ s. (string_bytes s.added ≡ added) × (s.line ≡ line)) → IfSome s (IsSetter text)
 setter_is text whole added line judged None on ends counted is of same = tt
@@ -186,7 +186,7 @@ setter_is text whole added line (Found tree graph found) (Some s) on ends counte
 }
 
 -- something came of each report's finding
-pub some_left : (trees : List Tree) (k : Known) (reports : List Report) (i : ℕ) (all : List Outcome) → i < length reports →
+pub some_left : (trees : List Tree) (k : ParsedText) (reports : List Report) (i : ℕ) (all : List Outcome) → i < length reports →
     AllZip (IsOutcomeOf trees k) (drop i reports) (reverse all) → all ≢ []
 some_left trees k reports i [] h are none =
     let long = AllZip-long (IsOutcomeOf trees k) (drop i reports) [] are in
@@ -194,7 +194,7 @@ some_left trees k reports i [] h are none =
 some_left trees k reports i (o ∷ all) h are none = cc
 
 -- the last outcome that is left is that of the next report
-pub next_outcome : (trees : List Tree) (k : Known) (reports : List Report) (i : ℕ) (r : Report) (old rest : List Outcome) (o : Outcome) →
+pub next_outcome : (trees : List Tree) (k : ParsedText) (reports : List Report) (i : ℕ) (r : Report) (old rest : List Outcome) (o : Outcome) →
     i < length reports → r ≡ get_or reports i r → AllZip (IsOutcomeOf trees k) (drop i reports) (reverse old) → old ≡ rest ++ o ∷ [] →
     IsOutcomeOf trees k r o × AllZip (IsOutcomeOf trees k) (drop (i + 1) reports) (reverse rest)
 next_outcome trees k reports i r old rest o h is are last =

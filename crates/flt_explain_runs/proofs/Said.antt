@@ -7,7 +7,7 @@ use Rattle.flt_explain_runs.specs.Lines.{again_line, note_line}
 use Rattle.flt_explain_runs.specs.Printing.{IsSaid, IsSilent}
 use Rattle.flt_explain_runs.specs.Quiet.{is_quiet, quieted}
 use Rattle.flt_explain_runs.specs.Told.{Say, nothing, others, note}
-use Rattle.flt_explain_runs.specs.declared.noted.Noted.{Noted}
+use Rattle.flt_explain_runs.specs.declared.noted.Note.{Note}
 use Rattle.flt_explain_runs.specs.declared.output.Output.{Output}
 use Rattle.flt_explain_runs.proofs.QuietLines.{quiet_quieted, quieted_same}
 
@@ -22,7 +22,7 @@ said_more trees states old new lines said added same =
     rw (same, added) (others old.noted old.bytes.items (quieted lines) said (quiet_quieted lines))
 
 -- with a note more
-pub said_noted : (trees : List Tree) (states : ℕ) (old new : Output) (n : Noted) (rows : List ℕ) → IsSaid trees states old →
+pub said_noted : (trees : List Tree) (states : ℕ) (old new : Output) (n : Note) (rows : List ℕ) → IsSaid trees states old →
     new.bytes.items ≡ old.bytes.items ++ note_line trees states n ++ quieted rows ++ again_line n.again → new.noted ≡ old.noted ++ n ∷ [] →
     IsSaid trees states new
 said_noted trees states old new n rows said added pushed =
@@ -39,7 +39,7 @@ silent_more trees states old new lines silent added same =
     record { none = same ∙ silent.none; said = said_more trees states old new lines silent.said added same }
 
 -- prints behind each other
-pub said_both : (trees : List Tree) (states : ℕ) (ns : List Noted) (p : List ℕ) {ms : List Noted} {q : List ℕ} → Say trees states ns p →
+pub said_both : (trees : List Tree) (states : ℕ) (ns : List Note) (p : List ℕ) {ms : List Note} {q : List ℕ} → Say trees states ns p →
     Say trees states ms q → Say trees states (ns ++ ms) (p ++ q)
 said_both trees states ns p first nothing = rw (append-nil ns, append-nil p) first
 said_both trees states ns p first (others notes printed lines said quiet) =

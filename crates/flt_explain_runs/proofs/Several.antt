@@ -19,12 +19,12 @@ use Rattle.flt_explain_runs.specs.Reported.{AreFirst, AreWhole, IsAllButLast, Is
 use Rattle.flt_explain_runs.specs.Told.{nothing, others}
 use Rattle.flt_explain_runs.specs.Whole.{AreSeveralPrinted, IsKnownPrint, IsOnePrinted, IsPrintOfAll, Look, no_print}
 use Rattle.flt_explain_runs.specs.declared.fault.ExplainFault.{ExplainFault}
-use Rattle.flt_explain_runs.specs.declared.noted.Noted.{Noted}
+use Rattle.flt_explain_runs.specs.declared.noted.Note.{Note}
 use Rattle.flt_explain_runs.specs.declared.readings.Reading.{Reading}
 use Rattle.flt_explain_runs.specs.declared.readings.Reading.TheVariants.{Unread, Other, Known}
-use Rattle.flt_explain_runs.specs.declared.readings.Studied.{Studied}
+use Rattle.flt_explain_runs.specs.declared.readings.StudiedText.{StudiedText}
 use Rattle.flt_explain_runs.specs.declared.output.Output.{Output}
-use Rattle.flt_explain_runs.specs.declared.together.Printed.{Printed}
+use Rattle.flt_explain_runs.specs.declared.together.PrintedTexts.{PrintedTexts}
 use Rattle.flt_explain_runs.specs.declared.totals.Total.{Total}
 use Rattle.flt_explain_runs.specs.Quiet.{quieted}
 use Rattle.flt_explain_runs.specs.Totals.{summary}
@@ -37,7 +37,7 @@ use Rattle.flt_explain_runs.proofs.Whole.{prints_more}
 -- ---- what is printed
 
 -- the notes of a text more
-notes_more : (trees : List Tree) (place : ℕ) (ts : List Text) (notes : List Noted) (text : Text) (r : Reading) (own : List Noted) →
+notes_more : (trees : List Tree) (place : ℕ) (ts : List Text) (notes : List Note) (text : Text) (r : Reading) (own : List Note) →
     AreNotesIn trees place ts notes → IsReading trees text r → IsPlaced place r → AreNotesFor trees text r own →
     AreNotesIn trees (place + known r) (ts ++ text ∷ []) (notes ++ own)
 notes_more trees place ts notes text (Unread f) own are is placed none =
@@ -48,7 +48,7 @@ notes_more trees place ts notes text (Known at) own are is placed its =
     notes_parses are (subst (λ n. AreNotesOf trees text n own) placed its)
 
 -- nothing at first
-pub printed_none : (look : Look) (trees : List Tree) (files : List Files) (p : Printed) → p.output.bytes.items ≡ [] → p.output.noted ≡ [] →
+pub printed_none : (look : Look) (trees : List Tree) (files : List Files) (p : PrintedTexts) → p.output.bytes.items ≡ [] → p.output.noted ≡ [] →
     p.total.status ≡ 0 →
     p.total.findings ≡ 0 → p.total.files ≡ 0 → ArePrinted look trees files [] p
 printed_none look trees files p bytes noted status findings many = record {
@@ -58,13 +58,13 @@ printed_none look trees files p bytes noted status findings many = record {
   prints = rw (bytes, noted, status, findings, many) no_print;
 }
 
-unnoted : (trees : List Tree) (text : Text) (r : Reading) (notes : List Noted) → AreNotesFor trees text r notes → known r ≡ 0 → notes ≡ []
+unnoted : (trees : List Tree) (text : Text) (r : Reading) (notes : List Note) → AreNotesFor trees text r notes → known r ≡ 0 → notes ≡ []
 unnoted trees text (Unread f) notes are none = are
 unnoted trees text (Other kind) notes are none = are
 unnoted trees text (Known place) notes are none = absurd (omega (arith, none))
 
 -- with the report of a text more
-pub printed_more : (look : Look) (trees : List Tree) (files : List Files) (each : List Studied) (s : Studied) (old new : Printed) →
+pub printed_more : (look : Look) (trees : List Tree) (files : List Files) (each : List StudiedText) (s : StudiedText) (old new : PrintedTexts) →
     ArePrinted look trees files each old →
     IsStudied trees s → IsPlaced (known_in each) s.reading → IsMore look trees files s old new → ArePrinted look trees files
     (each ++ s ∷ []) new
@@ -111,7 +111,7 @@ take_within (suc n) [] rest within = absurd (omega (arith, within))
 take_within (suc n) (x ∷ xs) rest within = ap (λ z. x ∷ z) (take_within n xs rest (omega (arith, within)))
 
 -- what isn't put out yet is what is more
-pub rest_out : (look : Look) (trees : List Tree) (files : List Files) (s : Studied) (old new : Printed) (a b c : Option (List ℕ)) →
+pub rest_out : (look : Look) (trees : List Tree) (files : List Files) (s : StudiedText) (old new : PrintedTexts) (a b c : Option (List ℕ)) →
     IsMore look trees files s old new →
     old.sent ≡ length old.output.bytes.items → Appends a b old.output.bytes.items → Appends b c (drop old.sent new.output.bytes.items) →
     Appends a c new.output.bytes.items
@@ -124,7 +124,7 @@ rest_out look trees files s old new a b c more all first second =
     appends_rest a b c old.output.bytes.items new.output.bytes.items (report ++ 10 ∷ []) first (subst (λ z. Appends b c z) rest second) is
 
 -- whole reports of the first of some texts
-pub first_of : (look : Look) (trees : List Tree) (files : List Files) (each : List Studied) (further : List Source) (p : Printed) →
+pub first_of : (look : Look) (trees : List Tree) (files : List Files) (each : List StudiedText) (further : List Source) (p : PrintedTexts) →
     ArePrinted look trees files each p → AreParsed (texts_of (sources_read each ++ further)) (filters_of trees) →
     AreFirst look.options (sources_read each) further look.states p.output.bytes.items
 first_of look trees files each further p are parsed = record {
@@ -145,7 +145,7 @@ pub cut_none : (options : WarningOptions) (sources : List Source) (states : ℕ)
     old
 cut_none options sources states old = record { printed = []; added = appends_none old; are = inl refl }
 
-pub cut_at : (look : Look) (trees : List Tree) (files : List Files) (all each rest : List Studied) (p : Printed) (held : Bool)
+pub cut_at : (look : Look) (trees : List Tree) (files : List Files) (all each rest : List StudiedText) (p : PrintedTexts) (held : Bool)
     (old new : Option (List ℕ)) →
     AreParsed (texts_read all) (filters_of trees) → all ≡ each ++ rest → ArePrinted look trees files each p → (held ≡ true → new ≡ old) →
     (held ≡ false → Appends old new p.output.bytes.items) → IsCut look.options (sources_read all) look.states old new
@@ -173,7 +173,7 @@ all_but_last options [] (t ∷ before) last states printed is are = absurd (cc i
 all_but_last options (s ∷ sources) before last states printed is are = record { before = before; last = last; whole = is; are = are }
 
 -- the reports of all texts but the last are put out, and the last one's stands behind them
-pub put_out : (look : Look) (trees : List Tree) (files : List Files) (all each : List Studied) (s : Studied) (old new : Printed)
+pub put_out : (look : Look) (trees : List Tree) (files : List Files) (all each : List StudiedText) (s : StudiedText) (old new : PrintedTexts)
     (held : Bool)
     (a b : Option (List ℕ)) →
     AreParsed (texts_read all) (filters_of trees) → all ≡ each ++ s ∷ [] → ArePrinted look trees files each old → IsMore look trees files s
@@ -205,7 +205,7 @@ put_out look trees files all each s old new false a b parsed is are more kept ho
     }
 
 -- with more behind it
-pub put_out_more : (options : WarningOptions) (sources : List Source) (states : ℕ) (held : Bool) (a b : Option (List ℕ)) (old new : Printed)
+pub put_out_more : (options : WarningOptions) (sources : List Source) (states : ℕ) (held : Bool) (a b : Option (List ℕ)) (old new : PrintedTexts)
     (more : List ℕ) → IsPutOut options sources states held a b old → new.sent ≡ old.sent →
     new.output.bytes.items ≡ old.output.bytes.items ++ more → IsPutOut options sources states held a b new
 put_out_more options sources states held a b old new more is same added =
@@ -229,7 +229,7 @@ whole_of_all_but_last options (s ∷ ss) states printed all =
     inr (record { before = all.before; others = all.last ∷ []; whole = all.whole; are = all.are })
 
 -- where it ends after all is known, so much is put out
-pub cut_after : (options : WarningOptions) (sources : List Source) (states : ℕ) (held : Bool) (a b : Option (List ℕ)) (p : Printed) →
+pub cut_after : (options : WarningOptions) (sources : List Source) (states : ℕ) (held : Bool) (a b : Option (List ℕ)) (p : PrintedTexts) →
     IsPutOut options sources states held a b p → IsCut options sources states a b
 cut_after options sources states true a b p is = record {
   printed = take p.sent p.output.bytes.items;
@@ -243,7 +243,7 @@ cut_after options sources states false a b p is = record {
 }
 
 -- nothing is put out of nothing
-pub put_out_none : (options : WarningOptions) (states : ℕ) (held : Bool) (a : Option (List ℕ)) (p : Printed) →
+pub put_out_none : (options : WarningOptions) (states : ℕ) (held : Bool) (a : Option (List ℕ)) (p : PrintedTexts) →
     p.output.bytes.items ≡ [] → p.sent ≡ 0 →
     IsPutOut options [] states held a a p
 put_out_none options states held a p bytes sent = record {
@@ -255,7 +255,7 @@ put_out_none options states held a p bytes sent = record {
 
 -- nor of the only text
 pub put_out_only : (options : WarningOptions) (trees : List Tree) (s : Source) (states : ℕ) (held : Bool)
-    (a : Option (List ℕ)) (p : Printed) →
+    (a : Option (List ℕ)) (p : PrintedTexts) →
     AreParsed (s.text.now ∷ []) (filters_of trees) → p.sent ≡ 0 → IsPutOut options (s ∷ []) states held a a p
 put_out_only options trees s states held a p parsed sent = record {
   within = rw sent (omega arith);
@@ -281,7 +281,7 @@ put_out_only options trees s states held a p parsed sent = record {
 }
 
 -- the notes of the only text
-pub only_notes : (trees : List Tree) (s : Studied) (own : List Noted) → IsStudied trees s → IsPlaced 0 s.reading →
+pub only_notes : (trees : List Tree) (s : StudiedText) (own : List Note) → IsStudied trees s → IsPlaced 0 s.reading →
     AreNotesFor trees s.source.text.now s.reading own → AreNotesIn trees (known s.reading + 0) (s.source.text.now ∷ []) own
 only_notes trees s own is placed its =
     let same : known s.reading + 0 ≡ 0 + known s.reading = omega arith in
@@ -296,7 +296,7 @@ summed reports line new findings files count many added is same =
     ∙ sym (append_assoc reports (summary findings files count) (10 ∷ [])) ∙ ap (λ n. reports ++ summary findings files n ++ 10 ∷ []) same
 
 -- the same where only that differs which is put out
-pub more_same : (look : Look) (trees : List Tree) (files : List Files) (s : Studied) (old mid new : Printed) →
+pub more_same : (look : Look) (trees : List Tree) (files : List Files) (s : StudiedText) (old mid new : PrintedTexts) →
     IsMore look trees files s old mid → new.output ≡ mid.output →
     new.total ≡ mid.total → IsMore look trees files s old new
 more_same look trees files s old mid new more output total = record {
@@ -310,13 +310,13 @@ more_same look trees files s old mid new more output total = record {
 }
 
 -- of no text there are no notes
-pub empty_notes : (trees : List Tree) (each : List Studied) (notes : List Noted) → length each < 1 → notes ≡ [] →
+pub empty_notes : (trees : List Tree) (each : List StudiedText) (notes : List Note) → length each < 1 → notes ≡ [] →
     AreNotesIn trees (known_in each) (texts_read each) notes
 empty_notes trees [] notes few none = rw none notes_none
 empty_notes trees (s ∷ each) notes few none = absurd (omega (arith, few))
 
 -- where there is one text, what was noted of it are the notes of all
-pub only_noted : (look : Look) (trees : List Tree) (files : List Files) (each : List Studied) (d : Studied) (p : Printed) →
+pub only_noted : (look : Look) (trees : List Tree) (files : List Files) (each : List StudiedText) (d : StudiedText) (p : PrintedTexts) →
     1 ≤ length each → length each < 2 →
     AreStudied trees 0 each → IsPart look trees files (get_or each 0 d) (part_of p) →
     AreNotesIn trees (known_in each) (texts_read each) p.output.noted
@@ -325,8 +325,8 @@ only_noted look trees files (s ∷ []) d p some few are part = only_notes trees 
 only_noted look trees files (s ∷ (t ∷ each)) d p some few are part = absurd (omega (arith, few))
 
 -- where there is one text, and nothing was sent early, it is put out as a whole
-pub only_sent : (options : WarningOptions) (trees : List Tree) (states : ℕ) (held : Bool) (a : Option (List ℕ)) (each : List Studied)
-    (p : Printed) → 1 ≤ length each → length each < 2 → AreParsed (texts_read each) (filters_of trees) → p.sent ≡ 0 →
+pub only_sent : (options : WarningOptions) (trees : List Tree) (states : ℕ) (held : Bool) (a : Option (List ℕ)) (each : List StudiedText)
+    (p : PrintedTexts) → 1 ≤ length each → length each < 2 → AreParsed (texts_read each) (filters_of trees) → p.sent ≡ 0 →
     IsPutOut options (sources_read each) states held a a p
 only_sent options trees states held a [] p some few parsed sent = absurd (omega (arith, some))
 only_sent options trees states held a (s ∷ []) p some few parsed sent =
@@ -334,14 +334,14 @@ only_sent options trees states held a (s ∷ []) p some few parsed sent =
 only_sent options trees states held a (s ∷ (t ∷ each)) p some few parsed sent = absurd (omega (arith, few))
 
 -- where there is no text, nothing printed is what is printed of all
-pub printed_empty : (look : Look) (trees : List Tree) (files : List Files) (each : List Studied) (p : Printed) → length each < 1 →
+pub printed_empty : (look : Look) (trees : List Tree) (files : List Files) (each : List StudiedText) (p : PrintedTexts) → length each < 1 →
     p.output.bytes.items ≡ [] →
     p.output.noted ≡ [] → p.total.status ≡ 0 → p.total.findings ≡ 0 → p.total.files ≡ 0 → ArePrinted look trees files each p
 printed_empty look trees files [] p few bytes noted status findings many = printed_none look trees files p bytes noted status findings many
 printed_empty look trees files (s ∷ each) p few bytes noted status findings many = absurd (omega (arith, few))
 
 -- with the last one, all of them
-module _ (look : Look) (trees : List Tree) (files : List Files) (each : List Studied) (i : ℕ) (d : Studied) (old new : Printed) where
+module _ (look : Look) (trees : List Tree) (files : List Files) (each : List StudiedText) (i : ℕ) (d : StudiedText) (old new : PrintedTexts) where
   -- where all texts but the last are printed, the last one's report completes what is printed of all
   pub whole_printed : 1 ≤ length each → AreStudied trees 0 each → length (take (length each - 1) each) ≤ i →
       ArePrinted look trees files (take i (take (length each - 1) each)) old → IsMore look trees files (get_or each (length each - 1) d)
@@ -371,7 +371,7 @@ module _ (look : Look) (trees : List Tree) (files : List Files) (each : List Stu
       (subst (λ e. ArePrinted look trees files e old) front printed) more kept holds none out
 
 -- where it ends before, the reports of the first are put out
-pub cut_here : (look : Look) (trees : List Tree) (files : List Files) (each : List Studied) (n i : ℕ) (p : Printed) (held : Bool)
+pub cut_here : (look : Look) (trees : List Tree) (files : List Files) (each : List StudiedText) (n i : ℕ) (p : PrintedTexts) (held : Bool)
     (old new : Option (List ℕ)) →
     AreParsed (texts_read each) (filters_of trees) → ArePrinted look trees files (take i (take n each)) p → (held ≡ true → new ≡ old) →
     (held ≡ false → Appends old new p.output.bytes.items) →
@@ -386,7 +386,7 @@ cut_here look trees files each n i p held old new parsed are none some =
 -- ---- all of it
 
 -- of the only text
-print_of_only : (look : Look) (trees : List Tree) (files : List Files) (s : Source) (r : Reading) (p : Printed) → IsPlaced 0 r →
+print_of_only : (look : Look) (trees : List Tree) (files : List Files) (s : Source) (r : Reading) (p : PrintedTexts) → IsPlaced 0 r →
     (known r ≡ 0 → p.output.noted ≡ []) → IsPrintOf look trees files s r (part_of p) →
     IsOnePrinted look trees files s p.output.noted p.output.bytes.items p.total.status
 print_of_only look trees files s (Unread f) p placed none is = record { count = p.total.findings; is = inr (none refl, inl is) }
@@ -397,7 +397,7 @@ print_of_only look trees files s (Known place) p placed none is = record {
 }
 
 -- where there is one text, its report is what is printed of all
-pub only_print : (look : Look) (trees : List Tree) (files : List Files) (each : List Studied) (d : Studied) (p : Printed) →
+pub only_print : (look : Look) (trees : List Tree) (files : List Files) (each : List StudiedText) (d : StudiedText) (p : PrintedTexts) →
     1 ≤ length each → length each < 2 →
     AreStudied trees 0 each → IsPart look trees files (get_or each 0 d) (part_of p) →
     IsPrintOfAll look trees files (sources_read each) p.output.noted p.output.bytes.items p.total.status
@@ -408,7 +408,7 @@ only_print look trees files (s ∷ []) d p some few are part =
 only_print look trees files (s ∷ (t ∷ each)) d p some few are part = absurd (omega (arith, few))
 
 -- where there is no text, nothing is printed of all
-pub empty_print : (look : Look) (trees : List Tree) (files : List Files) (each : List Studied) (p : Printed) → length each < 1 →
+pub empty_print : (look : Look) (trees : List Tree) (files : List Files) (each : List StudiedText) (p : PrintedTexts) → length each < 1 →
     p.output.noted ≡ [] →
     p.output.bytes.items ≡ [] → p.total.status ≡ 0 →
     IsPrintOfAll look trees files (sources_read each) p.output.noted p.output.bytes.items p.total.status
@@ -416,7 +416,7 @@ empty_print look trees files [] p few noted bytes status = (noted, bytes, status
 empty_print look trees files (s ∷ each) p few noted bytes status = absurd (omega (arith, few))
 
 -- of several, with the line that says how much is found
-pub several_print : (look : Look) (trees : List Tree) (files : List Files) (each : List Studied) (old : Printed) (notes : List Noted)
+pub several_print : (look : Look) (trees : List Tree) (files : List Files) (each : List StudiedText) (old : PrintedTexts) (notes : List Note)
     (line printed : List ℕ) (count : ℕ) →
     ArePrinted look trees files each old → notes ≡ old.output.noted → printed ≡ old.output.bytes.items ++ quieted line →
     line ≡ summary old.total.findings old.total.files count ++ 10 ∷ [] → count ≡ length (sources_read each) →
@@ -430,7 +430,7 @@ several_print look trees files each old notes line printed count are same added 
   whole = summed old.output.bytes.items line printed old.total.findings old.total.files count (length (sources_read each)) added is many;
 }
 
-some_print : (look : Look) (trees : List Tree) (files : List Files) (each : List Studied) (notes : List Noted) (printed : List ℕ)
+some_print : (look : Look) (trees : List Tree) (files : List Files) (each : List StudiedText) (notes : List Note) (printed : List ℕ)
     (status : ℕ) →
     2 ≤ length each → AreSeveralPrinted look trees files (sources_read each) notes printed status →
     IsPrintOfAll look trees files (sources_read each) notes printed status
@@ -439,7 +439,7 @@ some_print look trees files (s ∷ []) notes printed status some are = absurd (o
 some_print look trees files (s ∷ (t ∷ each)) notes printed status some are = are
 
 -- where there are two texts or more, what is printed of several is what is printed of all
-pub some_printed : (look : Look) (trees : List Tree) (files : List Files) (each : List Studied) (result : Result Printed ExplainFault) →
+pub some_printed : (look : Look) (trees : List Tree) (files : List Files) (each : List StudiedText) (result : Result PrintedTexts ExplainFault) →
     2 ≤ length each →
     IfOk result (λ p. AreSeveralPrinted look trees files (sources_read each) p.output.noted p.output.bytes.items p.total.status) →
     IfOk result (λ p. IsPrintOfAll look trees files (sources_read each) p.output.noted p.output.bytes.items p.total.status)

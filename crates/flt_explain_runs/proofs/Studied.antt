@@ -17,7 +17,7 @@ use Rattle.flt_explain_runs.specs.Readings.{files_read, known, known_in, sources
 use Rattle.flt_explain_runs.specs.declared.readings.Reading.{Reading}
 use Rattle.flt_explain_runs.specs.declared.readings.Reading.TheVariants.{Unread, Other, Known}
 use Rattle.flt_explain_runs.specs.declared.readings.Readings.{Readings}
-use Rattle.flt_explain_runs.specs.declared.readings.Studied.{Studied}
+use Rattle.flt_explain_runs.specs.declared.readings.StudiedText.{StudiedText}
 
 -- a text more that fails has no filter
 pub parsed_and_fault : (t : Text) (e : SyntaxFault) {ts : List Text} {fs : List Filter} → Fails t e → AreParsed ts fs →
@@ -49,12 +49,12 @@ get_last [] y = refl
 get_last (x ∷ xs) y = get_last xs y
 
 -- one more text is taken of those that were studied
-pub one_taken : (each : List Studied) (i : ℕ) (s : Studied) →
+pub one_taken : (each : List StudiedText) (i : ℕ) (s : StudiedText) →
     i < length each → s ≡ get_or each i s → take (i + 1) each ≡ take i each ++ s ∷ []
 one_taken each i s h is = take_more each i s h ∙ ap (λ x. take i each ++ x ∷ []) (sym is)
 
 -- one more text
-studied_push : (trees : List Tree) (place : ℕ) (each : List Studied) (s : Studied) → AreStudied trees place each → IsStudied trees s →
+studied_push : (trees : List Tree) (place : ℕ) (each : List StudiedText) (s : StudiedText) → AreStudied trees place each → IsStudied trees s →
     IsPlaced (place + known_in each) s.reading → AreStudied trees place (each ++ s ∷ [])
 studied_push trees place [] s are is placed =
     let same : place + 0 ≡ place = omega arith in (is, subst (λ n. IsPlaced n s.reading) same placed, tt)
@@ -63,17 +63,17 @@ studied_push trees place (t ∷ each) s are is placed =
     (are.0, are.1, studied_push trees (place + known t.reading) each s are.2 is (subst (λ n. IsPlaced n s.reading) same placed))
 
 -- one more text that is studied is one source more
-pub sources_push : (each : List Studied) (s : Studied) → sources_read (each ++ s ∷ []) ≡ sources_read each ++ s.source ∷ []
+pub sources_push : (each : List StudiedText) (s : StudiedText) → sources_read (each ++ s ∷ []) ≡ sources_read each ++ s.source ∷ []
 sources_push [] s = refl
 sources_push (t ∷ each) s = ap (λ ss. t.source ∷ ss) (sources_push each s)
 
 -- one more text that is studied is one text more
-pub texts_push : (each : List Studied) (s : Studied) → texts_read (each ++ s ∷ []) ≡ texts_read each ++ s.source.text.now ∷ []
+pub texts_push : (each : List StudiedText) (s : StudiedText) → texts_read (each ++ s ∷ []) ≡ texts_read each ++ s.source.text.now ∷ []
 texts_push [] s = refl
 texts_push (t ∷ each) s = ap (λ ts. t.source.text.now ∷ ts) (texts_push each s)
 
 -- one more text that is studied may be one filter more that is known
-pub known_push : (each : List Studied) (s : Studied) → known_in (each ++ s ∷ []) ≡ known_in each + known s.reading
+pub known_push : (each : List StudiedText) (s : StudiedText) → known_in (each ++ s ∷ []) ≡ known_in each + known s.reading
 known_push [] s = omega arith
 known_push (t ∷ each) s = let more = known_push each s in omega (arith, more)
 
@@ -89,12 +89,12 @@ module _ (trees : List Tree) (tree : Tree) where
       record { tree = is.tree; own = get_of_more trees tree is.tree place is.own; spelled = is.spelled }
 
   -- what texts are stays so where a tree more stands at the end
-  all_of_more : (place : ℕ) (each : List Studied) → AreStudied trees place each → AreStudied (trees ++ tree ∷ []) place each
+  all_of_more : (place : ℕ) (each : List StudiedText) → AreStudied trees place each → AreStudied (trees ++ tree ∷ []) place each
   all_of_more place [] are = tt
   all_of_more place (s ∷ each) are =
       (reading_of_more s.source.text.now s.reading are.0, are.1, all_of_more (place + known s.reading) each are.2)
 
-module _ (r : Readings) (are : AreReadings r) (s : Studied) (new : Readings) where
+module _ (r : Readings) (are : AreReadings r) (s : StudiedText) (new : Readings) where
   -- with a text that doesn't parse
   pub with_unread : (f : SyntaxFault) → Fails s.source.text.now f → IsStudied r.trees s → IsPlaced (known_in r.each.items) s.reading →
       known s.reading ≡ 0 → new.trees ≡ r.trees → new.each.items ≡ r.each.items ++ s ∷ [] → AreReadings new
@@ -125,7 +125,7 @@ files_one trees s (Other kind) ss files is are = without is.unread are
 files_one trees s (Known place) ss files is are = with_files is.spelled are
 
 -- the files that are read are those of the texts that parse
-pub files_placed : (trees : List Tree) (place : ℕ) (each : List Studied) → AreStudied trees place each →
+pub files_placed : (trees : List Tree) (place : ℕ) (each : List StudiedText) → AreStudied trees place each →
     AreFilesOf (sources_read each) (files_read each)
 files_placed trees place [] are = no_source
 files_placed trees place (s ∷ each) are =
@@ -133,7 +133,7 @@ files_placed trees place (s ∷ each) are =
     (files_placed trees (place + known s.reading) each are.2)
 
 -- each file is what it is said to be
-pub studied_at : (trees : List Tree) (place : ℕ) (each : List Studied) (i : ℕ) (d : Studied) →
+pub studied_at : (trees : List Tree) (place : ℕ) (each : List StudiedText) (i : ℕ) (d : StudiedText) →
     AreStudied trees place each → i < length each →
     IsStudied trees (get_or each i d)
 studied_at trees place [] i d are h = absurd (omega (arith, h))
@@ -141,7 +141,7 @@ studied_at trees place (s ∷ each) zero d are h = are.0
 studied_at trees place (s ∷ each) (suc i) d are h = studied_at trees (place + known s.reading) each i d are.2 (omega (arith, h))
 
 -- and the tree of one that parses has the place that stands behind those before it
-pub placed_at : (trees : List Tree) (place : ℕ) (each : List Studied) (i : ℕ) (d : Studied) →
+pub placed_at : (trees : List Tree) (place : ℕ) (each : List StudiedText) (i : ℕ) (d : StudiedText) →
     AreStudied trees place each → i < length each →
     IsPlaced (place + known_in (take i each)) (get_or each i d).reading
 placed_at trees place [] i d are h = absurd (omega (arith, h))
@@ -153,66 +153,66 @@ placed_at trees place (s ∷ each) (suc i) d are h =
     (placed_at trees (place + known s.reading) each i d are.2 (omega (arith, h)))
 
 -- one more of some texts
-pub known_taken : (each : List Studied) (i : ℕ) (s : Studied) → i < length each → s ≡ get_or each i s →
+pub known_taken : (each : List StudiedText) (i : ℕ) (s : StudiedText) → i < length each → s ≡ get_or each i s →
     known_in (take (i + 1) each) ≡ known_in (take i each) + known s.reading
 known_taken each i s h is =
     ap known_in (one_taken each i s h is) ∙ known_push (take i each) s
 
-pub texts_taken : (each : List Studied) (i : ℕ) (s : Studied) → i < length each → s ≡ get_or each i s →
+pub texts_taken : (each : List StudiedText) (i : ℕ) (s : StudiedText) → i < length each → s ≡ get_or each i s →
     texts_read (take (i + 1) each) ≡ texts_read (take i each) ++ s.source.text.now ∷ []
 texts_taken each i s h is = ap texts_read (one_taken each i s h is) ∙ texts_push (take i each) s
 
 -- the sources of both
-pub sources_both : (each more : List Studied) → sources_read (each ++ more) ≡ sources_read each ++ sources_read more
+pub sources_both : (each more : List StudiedText) → sources_read (each ++ more) ≡ sources_read each ++ sources_read more
 sources_both [] more = refl
 sources_both (s ∷ each) more = ap (λ ss. s.source ∷ ss) (sources_both each more)
 
 -- texts that are studied are studied up to each place
-pub studied_taken : (trees : List Tree) (place : ℕ) (each : List Studied) (n : ℕ) → AreStudied trees place each →
+pub studied_taken : (trees : List Tree) (place : ℕ) (each : List StudiedText) (n : ℕ) → AreStudied trees place each →
     AreStudied trees place (take n each)
 studied_taken trees place each zero are = tt
 studied_taken trees place [] (suc n) are = tt
 studied_taken trees place (s ∷ each) (suc n) are = (are.0, are.1, studied_taken trees (place + known s.reading) each n are.2)
 
 -- a text among those that were taken is studied
-pub studied_here : (trees : List Tree) (each : List Studied) (n i : ℕ) (s : Studied) → AreStudied trees 0 each → i < length (take n each) →
+pub studied_here : (trees : List Tree) (each : List StudiedText) (n i : ℕ) (s : StudiedText) → AreStudied trees 0 each → i < length (take n each) →
     s ≡ get_or (take n each) i s → IsStudied trees s
 studied_here trees each n i s are h is =
     subst (IsStudied trees) (sym is) (studied_at trees 0 (take n each) i s (studied_taken trees 0 each n are) h)
 
 -- a text among those that were taken has its place by the filters before it
-pub placed_here : (trees : List Tree) (each : List Studied) (n i : ℕ) (s : Studied) → AreStudied trees 0 each → i < length (take n each) →
+pub placed_here : (trees : List Tree) (each : List StudiedText) (n i : ℕ) (s : StudiedText) → AreStudied trees 0 each → i < length (take n each) →
     s ≡ get_or (take n each) i s → IsPlaced (known_in (take i (take n each))) s.reading
 placed_here trees each n i s are h is =
     let here = placed_at trees 0 (take n each) i s (studied_taken trees 0 each n are) h in
     let same : 0 + known_in (take i (take n each)) ≡ known_in (take i (take n each)) = omega arith in
-    subst (λ (x : Studied). IsPlaced (known_in (take i (take n each))) x.reading) (sym is)
+    subst (λ (x : StudiedText). IsPlaced (known_in (take i (take n each))) x.reading) (sym is)
     (subst (λ m. IsPlaced m (get_or (take n each) i s).reading) same here)
 
 -- the last text is studied
-pub last_studied : (trees : List Tree) (each : List Studied) (s : Studied) → AreStudied trees 0 each → 1 ≤ length each →
+pub last_studied : (trees : List Tree) (each : List StudiedText) (s : StudiedText) → AreStudied trees 0 each → 1 ≤ length each →
     s ≡ get_or each (length each - 1) s → IsStudied trees s
 last_studied trees each s are some is =
     subst (IsStudied trees) (sym is) (studied_at trees 0 each (length each - 1) s are (omega (arith, some)))
 
 -- the last text has its place by the filters of those before it
-pub last_placed : (trees : List Tree) (each : List Studied) (s : Studied) → AreStudied trees 0 each → 1 ≤ length each →
+pub last_placed : (trees : List Tree) (each : List StudiedText) (s : StudiedText) → AreStudied trees 0 each → 1 ≤ length each →
     s ≡ get_or each (length each - 1) s → IsPlaced (known_in (take (length each - 1) each)) s.reading
 last_placed trees each s are some is =
     let here = placed_at trees 0 each (length each - 1) s are (omega (arith, some)) in
     let same : 0 + known_in (take (length each - 1) each) ≡ known_in (take (length each - 1) each) = omega arith in
-    subst (λ (x : Studied). IsPlaced (known_in (take (length each - 1) each)) x.reading) (sym is)
+    subst (λ (x : StudiedText). IsPlaced (known_in (take (length each - 1) each)) x.reading) (sym is)
     (subst (λ m. IsPlaced m (get_or each (length each - 1) s).reading) same here)
 
 -- the last one stands behind the others
-pub with_last : (each : List Studied) (s : Studied) → 1 ≤ length each → s ≡ get_or each (length each - 1) s →
+pub with_last : (each : List StudiedText) (s : StudiedText) → 1 ≤ length each → s ≡ get_or each (length each - 1) s →
     each ≡ take (length each - 1) each ++ s ∷ []
 with_last each s some is =
     let all : length each ≤ length each - 1 + 1 = omega (arith, some) in
     sym (take_all (length each - 1 + 1) each all) ∙ one_taken each (length each - 1) s (omega (arith, some)) is
 
 -- what is there is there whatever would stand in its place
-pub here : (each : List Studied) (i : ℕ) (d : Studied) → i < length each → get_or each i d ≡ get_or each i (get_or each i d)
+pub here : (each : List StudiedText) (i : ℕ) (d : StudiedText) → i < length each → get_or each i d ≡ get_or each i (get_or each i d)
 here [] i d h = absurd (omega (arith, h))
 here (s ∷ each) zero d h = refl
 here (s ∷ each) (suc i) d h = here each i d (omega (arith, h))

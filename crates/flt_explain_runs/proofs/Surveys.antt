@@ -7,7 +7,7 @@ use Rattle.flt_explain.specs.declared.finding.Finding.{Finding}
 use Rattle.flt_explain_runs.specs.Possible.{is_some}
 use Rattle.flt_explain_runs.specs.Reach.{at, followed, Holds, IsSurveyed, IsNeverStarted}
 use Rattle.flt_explain_runs.specs.Unset.{nothing_unset}
-use Rattle.flt_explain_runs.specs.declared.outlook.Surveyed.{Surveyed}
+use Rattle.flt_explain_runs.specs.declared.outlook.StateSurvey.{StateSurvey}
 use Rattle.flt_explain_runs.specs.declared.unset.Unset.{Unset}
 
 -- where there is no anchor, there are none
@@ -20,7 +20,7 @@ none_unset u h = by u.stream u.instance h
     by false false h = refl
 
 -- one survey more
-pub one_more : (g : Graph) (old new : List Surveyed) (s : Surveyed) → new ≡ old ++ s ∷ [] → All (IsSurveyed g) old → IsSurveyed g s →
+pub one_more : (g : Graph) (old new : List StateSurvey) (s : StateSurvey) → new ≡ old ++ s ∷ [] → All (IsSurveyed g) old → IsSurveyed g s →
     All (IsSurveyed g) new
 one_more g old new s more are is = subst (All (IsSurveyed g)) (sym more) (All-push (IsSurveyed g) old s are is)
 
@@ -30,7 +30,7 @@ off true h = absurd (cc)
 off false h = refl
 
 -- nothing starts a callback whose first point isn't reached
-pub unstarted : (g : Graph) (s : Surveyed) (f : Finding) → IsSurveyed g s → (s.unset.stream || s.unset.instance) ≡ false →
+pub unstarted : (g : Graph) (s : StateSurvey) (f : Finding) → IsSurveyed g s → (s.unset.stream || s.unset.instance) ≡ false →
     s.variable ≡ followed f.subject → is_some (at s.rows f.callback 0) ≡ false → IsNeverStarted g f
 unstarted g s f surveyed none same empty = record {
   reach = s.rows;

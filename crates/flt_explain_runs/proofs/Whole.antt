@@ -34,11 +34,11 @@ use Rattle.flt_explain_runs.specs.Warnings.{ArePromised}
 use Rattle.flt_explain_runs.specs.Whole.{AreReported, AreReportsWithNotes, ArePrints, IsBody, IsKnownPrint}
 use Rattle.flt_explain_runs.specs.Whole.{Look, fails, is_alone, no_block, one_block_more, parses}
 use Rattle.flt_explain_runs.specs.declared.again.Setting.{Setting}
-use Rattle.flt_explain_runs.specs.declared.noted.Again.{Again}
-use Rattle.flt_explain_runs.specs.declared.noted.Again.TheVariants.{Runs, RunsNowhere}
-use Rattle.flt_explain_runs.specs.declared.noted.Noted.{Noted}
+use Rattle.flt_explain_runs.specs.declared.noted.SetterOutcome.{SetterOutcome}
+use Rattle.flt_explain_runs.specs.declared.noted.SetterOutcome.TheVariants.{Runs, RunsNowhere}
+use Rattle.flt_explain_runs.specs.declared.noted.Note.{Note}
 use Rattle.flt_explain_runs.specs.declared.output.Output.{Output}
-use Rattle.flt_explain_runs.specs.declared.printing.Known.{Known}
+use Rattle.flt_explain_runs.specs.declared.printing.ParsedText.{ParsedText}
 use Rattle.flt_explain_runs.specs.declared.printing.Part.{Part}
 use Rattle.flt_explain_runs.specs.declared.readings.Reading.{Reading}
 use Rattle.flt_explain_runs.specs.declared.readings.Reading.TheVariants as reading
@@ -50,7 +50,7 @@ use Rattle.flt_explain_runs.proofs.QuietLines.{quieted_same}
 five_behind : (o a b c d e : List ℕ) → (o ++ a) ++ b ++ c ++ d ++ e ≡ o ++ (a ++ b ++ c ++ d ++ e)
 five_behind o a b c d e = simp append_assoc
 
-again_rows_are : (text : Text) (files : Files) (found : List Finding) (setting : Option Setting) (again : Option Again) (rows : List ℕ) →
+again_rows_are : (text : Text) (files : Files) (found : List Finding) (setting : Option Setting) (again : Option SetterOutcome) (rows : List ℕ) →
     IfSome setting (IsSetting text found) → (setting ≡ None → again ≡ None) → AreSettingRows setting files again rows →
     AreAgainRows text files again rows
 again_rows_are text files found None None rows is none are = are
@@ -61,7 +61,7 @@ again_rows_are text files found (Some s) (Some (Runs run)) rows is none are = re
 
 -- a report, and its note below
 pub adds_block : (trees : List Tree) (files : List Files) (states : ℕ) (s : Source) (found : List Finding) (setting : Option Setting)
-    (r : Report) (n : Noted) (old mid new : Output) → n.finding ≡ r.finding → n.is_behind ≡ r.is_behind →
+    (r : Report) (n : Note) (old mid new : Output) → n.finding ≡ r.finding → n.is_behind ≡ r.is_behind →
     IfSome setting (IsSetting s.text.now found) →
     (setting ≡ None → n.again ≡ None) → mid.bytes.items ≡ old.bytes.items ++ quieted r.lines.items → mid.noted ≡ old.noted →
     AddsNote trees files states s setting n mid new → AddsBlock trees files states s r old new
@@ -111,14 +111,14 @@ blocks_more trees files states s reports i r first old new h is all one =
 
 some_body : (look : Look) (trees : List Tree) (files : List Files) (place : ℕ) (s : Source) (tree : Tree) (graph : Graph)
     (found : List Finding)
-    (details : List WarningDetail) (notes : List Noted) (printed : List ℕ) → found ≢ [] →
+    (details : List WarningDetail) (notes : List Note) (printed : List ℕ) → found ≢ [] →
     AreReportsWithNotes look trees files s tree graph found notes printed → IsBody look trees files place s tree graph found details notes
     printed
 some_body look trees files place s tree graph [] details notes printed some are = absurd (some refl)
 some_body look trees files place s tree graph (f ∷ fs) details notes printed some are = are
 
 -- all reports of a text
-pub body_of_reports : (look : Look) (trees : List Tree) (files : List Files) (k : Known) (reports : List Report) (old new : Output) →
+pub body_of_reports : (look : Look) (trees : List Tree) (files : List Files) (k : ParsedText) (reports : List Report) (old new : Output) →
     k.found.now ≢ [] →
     AreReported look k.source k.tree.now k.graph.now k.found.now reports →
     AddBlocks trees files look.states k.source reports old new → AddsBody look trees files k old new
@@ -137,7 +137,7 @@ empty_of [] b is some = refl
 empty_of (f ∷ found) b is some = absurd (some (is ∙ ne_eqb (length (f ∷ found)) 0 (λ h. omega arith)))
 
 -- what is said where nothing is found, with the warnings
-pub body_of_none : (look : Look) (trees : List Tree) (files : List Files) (k : Known) (lines : List ℕ) (old new : Output) →
+pub body_of_none : (look : Look) (trees : List Tree) (files : List Files) (k : ParsedText) (lines : List ℕ) (old new : Output) →
     k.found.now ≡ [] →
     ArePromised (warned_in look trees k) k.details.now lines → new.bytes.items ≡ old.bytes.items ++ quieted lines →
     new.noted ≡ old.noted → AddsBody look trees files k old new
@@ -153,7 +153,7 @@ body_of_none look trees files k lines old new none are added same = record {
 -- ---- the whole of one text
 
 -- what was printed of a known filter, up to the lines that end it, is its part
-pub known_print : TextsWithoutCirclesAreOrderly → (look : Look) (trees : List Tree) (files : List Files) (k : Known) (first before : Output)
+pub known_print : TextsWithoutCirclesAreOrderly → (look : Look) (trees : List Tree) (files : List Files) (k : ParsedText) (first before : Output)
     (p : Part) →
     IsKnownIn look trees k →
     first.bytes.items ≡ [] → first.noted ≡ [] → AddsBody look trees files k first before → HasNotes trees k before.noted →
@@ -215,7 +215,7 @@ prints_notice look trees s alone n lines before p same are first added = record 
 -- ---- several texts
 
 -- one more
-pub prints_more : (look : Look) (trees : List Tree) (files : List Files) (place : ℕ) (sources : List Source) (notes : List Noted)
+pub prints_more : (look : Look) (trees : List Tree) (files : List Files) (place : ℕ) (sources : List Source) (notes : List Note)
     (printed : List ℕ) (greatest findings many : ℕ) (s : Source) (r : Reading) (p : Part) →
     ArePrints look trees files place sources notes printed greatest findings many →
     IsPlaced place r → (known r ≡ 0 → p.output.noted ≡ []) → IsPrintOf look trees files s r p →

@@ -4,20 +4,20 @@ use Rattle.std.specs.Prelude.{List, [], ◌∷◌, ◌++◌, Option, None, Some,
 use Rattle.flt_syntax.specs.Spelling.{Spells}
 use Rattle.flt_tree.specs.Names.{Text}
 use Rattle.flt_tree.specs.declared.tree.Tree.{Tree}
-use Rattle.flt_explain_details.specs.declared.judged.Judged.{Judged}
-use Rattle.flt_explain_details.specs.declared.judged.Judged.TheVariants.{Unread, Known}
+use Rattle.flt_explain_details.specs.declared.judged.TextJudgement.{TextJudgement}
+use Rattle.flt_explain_details.specs.declared.judged.TextJudgement.TheVariants.{Unread, Known}
 use Rattle.flt_explain.specs.declared.finding.Finding.{Finding}
 use Rattle.flt_model.specs.Program.{filters_of}
 use Rattle.flt_search.specs.Found.{IsFound}
-use Rattle.flt_search.specs.declared.judging.Broken.{Broken}
+use Rattle.flt_search.specs.declared.judging.BreakingJournal.{BreakingJournal}
 use Rattle.flt_explain_runs.specs.Violations.{violations_of}
 use Rattle.flt_explain_runs.specs.declared.schedules.Outcome.{Outcome}
 use Rattle.flt_explain_runs.specs.declared.schedules.Schedule.TheVariants.{Breaks}
 use Rattle.flt_explain_runs.specs.declared.schedules.Suspect.{Suspect}
 use Rattle.flt_explain_runs.specs.Noted.{schedule_of}
 use Rattle.flt_explain_runs.specs.declared.again.Setting.{Setting}
-use Rattle.flt_explain_runs.specs.declared.noted.Again.{Again}
-use Rattle.flt_explain_runs.specs.declared.noted.Again.TheVariants.{Runs, RunsNowhere}
+use Rattle.flt_explain_runs.specs.declared.noted.SetterOutcome.{SetterOutcome}
+use Rattle.flt_explain_runs.specs.declared.noted.SetterOutcome.TheVariants.{Runs, RunsNowhere}
 use Rattle.flt_explain_runs.specs.declared.setters.Setter.{Setter}
 
 -- the last byte ends a line
@@ -40,7 +40,7 @@ pub record GoesOn (text whole : Text) : Type 0 where
   pub is : whole ≡ text ++ more
 
 -- the only tree is that of a text which is known
-abbrev pub IsOfJudged : Judged → Setter → Type 0
+abbrev pub IsOfJudged : TextJudgement → Setter → Type 0
 IsOfJudged (Unread fault) s = ⊥
 IsOfJudged (Known tree graph found) s = s.trees ≡ tree ∷ []
 
@@ -63,7 +63,7 @@ pub record IsSuspectAgain (found : List Finding) (s : Suspect) : Type 0 where
 -- a run on these filters breaks what the rule of the finding of its number prevents
 abbrev pub IsOutcomeAgain : List Tree → List Finding → Outcome → Type 0
 IsOutcomeAgain trees found o =
-    (f : Finding) (b : Broken) → slice_get found o.number ≡ Some f → schedule_of o.scheduled ≡ Breaks b →
+    (f : Finding) (b : BreakingJournal) → slice_get found o.number ≡ Some f → schedule_of o.scheduled ≡ Breaks b →
     IsFound (filters_of trees) (violations_of f.rule) b
 
 -- there is one tree alone
@@ -72,7 +72,7 @@ pub record IsAlone (trees : List Tree) : Type 0 where
   pub is : trees ≡ tree ∷ []
 
 -- a run is that of the outcome
-abbrev pub IsAgainBy : Outcome → Again → Type 0
+abbrev pub IsAgainBy : Outcome → SetterOutcome → Type 0
 IsAgainBy o (Runs b) = schedule_of o.scheduled ≡ Breaks b
 IsAgainBy o RunsNowhere = Unit {0}
 

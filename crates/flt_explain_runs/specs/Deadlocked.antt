@@ -14,7 +14,7 @@ use Rattle.flt_model.specs.JournalText.{Entries}
 use Rattle.flt_model.specs.Program.{filters_of}
 use Rattle.flt_model.specs.declared.verdict.Verdict.TheVariants.{Legal}
 use Rattle.flt_order.specs.declared.order.Acquisition.{Acquisition}
-use Rattle.flt_explain_waits.specs.declared.waits.Blocked.{Blocked}
+use Rattle.flt_explain_waits.specs.declared.waits.BlockedActivation.{BlockedActivation}
 use Rattle.flt_explain_runs.specs.Lines.{lengths, plural}
 use Rattle.flt_explain_runs.specs.Rows.{AreJournalRows}
 use Rattle.flt_explain_runs.specs.Warned.{Warned}
@@ -22,7 +22,7 @@ use Rattle.flt_explain_runs.specs.Warned.{Warned}
 -- ---- who waits
 
 -- for which lock an activation of a filter waits, and where
-unfoldable pub wait_words : Files → ℕ → Filter → Blocked → List ℕ
+unfoldable pub wait_words : Files → ℕ → Filter → BlockedActivation → List ℕ
 wait_words files home f b =
     concat (codes "    activation " ∷ decimal b.activation ∷ codes " waits for " ∷ quoted (lock_name f.locks b.lock) ∷ codes " on line "
     ∷ line_told files home b.span.line ∷ [])
@@ -37,11 +37,11 @@ holder_words (Some number) = held_by number
 holder_words None = []
 
 -- the line of an activation that waits
-abbrev pub wait_line : Files → ℕ → Filter → Blocked → List ℕ
+abbrev pub wait_line : Files → ℕ → Filter → BlockedActivation → List ℕ
 wait_line files home f b = wait_words files home f b ++ holder_words b.holder ++ 10 ∷ []
 
 -- the lines of some
-abbrev pub wait_lines : Files → ℕ → Filter → List Blocked → List ℕ
+abbrev pub wait_lines : Files → ℕ → Filter → List BlockedActivation → List ℕ
 wait_lines files home f bs = flat_map (wait_line files home f) bs
 
 -- the file whose lines need no name before them: the only one; none of several

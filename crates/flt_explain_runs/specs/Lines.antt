@@ -12,13 +12,13 @@ use Rattle.flt_model.specs.declared.moves.JournalEntry.TheVariants as entries
 use Rattle.flt_model.specs.declared.moves.Move.TheVariants as moves
 use Rattle.flt_model.specs.declared.verdict.Violation.{Violation}
 use Rattle.flt_model.specs.declared.verdict.Violation.TheVariants.{V1, V2, V3, V4, V5, V6, V7, V8}
-use Rattle.flt_search.specs.declared.judging.Broken.{Broken}
+use Rattle.flt_search.specs.declared.judging.BreakingJournal.{BreakingJournal}
 use Rattle.flt_explain_runs.specs.declared.schedules.Schedule.{Schedule}
 use Rattle.flt_explain_runs.specs.declared.schedules.Schedule.TheVariants.{Breaks, NotWithin, Cut, NeverHanded, NeverStarted, NeverGot}
 use Rattle.flt_explain_runs.specs.Noted.{own_of, schedule_of}
-use Rattle.flt_explain_runs.specs.declared.noted.Again.{Again}
-use Rattle.flt_explain_runs.specs.declared.noted.Again.TheVariants.{Runs, RunsNowhere}
-use Rattle.flt_explain_runs.specs.declared.noted.Noted.{Noted}
+use Rattle.flt_explain_runs.specs.declared.noted.SetterOutcome.{SetterOutcome}
+use Rattle.flt_explain_runs.specs.declared.noted.SetterOutcome.TheVariants.{Runs, RunsNowhere}
+use Rattle.flt_explain_runs.specs.declared.noted.Note.{Note}
 
 -- ---- a run
 
@@ -73,7 +73,7 @@ names word (t ∷ ts) = word ++ map shown t.filter.name ++ names (codes " and ")
 abbrev pub on : List Tree → List Tree → List ℕ
 on trees own = if nat_lt 1 (length trees) then names (codes ", on ") own else []
 
-abbrev pub run_words : List Tree → List Tree → Broken → List ℕ
+abbrev pub run_words : List Tree → List Tree → BreakingJournal → List ℕ
 run_words trees own b = break_words b.violation b.entry ++ lengths b.journal ++ on trees own
 
 -- ---- no run
@@ -115,7 +115,7 @@ missing (Some v) is_behind cut = also_words v
 missing None is_behind cut = searched is_behind cut
 
 -- why there is no run, where a search goes on from so many states
-abbrev pub reason : ℕ → Noted → Schedule → List ℕ
+abbrev pub reason : ℕ → Note → Schedule → List ℕ
 reason states n (Breaks b) = []
 reason states n NotWithin = missing n.also n.is_behind None
 reason states n Cut = missing n.also n.is_behind (Some states)
@@ -126,12 +126,12 @@ reason states n (NeverGot u) = never_got u.stream u.instance
 -- ---- notes
 
 -- what a note says
-abbrev pub words_of : List Tree → ℕ → Noted → Schedule → List ℕ
+abbrev pub words_of : List Tree → ℕ → Note → Schedule → List ℕ
 words_of trees states n (Breaks b) = run_words trees (own_of trees n.filter n.scheduled) b
 words_of trees states n s = codes "none: " ++ reason states n s
 
 -- the line of a note, where these are the trees of the texts that parse
-abbrev pub note_line : List Tree → ℕ → Noted → List ℕ
+abbrev pub note_line : List Tree → ℕ → Note → List ℕ
 note_line trees states n = codes "   = journal: " ++ words_of trees states n (schedule_of n.scheduled) ++ 10 ∷ []
 
 -- a run of a text with one more callback breaks this at an entry
@@ -139,13 +139,13 @@ abbrev pub again_words : Violation → ℕ → List ℕ
 again_words v entry =
     codes "   = with a callback that sets one, a run breaks V" ++ decimal (violation_number v) ++ codes " at entry " ++ decimal entry
 
-abbrev pub run_again : Broken → List ℕ
+abbrev pub run_again : BreakingJournal → List ℕ
 run_again b =
     again_words b.violation b.entry ++ lengths b.journal ++
     (codes "; it is no run of this text, and `--journal` doesn't keep it:" ++ 10 ∷ [])
 
 -- the line on what comes of a finding where one more callback sets the contexts that nothing in its text sets
-abbrev pub again_line : Option Again → List ℕ
+abbrev pub again_line : Option SetterOutcome → List ℕ
 again_line None = []
 again_line (Some (Runs b)) = run_again b
 again_line (Some RunsNowhere) = codes "   = with a callback that sets one: no run was found either" ++ 10 ∷ []

@@ -30,16 +30,16 @@ use Rattle.flt_explain_runs.specs.Warned.{Warned}
 use Rattle.flt_explain_runs.specs.Whole.{AreBlocks, ArePrints, IsBlock, IsBody, IsKnownPrint, IsNoticePrint}
 use Rattle.flt_explain_runs.specs.Whole.{IsUnreadPrint, Look, is_alone, warned_at}
 use Rattle.flt_explain_runs.specs.declared.again.Setting.{Setting}
-use Rattle.flt_explain_runs.specs.declared.noted.Again.{Again}
-use Rattle.flt_explain_runs.specs.declared.noted.Noted.{Noted}
+use Rattle.flt_explain_runs.specs.declared.noted.SetterOutcome.{SetterOutcome}
+use Rattle.flt_explain_runs.specs.declared.noted.Note.{Note}
 use Rattle.flt_explain_runs.specs.declared.output.Output.{Output}
-use Rattle.flt_explain_runs.specs.declared.printing.Known.{Known}
+use Rattle.flt_explain_runs.specs.declared.printing.ParsedText.{ParsedText}
 use Rattle.flt_explain_runs.specs.declared.printing.Part.{Part}
 use Rattle.flt_explain_runs.specs.declared.printing.Stage.{Stage}
 use Rattle.flt_explain_runs.specs.declared.readings.Reading.{Reading}
 use Rattle.flt_explain_runs.specs.declared.readings.Reading.TheVariants as reading
-use Rattle.flt_explain_runs.specs.declared.readings.Studied.{Studied}
-use Rattle.flt_explain_runs.specs.declared.together.Printed.{Printed}
+use Rattle.flt_explain_runs.specs.declared.readings.StudiedText.{StudiedText}
+use Rattle.flt_explain_runs.specs.declared.together.PrintedTexts.{PrintedTexts}
 
 -- how a stage prints
 abbrev pub look_of : Stage → Look
@@ -48,14 +48,14 @@ look_of stage = record { coloured = stage.coloured; states = stage.states; optio
 -- ---- one text
 
 -- a text that parses has this tree, these points, findings and warnings
-pub record IsKnownIn (look : Look) (trees : List Tree) (k : Known) : Type 0 where
+pub record IsKnownIn (look : Look) (trees : List Tree) (k : ParsedText) : Type 0 where
   pub own : slice_get trees k.place ≡ Some k.tree.now
   pub known : IsKnown k.source.text.now k.tree.now k.graph.now k.found.now
   pub warned : AreWarningDetails k.source.files k.source.text.now k.tree.now.filter k.graph.now k.found.now look.options.allowed
       k.details.now
 
 -- the same, as a text with warnings
-abbrev pub warned_in : Look → List Tree → Known → Warned
+abbrev pub warned_in : Look → List Tree → ParsedText → Warned
 warned_in look trees k = warned_at look trees k.place k.source k.tree.now
 
 -- the lines on runs are those of the notes
@@ -68,7 +68,7 @@ pub record IsSilent (trees : List Tree) (states : ℕ) (o : Output) : Type 0 whe
   pub said : IsSaid trees states o
 
 -- the notes are of findings of a text
-abbrev pub HasNotes : List Tree → Known → List Noted → Type 0
+abbrev pub HasNotes : List Tree → ParsedText → List Note → Type 0
 HasNotes trees k notes = AreNoted trees k.source.text.now k.place k.graph.now k.found.now notes
 
 -- a suspect is the finding that a report is of
@@ -77,18 +77,18 @@ pub record IsSuspectOf (found : List Finding) (r : Report) (s : Suspect) : Type 
   pub is : slice_get found r.finding ≡ Some s.finding
 
 -- what comes of the finding that a report is of
-pub record IsOutcomeOf (trees : List Tree) (k : Known) (r : Report) (o : Outcome) : Type 0 where
+pub record IsOutcomeOf (trees : List Tree) (k : ParsedText) (r : Report) (o : Outcome) : Type 0 where
   pub number : o.number ≡ r.finding
   pub finding : Finding
   pub numbered : slice_get k.found.now r.finding ≡ Some finding
   pub scheduled : IsScheduled trees k.place k.graph.now finding o.scheduled
 
 -- what comes of the finding of a number where one more callback stands behind the text
-abbrev pub IsAgainOf : Known → ℕ → Again → Type 0
+abbrev pub IsAgainOf : ParsedText → ℕ → SetterOutcome → Type 0
 IsAgainOf k number a = (f : Finding) → slice_get k.found.now number ≡ Some f → IsAgain k.source.text.now f a
 
 -- a note of a finding of a text, behind earlier ones
-abbrev pub IsNotedOf : List Tree → Known → List Noted → Noted → Type 0
+abbrev pub IsNotedOf : List Tree → ParsedText → List Note → Note → Type 0
 IsNotedOf trees k earlier n = IsNoted trees k.source.text.now k.place k.graph.now k.found.now earlier n
 
 -- the report of a text
@@ -104,7 +104,7 @@ pub record PrintsNotice (look : Look) (trees : List Tree) (s : Source) (n : Noti
 -- ---- reports with their notes
 
 -- a note is added, with rows below its lines
-pub record AddsNote (trees : List Tree) (files : List Files) (states : ℕ) (s : Source) (setting : Option Setting) (n : Noted)
+pub record AddsNote (trees : List Tree) (files : List Files) (states : ℕ) (s : Source) (setting : Option Setting) (n : Note)
     (old new : Output) : Type 0 where
   pub rows : List ℕ
   pub are : AreNoteRows trees files n rows
@@ -115,7 +115,7 @@ pub record AddsNote (trees : List Tree) (files : List Files) (states : ℕ) (s :
 
 -- a report is added, with its note
 pub record AddsBlock (trees : List Tree) (files : List Files) (states : ℕ) (s : Source) (r : Report) (old new : Output) : Type 0 where
-  pub note : Noted
+  pub note : Note
   pub printed : List ℕ
   pub is : IsBlock trees files states s r note printed
   pub bytes : new.bytes.items ≡ old.bytes.items ++ printed
@@ -124,15 +124,15 @@ pub record AddsBlock (trees : List Tree) (files : List Files) (states : ℕ) (s 
 -- reports are added, each with its note
 pub record AddBlocks (trees : List Tree) (files : List Files) (states : ℕ) (s : Source) (reports : List Report) (old new : Output)
     : Type 0 where
-  pub notes : List Noted
+  pub notes : List Note
   pub printed : List ℕ
   pub are : AreBlocks trees files states s reports notes printed
   pub bytes : new.bytes.items ≡ old.bytes.items ++ printed
   pub noted : new.noted ≡ old.noted ++ notes
 
 -- all reports of a text are added, each with its note, or what is said where nothing is found, with its warnings
-pub record AddsBody (look : Look) (trees : List Tree) (files : List Files) (k : Known) (old new : Output) : Type 0 where
-  pub notes : List Noted
+pub record AddsBody (look : Look) (trees : List Tree) (files : List Files) (k : ParsedText) (old new : Output) : Type 0 where
+  pub notes : List Note
   pub printed : List ℕ
   pub is : IsBody look trees files k.place k.source k.tree.now k.graph.now k.found.now k.details.now notes printed
   pub bytes : new.bytes.items ≡ old.bytes.items ++ printed
@@ -153,11 +153,11 @@ pub record IsParsedPart (look : Look) (trees : List Tree) (files : List Files) (
   pub said : IsSaid trees look.states p.output
   pub print : IsKnownPrint look trees files place s p.output.noted p.output.bytes.items p.tally.status p.tally.findings
 
-abbrev pub IsKnownPart : Look → List Tree → List Files → Known → Part → Type 0
+abbrev pub IsKnownPart : Look → List Tree → List Files → ParsedText → Part → Type 0
 IsKnownPart look trees files k p = IsParsedPart look trees files k.source k.place p
 
 -- the notes are those of a text; none where it doesn't parse
-abbrev pub AreNotesFor : List Tree → Text → Reading → List Noted → Type 0
+abbrev pub AreNotesFor : List Tree → Text → Reading → List Note → Type 0
 AreNotesFor trees text (reading.Known place) notes = AreNotesOf trees text place notes
 AreNotesFor trees text _ notes = notes ≡ []
 
@@ -176,7 +176,7 @@ IsPrintOf look trees files s (reading.Known place) p =
     IsKnownPrint look trees files place s p.output.noted p.output.bytes.items p.tally.status p.tally.findings
 
 -- the report of a text, with its notes
-pub record IsPart (look : Look) (trees : List Tree) (files : List Files) (s : Studied) (p : Part) : Type 0 where
+pub record IsPart (look : Look) (trees : List Tree) (files : List Files) (s : StudiedText) (p : Part) : Type 0 where
   pub report : HasReport look.options (filters_of trees) s.source p
   pub notes : AreNotesFor trees s.source.text.now s.reading p.output.noted
   pub said : IsSaid trees look.states p.output
@@ -185,7 +185,7 @@ pub record IsPart (look : Look) (trees : List Tree) (files : List Files) (s : St
 -- ---- several texts
 
 -- the reports of texts, each with an empty line behind it, and their notes
-pub record ArePrinted (look : Look) (trees : List Tree) (files : List Files) (each : List Studied) (p : Printed) : Type 0 where
+pub record ArePrinted (look : Look) (trees : List Tree) (files : List Files) (each : List StudiedText) (p : PrintedTexts) : Type 0 where
   pub parts : AreParts look.options (filters_of trees) (sources_read each) p.output.bytes.items p.total.status p.total.findings
       p.total.files
   pub notes : AreNotesIn trees (known_in each) (texts_read each) p.output.noted
@@ -194,7 +194,7 @@ pub record ArePrinted (look : Look) (trees : List Tree) (files : List Files) (ea
       p.total.findings p.total.files
 
 -- the reports with that of one more text, and an empty line behind it
-pub record IsMore (look : Look) (trees : List Tree) (files : List Files) (s : Studied) (old new : Printed) : Type 0 where
+pub record IsMore (look : Look) (trees : List Tree) (files : List Files) (s : StudiedText) (old new : PrintedTexts) : Type 0 where
   pub part : Part
   pub is : IsPart look trees files s part
   pub bytes : new.output.bytes.items ≡ old.output.bytes.items ++ part.output.bytes.items ++ 10 ∷ []
@@ -204,18 +204,18 @@ pub record IsMore (look : Look) (trees : List Tree) (files : List Files) (s : St
   pub counted : new.total.files ≡ old.total.files + some part.tally.findings
 
 -- all or nothing is put out
-pub record HoldsBack (is_held : Bool) (p : Printed) : Type 0 where
+pub record HoldsBack (is_held : Bool) (p : PrintedTexts) : Type 0 where
   pub none : is_held ≡ true → p.sent ≡ 0
   pub all : is_held ≡ false → p.sent ≡ length p.output.bytes.items
 
 -- so much of what is printed is put out: the reports of all texts but the last, or nothing where that is held back
 pub record IsPutOut (options : WarningOptions) (sources : List Source) (states : ℕ) (is_held : Bool) (old new : Option (List ℕ))
-    (p : Printed) : Type 0 where
+    (p : PrintedTexts) : Type 0 where
   pub within : p.sent ≤ length p.output.bytes.items
   pub added : Appends old new (take p.sent p.output.bytes.items)
   pub early : is_held ≡ false → IsAllButLast options sources states (take p.sent p.output.bytes.items)
   pub late : is_held ≡ true → p.sent ≡ 0
 
 -- the report of the only text
-abbrev pub part_of : Printed → Part
+abbrev pub part_of : PrintedTexts → Part
 part_of p = record { output = p.output; tally = record { status = p.total.status; findings = p.total.findings } }

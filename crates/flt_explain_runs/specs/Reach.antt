@@ -16,7 +16,7 @@ use Rattle.flt_explain.specs.declared.finding.Subject.TheVariants as about
 use Rattle.flt_search_triggers.specs.Triggers.{is_started_alone, is_started_by}
 use Rattle.flt_explain_runs.specs.Possible.{nothing, is_some, is_within, entered, after}
 use Rattle.flt_explain_runs.specs.Unset.{AreUnset, is_barren, nothing_unset}
-use Rattle.flt_explain_runs.specs.declared.outlook.Surveyed.{Surveyed}
+use Rattle.flt_explain_runs.specs.declared.outlook.StateSurvey.{StateSurvey}
 use Rattle.flt_explain_runs.specs.declared.possible.Possible.{Possible}
 use Rattle.flt_explain_runs.specs.declared.unset.Unset.{Unset}
 
@@ -97,7 +97,7 @@ is_fine_for r (about.Context v) s = are_fine r s
 is_fine_for r _ s = not (is_some s)
 
 -- a variable was followed where nothing sets contexts on these anchors, and nothing leads out of what may be so
-pub record IsSurveyed (g : Graph) (s : Surveyed) : Type 0 where
+pub record IsSurveyed (g : Graph) (s : StateSurvey) : Type 0 where
   pub unset : AreUnset g s.unset
   pub holds : Holds g s.unset s.variable s.rows
 

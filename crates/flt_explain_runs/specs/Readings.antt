@@ -11,7 +11,7 @@ use Rattle.flt_explain_runs.specs.Parsed.{AreParsed, IsOther, IsUnread}
 use Rattle.flt_explain_runs.specs.declared.readings.Reading.{Reading}
 use Rattle.flt_explain_runs.specs.declared.readings.Reading.TheVariants.{Unread, Other, Known}
 use Rattle.flt_explain_runs.specs.declared.readings.Readings.{Readings}
-use Rattle.flt_explain_runs.specs.declared.readings.Studied.{Studied}
+use Rattle.flt_explain_runs.specs.declared.readings.StudiedText.{StudiedText}
 
 -- a text spells the tree of this place
 pub record IsTreeOf (trees : List Tree) (text : Text) (place : ℕ) : Type 0 where
@@ -25,7 +25,7 @@ IsReading trees text (Unread f) = IsUnread text f
 IsReading trees text (Other kind) = IsOther text kind
 IsReading trees text (Known place) = IsTreeOf trees text place
 
-abbrev pub IsStudied : List Tree → Studied → Type 0
+abbrev pub IsStudied : List Tree → StudiedText → Type 0
 IsStudied trees s = IsReading trees s.source.text.now s.reading
 
 -- the tree of a text that parses has this place
@@ -34,10 +34,10 @@ IsPlaced place (Known own) = own ≡ place
 IsPlaced place _ = Unit {0}
 
 -- the files, and their texts
-abbrev pub sources_read : List Studied → List Source
-sources_read each = map (λ (s : Studied). s.source) each
+abbrev pub sources_read : List StudiedText → List Source
+sources_read each = map (λ (s : StudiedText). s.source) each
 
-abbrev pub texts_read : List Studied → List Text
+abbrev pub texts_read : List StudiedText → List Text
 texts_read each = texts_of (sources_read each)
 
 -- the files of a text that parses; none of one that doesn't
@@ -45,8 +45,8 @@ abbrev pub files_by : Reading → Source → List Files
 files_by (Known place) s = s.files ∷ []
 files_by _ s = []
 
-abbrev pub files_read : List Studied → List Files
-files_read each = flat_map (λ (s : Studied). files_by s.reading s.source) each
+abbrev pub files_read : List StudiedText → List Files
+files_read each = flat_map (λ (s : StudiedText). files_by s.reading s.source) each
 
 -- 1 where a text parses, else 0
 abbrev pub known : Reading → ℕ
@@ -54,12 +54,12 @@ known (Known place) = 1
 known _ = 0
 
 -- how many texts parse
-abbrev pub known_in : List Studied → ℕ
+abbrev pub known_in : List StudiedText → ℕ
 known_in [] = 0
 known_in (s ∷ ss) = known s.reading + known_in ss
 
 -- each text is what it is said to be, where so many before them parse
-abbrev pub AreStudied : List Tree → ℕ → List Studied → Type 0
+abbrev pub AreStudied : List Tree → ℕ → List StudiedText → Type 0
 AreStudied trees place [] = Unit {0}
 AreStudied trees place (s ∷ ss) = IsStudied trees s × IsPlaced place s.reading × AreStudied trees (place + known s.reading) ss
 

@@ -14,8 +14,8 @@ use Rattle.flt_explain_reasons.specs.declared.notice.Notice.{Notice}
 use Rattle.flt_explain_reasons.specs.declared.notice.Notice.TheVariants.{Whole, Malformed}
 use Rattle.flt_explain_details.specs.Closing as texts
 use Rattle.flt_explain_details.specs.Reports.{EndsWith, IsJudged, texts_of}
-use Rattle.flt_explain_details.specs.declared.judged.Judged.{Judged}
-use Rattle.flt_explain_details.specs.declared.judged.Judged.TheVariants.{Unread, Known}
+use Rattle.flt_explain_details.specs.declared.judged.TextJudgement.{TextJudgement}
+use Rattle.flt_explain_details.specs.declared.judged.TextJudgement.TheVariants.{Unread, Known}
 use Rattle.flt_explain_details.specs.declared.sources.Source.{Source}
 use Rattle.flt_explain_warning_details.specs.Details.{AreWarningDetails}
 use Rattle.flt_explain_warning_details.specs.Options.{warned_status}
@@ -25,17 +25,17 @@ use Rattle.flt_explain_runs.specs.Noted.{AreNotesIn}
 use Rattle.flt_explain_runs.specs.Parsed.{AreParsed, IsOther, IsUnread}
 use Rattle.flt_explain_runs.specs.Told.{Say}
 use Rattle.flt_explain_runs.specs.Totals.{some, summary}
-use Rattle.flt_explain_runs.specs.declared.noted.Noted.{Noted}
+use Rattle.flt_explain_runs.specs.declared.noted.Note.{Note}
 
 -- ---- one file
 
 -- what a text is that isn't taken for anything else: it has this first fault, or it is known
-abbrev pub IsText : Text → Judged → Type 0
+abbrev pub IsText : Text → TextJudgement → Type 0
 IsText text (Unread f) = IsUnread text f
 IsText text (Known tree graph found) = IsJudged text (Known tree graph found)
 
 -- how many findings a text has; one that doesn't parse has its first fault
-abbrev pub findings_in : Judged → ℕ
+abbrev pub findings_in : TextJudgement → ℕ
 findings_in (Unread f) = 1
 findings_in (Known tree graph found) = length found
 
@@ -52,13 +52,13 @@ pub record IsWarnedStatus (options : WarningOptions) (s : Source) (tree : Tree) 
   pub worth : status ≡ warned_status options.is_strict found details
 
 -- the same of any text: 2 where it doesn't parse
-abbrev pub IsStatus : WarningOptions → Source → Judged → ℕ → Type 0
+abbrev pub IsStatus : WarningOptions → Source → TextJudgement → ℕ → Type 0
 IsStatus options s (Unread f) status = status ≡ 2
 IsStatus options s (Known tree graph found) status = IsWarnedStatus options s tree graph found status
 
 -- the report of a text ends with its last line
 pub record IsTextReport (options : WarningOptions) (s : Source) (report : List ℕ) (status count : ℕ) : Type 0 where
-  pub judged : Judged
+  pub judged : TextJudgement
   pub is : IsText s.text.now judged
   pub own : IsStatus options s judged status
   pub counted : count ≡ findings_in judged
@@ -131,7 +131,7 @@ pub record AreFirst (options : WarningOptions) (before others : List Source) (st
   pub files : ℕ
   pub reports : AreParts options (filters_of trees) before printed status findings files
   pub place : ℕ
-  pub notes : List Noted
+  pub notes : List Note
   pub noted : AreNotesIn trees place (texts_of before) notes
   pub said : Say trees states notes printed
 

@@ -6,7 +6,7 @@ use Rattle.flt_places.specs.Files.{file_line}
 use Rattle.flt_places.specs.declared.files.Files.{Files}
 use Rattle.flt_tree.specs.Names.{Text}
 use Rattle.flt_tree.specs.declared.tree.Tree.{Tree}
-use Rattle.flt_search.specs.declared.judging.Broken.{Broken}
+use Rattle.flt_search.specs.declared.judging.BreakingJournal.{BreakingJournal}
 use Rattle.flt_model.specs.JournalText.{Entries}
 use Rattle.flt_model.specs.Program.{filters_of}
 use Rattle.flt_model.specs.declared.verdict.Verdict.{Verdict}
@@ -16,14 +16,14 @@ use Rattle.flt_explain_timeline.specs.Timelines.{IsTimeline}
 use Rattle.flt_explain_timeline.specs.declared.timeline.Timeline.{Timeline}
 use Rattle.flt_explain_runs.specs.declared.schedules.Schedule.{Schedule}
 use Rattle.flt_explain_runs.specs.declared.schedules.Schedule.TheVariants.{Breaks, NotWithin, Cut, NeverHanded, NeverStarted, NeverGot}
-use Rattle.flt_explain_runs.specs.declared.schedules.Scheduled.{Scheduled}
-use Rattle.flt_explain_runs.specs.declared.schedules.Scheduled.TheVariants.{Together, Alone}
+use Rattle.flt_explain_runs.specs.declared.schedules.JointOutcome.{JointOutcome}
+use Rattle.flt_explain_runs.specs.declared.schedules.JointOutcome.TheVariants.{Together, Alone}
 use Rattle.flt_explain_runs.specs.Again.{IsSetter}
 use Rattle.flt_explain_runs.specs.Noted.{own_of, schedule_of}
 use Rattle.flt_explain_runs.specs.declared.again.Setting.{Setting}
-use Rattle.flt_explain_runs.specs.declared.noted.Again.{Again}
-use Rattle.flt_explain_runs.specs.declared.noted.Again.TheVariants.{Runs, RunsNowhere}
-use Rattle.flt_explain_runs.specs.declared.noted.Noted.{Noted}
+use Rattle.flt_explain_runs.specs.declared.noted.SetterOutcome.{SetterOutcome}
+use Rattle.flt_explain_runs.specs.declared.noted.SetterOutcome.TheVariants.{Runs, RunsNowhere}
+use Rattle.flt_explain_runs.specs.declared.noted.Note.{Note}
 use Rattle.flt_explain_runs.specs.declared.setters.Setter.{Setter}
 
 -- ---- below the line of a note
@@ -41,7 +41,7 @@ stricter =
     ++ 10 ∷ []
 
 -- the files of the filters in whose runs something came of a finding of the filter of a number: of all, or of that one alone
-abbrev pub own_files : List Files → ℕ → Scheduled → List Files
+abbrev pub own_files : List Files → ℕ → JointOutcome → List Files
 own_files files place (Together s) = files
 own_files files place (Alone s) = slice_range files place (place + 1)
 
@@ -53,7 +53,7 @@ pub record AreJournalRows (own : List Tree) (files : List Files) (journal : Entr
   pub whole : rows ≡ legend ++ timelines.text timeline 4
 
 -- a run of these filters as rows: its own journal, with what it breaks
-abbrev pub AreRunRows : List Tree → List Files → Broken → List ℕ → Type 0
+abbrev pub AreRunRows : List Tree → List Files → BreakingJournal → List ℕ → Type 0
 AreRunRows own files run rows = AreJournalRows own files run.journal (verdicts.Breaks run.violation run.entry) rows
 
 -- what comes of a finding as rows: its run; that the rule is stricter than the driver kit; or nothing
@@ -66,7 +66,7 @@ AreScheduleRows own files NeverStarted rows = rows ≡ []
 AreScheduleRows own files (NeverGot u) rows = rows ≡ []
 
 -- the same of a note
-abbrev pub AreNoteRows : List Tree → List Files → Noted → List ℕ → Type 0
+abbrev pub AreNoteRows : List Tree → List Files → Note → List ℕ → Type 0
 AreNoteRows trees files n rows =
     AreScheduleRows (own_of trees n.filter n.scheduled) (own_files files n.filter n.scheduled) (schedule_of n.scheduled) rows
 
@@ -86,30 +86,30 @@ abbrev pub numbered : ℕ → List ℕ → List ℕ
 numbered line lines = numbered_from line true lines
 
 -- the lines of the callback that a text in these files has more, and a run of that text as rows
-pub record AreSetterRows (s : Setter) (files : Files) (run : Broken) (rows : List ℕ) : Type 0 where
+pub record AreSetterRows (s : Setter) (files : Files) (run : BreakingJournal) (rows : List ℕ) : Type 0 where
   pub drawn : List ℕ
   pub are : AreRunRows s.trees (files ∷ []) run drawn
   pub whole : rows ≡ numbered (file_line files s.line) (string_bytes s.added) ++ drawn
 
 -- the same, where there is such a run
-abbrev pub AreRowsBy : Setter → Files → Again → List ℕ → Type 0
+abbrev pub AreRowsBy : Setter → Files → SetterOutcome → List ℕ → Type 0
 AreRowsBy s files (Runs run) rows = AreSetterRows s files run rows
 AreRowsBy s files RunsNowhere rows = rows ≡ []
 
 -- the same, where that was looked for
-abbrev pub AreSettingRows : Option Setting → Files → Option Again → List ℕ → Type 0
+abbrev pub AreSettingRows : Option Setting → Files → Option SetterOutcome → List ℕ → Type 0
 AreSettingRows None files again rows = rows ≡ []
 AreSettingRows (Some s) files None rows = rows ≡ []
 AreSettingRows (Some s) files (Some again) rows = AreRowsBy s.setter files again rows
 
 -- a run of a text in these files with one more callback as rows, below the lines of that callback
-pub record AreRowsWithMore (text : Text) (files : Files) (run : Broken) (rows : List ℕ) : Type 0 where
+pub record AreRowsWithMore (text : Text) (files : Files) (run : BreakingJournal) (rows : List ℕ) : Type 0 where
   pub setter : Setter
   pub is : IsSetter text setter
   pub are : AreSetterRows setter files run rows
 
 -- the same, where there is such a run
-abbrev pub AreAgainRows : Text → Files → Option Again → List ℕ → Type 0
+abbrev pub AreAgainRows : Text → Files → Option SetterOutcome → List ℕ → Type 0
 AreAgainRows text files None rows = rows ≡ []
 AreAgainRows text files (Some RunsNowhere) rows = rows ≡ []
 AreAgainRows text files (Some (Runs run)) rows = AreRowsWithMore text files run rows

@@ -22,8 +22,8 @@ use Rattle.flt_explain_runs.specs.Reach.{IsNeverStarted, IsNeverGot}
 use Rattle.flt_explain_runs.specs.Violations.{violations_of}
 use Rattle.flt_explain_runs.specs.declared.schedules.Schedule.{Schedule}
 use Rattle.flt_explain_runs.specs.declared.schedules.Schedule.TheVariants as schedule
-use Rattle.flt_explain_runs.specs.declared.schedules.Scheduled.{Scheduled}
-use Rattle.flt_explain_runs.specs.declared.schedules.Scheduled.TheVariants as scheduled
+use Rattle.flt_explain_runs.specs.declared.schedules.JointOutcome.{JointOutcome}
+use Rattle.flt_explain_runs.specs.declared.schedules.JointOutcome.TheVariants as scheduled
 use Rattle.flt_explain_runs.specs.declared.schedules.Outcome.{Outcome}
 use Rattle.flt_explain_runs.specs.declared.schedules.Suspect.{Suspect}
 
@@ -97,7 +97,7 @@ AreTogether trees n found answers =
 
 -- what comes of a finding of the filter of a number, which has these points: it holds of the filter alone, or of all of them where those
 -- may meet
-abbrev pub IsScheduled : List Tree → ℕ → Graph → Finding → Scheduled → Type 0
+abbrev pub IsScheduled : List Tree → ℕ → Graph → Finding → JointOutcome → Type 0
 IsScheduled trees n g f (scheduled.Alone a) = IsSchedule (filters_of (only trees n)) (callbacks_of trees n) g f a
 IsScheduled trees n g f (scheduled.Together a) = IsSchedule (filters_of trees) (callbacks_of trees n) g f a × MayMeet trees n
 

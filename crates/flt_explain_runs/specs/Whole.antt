@@ -33,7 +33,7 @@ use Rattle.flt_explain_runs.specs.Totals.{some, summary}
 use Rattle.flt_explain_runs.specs.Warned.{Warned}
 use Rattle.flt_explain_runs.specs.Warnings.{ArePromised}
 use Rattle.flt_explain_runs.specs.declared.explaining.Asking.{Asking}
-use Rattle.flt_explain_runs.specs.declared.noted.Noted.{Noted}
+use Rattle.flt_explain_runs.specs.declared.noted.Note.{Note}
 
 -- with colours or without, how many states the search for runs of a text goes on from at most, and which warnings are left out and
 -- whether they count
@@ -53,7 +53,7 @@ abbrev pub AreReported : Look → Source → Tree → Graph → List Finding →
 AreReported look s tree graph found reports = AreReports look.coloured s.files s.text.now tree.filter graph found reports
 
 -- what is printed of a finding that has a report: the report; the line of its note, and rows; the line on one more callback, and rows
-pub record IsBlock (trees : List Tree) (files : List Files) (states : ℕ) (s : Source) (r : Report) (n : Noted) (printed : List ℕ)
+pub record IsBlock (trees : List Tree) (files : List Files) (states : ℕ) (s : Source) (r : Report) (n : Note) (printed : List ℕ)
     : Type 0 where
   pub finding : n.finding ≡ r.finding
   pub behind : n.is_behind ≡ r.is_behind
@@ -64,16 +64,16 @@ pub record IsBlock (trees : List Tree) (files : List Files) (states : ℕ) (s : 
   pub whole : printed ≡ quieted r.lines.items ++ note_line trees states n ++ quieted rows ++ again_line n.again ++ quieted again
 
 -- the same of each report and its note, one below the other
-pub data AreBlocks (trees : List Tree) (files : List Files) (states : ℕ) (s : Source) : List Report → List Noted → List ℕ → Type 0 where
+pub data AreBlocks (trees : List Tree) (files : List Files) (states : ℕ) (s : Source) : List Report → List Note → List ℕ → Type 0 where
   no_block : AreBlocks trees files states s [] [] []
-  one_block_more : {rs : List Report} {ns : List Noted} {printed : List ℕ} {r : Report} {n : Noted} {own : List ℕ} →
+  one_block_more : {rs : List Report} {ns : List Note} {printed : List ℕ} {r : Report} {n : Note} {own : List ℕ} →
       AreBlocks trees files states s rs ns printed → IsBlock trees files states s r n own →
       AreBlocks trees files states s (rs ++ r ∷ []) (ns ++ n ∷ []) (printed ++ own)
 
 -- all reports of a text, each with its note
 pub record AreReportsWithNotes (look : Look) (trees : List Tree) (files : List Files) (s : Source) (tree : Tree) (graph : Graph)
     (found : List Finding)
-    (notes : List Noted) (printed : List ℕ) : Type 0 where
+    (notes : List Note) (printed : List ℕ) : Type 0 where
   pub reports : List Report
   pub are : AreReported look s tree graph found reports
   pub blocks : AreBlocks trees files look.states s reports notes printed
@@ -90,14 +90,14 @@ warned_at look trees place s tree = record {
 }
 
 -- what is said where nothing is found: what that promises, and the warnings; there are no notes
-pub record AreWarningsAlone (x : Warned) (details : List WarningDetail) (notes : List Noted) (printed : List ℕ) : Type 0 where
+pub record AreWarningsAlone (x : Warned) (details : List WarningDetail) (notes : List Note) (printed : List ℕ) : Type 0 where
   pub none : notes ≡ []
   pub lines : List ℕ
   pub are : ArePromised x details lines
   pub whole : printed ≡ quieted lines
 
 -- what is above the last line: what is said where nothing is found, with the warnings, or the reports with their notes
-abbrev pub IsBody : Look → List Tree → List Files → ℕ → Source → Tree → Graph → List Finding → List WarningDetail → List Noted →
+abbrev pub IsBody : Look → List Tree → List Files → ℕ → Source → Tree → Graph → List Finding → List WarningDetail → List Note →
     List ℕ → Type 0
 IsBody look trees files place s tree graph [] details notes printed = AreWarningsAlone (warned_at look trees place s tree) details notes
     printed
@@ -107,7 +107,7 @@ IsBody look trees files place s tree graph (f ∷ fs) details notes printed = Ar
 -- what is printed of a text that parses, whose tree is that of this place, with its status and how many findings it has: what is printed
 -- and the status are of the same warnings
 -- (`order`: where nothing is found and no circle of locks is warned of, its filter takes its locks in an order)
-pub record IsKnownPrint (look : Look) (trees : List Tree) (files : List Files) (place : ℕ) (s : Source) (notes : List Noted)
+pub record IsKnownPrint (look : Look) (trees : List Tree) (files : List Files) (place : ℕ) (s : Source) (notes : List Note)
     (printed : List ℕ)
     (status count : ℕ) : Type 0 where
   pub tree : Tree
@@ -163,22 +163,22 @@ IsFailedPrint look trees s printed status count =
 
 -- what is printed of each file, with an empty line below, and how many of them parse; with the greatest status, and so many findings in so
 -- many files
-pub data ArePrints (look : Look) (trees : List Tree) (files : List Files) : ℕ → List Source → List Noted → List ℕ → ℕ → ℕ → ℕ → Type 0 where
+pub data ArePrints (look : Look) (trees : List Tree) (files : List Files) : ℕ → List Source → List Note → List ℕ → ℕ → ℕ → ℕ → Type 0 where
   no_print : ArePrints look trees files 0 [] [] [] 0 0 0
-  fails : {place : ℕ} {ss : List Source} {ns : List Noted} {printed : List ℕ} {greatest findings many : ℕ} {s : Source} {own : List ℕ}
+  fails : {place : ℕ} {ss : List Source} {ns : List Note} {printed : List ℕ} {greatest findings many : ℕ} {s : Source} {own : List ℕ}
       {status count : ℕ} → ArePrints look trees files place ss ns printed greatest findings many → IsFailedPrint look trees s own status
       count →
       ArePrints look trees files place (ss ++ s ∷ []) ns (printed ++ own ++ 10 ∷ []) (max greatest status) (findings + count)
       (many + some count)
-  parses : {place : ℕ} {ss : List Source} {ns : List Noted} {printed : List ℕ} {greatest findings many : ℕ} {s : Source}
-      {more : List Noted} {own : List ℕ} {status count : ℕ} → ArePrints look trees files place ss ns printed greatest findings many →
+  parses : {place : ℕ} {ss : List Source} {ns : List Note} {printed : List ℕ} {greatest findings many : ℕ} {s : Source}
+      {more : List Note} {own : List ℕ} {status count : ℕ} → ArePrints look trees files place ss ns printed greatest findings many →
       IsKnownPrint look trees files place s more own status count →
       ArePrints look trees files (place + 1) (ss ++ s ∷ []) (ns ++ more) (printed ++ own ++ 10 ∷ []) (max greatest status)
       (findings + count)
       (many + some count)
 
 -- the same of several files, and a line that says how much is found
-pub record AreSeveralPrinted (look : Look) (trees : List Tree) (files : List Files) (sources : List Source) (notes : List Noted)
+pub record AreSeveralPrinted (look : Look) (trees : List Tree) (files : List Files) (sources : List Source) (notes : List Note)
     (printed : List ℕ)
     (status : ℕ) : Type 0 where
   pub place : ℕ
@@ -189,19 +189,19 @@ pub record AreSeveralPrinted (look : Look) (trees : List Tree) (files : List Fil
   pub whole : printed ≡ prints ++ summary findings many (length sources) ++ 10 ∷ []
 
 -- what is printed of one file alone
-pub record IsOnePrinted (look : Look) (trees : List Tree) (files : List Files) (s : Source) (notes : List Noted) (printed : List ℕ)
+pub record IsOnePrinted (look : Look) (trees : List Tree) (files : List Files) (s : Source) (notes : List Note) (printed : List ℕ)
     (status : ℕ) : Type 0 where
   pub count : ℕ
   pub is : IsKnownPrint look trees files 0 s notes printed status count ⊎ ((notes ≡ []) × IsFailedPrint look trees s printed status count)
 
 -- what is printed of files, where there are none, one or several
-abbrev pub IsPrintOfAll : Look → List Tree → List Files → List Source → List Noted → List ℕ → ℕ → Type 0
+abbrev pub IsPrintOfAll : Look → List Tree → List Files → List Source → List Note → List ℕ → ℕ → Type 0
 IsPrintOfAll look trees files [] notes printed status = (notes ≡ []) × (printed ≡ []) × (status ≡ 0)
 IsPrintOfAll look trees files (s ∷ []) notes printed status = IsOnePrinted look trees files s notes printed status
 IsPrintOfAll look trees files (s ∷ t ∷ ss) notes printed status = AreSeveralPrinted look trees files (s ∷ t ∷ ss) notes printed status
 
 -- the same, where the trees and the files are those of the texts that parse
-pub record IsPrint (look : Look) (sources : List Source) (notes : List Noted) (printed : List ℕ) (status : ℕ) : Type 0 where
+pub record IsPrint (look : Look) (sources : List Source) (notes : List Note) (printed : List ℕ) (status : ℕ) : Type 0 where
   pub trees : List Tree
   pub parsed : AreParsed (texts_of sources) (filters_of trees)
   pub files : List Files

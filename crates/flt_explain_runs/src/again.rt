@@ -7,13 +7,13 @@ ghost use Rattle.flt_explain_runs.specs.Noted.{IsAgain};
 ghost use Rattle.flt_explain_runs.specs.Rows as rows;
 
 use crate::lines::run_rows;
-use crate::noted::{Again, schedule_of};
+use crate::noted::{SetterOutcome, schedule_of};
 use crate::outlook::Outlook;
 use crate::schedules::{Outcome, Schedule, Suspect, Suspects, outcomes_among};
 use crate::setters::{Setter, is_same};
 use flt_explain::Finding;
 use flt_places::Files;
-use flt_search::{Broken, SearchWatch};
+use flt_search::{BreakingJournal, SearchWatch};
 use std::alloc::{AllocError, Global};
 
 /// A text that sets what another doesn't, and the outcomes in it of the other's findings that need this.
@@ -54,7 +54,7 @@ fn setter_rows(
     alloc: Global,
     files: &Files<'_>,
     setter: &Setter,
-    broken: &Broken,
+    broken: &BreakingJournal,
 ) -> Result<Vec<u8>, AllocError>
     ensures { IfOk result (λ out. rows.AreSetterRows setter.now files.now broken.now out.items) }
 {
@@ -125,12 +125,12 @@ fn outcomes_of<W: SearchWatch>(
 }
 
 /// The outcome of a finding in runs of a text with one more callback.
-fn again_by(alloc: Global, outcome: &Outcome) -> Result<Again, AllocError>
+fn again_by(alloc: Global, outcome: &Outcome) -> Result<SetterOutcome, AllocError>
     ensures { IfOk result (spec.IsAgainBy outcome.now) }
 {
     match schedule_of(&outcome.scheduled) {
-        Schedule::Breaks(broken) => Ok(Again::Runs(broken.copy(alloc)?)),
-        _ => Ok(Again::RunsNowhere),
+        Schedule::Breaks(broken) => Ok(SetterOutcome::Runs(broken.copy(alloc)?)),
+        _ => Ok(SetterOutcome::RunsNowhere),
     }
 }
 
@@ -179,7 +179,7 @@ impl Setting {
         _text: &[u8],
         found: &[Finding],
         number: usize,
-    ) -> Result<Option<Again>, AllocError>
+    ) -> Result<Option<SetterOutcome>, AllocError>
         requires setting { spec.IsSetting _text.now found.now self.now }
         ensures { IfOk result (λ a. IfSome a (λ a. (f : Finding) → slice_get found.now number ≡ Some f → IsAgain _text.now f a)) }
     {
@@ -198,13 +198,13 @@ impl Setting {
         &self,
         alloc: Global,
         files: &Files<'_>,
-        again: &Again,
+        again: &SetterOutcome,
     ) -> Result<Vec<u8>, AllocError>
         ensures { IfOk result (λ out. rows.AreRowsBy self.now.setter files.now again.now out.items) }
     {
         match again {
-            Again::Runs(broken) => setter_rows(alloc, files, &self.setter, broken),
-            Again::RunsNowhere => Ok(Vec::new(alloc)),
+            SetterOutcome::Runs(broken) => setter_rows(alloc, files, &self.setter, broken),
+            SetterOutcome::RunsNowhere => Ok(Vec::new(alloc)),
         }
     }
 }

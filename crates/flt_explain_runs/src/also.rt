@@ -5,7 +5,7 @@ ghost use Rattle.flt_explain_runs.specs.Noted as spec;
 ghost use Rattle.flt_explain_runs.specs.Violations.{violations_of as prevented_by};
 
 use crate::lines::{own_trees, violation_number};
-use crate::noted::{Noted, schedule_of};
+use crate::noted::{Note, schedule_of};
 use crate::schedules::Schedule;
 use crate::violations::violations_of;
 use flt_explain::Finding;
@@ -22,7 +22,7 @@ fn are_at_one_point(one: &Finding, other: &Finding) -> bool
 }
 
 /// The violation by the last entry of the run of a finding that was noted before, the least of the last four violations.
-fn rule_of(alloc: Global, trees: &[Tree], noted: &Noted) -> Result<Option<Violation>, AllocError>
+fn rule_of(alloc: Global, trees: &[Tree], noted: &Note) -> Result<Option<Violation>, AllocError>
     ensures { IfOk result (λ o. IfSome o (spec.IsBrokenBy trees.now noted.now)) }
 {
     let own = own_trees(trees, noted.filter, &noted.scheduled);
@@ -56,7 +56,7 @@ fn prevented(finding: &Finding, violation: Option<Violation>) -> Option<Violatio
 }
 
 /// Whether a note of the filter of this number, whose findings these are, is of a finding at the same point.
-fn is_near(filter: usize, found: &[Finding], finding: &Finding, noted: &Noted) -> bool
+fn is_near(filter: usize, found: &[Finding], finding: &Finding, noted: &Note) -> bool
     ensures { IsTrue result → spec.IsNear filter found.now finding.now noted.now }
 {
     if noted.filter != filter {
@@ -73,7 +73,7 @@ fn broken_too(
     alloc: Global,
     trees: &[Tree],
     finding: &Finding,
-    noted: &Noted,
+    noted: &Note,
 ) -> Result<Option<Violation>, AllocError>
     ensures { IfOk result (λ o. IfSome o (λ v. spec.IsBrokenBy trees.now noted.now v × Contains (prevented_by finding.now.rule) v)) }
 {
@@ -86,7 +86,7 @@ fn broken_too(
 pub(crate) fn also_broken(
     alloc: Global,
     trees: &[Tree],
-    earlier: &[Noted],
+    earlier: &[Note],
     filter: usize,
     found: &[Finding],
     finding: &Finding,

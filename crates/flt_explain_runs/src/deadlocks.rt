@@ -9,12 +9,12 @@ use crate::lines::{journal_rows, lengths_of, plural};
 use crate::warned::WarnedText;
 use flt_explain::Subject;
 use flt_explain_details::{Page, Part, word_of};
-use flt_explain_waits::Blocked;
+use flt_explain_waits::BlockedActivation;
 use flt_model::{Journal, Verdict};
 use flt_order::Acquisition;
 use flt_places::Files;
 use flt_search::{Bounds, SearchWatch};
-use flt_search_deadlocks::{Answer, Deadlock, Watched, find_deadlock};
+use flt_search_deadlocks::{Answer, Deadlock, WatchedSearch, find_deadlock};
 use flt_tree::Tree;
 use std::alloc::{AllocError, Global};
 use std::fmt;
@@ -28,7 +28,7 @@ fn tell_wait<'x>(
     files: &Files<'x>,
     home: usize,
     tree: &'x Tree,
-    wait: &Blocked,
+    wait: &BlockedActivation,
 ) -> Result<(), AllocError>
     ensures { Writes result page.old page.new (spec.wait_words files.now home tree.now.filter wait.now) }
 {
@@ -66,7 +66,7 @@ fn tell_wait_line(
     files: &Files<'_>,
     home: usize,
     tree: &Tree,
-    wait: &Blocked,
+    wait: &BlockedActivation,
 ) -> Result<(), AllocError>
     ensures { Writes result page.old page.new (spec.wait_line files.now home tree.now.filter wait.now) }
 {
@@ -82,7 +82,7 @@ fn wait_lines(
     files: &Files<'_>,
     home: usize,
     tree: &Tree,
-    waits: &[Blocked],
+    waits: &[BlockedActivation],
 ) -> Result<Vec<u8>, AllocError>
     ensures { IfOk result (λ lines. lines.items ≡ spec.wait_lines files.now home tree.now.filter waits.now) }
 {
@@ -196,7 +196,7 @@ fn search_lines<W: SearchWatch>(
     let bounds = Bounds {
         states: text.states,
     };
-    let mut watched = Watched::new(watch);
+    let mut watched = WatchedSearch::new(watch);
     let answer = find_deadlock(text.alloc, text.own, 0, circle, bounds, &mut watched)?;
     let lines = answer_lines(text, &answer)?;
     Ok(lines)

@@ -10,12 +10,12 @@ ghost use Rattle.flt_explain_runs.specs.Told.{Tells};
 ghost use Rattle.flt_explain_runs.specs.Whole.{IsPrint, look_for};
 
 use crate::fault::ExplainFault;
-use crate::noted::Noted;
+use crate::noted::Note;
 use crate::output::Output;
 use crate::printing::Stage;
-use crate::readings::{Reading, Studied, read_all};
-use crate::together::Printed;
-use flt_explain_details::{Explained, Source};
+use crate::readings::{Reading, StudiedText, read_all};
+use crate::together::PrintedTexts;
+use flt_explain_details::{Printout, Source};
 use flt_explain_warning_details::WarningOptions;
 use flt_model::Sink;
 use flt_places::Files;
@@ -38,15 +38,15 @@ pub struct Asking {
 
 /// The output, and the notes on the findings in it: one for each finding that is reported by itself, in their order.
 #[derive(Drop)]
-pub struct Told {
-    pub explained: Explained,
-    pub noted: Items<Noted>,
+pub struct ExplainOutput {
+    pub explained: Printout,
+    pub noted: Items<Note>,
     /// How many bytes of the output are put out already.
     pub sent: usize,
 }
 
 /// Adds the files of a text, if it parses.
-fn add_files<'a>(all: &mut Vec<Files<'a>>, studied: &Studied<'a>) -> Result<(), AllocError>
+fn add_files<'a>(all: &mut Vec<Files<'a>>, studied: &StudiedText<'a>) -> Result<(), AllocError>
     ensures { OnOk result (all.new.items ≡ all.old.items ++ files_by studied.now.reading studied.now.source) }
 {
     if let Reading::Known(_) = studied.reading {
@@ -56,7 +56,7 @@ fn add_files<'a>(all: &mut Vec<Files<'a>>, studied: &Studied<'a>) -> Result<(), 
 }
 
 /// The files of each text that parses.
-fn files_in<'a>(alloc: Global, each: &[Studied<'a>]) -> Result<Vec<Files<'a>>, AllocError>
+fn files_in<'a>(alloc: Global, each: &[StudiedText<'a>]) -> Result<Vec<Files<'a>>, AllocError>
     ensures { IfOk result (λ all. all.items ≡ files_read each.now) }
 {
     let mut all = Vec::new(alloc);
@@ -67,15 +67,15 @@ fn files_in<'a>(alloc: Global, each: &[Studied<'a>]) -> Result<Vec<Files<'a>>, A
 }
 
 /// The output for texts, with its status.
-fn finished(printed: Printed) -> Told
+fn finished(printed: PrintedTexts) -> ExplainOutput
     ensures output { result.explained.output.items ≡ printed.output.bytes.items }
     ensures status { result.explained.status ≡ printed.total.status }
     ensures noted { result.noted ≡ printed.output.noted }
     ensures sent { result.sent ≡ printed.sent }
 {
     let Output { bytes, noted } = printed.output;
-    Told {
-        explained: Explained {
+    ExplainOutput {
+        explained: Printout {
             output: bytes,
             status: printed.total.status,
         },
@@ -105,7 +105,7 @@ pub fn explain<O: Sink, W: SearchWatch>(
     sources: &[Source<'_>],
     out: &mut O,
     watch: &mut W,
-) -> Result<Told, ExplainFault>
+) -> Result<ExplainOutput, ExplainFault>
     ensures reports { IfOk result (λ t. spec.AreReports asking.options sources.now t.explained.output.items t.explained.status) }
     ensures noted { IfOk result (λ t. AreNotes (texts_of sources.now) t.noted) }
     ensures said { IfOk result (λ t. Tells (texts_of sources.now) asking.states t.noted t.explained.output.items) }

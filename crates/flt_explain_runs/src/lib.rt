@@ -42,12 +42,12 @@ mod violations;
 mod warned;
 mod warnings;
 
-pub use explaining::{Asking, Told, explain};
+pub use explaining::{Asking, ExplainOutput, explain};
 pub use fault::ExplainFault;
 pub use flt_search::{SearchWatch, UnwatchedSearch};
 pub use lines::{own_files, own_trees};
-pub use noted::{Again, Noted, first_journal, schedule_of};
+pub use noted::{Note, SetterOutcome, first_journal, schedule_of};
 pub use outlook::Outlook;
-pub use schedules::{Outcome, Schedule, Scheduled, Suspect, Suspects, only, outcomes_among};
+pub use schedules::{JointOutcome, Outcome, Schedule, Suspect, Suspects, only, outcomes_among};
 pub use unset::Unset;
 pub use violations::violations_of;

@@ -5,14 +5,14 @@ ghost use Rattle.flt_explain_runs.specs.Lines as spec;
 ghost use Rattle.flt_explain_runs.specs.Noted.{own_of, schedule_of as schedule_in};
 ghost use Rattle.flt_explain_runs.specs.Rows.{AreJournalRows, AreNoteRows, AreRunRows, own_files as own_files_of};
 
-use crate::noted::{Again, Noted, schedule_of};
-use crate::schedules::{Schedule, Scheduled, only};
+use crate::noted::{Note, SetterOutcome, schedule_of};
+use crate::schedules::{JointOutcome, Schedule, only};
 use crate::unset::Unset;
 use flt_explain_timeline::Timeline;
 use flt_graph::Place;
 use flt_model::{Journal, JournalEntry, Move, Verdict, Violation};
 use flt_places::Files;
-use flt_search::Broken;
+use flt_search::BreakingJournal;
 use flt_tree::Tree;
 use std::alloc::{AllocError, Global};
 use std::fmt;
@@ -158,7 +158,7 @@ fn put_filters(out: &mut Vec<u8>, trees: &[Tree], own: &[Tree]) -> Result<(), Al
 }
 
 /// The violation of a run, and how long it is.
-fn broken_words(alloc: Global, broken: &Broken) -> Result<String, AllocError>
+fn broken_words(alloc: Global, broken: &BreakingJournal) -> Result<String, AllocError>
     ensures { IfOk result (λ words. string_bytes words
         ≡ spec.break_words broken.now.violation broken.now.entry ++ spec.lengths broken.now.journal) }
 {
@@ -172,7 +172,7 @@ fn run_words(
     alloc: Global,
     trees: &[Tree],
     own: &[Tree],
-    broken: &Broken,
+    broken: &BreakingJournal,
 ) -> Result<Vec<u8>, AllocError>
     ensures { IfOk result (λ words. words.items ≡ spec.run_words trees.now own.now broken.now) }
 {
@@ -271,7 +271,7 @@ fn searched(alloc: Global, is_behind: bool, cut: Option<u32>) -> Result<String, 
 }
 
 /// Why no run is shown. These words never say more of a search than that it ended.
-fn missing(alloc: Global, noted: &Noted, cut: Option<u32>) -> Result<String, AllocError>
+fn missing(alloc: Global, noted: &Note, cut: Option<u32>) -> Result<String, AllocError>
     ensures { IfOk result (λ words. string_bytes words ≡ spec.missing noted.now.also noted.now.is_behind cut) }
 {
     match noted.also {
@@ -284,7 +284,7 @@ fn missing(alloc: Global, noted: &Noted, cut: Option<u32>) -> Result<String, All
 }
 
 /// Why there is no run, if a search continues from so many states; empty if there is one.
-fn reason(alloc: Global, states: u32, noted: &Noted) -> Result<String, AllocError>
+fn reason(alloc: Global, states: u32, noted: &Note) -> Result<String, AllocError>
     ensures { IfOk result (λ words. string_bytes words ≡ spec.reason states noted.now (schedule_in noted.now.scheduled)) }
 {
     match schedule_of(&noted.scheduled) {
@@ -301,7 +301,7 @@ fn reason(alloc: Global, states: u32, noted: &Noted) -> Result<String, AllocErro
 }
 
 /// The same, after the word `none`.
-fn none_words(alloc: Global, states: u32, noted: &Noted) -> Result<Vec<u8>, AllocError>
+fn none_words(alloc: Global, states: u32, noted: &Note) -> Result<Vec<u8>, AllocError>
     ensures { IfOk result (λ words. words.items
         ≡ codes "none: " ++ spec.reason states noted.now (schedule_in noted.now.scheduled)) }
 {
@@ -314,12 +314,12 @@ fn none_words(alloc: Global, states: u32, noted: &Noted) -> Result<Vec<u8>, Allo
 // ---- notes
 
 /// The trees of the filters in whose runs a finding of the filter of a number has its outcome.
-pub fn own_trees<'t>(trees: &'t [Tree], number: usize, scheduled: &Scheduled) -> &'t [Tree]
+pub fn own_trees<'t>(trees: &'t [Tree], number: usize, scheduled: &JointOutcome) -> &'t [Tree]
     ensures { result.now ≡ own_of trees.now number scheduled.now }
 {
     match scheduled {
-        Scheduled::Together(_) => trees,
-        Scheduled::Alone(_) => only(trees, number),
+        JointOutcome::Together(_) => trees,
+        JointOutcome::Alone(_) => only(trees, number),
     }
 }
 
@@ -328,7 +328,7 @@ fn note_words(
     alloc: Global,
     trees: &[Tree],
     states: u32,
-    noted: &Noted,
+    noted: &Note,
 ) -> Result<Vec<u8>, AllocError>
     ensures { IfOk result (λ words. words.items ≡ spec.words_of trees.now states noted.now (schedule_in noted.now.scheduled)) }
 {
@@ -350,7 +350,7 @@ pub(crate) fn note_line(
     alloc: Global,
     trees: &[Tree],
     states: u32,
-    noted: &Noted,
+    noted: &Note,
 ) -> Result<Vec<u8>, AllocError>
     ensures { IfOk result (λ line. line.items ≡ spec.note_line trees.now states noted.now) }
 {
@@ -379,7 +379,7 @@ impl fmt::Display for AgainWords {
 }
 
 /// The line on a run of a text with one more callback, which sets what nothing in the text sets.
-fn run_again(alloc: Global, broken: &Broken) -> Result<String, AllocError>
+fn run_again(alloc: Global, broken: &BreakingJournal) -> Result<String, AllocError>
     ensures { IfOk result (λ line. string_bytes line ≡ spec.run_again broken.now) }
 {
     let words = AgainWords(broken.violation, broken.entry);
@@ -391,13 +391,13 @@ fn run_again(alloc: Global, broken: &Broken) -> Result<String, AllocError>
 }
 
 /// The line on the outcome of a finding in that text; empty if it wasn't looked for.
-pub(crate) fn again_line(alloc: Global, again: &Option<Again>) -> Result<String, AllocError>
+pub(crate) fn again_line(alloc: Global, again: &Option<SetterOutcome>) -> Result<String, AllocError>
     ensures { IfOk result (λ line. string_bytes line ≡ spec.again_line again.now) }
 {
     match again {
         None => Ok(String::new(alloc)),
-        Some(Again::Runs(broken)) => run_again(alloc, broken),
-        Some(Again::RunsNowhere) => String::from_str(
+        Some(SetterOutcome::Runs(broken)) => run_again(alloc, broken),
+        Some(SetterOutcome::RunsNowhere) => String::from_str(
             alloc,
             "   = with a callback that sets one: no run was found either\n",
         ),
@@ -410,14 +410,14 @@ pub(crate) fn again_line(alloc: Global, again: &Option<Again>) -> Result<String,
 pub fn own_files<'f>(
     files: &'f [Files<'f>],
     filter: usize,
-    scheduled: &Scheduled,
+    scheduled: &JointOutcome,
 ) -> &'f [Files<'f>]
     ensures { result.now ≡ own_files_of files.now filter scheduled.now }
 {
     match scheduled {
-        Scheduled::Together(_) => files,
-        Scheduled::Alone(_) if filter < files.len() => &files[filter..filter + 1],
-        Scheduled::Alone(_) => &[],
+        JointOutcome::Together(_) => files,
+        JointOutcome::Alone(_) if filter < files.len() => &files[filter..filter + 1],
+        JointOutcome::Alone(_) => &[],
     }
 }
 
@@ -443,7 +443,7 @@ pub(crate) fn run_rows(
     alloc: Global,
     own: &[Tree],
     files: &[Files<'_>],
-    broken: &Broken,
+    broken: &BreakingJournal,
 ) -> Result<String, AllocError>
     ensures { IfOk result (λ rows. AreRunRows own.now files.now broken.now (string_bytes rows)) }
 {
@@ -456,7 +456,7 @@ pub(crate) fn note_rows(
     alloc: Global,
     trees: &[Tree],
     files: &[Files<'_>],
-    noted: &Noted,
+    noted: &Note,
 ) -> Result<String, AllocError>
     ensures { IfOk result (λ rows. AreNoteRows trees.now files.now noted.now (string_bytes rows)) }
 {

@@ -4,23 +4,23 @@ ghost use Rattle.std.specs.Prelude.{◌≡◌};
 ghost use Rattle.std.specs.Option.{option_copied};
 ghost use Rattle.flt_explain_runs.specs.Noted as spec;
 
-use crate::schedules::{Schedule, Scheduled};
+use crate::schedules::{JointOutcome, Schedule};
 use flt_graph::Place;
 use flt_model::{Journal, Violation};
-use flt_search::Broken;
+use flt_search::BreakingJournal;
 
 /// The outcome of a finding if one more callback sets the contexts that nothing in its text sets.
 #[derive(Drop)]
-pub enum Again {
+pub enum SetterOutcome {
     /// This is a run of the text with that callback.
-    Runs(Broken),
+    Runs(BreakingJournal),
     /// No run was found there either.
     RunsNowhere,
 }
 
 /// A note on a finding: its outcome in runs.
 #[derive(Drop)]
-pub struct Noted {
+pub struct Note {
     /// The number of its filter among those of the texts that parse, from 0.
     pub filter: usize,
     /// The number of the finding among those of its text, from 0.
@@ -29,24 +29,24 @@ pub struct Noted {
     pub place: Place,
     /// Whether each known path to it breaks another rule before.
     pub is_behind: bool,
-    pub scheduled: Scheduled,
+    pub scheduled: JointOutcome,
     /// The further violation of the run of a finding that was noted before, at the same point, if this one has no run.
     pub also: Option<Violation>,
     /// Its outcome if one more callback sets what nothing in its text sets, if that was looked for.
-    pub again: Option<Again>,
+    pub again: Option<SetterOutcome>,
 }
 
 /// The outcome of a finding, in whichever runs.
-pub fn schedule_of(scheduled: &Scheduled) -> &Schedule
+pub fn schedule_of(scheduled: &JointOutcome) -> &Schedule
     ensures { result.now ≡ spec.schedule_of scheduled.now }
 {
     match scheduled {
-        Scheduled::Together(schedule) | Scheduled::Alone(schedule) => schedule,
+        JointOutcome::Together(schedule) | JointOutcome::Alone(schedule) => schedule,
     }
 }
 
 /// The journal that breaks something, if there is one.
-fn journal_of(noted: &Noted) -> Option<&Journal>
+fn journal_of(noted: &Note) -> Option<&Journal>
     ensures { option_copied result ≡ spec.journal_of noted.now }
 {
     match schedule_of(&noted.scheduled) {
@@ -60,7 +60,7 @@ fn journal_of(noted: &Noted) -> Option<&Journal>
 }
 
 /// The journal of the first finding that has one.
-pub fn first_journal(noted: &[Noted]) -> Option<&Journal>
+pub fn first_journal(noted: &[Note]) -> Option<&Journal>
     ensures { option_copied result ≡ spec.first_journal noted.now }
 {
     for one in noted {

@@ -31,7 +31,7 @@ const VARIABLES: [ContextVariable; 9] = [
 
 /// The possible states of a variable at each point, if nothing sets contexts on some anchors.
 #[derive(Drop)]
-pub(crate) struct Surveyed {
+pub(crate) struct StateSurvey {
     unset: Unset,
     variable: ContextVariable,
     rows: Items<Items<Possible>>,
@@ -41,7 +41,7 @@ pub(crate) struct Surveyed {
 #[derive(Drop)]
 pub struct Outlook<'g> {
     graph: &'g Graph,
-    surveyed: Items<Surveyed>,
+    surveyed: Items<StateSurvey>,
 }
 
 impl<'g> Model for Outlook<'g> {
@@ -87,14 +87,14 @@ fn followed(subject: Subject) -> ContextVariable
     }
 }
 
-impl Surveyed {
+impl StateSurvey {
     /// The possible states of a variable if nothing sets contexts on some anchors; none if something leads out of those that are found.
     fn of(
         alloc: Global,
         graph: &Graph,
         unset: Unset,
         variable: ContextVariable,
-    ) -> Result<Option<Surveyed>, AllocError>
+    ) -> Result<Option<StateSurvey>, AllocError>
         requires unset { AreUnset graph.now unset }
         ensures { IfOk result (λ found. IfSome found (spec.IsSurveyed graph.now)) }
     {
@@ -107,7 +107,7 @@ impl Surveyed {
         if !survey.holds(rows.as_slice()) {
             return Ok(None);
         }
-        Ok(Some(Surveyed {
+        Ok(Some(StateSurvey {
             unset,
             variable,
             rows,
@@ -158,13 +158,13 @@ fn add_survey(
     graph: &Graph,
     unset: Unset,
     variable: ContextVariable,
-    surveyed: &mut Items<Surveyed>,
+    surveyed: &mut Items<StateSurvey>,
 ) -> Result<(), AllocError>
     requires unset { AreUnset graph.now unset }
     requires old { All (spec.IsSurveyed graph.now) surveyed.old }
     ensures { OnOk result (All (spec.IsSurveyed graph.now) surveyed.new) }
 {
-    match Surveyed::of(alloc, graph, unset, variable)? {
+    match StateSurvey::of(alloc, graph, unset, variable)? {
         Some(found) => {
             surveyed.push(found)?;
             Ok(())
@@ -178,7 +178,7 @@ fn add_surveys(
     alloc: Global,
     graph: &Graph,
     unset: Unset,
-    surveyed: &mut Items<Surveyed>,
+    surveyed: &mut Items<StateSurvey>,
 ) -> Result<(), AllocError>
     requires unset { AreUnset graph.now unset }
     requires old { All (spec.IsSurveyed graph.now) surveyed.old }
@@ -195,7 +195,7 @@ fn add_some(
     alloc: Global,
     graph: &Graph,
     unset: Unset,
-    surveyed: &mut Items<Surveyed>,
+    surveyed: &mut Items<StateSurvey>,
 ) -> Result<(), AllocError>
     requires unset { AreUnset graph.now unset }
     requires old { All (spec.IsSurveyed graph.now) surveyed.old }
@@ -209,7 +209,7 @@ fn add_some(
 
 /// The possible states of each variable: in the text as it is, without contexts of the instance, without those of streams, and without
 /// both, if nothing sets them.
-fn surveys(alloc: Global, graph: &Graph) -> Result<Items<Surveyed>, AllocError>
+fn surveys(alloc: Global, graph: &Graph) -> Result<Items<StateSurvey>, AllocError>
     ensures { IfOk result (All (spec.IsSurveyed graph.now)) }
 {
     let unset = Unset::of(graph);

@@ -6,7 +6,7 @@ ghost use Rattle.flt_explain_runs.specs.Printing.{IsSaid};
 ghost use Rattle.flt_explain_runs.specs.Quiet.{quieted};
 
 use crate::lines::{again_line, note_line};
-use crate::noted::Noted;
+use crate::noted::Note;
 use crate::quiet::put_quiet;
 use flt_tree::Tree;
 use sqlite_items::Items;
@@ -16,7 +16,7 @@ use std::alloc::{AllocError, Global};
 #[derive(Drop)]
 pub(crate) struct Output {
     pub(crate) bytes: Vec<u8>,
-    pub(crate) noted: Items<Noted>,
+    pub(crate) noted: Items<Note>,
 }
 
 impl Output {
@@ -45,7 +45,7 @@ impl Output {
         alloc: Global,
         trees: &[Tree],
         states: u32,
-        noted: &Noted,
+        noted: &Note,
         rows: &[u8],
     ) -> Result<(), AllocError>
         ensures bytes { OnOk result (self.new.bytes.items
@@ -67,7 +67,7 @@ impl Output {
         alloc: Global,
         trees: &[Tree],
         states: u32,
-        noted: Noted,
+        noted: Note,
         rows: &[u8],
         again_rows: &[u8],
     ) -> Result<(), AllocError>

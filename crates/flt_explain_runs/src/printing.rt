@@ -19,12 +19,12 @@ ghost use Rattle.flt_explain_runs.specs.Whole.{AreReported, is_alone};
 use crate::again::Setting;
 use crate::also::also_broken;
 use crate::lines::note_rows;
-use crate::noted::{Again, Noted, schedule_of};
+use crate::noted::{Note, SetterOutcome, schedule_of};
 use crate::notices::{detaches, notice_lines};
 use crate::outlook::Outlook;
 use crate::output::Output;
-use crate::readings::{Reading, Studied};
-use crate::schedules::{Outcome, Schedule, Scheduled, Suspect, Suspects, only, outcomes_among};
+use crate::readings::{Reading, StudiedText};
+use crate::schedules::{JointOutcome, Outcome, Schedule, Suspect, Suspects, only, outcomes_among};
 use crate::setters::Setter;
 use crate::totals::Tally;
 use crate::warned::WarnedText;
@@ -70,7 +70,7 @@ pub(crate) struct Stage<'a> {
 
 /// A text that parses: the number of its tree, its tree, its points, its findings and its warnings.
 #[derive(Clone, Copy)]
-pub(crate) struct Known<'a> {
+pub(crate) struct ParsedText<'a> {
     pub(crate) source: Source<'a>,
     pub(crate) place: usize,
     pub(crate) tree: &'a Tree,
@@ -127,7 +127,7 @@ fn last_of(outcomes: &mut Vec<Outcome>) -> Outcome
 
 impl Stage<'_> {
     /// The reports of the findings of a text that parses.
-    fn reports(&self, known: Known<'_>) -> Result<Items<Report>, AllocError>
+    fn reports(&self, known: ParsedText<'_>) -> Result<Items<Report>, AllocError>
         ensures reports { IfOk result (AreReported (spec.look_of self.now) known.entry.source known.entry.tree.now
             known.entry.graph.now known.entry.found.now) }
         ensures firsts { IfOk result (λ all. AreFirsts known.entry.found.now (map (λ r. r.finding) all)) }
@@ -145,7 +145,7 @@ impl Stage<'_> {
     /// The outcomes of the findings of a text that are reported by themselves.
     fn outcomes<W: SearchWatch>(
         &self,
-        known: Known<'_>,
+        known: ParsedText<'_>,
         outlook: &Outlook<'_>,
         reports: &[Report],
         watch: &mut W,
@@ -167,7 +167,7 @@ impl Stage<'_> {
     /// The outcomes of the findings that need contexts which nothing sets, if one more callback sets them.
     fn setting<W: SearchWatch>(
         &self,
-        known: Known<'_>,
+        known: ParsedText<'_>,
         outlook: &Outlook<'_>,
         outcomes: &[Outcome],
         watch: &mut W,
@@ -202,9 +202,9 @@ impl Stage<'_> {
     /// The further violation of the run of a finding that was noted before, if this one has no run.
     fn also(
         &self,
-        earlier: &[Noted],
-        known: Known<'_>,
-        scheduled: &Scheduled,
+        earlier: &[Note],
+        known: ParsedText<'_>,
+        scheduled: &JointOutcome,
         finding: &Finding,
     ) -> Result<Option<Violation>, AllocError>
         ensures { IfOk result (λ o. IfSome o (IsAlso self.now.trees.now known.entry.place known.entry.found.now earlier.now finding.now)) }
@@ -225,11 +225,11 @@ impl Stage<'_> {
     /// The outcome of a finding if one more callback sets the contexts that nothing in its text sets.
     fn again(
         &self,
-        known: Known<'_>,
+        known: ParsedText<'_>,
         setting: &Option<Setting>,
-        scheduled: &Scheduled,
+        scheduled: &JointOutcome,
         number: usize,
-    ) -> Result<Option<Again>, AllocError>
+    ) -> Result<Option<SetterOutcome>, AllocError>
         requires setting { IfSome setting.now (IsSetting known.source.text.now known.found.now) }
         ensures again { IfOk result (λ a. IfSome a (spec.IsAgainOf known.entry number)) }
         ensures none { IfOk result (λ a. setting.now ≡ None → a ≡ None) }
@@ -245,12 +245,12 @@ impl Stage<'_> {
     /// The note on the finding of a report, after earlier notes.
     fn noted(
         &self,
-        earlier: &[Noted],
-        known: Known<'_>,
+        earlier: &[Note],
+        known: ParsedText<'_>,
         setting: &Option<Setting>,
         report: &Report,
         outcome: Outcome,
-    ) -> Result<Noted, AllocError>
+    ) -> Result<Note, AllocError>
         requires outcome { spec.IsOutcomeOf self.now.trees.now known report.now outcome }
         requires setting { IfSome setting.now (IsSetting known.source.text.now known.found.now) }
         ensures noted { IfOk result (spec.IsNotedOf self.now.trees.now known.entry earlier.now) }
@@ -262,7 +262,7 @@ impl Stage<'_> {
         let finding = finding_at(known.found, number);
         let also = self.also(earlier, known, &outcome.scheduled, &finding)?;
         let again = self.again(known, setting, &outcome.scheduled, number)?;
-        Ok(Noted {
+        Ok(Note {
             filter: known.place,
             finding: number,
             place: known.graph.place(finding.callback),
@@ -278,7 +278,7 @@ impl Stage<'_> {
         &self,
         source: Source<'_>,
         setting: &Option<Setting>,
-        noted: &Noted,
+        noted: &Note,
     ) -> Result<Vec<u8>, AllocError>
         ensures { IfOk result (λ rows. AreSettingRows setting.now source.entry.files noted.now.again rows.items) }
     {
@@ -297,7 +297,7 @@ impl Stage<'_> {
         output: &mut Output,
         source: Source<'_>,
         setting: &Option<Setting>,
-        noted: Noted,
+        noted: Note,
     ) -> Result<(), AllocError>
         requires said { spec.IsSaid self.now.trees.now self.now.states output.old }
         ensures said { OnOk result (spec.IsSaid self.now.trees.now self.now.states output.new) }
@@ -321,7 +321,7 @@ impl Stage<'_> {
     fn put_report(
         &self,
         output: &mut Output,
-        known: Known<'_>,
+        known: ParsedText<'_>,
         setting: &Option<Setting>,
         report: &Report,
         outcome: Outcome,
@@ -346,7 +346,7 @@ impl Stage<'_> {
     fn put_reports(
         &self,
         output: &mut Output,
-        known: Known<'_>,
+        known: ParsedText<'_>,
         setting: &Option<Setting>,
         reports: &[Report],
         outcomes: &mut Vec<Outcome>,
@@ -371,7 +371,7 @@ impl Stage<'_> {
     fn put_found<W: SearchWatch>(
         &self,
         output: &mut Output,
-        known: Known<'_>,
+        known: ParsedText<'_>,
         watch: &mut W,
     ) -> Result<(), AllocError>
         requires some { known.found.now ≢ [] }
@@ -395,7 +395,7 @@ impl Stage<'_> {
     /// The promise and the warnings of a text that parses and has no findings.
     fn promise_and_warnings<W: SearchWatch>(
         &self,
-        known: Known<'_>,
+        known: ParsedText<'_>,
         watch: &mut W,
     ) -> Result<Vec<u8>, AllocError>
         ensures { IfOk result (λ said. ArePromised (spec.warned_in (spec.look_of self.now) self.now.trees.now known.entry)
@@ -418,7 +418,7 @@ impl Stage<'_> {
     fn put_warnings<W: SearchWatch>(
         &self,
         output: &mut Output,
-        known: Known<'_>,
+        known: ParsedText<'_>,
         watch: &mut W,
     ) -> Result<(), AllocError>
         requires none { known.found.now ≡ [] }
@@ -437,7 +437,7 @@ impl Stage<'_> {
     fn put_findings<W: SearchWatch>(
         &self,
         output: &mut Output,
-        known: Known<'_>,
+        known: ParsedText<'_>,
         watch: &mut W,
     ) -> Result<(), AllocError>
         requires silent { spec.IsSilent self.now.trees.now self.now.states output.old }
@@ -457,7 +457,7 @@ impl Stage<'_> {
     /// The report of a text that parses, and the line that ends it.
     fn known_part<W: SearchWatch>(
         &self,
-        known: Known<'_>,
+        known: ParsedText<'_>,
         watch: &mut W,
     ) -> Result<Part, AllocError>
         requires known { spec.IsKnownIn (spec.look_of self.now) self.now.trees.now known }
@@ -491,7 +491,7 @@ impl Stage<'_> {
         let found = found.as_slice();
         let allowed = self.options.allowed;
         let details = warning_details(self.alloc, source, tree, &graph, found, allowed)?;
-        let known = Known {
+        let known = ParsedText {
             source,
             place,
             tree,
@@ -572,7 +572,7 @@ impl Stage<'_> {
     /// The report of a text.
     pub(crate) fn part<W: SearchWatch>(
         &self,
-        studied: &Studied<'_>,
+        studied: &StudiedText<'_>,
         watch: &mut W,
     ) -> Result<Part, AllocError>
         requires text { IsStudied self.now.trees.now studied.now }

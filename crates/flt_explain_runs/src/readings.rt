@@ -25,7 +25,7 @@ pub(crate) enum Reading {
 
 /// A text, and its reading.
 #[derive(Clone, Copy)]
-pub(crate) struct Studied<'a> {
+pub(crate) struct StudiedText<'a> {
     pub(crate) source: Source<'a>,
     pub(crate) reading: Reading,
 }
@@ -34,7 +34,7 @@ pub(crate) struct Studied<'a> {
 #[derive(Drop)]
 pub(crate) struct Readings<'a> {
     pub(crate) trees: Items<Tree>,
-    pub(crate) each: Vec<Studied<'a>>,
+    pub(crate) each: Vec<StudiedText<'a>>,
 }
 
 impl<'a> Readings<'a> {
@@ -47,7 +47,7 @@ impl<'a> Readings<'a> {
             ≡ spec.sources_read self.old.each.items ++ source.entry ∷ []) }
     {
         let reading = Reading::Other(kind);
-        self.each.push(Studied { source, reading })?;
+        self.each.push(StudiedText { source, reading })?;
         Ok(())
     }
 
@@ -60,7 +60,7 @@ impl<'a> Readings<'a> {
             ≡ spec.sources_read self.old.each.items ++ source.entry ∷ []) }
     {
         let reading = Reading::Unread(fault);
-        self.each.push(Studied { source, reading })?;
+        self.each.push(StudiedText { source, reading })?;
         Ok(())
     }
 
@@ -74,7 +74,7 @@ impl<'a> Readings<'a> {
     {
         let reading = Reading::Known(self.trees.len());
         self.trees.push(tree)?;
-        self.each.push(Studied { source, reading })?;
+        self.each.push(StudiedText { source, reading })?;
         Ok(())
     }
 

@@ -17,8 +17,8 @@ use crate::violations::violations_of;
 use flt_explain::Finding;
 use flt_model::{Violation, first_repeated};
 use flt_rules::{MAX_FILTERS, Rule};
-use flt_search::{Answer, Bounds, Broken, Goal, SearchWatch, Watched, search};
-use flt_search_started::Started;
+use flt_search::{Answer, Bounds, BreakingJournal, Goal, SearchWatch, WatchedSearch, search};
+use flt_search_started::StartedCallbacks;
 use flt_tree::{Callback, Tree};
 use std::alloc::{AllocError, Global};
 
@@ -41,7 +41,7 @@ pub struct Suspects<'g> {
 #[derive(Drop)]
 pub enum Schedule {
     /// This run breaks what the finding's rule prevents.
-    Breaks(Broken),
+    Breaks(BreakingJournal),
     /// No run was found within the bounds.
     NotWithin,
     /// No run was found before there were too many states.
@@ -57,7 +57,7 @@ pub enum Schedule {
 
 /// The outcome of a finding in runs of several filters.
 #[derive(Drop)]
-pub enum Scheduled {
+pub enum JointOutcome {
     /// In runs of all filters.
     Together(Schedule),
     /// In runs of the finding's filter alone.
@@ -68,7 +68,7 @@ pub enum Scheduled {
 #[derive(Drop)]
 pub struct Outcome {
     pub number: usize,
-    pub scheduled: Scheduled,
+    pub scheduled: JointOutcome,
 }
 
 /// The callbacks of the filter of a number; none if there is no such filter.
@@ -89,7 +89,7 @@ fn is_anywhere(rule: Rule) -> bool {
 }
 
 /// Whether no run starts a finding's callback, as far as it is known which may start.
-fn never_starts(started: Option<&Started>, finding: &Finding) -> bool
+fn never_starts(started: Option<&StartedCallbacks>, finding: &Finding) -> bool
     ensures { (cs : List Callback) → spec.IsStartedOf cs started.entry → IsTrue result → NeverStarts cs finding.now.callback }
 {
     match started {
@@ -101,7 +101,7 @@ fn never_starts(started: Option<&Started>, finding: &Finding) -> bool
 /// Why there can be no run, if that is known without a search.
 fn known_for(
     outlook: &Outlook<'_>,
-    started: Option<&Started>,
+    started: Option<&StartedCallbacks>,
     finding: &Finding,
 ) -> Option<Schedule>
     ensures known { (p : List Filter) (cs : List Callback) → spec.IsStartedOf cs started.entry →
@@ -128,7 +128,7 @@ fn is_run(answer: Option<&Answer>) -> bool {
 /// The violations to look for: none if a finding's outcome is known without a search, or if this answer is a run.
 fn wanted_for(
     outlook: &Outlook<'_>,
-    started: Option<&Started>,
+    started: Option<&StartedCallbacks>,
     finding: &Finding,
     answer: Option<&Answer>,
 ) -> &'static [Violation]
@@ -144,7 +144,7 @@ fn wanted_for(
 /// The goal for a finding of the filter of a number, given an earlier answer.
 fn goal_for(
     outlook: &Outlook<'_>,
-    started: Option<&Started>,
+    started: Option<&StartedCallbacks>,
     filter: usize,
     suspect: &Suspect,
     answer: Option<&Answer>,
@@ -165,7 +165,7 @@ fn goal_for(
 fn goals_for(
     alloc: Global,
     outlook: &Outlook<'_>,
-    started: Option<&Started>,
+    started: Option<&StartedCallbacks>,
     filter: usize,
     found: &[Suspect],
     answers: &[Answer],
@@ -188,10 +188,10 @@ fn searched<W: SearchWatch>(
     trees: &[Tree],
     filter: usize,
     suspects: &Suspects<'_>,
-    started: Option<&Started>,
+    started: Option<&StartedCallbacks>,
     answers: &[Answer],
     states: u32,
-    watched: &mut Watched<'_, W>,
+    watched: &mut WatchedSearch<'_, W>,
 ) -> Result<Vec<Answer>, AllocError>
     ensures { IfOk result (λ found. spec.AreFound (filters_of trees.now) suspects.now.found.now found.items) }
 {
@@ -229,9 +229,9 @@ fn searched_together<W: SearchWatch>(
     alloc: Global,
     trees: &[Tree],
     suspects: &Suspects<'_>,
-    started: Option<&Started>,
+    started: Option<&StartedCallbacks>,
     states: u32,
-    watched: &mut Watched<'_, W>,
+    watched: &mut WatchedSearch<'_, W>,
 ) -> Result<Vec<Answer>, AllocError>
     ensures { IfOk result (λ found. spec.AreTogether trees.now suspects.now.filter suspects.now.found.now found.items) }
 {
@@ -256,10 +256,10 @@ fn searched_alone<W: SearchWatch>(
     alloc: Global,
     trees: &[Tree],
     suspects: &Suspects<'_>,
-    started: Option<&Started>,
+    started: Option<&StartedCallbacks>,
     together: &[Answer],
     states: u32,
-    watched: &mut Watched<'_, W>,
+    watched: &mut WatchedSearch<'_, W>,
 ) -> Result<Vec<Answer>, AllocError>
     ensures { IfOk result
         (λ found. spec.AreFound (filters_of (spec.only trees.now suspects.now.filter)) suspects.now.found.now found.items) }
@@ -279,7 +279,7 @@ fn searched_alone<W: SearchWatch>(
 fn schedule_for(
     alloc: Global,
     outlook: &Outlook<'_>,
-    started: Option<&Started>,
+    started: Option<&StartedCallbacks>,
     finding: &Finding,
     answer: Option<&Answer>,
 ) -> Result<Schedule, AllocError>
@@ -301,11 +301,11 @@ fn scheduled_for(
     alloc: Global,
     _trees: &[Tree],
     suspects: &Suspects<'_>,
-    started: Option<&Started>,
+    started: Option<&StartedCallbacks>,
     finding: &Finding,
     together: Option<&Answer>,
     alone: Option<&Answer>,
-) -> Result<Scheduled, AllocError>
+) -> Result<JointOutcome, AllocError>
     requires started { spec.IsStartedOf (spec.callbacks_of _trees.now suspects.now.filter) started }
     requires together { spec.IsTogetherBy _trees.now suspects.now.filter finding.now together }
     requires alone { spec.IsFoundBy (filters_of (spec.only _trees.now suspects.now.filter)) finding.now alone }
@@ -314,11 +314,11 @@ fn scheduled_for(
     match together {
         Some(Answer::Breaks(_)) => {
             let schedule = schedule_for(alloc, suspects.outlook, started, finding, together)?;
-            Ok(Scheduled::Together(schedule))
+            Ok(JointOutcome::Together(schedule))
         }
         _ => {
             let schedule = schedule_for(alloc, suspects.outlook, started, finding, alone)?;
-            Ok(Scheduled::Alone(schedule))
+            Ok(JointOutcome::Alone(schedule))
         }
     }
 }
@@ -328,7 +328,7 @@ fn outcomes_by(
     alloc: Global,
     trees: &[Tree],
     suspects: &Suspects<'_>,
-    started: Option<&Started>,
+    started: Option<&StartedCallbacks>,
     together: &[Answer],
     alone: &[Answer],
 ) -> Result<Vec<Outcome>, AllocError>
@@ -376,9 +376,9 @@ pub fn outcomes_among<W: SearchWatch>(
     ensures { IfOk result
         (λ all. spec.AreOutcomes trees.now suspects.now.filter suspects.now.outlook.now suspects.now.found.now all.items) }
 {
-    let started = Started::of(alloc, callbacks_of(trees, suspects.filter))?;
+    let started = StartedCallbacks::of(alloc, callbacks_of(trees, suspects.filter))?;
     let started = started.as_ref();
-    let mut watched = Watched::new(watch);
+    let mut watched = WatchedSearch::new(watch);
     let together = searched_together(alloc, trees, suspects, started, states / 2, &mut watched)?;
     let together = together.as_slice();
     let alone = searched_alone(

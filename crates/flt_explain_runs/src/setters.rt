@@ -6,7 +6,7 @@ ghost use Rattle.flt_explain_runs.specs.Again as spec;
 
 use crate::unset::Unset;
 use flt_explain::Finding;
-use flt_explain_details::{Judged, judge};
+use flt_explain_details::{TextJudgement, judge};
 use flt_graph::Graph;
 use flt_rules::{Operation, number};
 use flt_tree::{Filter, Head, Tree};
@@ -136,7 +136,7 @@ fn whole_lines(alloc: Global, text: &[u8]) -> Result<Vec<u8>, AllocError>
 fn setter_of(
     alloc: Global,
     found: &[Finding],
-    judged: Judged,
+    judged: TextJudgement,
     added: String,
     line: usize,
 ) -> Result<Option<Setter>, AllocError>
@@ -144,7 +144,7 @@ fn setter_of(
     ensures lines { IfOk result (λ s. IfSome s (λ s. (string_bytes s.added ≡ string_bytes added) × (s.line ≡ line))) }
 {
     match judged {
-        Judged::Known(tree, graph, own) if begin_alike(found, own.as_slice()) => {
+        TextJudgement::Known(tree, graph, own) if begin_alike(found, own.as_slice()) => {
             let mut trees = Items::new(alloc);
             trees.push(tree)?;
             Ok(Some(Setter {

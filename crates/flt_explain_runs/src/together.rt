@@ -14,7 +14,7 @@ ghost use Rattle.flt_explain_runs.specs.Whole.{AreSeveralPrinted, IsPrintOfAll};
 use crate::fault::ExplainFault;
 use crate::output::Output;
 use crate::printing::{Part, Stage};
-use crate::readings::Studied;
+use crate::readings::StudiedText;
 use crate::totals::{Summary, Total};
 use flt_model::{Sink, put_all};
 use flt_search::SearchWatch;
@@ -22,21 +22,21 @@ use std::alloc::{AllocError, Global};
 
 /// The output for texts, their total, and how many bytes of the output are put out.
 #[derive(Drop)]
-pub(crate) struct Printed {
+pub(crate) struct PrintedTexts {
     pub(crate) output: Output,
     pub(crate) total: Total,
     pub(crate) sent: usize,
 }
 
-impl Printed {
+impl PrintedTexts {
     /// No output.
-    pub(crate) fn new(alloc: Global) -> Printed
+    pub(crate) fn new(alloc: Global) -> PrintedTexts
         ensures bytes { result.output.bytes.items ≡ [] }
         ensures noted { result.output.noted ≡ [] }
         ensures total { (result.total.status ≡ 0) × (result.total.findings ≡ 0) × (result.total.files ≡ 0) }
         ensures sent { result.sent ≡ 0 }
     {
-        Printed {
+        PrintedTexts {
             output: Output::new(alloc),
             total: Total {
                 status: 0,
@@ -83,8 +83,8 @@ impl Stage<'_> {
     /// Adds the report of one more text, and an empty line after it.
     fn add_part<W: SearchWatch>(
         &self,
-        printed: &mut Printed,
-        studied: &Studied<'_>,
+        printed: &mut PrintedTexts,
+        studied: &StudiedText<'_>,
         watch: &mut W,
     ) -> Result<(), AllocError>
         requires text { IsStudied self.now.trees.now studied.now }
@@ -100,8 +100,8 @@ impl Stage<'_> {
     /// The same; unless reports are held back, all bytes that aren't put out yet are put out then.
     fn put_part<O: Sink, W: SearchWatch>(
         &self,
-        printed: &mut Printed,
-        studied: &Studied<'_>,
+        printed: &mut PrintedTexts,
+        studied: &StudiedText<'_>,
         is_held: bool,
         out: &mut O,
         watch: &mut W,
@@ -129,11 +129,11 @@ impl Stage<'_> {
     /// is whole.
     fn put_each<O: Sink, W: SearchWatch>(
         &self,
-        each: &[Studied<'_>],
+        each: &[StudiedText<'_>],
         is_held: bool,
         out: &mut O,
         watch: &mut W,
-    ) -> Result<Printed, ExplainFault>
+    ) -> Result<PrintedTexts, ExplainFault>
         requires texts { AreStudied self.now.trees.now 0 each.now }
         requires parsed { AreParsed (texts_read each.now) (filters_of self.now.trees.now) }
         ensures printed { IfOk result (ArePrinted (look_of self.now) self.now.trees.now self.now.files.now each.now) }
@@ -145,7 +145,7 @@ impl Stage<'_> {
         ensures memory { IfErr result (λ e. e ≡ ExplainFault.OutOfMemory →
             spec.IsCut self.now.options (sources_read each.now) self.now.states (O.taken out.old) (O.taken out.new)) }
     {
-        let mut printed = Printed::new(self.alloc);
+        let mut printed = PrintedTexts::new(self.alloc);
         let [before @ .., last] = each else {
             return Ok(printed);
         };
@@ -159,11 +159,11 @@ impl Stage<'_> {
     /// The same, and after it the number of findings.
     fn put_several<O: Sink, W: SearchWatch>(
         &self,
-        each: &[Studied<'_>],
+        each: &[StudiedText<'_>],
         is_held: bool,
         out: &mut O,
         watch: &mut W,
-    ) -> Result<Printed, ExplainFault>
+    ) -> Result<PrintedTexts, ExplainFault>
         requires texts { AreStudied self.now.trees.now 0 each.now }
         requires parsed { AreParsed (texts_read each.now) (filters_of self.now.trees.now) }
         ensures reports { IfOk result (λ p. spec.AreSummed self.now.options (filters_of self.now.trees.now) (sources_read each.now)
@@ -195,16 +195,16 @@ impl Stage<'_> {
     /// The report of the only text.
     fn put_only<W: SearchWatch>(
         &self,
-        studied: &Studied<'_>,
+        studied: &StudiedText<'_>,
         watch: &mut W,
-    ) -> Result<Printed, AllocError>
+    ) -> Result<PrintedTexts, AllocError>
         requires text { IsStudied self.now.trees.now studied.now }
         ensures part { IfOk result (λ p. IsPart (look_of self.now) self.now.trees.now self.now.files.now studied.now (part_of p)) }
         ensures sent { IfOk result (λ p. p.sent ≡ 0) }
     {
         let part = self.part(studied, watch)?;
         let Part { output, tally } = part;
-        Ok(Printed {
+        Ok(PrintedTexts {
             output,
             total: Total {
                 status: tally.status,
@@ -219,11 +219,11 @@ impl Stage<'_> {
     /// each as soon as it is whole.
     pub(crate) fn put_all<O: Sink, W: SearchWatch>(
         &self,
-        each: &[Studied<'_>],
+        each: &[StudiedText<'_>],
         is_held: bool,
         out: &mut O,
         watch: &mut W,
-    ) -> Result<Printed, ExplainFault>
+    ) -> Result<PrintedTexts, ExplainFault>
         requires texts { AreStudied self.now.trees.now 0 each.now }
         requires parsed { AreParsed (texts_read each.now) (filters_of self.now.trees.now) }
         ensures reports { IfOk result (λ p. spec.AreAllReports self.now.options (filters_of self.now.trees.now) (sources_read each.now)
@@ -242,7 +242,7 @@ impl Stage<'_> {
             spec.IsCut self.now.options (sources_read each.now) self.now.states (O.taken out.old) (O.taken out.new)) }
     {
         match each {
-            [] => Ok(Printed::new(self.alloc)),
+            [] => Ok(PrintedTexts::new(self.alloc)),
             [only] => Ok(self.put_only(only, watch)?),
             [_, _, ..] => self.put_several(each, is_held, out, watch),
         }

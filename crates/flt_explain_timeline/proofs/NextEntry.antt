@@ -13,7 +13,7 @@ use Rattle.flt_explain_timeline.specs.Tellings.{AreToldBy, told_by}
 use Rattle.flt_explain_timeline.specs.declared.course.Progress.{Progress}
 use Rattle.flt_explain_timeline.specs.declared.refusal.Refusal.{Refusal}
 use Rattle.flt_explain_timeline.specs.declared.running.Scene.{Scene}
-use Rattle.flt_explain_timeline.specs.declared.running.Told.{Told}
+use Rattle.flt_explain_timeline.specs.declared.running.DescribedEntry.{DescribedEntry}
 use Rattle.flt_explain_timeline.specs.declared.telling.Telling.{Telling}
 use Rattle.flt_explain_timeline.specs.declared.telling.Who.{Who}
 use Rattle.flt_explain_timeline.specs.declared.tellings.Tellings.{Tellings}
@@ -33,20 +33,20 @@ module _ (p : List Filter) (v : Verdict) (number : ℕ) where
   unfolding refused_from
   refused_going old s e es going = rw going refl
 
-  told_made : (ends : Bool) (here : Told) (after : Scene) (e : JournalEntry) (es : List JournalEntry) (alive : ℕ) (why : Option Refusal) →
+  told_made : (ends : Bool) (here : DescribedEntry) (after : Scene) (e : JournalEntry) (es : List JournalEntry) (alive : ℕ) (why : Option Refusal) →
       ending_if ends here ∷ next_told p v (record { is_over = ends; alive = here.telling.alive; refusal = why }) (number + 1) after es
       ≡ followed e alive es ends (Goes here after) (λ bits w. told_from p v (number + 1) bits w es)
   told_made true here after e es alive why = refl
   told_made false here after e es alive why = refl
 
-  refused_made : (ends : Bool) (here : Told) (after : Scene) (es : List JournalEntry) (alive : ℕ) →
+  refused_made : (ends : Bool) (here : DescribedEntry) (after : Scene) (es : List JournalEntry) (alive : ℕ) →
       next_refused p v (record { is_over = ends; alive = alive; refusal = None }) (number + 1) after es
       ≡ refused_by ends (Goes here after) (λ w. refused_from p v (number + 1) w es)
   refused_made true here after es alive = refl
   refused_made false here after es alive = refl
 
   -- it was made
-  pub told_goes : (old new : Progress) (s after : Scene) (e : JournalEntry) (es : List JournalEntry) (here : Told) → old.is_over ≡ false →
+  pub told_goes : (old new : Progress) (s after : Scene) (e : JournalEntry) (es : List JournalEntry) (here : DescribedEntry) → old.is_over ≡ false →
       entry_of p s e ≡ Goes here after →
       new ≡ record { is_over = ends_at v number; alive = here.telling.alive; refusal = None } →
       ending_if (ends_at v number) here ∷ next_told p v new (number + 1) after es ≡ next_told p v old number s (e ∷ es)
@@ -57,7 +57,7 @@ module _ (p : List Filter) (v : Verdict) (number : ℕ) where
       ∙ sym (told_going old s e es going)
 
   -- where an entry can be made, the first refusal is looked for after it
-  pub refused_goes : (old new : Progress) (s after : Scene) (e : JournalEntry) (es : List JournalEntry) (here : Told) →
+  pub refused_goes : (old new : Progress) (s after : Scene) (e : JournalEntry) (es : List JournalEntry) (here : DescribedEntry) →
       old.is_over ≡ false → entry_of p s e ≡ Goes here after →
       new ≡ record { is_over = ends_at v number; alive = here.telling.alive; refusal = None } →
       next_refused p v new (number + 1) after es ≡ next_refused p v old number s (e ∷ es)
@@ -89,24 +89,24 @@ module _ (p : List Filter) (v : Verdict) (number : ℕ) where
 -- ---- what is told is numbered
 
 -- what was told by numbers still is
-still : (f g : ℕ → Option Telling) (told : List ℕ) (heres : List Told) → ((n : ℕ) (t : Telling) → f n ≡ Some t → g n ≡ Some t) →
-    map f told ≡ map (λ (here : Told). Some here.telling) heres → map g told ≡ map (λ (here : Told). Some here.telling) heres
+still : (f g : ℕ → Option Telling) (told : List ℕ) (heres : List DescribedEntry) → ((n : ℕ) (t : Telling) → f n ≡ Some t → g n ≡ Some t) →
+    map f told ≡ map (λ (here : DescribedEntry). Some here.telling) heres → map g told ≡ map (λ (here : DescribedEntry). Some here.telling) heres
 still f g [] [] kept e = refl
 still f g [] (here ∷ heres) kept e = absurd (cc)
 still f g (n ∷ told) [] kept e = absurd (cc)
 still f g (n ∷ told) (here ∷ heres) kept e =
     let first : f n ≡ Some here.telling = cc in
-    let rest : map f told ≡ map (λ (h : Told). Some h.telling) heres = cc in
+    let rest : map f told ≡ map (λ (h : DescribedEntry). Some h.telling) heres = cc in
     rw (kept n here.telling first, still f g told heres kept rest) refl
 
 -- one more entry
-pub one_more : (old new : Tellings) (told grown : List ℕ) (whos more : List Who) (number : ℕ) (here : Told) (heres : List Told) →
+pub one_more : (old new : Tellings) (told grown : List ℕ) (whos more : List Who) (number : ℕ) (here : DescribedEntry) (heres : List DescribedEntry) →
     AreToldBy old told whos heres → ((n : ℕ) (t : Telling) → told_by old n ≡ Some t → told_by new n ≡ Some t) →
     told_by new number ≡ Some here.telling → grown ≡ told ++ number ∷ [] → more ≡ whos ++ here.who ∷ [] →
     AreToldBy new grown more (heres ++ here ∷ [])
 one_more old new told grown whos more number here heres so_far kept is longer wider = record {
   each =
-      let a : map (told_by new) told ≡ map (λ (h : Told). Some h.telling) heres =
+      let a : map (told_by new) told ≡ map (λ (h : DescribedEntry). Some h.telling) heres =
       still (told_by old) (told_by new) told heres kept so_far.each in
       rw (longer, map-append, map-append, a, is) refl;
   on = rw (wider, so_far.on, map-append) refl;
@@ -115,7 +115,7 @@ one_more old new told grown whos more number here heres so_far kept is longer wi
 -- ---- all entries
 
 -- what is told of one more entry, and what comes next
-pub told_on : (f g : ℕ → List JournalEntry → List Told) (so_far all : List Told) (here : Told) (es : List JournalEntry)
+pub told_on : (f g : ℕ → List JournalEntry → List DescribedEntry) (so_far all : List DescribedEntry) (here : DescribedEntry) (es : List JournalEntry)
     (number place : ℕ) (d : JournalEntry) →
     place < length es → number ≡ place → ((ws : List JournalEntry) → here ∷ f (number + 1) ws ≡ g number (get_or es place d ∷ ws)) →
     so_far ++ g place (drop place es) ≡ all → (so_far ++ here ∷ []) ++ f (place + 1) (drop (place + 1) es) ≡ all
@@ -138,7 +138,7 @@ refused_on f g all es number place d within at step so =
     ∙ ap (λ k. g place (get_or es place d ∷ drop k es)) (add-one place) ∙ ap (g place) (sym (drop-cons es place d within)) ∙ so
 
 -- the same, where the entries are lent
-pub told_on_lent : (f g : ℕ → List JournalEntry → List Told) (so_far all : List Told) (here : Told)
+pub told_on_lent : (f g : ℕ → List JournalEntry → List DescribedEntry) (so_far all : List DescribedEntry) (here : DescribedEntry)
     (lent es : List JournalEntry) (number place : ℕ)
     (d : JournalEntry) → lent ≡ es → place < length lent → number ≡ place →
     ((ws : List JournalEntry) → here ∷ f (number + 1) ws ≡ g number (get_or lent place d ∷ ws)) → so_far ++ g place (drop place es) ≡ all →
@@ -173,7 +173,7 @@ module _ (p : List Filter) (v : Verdict) where
   none_refused false progress number s e nothing = rw (e, nothing refl) refl
 
   -- no entry comes next
-  pub told_all : (so_far all : List Told) (progress : Progress) (number place : ℕ) (s : Scene) (es : List JournalEntry) →
+  pub told_all : (so_far all : List DescribedEntry) (progress : Progress) (number place : ℕ) (s : Scene) (es : List JournalEntry) →
       length es ≤ place →
       so_far ++ next_told p v progress number s (drop place es) ≡ all → so_far ≡ all
   told_all so_far all progress number place s es past so =
@@ -192,10 +192,10 @@ module _ (p : List Filter) (v : Verdict) where
 
 -- one more entry, where its last part is there
 pub one_added : {E : Type 0} (r : Result (Unit {0}) E) (old new : Tellings) (told grown : List ℕ) (whos more : List Who)
-    (number : ℕ) (here : Told) →
+    (number : ℕ) (here : DescribedEntry) →
     ((n : ℕ) (t : Telling) → told_by old n ≡ Some t → told_by new n ≡ Some t) → told_by new number ≡ Some here.telling →
     grown ≡ told ++ number ∷ [] → OnOk r (more ≡ whos ++ here.who ∷ []) →
-    OnOk r ((heres : List Told) → AreToldBy old told whos heres → AreToldBy new grown more (heres ++ here ∷ []))
+    OnOk r ((heres : List DescribedEntry) → AreToldBy old told whos heres → AreToldBy new grown more (heres ++ here ∷ []))
 one_added (Ok u) old new told grown whos more number here kept is longer wider =
     λ heres so_far. one_more old new told grown whos more number here heres so_far kept is longer wider
 one_added (Err u) old new told grown whos more number here kept is longer wider = wider

@@ -11,7 +11,7 @@ use Rattle.flt_tree.specs.declared.filter.Statement.{Statement, out-Statement}
 use Rattle.flt_tree.specs.declared.filter.Statement.TheOpen.{Statement-F}
 use Rattle.flt_model.specs.Program.{callbacks_at, is_canceled, is_post_of, is_pre_of}
 use Rattle.flt_model.specs.World.{Actor}
-use Rattle.flt_explain_timeline.specs.declared.telling.Started.{Started}
+use Rattle.flt_explain_timeline.specs.declared.telling.StartedCallback.{StartedCallback}
 
 -- whether a head is registered for a place, which no work item's routine is
 abbrev pub is_registered : Place → Head → Bool
@@ -30,7 +30,7 @@ callback_of p actor (Some routine) = routine
 callback_of p actor None = callback_for (callbacks_at p actor.filter) actor.place
 
 -- a callback that has started
-abbrev pub start_of : List Filter → Actor → Option ℕ → Started
+abbrev pub start_of : List Filter → Actor → Option ℕ → StartedCallback
 start_of p actor routine = record { filter = actor.filter; callback = callback_of p actor routine; draining = actor.draining }
 
 -- ---- lines
@@ -41,7 +41,7 @@ end_of (Some c) = c.end.line
 end_of None = 0
 
 -- the same of a callback that has started
-abbrev pub end_line : List Filter → Started → ℕ
+abbrev pub end_line : List Filter → StartedCallback → ℕ
 end_line p started = end_of (slice_get (callbacks_at p started.filter) started.callback)
 
 -- where a statement stands

@@ -26,16 +26,16 @@ use Rattle.flt_explain_timeline.specs.declared.refusal.Refusal.{Refusal}
 use Rattle.flt_explain_timeline.specs.declared.refusal.Refusal.TheVariants as refusals
 use Rattle.flt_explain_timeline.specs.declared.running.Run.{Run}
 use Rattle.flt_explain_timeline.specs.declared.running.Scene.{Scene}
-use Rattle.flt_explain_timeline.specs.declared.running.Told.{Told}
+use Rattle.flt_explain_timeline.specs.declared.running.DescribedEntry.{DescribedEntry}
 use Rattle.flt_explain_timeline.specs.declared.telling.Column.TheVariants.{Margin}
 use Rattle.flt_explain_timeline.specs.declared.telling.Happening.{Happening}
 use Rattle.flt_explain_timeline.specs.declared.telling.Happening.TheVariants as happenings
-use Rattle.flt_explain_timeline.specs.declared.telling.Started.{Started}
+use Rattle.flt_explain_timeline.specs.declared.telling.StartedCallback.{StartedCallback}
 use Rattle.flt_explain_timeline.specs.declared.telling.Who.{Who}
 
 -- what comes of an entry: what is told of it, and what is there after it; or why it isn't enabled
 pub data Entered : Type 0 where
-  Goes : (here : Told) → (after : Scene) → Entered
+  Goes : (here : DescribedEntry) → (after : Scene) → Entered
   Stops : (why : Refusal) → Entered
 
 -- nobody was on
@@ -43,7 +43,7 @@ abbrev pub nobody : Who
 nobody = record { operation = None; activation = None; ends = false }
 
 -- what is told of an entry, after it, in this world and with these columns
-abbrev pub told_in : World → Columns → Who → Option Started → Happening → Told
+abbrev pub told_in : World → Columns → Who → Option StartedCallback → Happening → DescribedEntry
 told_in w all who resumed happening = record {
   telling = record {
     column = column_of all.tenants who.operation;
@@ -55,7 +55,7 @@ told_in w all who resumed happening = record {
 }
 
 -- what is told of an entry that changes nothing, in the margin; the columns are those of the last entry that was made
-abbrev pub aside : ℕ → Happening → Told
+abbrev pub aside : ℕ → Happening → DescribedEntry
 aside alive happening = record {
   telling = record { column = Margin; alive = alive; resumed = None; happening = happening };
   who = nobody;
@@ -177,7 +177,7 @@ module _ (p : List Filter) (a : ℕ) (grant : Bool) (filter end : ℕ) where
       else go_from 0 (steps - 1) w
 
 -- its callback is named where another was the last one in the column
-abbrev pub resumed_if : Bool → Started → Option Started
+abbrev pub resumed_if : Bool → StartedCallback → Option StartedCallback
 resumed_if on started = if on then None else Some started
 
 -- an activation has gone on
@@ -211,11 +211,11 @@ ends_at (verdicts.NotARun last) number = last == number
 ends_at (verdicts.Breaks violation last) number = last == number
 
 -- the run ends with it
-abbrev pub ending : Told → Told
+abbrev pub ending : DescribedEntry → DescribedEntry
 ending here = record here { who = record here.who { ends = true } }
 
 -- the same, if it ends with it
-abbrev pub ending_if : Bool → Told → Told
+abbrev pub ending_if : Bool → DescribedEntry → DescribedEntry
 ending_if ends here = if ends then ending here else here
 
 -- what an entry comes to that isn't enabled
@@ -223,17 +223,17 @@ abbrev pub not_enabled : JournalEntry → Happening
 not_enabled e = happenings.IsRefused e
 
 -- entries after the end of the run are left out
-abbrev pub left_out : ℕ → List JournalEntry → List Told
+abbrev pub left_out : ℕ → List JournalEntry → List DescribedEntry
 left_out alive es = map (λ _. aside alive happenings.IsLeftOut) es
 
 -- an entry that isn't enabled or that the verdict names is the last one; others follow another one
-abbrev pub followed : JournalEntry → ℕ → List JournalEntry → Bool → Entered → (ℕ → Scene → List Told) → List Told
+abbrev pub followed : JournalEntry → ℕ → List JournalEntry → Bool → Entered → (ℕ → Scene → List DescribedEntry) → List DescribedEntry
 followed e alive es ends (Stops why) onward = ending (aside alive (not_enabled e)) ∷ left_out alive es
 followed e alive es true (Goes here after) onward = ending here ∷ left_out here.telling.alive es
 followed e alive es false (Goes here after) onward = here ∷ onward here.telling.alive after
 
 -- what is told of each entry, where so many are before them
-unfoldable pub told_from : List Filter → Verdict → ℕ → ℕ → Scene → List JournalEntry → List Told
+unfoldable pub told_from : List Filter → Verdict → ℕ → ℕ → Scene → List JournalEntry → List DescribedEntry
 told_from p v number alive s [] = []
 told_from p v number alive s (e ∷ es) =
     followed e alive es (ends_at v number) (entry_of p s e) (λ bits after. told_from p v (number + 1) bits after es)
@@ -262,7 +262,7 @@ abbrev pub scene_before : List Filter → List JournalEntry → Scene
 scene_before p journal = record { world = opening p; columns = opened (count_by is_arrival journal); runs = [] }
 
 -- what is told of each entry of a journal on these filters, of which this is the verdict
-abbrev pub told_of : List Filter → Verdict → List JournalEntry → List Told
+abbrev pub told_of : List Filter → Verdict → List JournalEntry → List DescribedEntry
 told_of p v journal = told_from p v 0 0 (scene_before p journal) journal
 
 -- why the entry that ends the run isn't enabled, if it isn't
@@ -276,7 +276,7 @@ abbrev pub unstarted : Progress
 unstarted = record { is_over = false; alive = 0; refusal = None }
 
 -- what is told of the entries that come next, by how far the run was told
-abbrev pub next_told : List Filter → Verdict → Progress → ℕ → Scene → List JournalEntry → List Told
+abbrev pub next_told : List Filter → Verdict → Progress → ℕ → Scene → List JournalEntry → List DescribedEntry
 next_told p v progress number s es = if progress.is_over then left_out progress.alive es else told_from p v number progress.alive s es
 
 -- why the entry that ended the run isn't enabled, or one of those that come next
@@ -291,10 +291,10 @@ IsGone (Ok happening) w gone = gone ≡ Comes w happening
 IsGone (Err why) w gone = gone ≡ Stays why
 
 -- what is told of an entry that was made, and the scene after it
-abbrev pub GoesTo : Told → Scene → Entered → Type 0
+abbrev pub GoesTo : DescribedEntry → Scene → Entered → Type 0
 GoesTo here after entered = entered ≡ Goes here after
 
 -- the same, or why it isn't enabled
-abbrev pub IsEntered : Result Told Refusal → Scene → Entered → Type 0
+abbrev pub IsEntered : Result DescribedEntry Refusal → Scene → Entered → Type 0
 IsEntered (Ok here) after entered = GoesTo here after entered
 IsEntered (Err why) after entered = entered ≡ Stops why

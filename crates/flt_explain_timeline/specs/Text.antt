@@ -20,7 +20,7 @@ use Rattle.flt_explain_timeline.specs.declared.telling.Column.{Column}
 use Rattle.flt_explain_timeline.specs.declared.telling.Column.TheVariants as columns
 use Rattle.flt_explain_timeline.specs.declared.telling.Happening.{Happening}
 use Rattle.flt_explain_timeline.specs.declared.telling.Happening.TheVariants as happenings
-use Rattle.flt_explain_timeline.specs.declared.telling.Started.{Started}
+use Rattle.flt_explain_timeline.specs.declared.telling.StartedCallback.{StartedCallback}
 use Rattle.flt_explain_timeline.specs.declared.telling.Telling.{Telling}
 use Rattle.flt_explain_timeline.specs.declared.timeline.Timeline.{Timeline}
 
@@ -82,7 +82,7 @@ told_words t operation told =
     listed (block_words t operation told) (folds told (map single (range_with_len 0 (length told))))
 
 -- the callback that goes on, if another was on before
-abbrev pub resumed_words : List (Bor Filter) → Option Started → Text
+abbrev pub resumed_words : List (Bor Filter) → Option StartedCallback → Text
 resumed_words filters (Some started) = callback_words filters started ++ codes ": "
 resumed_words filters None = []
 

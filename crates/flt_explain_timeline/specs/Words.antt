@@ -25,7 +25,7 @@ use Rattle.flt_model.specs.declared.verdict.Violation.{Violation}
 use Rattle.flt_model.specs.declared.verdict.Violation.TheVariants.{V1, V2, V3, V4, V5, V6, V7, V8}
 use Rattle.flt_explain_timeline.specs.declared.telling.Happening.{Happening}
 use Rattle.flt_explain_timeline.specs.declared.telling.Happening.TheVariants as happenings
-use Rattle.flt_explain_timeline.specs.declared.telling.Started.{Started}
+use Rattle.flt_explain_timeline.specs.declared.telling.StartedCallback.{StartedCallback}
 
 -- this text stands after what was written
 abbrev pub Puts : {E : Type 0} → Result (Unit {0}) E → Text → Text → Text → Type 0
@@ -121,7 +121,7 @@ callback_of filters callback (Some filter) = callback_head (slice_get filter.now
 callback_of filters callback None = []
 
 -- a callback by its head, with the name of its filter where there are several
-abbrev pub callback_words : List (Bor Filter) → Started → Text
+abbrev pub callback_words : List (Bor Filter) → StartedCallback → Text
 callback_words filters started = callback_of (length filters) started.callback (slice_get filters started.filter)
 
 -- ---- what entries come to

@@ -8,7 +8,7 @@ ghost use Rattle.flt_tree.specs.declared.filter.Statement.{Statement as Written,
 ghost use Rattle.flt_replay_world.specs.Filters.{filters_behind};
 ghost use Rattle.flt_explain_timeline.specs.Callbacks as spec;
 
-use crate::telling::Started;
+use crate::telling::StartedCallback;
 use flt_replay_records::Upcoming;
 use flt_replay_world::World;
 use flt_rules::{Operation, Place};
@@ -94,10 +94,10 @@ pub fn start_of(
     world: &World<'_>,
     activation: usize,
     routine: Option<usize>,
-) -> Started
+) -> StartedCallback
     ensures { result ≡ spec.start_of (filters_behind filters.now) (actor_at world.now activation) routine }
 {
-    Started {
+    StartedCallback {
         filter: world.filter(activation),
         callback: callback_of(filters, world, activation, routine),
         draining: world.has_flag(activation),
@@ -107,7 +107,7 @@ pub fn start_of(
 // ---- lines
 
 /// The line of the closing brace of a callback; 0 if there is no such callback.
-pub(crate) fn end_line(filters: &[&Filter], started: Started) -> usize
+pub(crate) fn end_line(filters: &[&Filter], started: StartedCallback) -> usize
     ensures { result ≡ spec.end_line (filters_behind filters.now) started }
 {
     match callbacks_at(filters, started.filter).get(started.callback) {

@@ -5,11 +5,11 @@ ghost use Rattle.flt_model.specs.declared.moves.JournalEntry.{JournalEntry as Wr
 ghost use Rattle.flt_replay_world.specs.Filters.{filters_behind};
 ghost use Rattle.flt_explain_timeline.specs.Course as spec;
 ghost use Rattle.flt_explain_timeline.specs.Tellings.{AreToldBy};
-ghost use Rattle.flt_explain_timeline.specs.declared.running.Told.{Told as Here};
+ghost use Rattle.flt_explain_timeline.specs.declared.running.DescribedEntry.{Told as Here};
 
 use crate::going::Stage;
 use crate::refusal::Refusal;
-use crate::running::{Scene, Told, aside};
+use crate::running::{DescribedEntry, Scene, aside};
 use crate::telling::{Happening, Who};
 use crate::tellings::Tellings;
 use flt_model::{Journal, JournalEntry, Verdict};
@@ -47,10 +47,10 @@ fn ends_at(verdict: Verdict, number: usize) -> bool
 }
 
 /// An entry, as the one that ends the run.
-fn ending(here: Told) -> Told
+fn ending(here: DescribedEntry) -> DescribedEntry
     ensures { result ≡ spec.ending here }
 {
-    Told {
+    DescribedEntry {
         telling: here.telling,
         who: Who {
             operation: here.who.operation,
@@ -60,7 +60,7 @@ fn ending(here: Told) -> Told
     }
 }
 
-fn ending_if(ends: bool, here: Told) -> Told
+fn ending_if(ends: bool, here: DescribedEntry) -> DescribedEntry
     ensures { result ≡ spec.ending_if ends here }
 {
     if ends { ending(here) } else { here }
@@ -68,7 +68,7 @@ fn ending_if(ends: bool, here: Told) -> Told
 
 impl Progress {
     /// Notes that an entry was made, and whether the run ends with it.
-    fn made(&mut self, ends: bool, here: Told) -> Told
+    fn made(&mut self, ends: bool, here: DescribedEntry) -> DescribedEntry
         ensures told { result ≡ spec.ending_if ends here }
         ensures after { self.new ≡ record { is_over = ends; alive = here.telling.alive; refusal = None } }
     {
@@ -81,7 +81,7 @@ impl Progress {
     }
 
     /// Notes that an entry isn't enabled, and that the run ends with it.
-    fn stopped(&mut self, entry: JournalEntry, why: Refusal) -> Told
+    fn stopped(&mut self, entry: JournalEntry, why: Refusal) -> DescribedEntry
         ensures told { result ≡ spec.ending (spec.aside self.old.alive (spec.not_enabled entry)) }
         ensures after { self.new ≡ record { is_over = true; alive = self.old.alive; refusal = Some why } }
     {
@@ -103,7 +103,7 @@ impl Progress {
         verdict: Verdict,
         number: usize,
         entry: JournalEntry,
-    ) -> Result<Told, AllocError>
+    ) -> Result<DescribedEntry, AllocError>
         requires { filters_behind stage.now.filters.now ≡ stage.now.stack.now }
         ensures told { IfOk result (λ here. (es : List Written) →
             here ∷ spec.next_told stage.now.stack.now verdict self.new (number + 1) scene.new es
@@ -143,7 +143,7 @@ impl Course {
 
     /// Adds the description of the next entry, and who was on.
 
-    fn add(&mut self, here: Told) -> Result<(), AllocError>
+    fn add(&mut self, here: DescribedEntry) -> Result<(), AllocError>
         ensures told { OnOk result ((before : List Here) → AreToldBy self.old.tellings self.old.told self.old.whos before →
             AreToldBy self.new.tellings self.new.told self.new.whos (before ++ here ∷ [])) }
         ensures each { OnOk result (length self.new.told ≡ length self.old.told + 1) }

@@ -28,6 +28,6 @@ pub use callbacks::{callbacks_at, start_of};
 pub use filters::{filters_of, tree_at};
 pub use folds::Fold;
 pub use rows::Row;
-pub use telling::Started;
+pub use telling::StartedCallback;
 pub use timeline::Timeline;
 pub use words::put_callback;

@@ -2,7 +2,7 @@
 
 ghost use Rattle.std.specs.Prelude.{◌≡◌, IsTrue};
 
-use crate::telling::{Column, Happening, Started, Telling};
+use crate::telling::{Column, Happening, StartedCallback, Telling};
 use flt_model::Key;
 use flt_rules::{Mode, Operation};
 
@@ -47,13 +47,13 @@ fn is_column(one: Column, other: Column) -> bool
     }
 }
 
-fn is_started(one: Started, other: Started) -> bool
+fn is_started(one: StartedCallback, other: StartedCallback) -> bool
     ensures { IsTrue result → one ≡ other }
 {
     one.filter == other.filter && one.callback == other.callback && one.draining == other.draining
 }
 
-fn is_resumed(one: Option<Started>, other: Option<Started>) -> bool
+fn is_resumed(one: Option<StartedCallback>, other: Option<StartedCallback>) -> bool
     ensures { IsTrue result → one ≡ other }
 {
     match (one, other) {

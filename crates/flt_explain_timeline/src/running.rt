@@ -8,7 +8,7 @@ use crate::callbacks::{end_line, start_of};
 use crate::columns::Columns;
 use crate::going::{Stage, go};
 use crate::refusal::{Refusal, of_move};
-use crate::telling::{Column, Happening, Started, Telling, Who};
+use crate::telling::{Column, Happening, StartedCallback, Telling, Who};
 use flt_model::{Journal, JournalEntry, Move};
 use flt_replay_course::make_move;
 use flt_replay_world::World;
@@ -20,12 +20,12 @@ use std::alloc::AllocError;
 #[derive(Clone, Copy)]
 pub(crate) struct Run {
     operation: Option<usize>,
-    started: Started,
+    started: StartedCallback,
 }
 
 /// An entry's description, and who is on in it.
 #[derive(Clone, Copy)]
-pub(crate) struct Told {
+pub(crate) struct DescribedEntry {
     pub(crate) telling: Telling,
     pub(crate) who: Who,
 }
@@ -84,10 +84,10 @@ fn happening_of(step: Move) -> Happening
 }
 
 /// The description of an entry that changes nothing; the columns are those of the last entry that was made.
-pub(crate) fn aside(alive: u32, happening: Happening) -> Told
+pub(crate) fn aside(alive: u32, happening: Happening) -> DescribedEntry
     ensures { result ≡ spec.aside alive happening }
 {
-    Told {
+    DescribedEntry {
         telling: Telling {
             column: Column::Margin,
             alive,
@@ -102,7 +102,7 @@ pub(crate) fn aside(alive: u32, happening: Happening) -> Told
     }
 }
 
-fn resumed_if(on: bool, started: Started) -> Option<Started>
+fn resumed_if(on: bool, started: StartedCallback) -> Option<StartedCallback>
     ensures { result ≡ spec.resumed_if on started }
 {
     if on { None } else { Some(started) }
@@ -120,10 +120,15 @@ impl<'a> Scene<'a> {
         })
     }
 
-    fn told(&self, who: Who, resumed: Option<Started>, happening: Happening) -> Told
+    fn told(
+        &self,
+        who: Who,
+        resumed: Option<StartedCallback>,
+        happening: Happening,
+    ) -> DescribedEntry
         ensures { result ≡ spec.told_in self.now.world self.now.columns who resumed happening }
     {
-        Told {
+        DescribedEntry {
             telling: Telling {
                 column: self.columns.find(who.operation),
                 alive: self.columns.alive(&self.world),
@@ -185,7 +190,7 @@ impl<'a> Scene<'a> {
         stage: &Stage<'_, 'a>,
         activation: usize,
         routine: Option<usize>,
-    ) -> Result<Told, AllocError>
+    ) -> Result<DescribedEntry, AllocError>
         ensures { IfOk result (λ here. spec.GoesTo here self.new
             (spec.after_start (filters_behind stage.now.filters.now) self.old.world self.old.columns self.old.runs activation routine)) }
     {
@@ -213,7 +218,7 @@ impl<'a> Scene<'a> {
     }
 
     /// Describes a move that started nothing.
-    fn tell_system(&mut self, step: Move) -> Told
+    fn tell_system(&mut self, step: Move) -> DescribedEntry
         ensures { spec.GoesTo result self.new (spec.after_system self.old step self.old.world) }
     {
         self.add_column(step);
@@ -229,7 +234,7 @@ impl<'a> Scene<'a> {
         &mut self,
         stage: &Stage<'_, 'a>,
         step: Move,
-    ) -> Result<Result<Told, Refusal>, AllocError>
+    ) -> Result<Result<DescribedEntry, Refusal>, AllocError>
         requires { filters_behind stage.now.filters.now ≡ stage.now.stack.now }
         ensures { IfOk result (λ entered. spec.IsEntered entered self.new (spec.move_entry stage.now.stack.now self.old step)) }
     {
@@ -248,7 +253,7 @@ impl<'a> Scene<'a> {
     // ---- steps
 
     /// Describes an activation that has continued, with this event.
-    fn tell_run(&mut self, activation: usize, run: Run, happening: Happening) -> Told
+    fn tell_run(&mut self, activation: usize, run: Run, happening: Happening) -> DescribedEntry
         ensures { spec.GoesTo result self.new (spec.after_run self.old activation run (spec.Comes self.old.world happening)) }
     {
         let column = self.columns.find(run.operation);
@@ -269,7 +274,7 @@ impl<'a> Scene<'a> {
         activation: usize,
         steps: u32,
         grant: bool,
-    ) -> Result<Result<Told, Refusal>, AllocError>
+    ) -> Result<Result<DescribedEntry, Refusal>, AllocError>
         requires { filters_behind stage.now.filters.now ≡ stage.now.stack.now }
         ensures { IfOk result (λ entered. spec.IsEntered entered self.new
             (spec.go_entry stage.now.stack.now self.old activation steps grant (slice_get self.old.runs activation))) }
@@ -300,7 +305,7 @@ impl<'a> Scene<'a> {
         &mut self,
         stage: &Stage<'_, 'a>,
         entry: JournalEntry,
-    ) -> Result<Result<Told, Refusal>, AllocError>
+    ) -> Result<Result<DescribedEntry, Refusal>, AllocError>
         requires { filters_behind stage.now.filters.now ≡ stage.now.stack.now }
         ensures { IfOk result (λ entered. spec.IsEntered entered self.new (spec.entry_of stage.now.stack.now self.old entry)) }
     {

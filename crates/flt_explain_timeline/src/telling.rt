@@ -16,7 +16,7 @@ pub(crate) enum Column {
 
 /// A callback that starts: the number of its filter, from the highest altitude, and its own in the text, both from 0.
 #[derive(Clone, Copy)]
-pub struct Started {
+pub struct StartedCallback {
     pub filter: usize,
     pub callback: usize,
     pub draining: bool,
@@ -34,7 +34,7 @@ pub(crate) enum Happening {
     Detaches(u32),
     Unlinks(u32, Key),
     IsDetached(u32),
-    Starts(Started),
+    Starts(StartedCallback),
     /// The number of a filter, from the highest altitude, and a line of its text, from 1, whose statement others see; and if it is a call
     /// or a test, whether it succeeds or holds.
     Runs(usize, usize, Option<bool>),
@@ -51,7 +51,7 @@ pub(crate) struct Telling {
     /// The columns in which an operation isn't done, column 0 as the lowest bit.
     pub(crate) alive: u32,
     /// The callback that continues, if the column was another's before. In the margin and beyond the columns, each that continues.
-    pub(crate) resumed: Option<Started>,
+    pub(crate) resumed: Option<StartedCallback>,
     pub(crate) happening: Happening,
 }
 

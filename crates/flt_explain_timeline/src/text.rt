@@ -13,7 +13,7 @@ use crate::columns::COLUMNS;
 use crate::folds::{Fold, folds_of, from, part, stretch};
 use crate::refusal::Refusal;
 use crate::rows::Row;
-use crate::telling::{Column, Happening, Started, Telling, Who};
+use crate::telling::{Column, Happening, StartedCallback, Telling, Who};
 use crate::timeline::Timeline;
 use crate::words::{
     files_of, put_callback, put_happening, put_line, put_one, put_operation, violation_word,
@@ -256,7 +256,7 @@ fn put_break(out: &mut String, violation: Violation) -> Result<(), AllocError>
 fn put_resumed(
     out: &mut String,
     filters: &[&Filter],
-    resumed: Option<Started>,
+    resumed: Option<StartedCallback>,
 ) -> Result<(), AllocError>
     ensures { Puts result (string_bytes out.old) (string_bytes out.new) (spec.resumed_words filters.now resumed) }
 {

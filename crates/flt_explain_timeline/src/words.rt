@@ -4,7 +4,7 @@ ghost use Rattle.std.specs.Prelude.{◌≡◌, ◌++◌, ◌<◌, ◌≤◌, cod
 ghost use Rattle.std.specs.Fmt.{decimal};
 ghost use Rattle.flt_explain_timeline.specs.Words as spec;
 
-use crate::telling::{Happening, Started};
+use crate::telling::{Happening, StartedCallback};
 use flt_model::{JournalEntry, Key, Move, Violation};
 use flt_places::Files;
 use flt_rules::{Mode, Operation};
@@ -204,7 +204,7 @@ fn put_filter(out: &mut String, filters: usize, filter: &Filter) -> Result<(), A
 pub fn put_callback(
     out: &mut String,
     filters: &[&Filter],
-    started: Started,
+    started: StartedCallback,
 ) -> Result<(), AllocError>
     ensures { spec.Puts result (string_bytes out.old) (string_bytes out.new) (spec.callback_words filters.now started) }
 {
@@ -215,7 +215,11 @@ pub fn put_callback(
     put_filter(out, filters.len(), filter)
 }
 
-fn put_start(out: &mut String, filters: &[&Filter], started: Started) -> Result<(), AllocError>
+fn put_start(
+    out: &mut String,
+    filters: &[&Filter],
+    started: StartedCallback,
+) -> Result<(), AllocError>
     ensures { spec.Puts result (string_bytes out.old) (string_bytes out.new)
         (spec.callback_words filters.now started ++ spec.starts_word started.draining) }
 {

@@ -18,7 +18,7 @@ use Rattle.flt_explain_waits.specs.Asking.{asked}
 use Rattle.flt_explain_waits.specs.Stuck.{IsStuck}
 use Rattle.flt_explain_waits.specs.Waiting.{first_asked, holds, last_holder, listed, wait_for, wait_of, waits_at}
 use Rattle.flt_explain_waits.specs.declared.asking.Request.{Request}
-use Rattle.flt_explain_waits.specs.declared.waits.Blocked.{Blocked}
+use Rattle.flt_explain_waits.specs.declared.waits.BlockedActivation.{BlockedActivation}
 
 -- ---- a statement that takes a lock
 
@@ -65,12 +65,12 @@ last_holds w a l (suc b) h is = by (λ is. last_holds w a l b h is) (holds w a l
 -- ---- an activation that waits
 
 -- it is stuck, and is the activation of this number
-pub record IsHeldUp (p : List Filter) (m : Moment) (a : ℕ) (b : Blocked) : Type 0 where
+pub record IsHeldUp (p : List Filter) (m : Moment) (a : ℕ) (b : BlockedActivation) : Type 0 where
   pub number : b.activation ≡ a
   pub stuck : IsStuck p m b
 
 -- the activation that waits for a lock which it may not take
-abbrev blocked : World → ℕ → Request → Blocked
+abbrev blocked : World → ℕ → Request → BlockedActivation
 blocked w a x = record {
   activation = a;
   filter = (actor_at w a).filter;
@@ -83,7 +83,7 @@ no_grant : (grant : Bool) → (grant && false) ≡ false
 no_grant true = refl
 no_grant false = refl
 
-module _ (p : List Filter) (m : Moment) (a : ℕ) (b : Blocked) where
+module _ (p : List Filter) (m : Moment) (a : ℕ) (b : BlockedActivation) where
   by_request : (s : Statement) (rest : List Statement) (x : Request) → (activation_at m.world a).ended ≡ false →
       (activation_at m.world a).rest ≡ s ∷ rest → asked (out-Statement s) ≡ Some x → (may : Bool) →
       may_take m.world a x.lock x.access ≡ may → wait_for m.world a x ≡ Some b → IsHeldUp p m a b
@@ -128,7 +128,7 @@ module _ (p : List Filter) (m : Moment) (a : ℕ) (b : Blocked) where
 -- ---- all that wait
 
 module _ (p : List Filter) (m : Moment) where
-  one_stuck : (a : ℕ) (o : Option Blocked) → wait_of m.world a ≡ o → All (IsStuck p m) (listed o)
+  one_stuck : (a : ℕ) (o : Option BlockedActivation) → wait_of m.world a ≡ o → All (IsStuck p m) (listed o)
   one_stuck a None is = All-nil (IsStuck p m)
   one_stuck a (Some b) is = All-cons (IsStuck p m) b [] (held_up p m a b is).stuck (All-nil (IsStuck p m))
 

@@ -5,10 +5,10 @@ use Rattle.flt_model.specs.Steps.{Local, Board}
 use Rattle.flt_model.specs.World.{World, activation_at}
 use Rattle.flt_tree.specs.declared.filter.Filter.{Filter}
 use Rattle.flt_explain_waits.specs.Waiting.{AreSettled, holds, waits_at}
-use Rattle.flt_explain_waits.specs.declared.waits.Blocked.{Blocked}
+use Rattle.flt_explain_waits.specs.declared.waits.BlockedActivation.{BlockedActivation}
 
 -- the activation hasn't ended, no step of it is enabled, and the one that is named as the holder of its lock holds that
-pub record IsStuck (p : List Filter) (m : Moment) (b : Blocked) : Type 0 where
+pub record IsStuck (p : List Filter) (m : Moment) (b : BlockedActivation) : Type 0 where
   pub runs : (activation_at m.world b.activation).ended ≡ false
   pub unseen : next p m (Local b.activation) ≡ None
   pub seen : (grant : Bool) → next p m (Board b.activation grant) ≡ None

@@ -9,7 +9,7 @@ use Rattle.flt_replay_steps.specs.Unseen.{unseen}
 use Rattle.flt_tree.specs.declared.filter.Statement.{Statement, out-Statement}
 use Rattle.flt_explain_waits.specs.Asking.{asked}
 use Rattle.flt_explain_waits.specs.declared.asking.Request.{Request}
-use Rattle.flt_explain_waits.specs.declared.waits.Blocked.{Blocked}
+use Rattle.flt_explain_waits.specs.declared.waits.BlockedActivation.{BlockedActivation}
 use Rattle.flt_rules.specs.Limits.{max_cost}
 
 -- the activation's local steps, as many as come one after another, or 1,000,000 of them
@@ -29,7 +29,7 @@ last_holder w a l zero = None
 last_holder w a l (suc b) = if holds w a l b then Some b else last_holder w a l b
 
 -- what an activation waits for that asks for this lock; nothing where it may take it
-abbrev pub wait_for : World → ℕ → Request → Option Blocked
+abbrev pub wait_for : World → ℕ → Request → Option BlockedActivation
 wait_for w a x =
     if may_take w a x.lock x.access then None else Some (record {
       activation = a;
@@ -45,17 +45,17 @@ first_asked [] = None
 first_asked (s ∷ rest) = asked (out-Statement s)
 
 -- what an activation waits for by its first statement; one that has ended waits for nothing
-abbrev pub wait_of : World → ℕ → Option Blocked
+abbrev pub wait_of : World → ℕ → Option BlockedActivation
 wait_of w a =
     let act = activation_at w a in if act.ended then None else option_and_then (wait_for w a) (first_asked act.rest)
 
 -- a list of what there is
-abbrev pub listed : Option Blocked → List Blocked
+abbrev pub listed : Option BlockedActivation → List BlockedActivation
 listed None = []
 listed (Some wait) = wait ∷ []
 
 -- what the first so many activations wait for, each by its first statement
-abbrev pub waits_at : World → ℕ → List Blocked
+abbrev pub waits_at : World → ℕ → List BlockedActivation
 waits_at w zero = []
 waits_at w (suc a) = waits_at w a ++ listed (wait_of w a)
 
@@ -65,5 +65,5 @@ AreSettled w zero u = u ≡ w
 AreSettled w (suc a) u = (v : World) × AreSettled w a v × IsSettled v a u
 
 -- what the activations wait for, once all have made their local steps
-abbrev pub AreWaits : World → World → List Blocked → Type 0
+abbrev pub AreWaits : World → World → List BlockedActivation → Type 0
 AreWaits w u waits = AreSettled w (length w.activations) u × (waits ≡ waits_at u (length u.activations))

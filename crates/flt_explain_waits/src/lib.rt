@@ -10,4 +10,4 @@ mod settling;
 mod waits;
 
 pub use laws::{local_steps_are_runs, what_waits_is_stuck};
-pub use waits::{Blocked, waits_of};
+pub use waits::{BlockedActivation, waits_of};

@@ -20,7 +20,7 @@ use std::alloc::{AllocError, Global};
 
 /// An activation that waits for a lock.
 #[derive(Clone, Copy)]
-pub struct Blocked {
+pub struct BlockedActivation {
     /// Its number, from 0.
     pub activation: usize,
     /// The number of its filter, from 0, from the highest altitude to the lowest.
@@ -59,14 +59,14 @@ fn last_holder(world: &World<'_>, a: usize, lock: LockNumber) -> Option<usize>
 }
 
 /// The wait of an activation that asks for this lock; none if it may take it.
-fn wait_for(world: &World<'_>, a: usize, request: Request) -> Option<Blocked>
+fn wait_for(world: &World<'_>, a: usize, request: Request) -> Option<BlockedActivation>
     ensures { result ≡ spec.wait_for world.now a request }
 {
     let filter = world.filter(a);
     if world.is_free_for(filter, request.lock, a, request.access) {
         return None;
     }
-    Some(Blocked {
+    Some(BlockedActivation {
         activation: a,
         filter,
         span: request.span,
@@ -76,7 +76,7 @@ fn wait_for(world: &World<'_>, a: usize, request: Request) -> Option<Blocked>
 }
 
 /// The wait of an activation; its world stays the same.
-fn wait_of(world: &mut World<'_>, a: usize) -> Result<Option<Blocked>, AllocError>
+fn wait_of(world: &mut World<'_>, a: usize) -> Result<Option<BlockedActivation>, AllocError>
     ensures { IfOk result (λ wait. (world.new ≡ world.old) × (wait ≡ spec.wait_of world.old a)) }
 {
     let next = upcoming(world, a)?;
@@ -104,7 +104,7 @@ fn settle_all(world: &mut World<'_>) -> Result<(), AllocError>
 }
 
 /// The waits of the activations of a world, each by its first statement.
-fn waits_at(alloc: Global, world: &mut World<'_>) -> Result<Vec<Blocked>, AllocError>
+fn waits_at(alloc: Global, world: &mut World<'_>) -> Result<Vec<BlockedActivation>, AllocError>
     ensures { IfOk result (λ waits. (world.new ≡ world.old) × (waits.items ≡ spec.waits_at world.old (length world.old.activations))) }
 {
     let mut waits = Vec::new(alloc);
@@ -118,7 +118,7 @@ fn waits_at(alloc: Global, world: &mut World<'_>) -> Result<Vec<Blocked>, AllocE
 }
 
 /// The waits of the activations of a world, once all have made their local steps.
-fn waits_in(alloc: Global, world: &mut World<'_>) -> Result<Vec<Blocked>, AllocError>
+fn waits_in(alloc: Global, world: &mut World<'_>) -> Result<Vec<BlockedActivation>, AllocError>
     ensures { IfOk result (λ waits. spec.AreWaits world.old world.new waits.items) }
 {
     settle_all(world)?;
@@ -135,7 +135,7 @@ pub fn waits_of(
     alloc: Global,
     trees: &[Tree],
     journal: &Journal,
-) -> Result<Vec<Blocked>, AllocError>
+) -> Result<Vec<BlockedActivation>, AllocError>
     ensures { IfOk result (λ waits. MatchOption
         (moment_after (by_altitude (filters_of trees.now)) (start (by_altitude (filters_of trees.now))) journal.now)
         (waits.items ≡ [])

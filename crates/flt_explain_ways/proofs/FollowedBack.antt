@@ -14,7 +14,7 @@ use Rattle.flt_explain_ways.specs.Search.{IsStepTo, IsArrival, AreArrivals, IsFo
 use Rattle.flt_explain_ways.specs.declared.origin.Cause.TheVariants as cause
 use Rattle.flt_explain_ways.specs.declared.facts.Fact.{Fact}
 use Rattle.flt_explain_ways.specs.declared.origin.Origin.{Origin}
-use Rattle.flt_explain_ways.specs.declared.path.Reached.{Reached}
+use Rattle.flt_explain_ways.specs.declared.path.ReachedPoint.{ReachedPoint}
 use Rattle.flt_explain_ways.specs.declared.path.Search.{Search}
 use Rattle.flt_explain_ways.specs.declared.answer.Step.{Step}
 use Rattle.flt_explain_ways.proofs.Searched.{keeps_outcome}
@@ -77,12 +77,12 @@ module _ (g : Graph) (k : ℕ) (f : Fact) where
 
   -- ---- what is reached lies on a path
 
-  module _ (found : List Reached) (all : AreArrivals g k f found) where
+  module _ (found : List ReachedPoint) (all : AreArrivals g k f found) where
     abbrev IsPath : ℕ → Type 0
     IsPath p = (steps : List Step) × (path_end g k (Some 0) steps ≡ Some p)
 
-    path_by : (n : ℕ) (r : Reached) (a : Option (ℕ × Step)) → IsArrival g k f found n r a →
-        ((m : ℕ) (from : Reached) → m < n → slice_get found m ≡ Some from → IsPath from.point) → IsPath r.point
+    path_by : (n : ℕ) (r : ReachedPoint) (a : Option (ℕ × Step)) → IsArrival g k f found n r a →
+        ((m : ℕ) (from : ReachedPoint) → m < n → slice_get found m ≡ Some from → IsPath from.point) → IsPath r.point
     path_by n r None h before = ([], ap Some (sym h.0))
     path_by n r (Some a) h before =
         let front = before a.0 h.from h.before h.there in (
@@ -90,7 +90,7 @@ module _ (g : Graph) (k : ℕ) (f : Fact) where
           passed_on 0 h.from.point front.0 (a.1 ∷ []) front.1 ∙ one_step h.from.point r.point a.1 h.point h.outcome h.leads [],
         )
 
-    path_below : (bound n : ℕ) (r : Reached) → n < bound → slice_get found n ≡ Some r → IsPath r.point
+    path_below : (bound n : ℕ) (r : ReachedPoint) → n < bound → slice_get found n ≡ Some r → IsPath r.point
     path_below zero n r less there = absurd (omega arith)
     path_below (suc bound) n r less there =
         path_by n r r.arrival (all n r there) (λ m from before at. path_below bound m from (omega (arith, less, before)) at)
@@ -101,13 +101,13 @@ module _ (g : Graph) (k : ℕ) (f : Fact) where
       arrival : IsArrival g k f found n h.one h.one.arrival
       arrival = all n h.one h.there
 
-      module _ (r : Reached) (there : slice_get found n ≡ Some r) where
+      module _ (r : ReachedPoint) (there : slice_get found n ≡ Some r) where
         same : h.one ≡ r
         same = let a = h.there in cc
 
         stepped : (m : ℕ) (s : Step) → r.arrival ≡ Some (m, s) → IsStepTo g k f found n h.one m s
         stepped m s is =
-            let same_arrival : h.one.arrival ≡ Some (m, s) = ap (λ (x : Reached). x.arrival) same ∙ is in
+            let same_arrival : h.one.arrival ≡ Some (m, s) = ap (λ (x : ReachedPoint). x.arrival) same ∙ is in
             subst (λ a. IsArrival g k f found n h.one a) same_arrival arrival
 
         -- one step before, which doesn't make it
@@ -159,7 +159,7 @@ module _ (g : Graph) (k : ℕ) (f : Fact) where
         entry_origin o is at = subst (λ (o : Origin). IsOrigin g k f p o × IsOnPath g k f p o) (sym at) both where
           both : IsOrigin g k f p (origin f cause.Entry (reverse later)) × IsOnPath g k f p (origin f cause.Entry (reverse later))
           both =
-              let no_arrival : h.one.arrival ≡ None = ap (λ (x : Reached). x.arrival) same ∙ is in
+              let no_arrival : h.one.arrival ≡ None = ap (λ (x : ReachedPoint). x.arrival) same ∙ is in
               let by = subst (λ a. IsArrival g k f found n h.one a) no_arrival arrival in
               let kept : leads g k f (Some 0) (reverse later) ≡ Some p =
               ap (λ q. leads g k f (Some q) (reverse later)) (sym by.0) ∙ h.kept in (
@@ -168,14 +168,14 @@ module _ (g : Graph) (k : ℕ) (f : Fact) where
               )
 
   -- a step comes from a point that is reached before
-  pub arrival_before : (found : List Reached) (n m : ℕ) (r : Reached) (s : Step) → AreArrivals g k f found → slice_get found n ≡ Some r →
+  pub arrival_before : (found : List ReachedPoint) (n m : ℕ) (r : ReachedPoint) (s : Step) → AreArrivals g k f found → slice_get found n ≡ Some r →
       r.arrival ≡ Some (m, s) → m < n
   arrival_before found n m r s all there is = by (subst (λ a. IsArrival g k f found n r a) is (all n r there)) where
     by : IsStepTo g k f found n r m s → m < n
     by h = h.before
 
   -- what isn't reached isn't followed back
-  pub nothing_traced : (found : List Reached) (p n : ℕ) (later : List Step) (o : Origin) →
+  pub nothing_traced : (found : List ReachedPoint) (p n : ℕ) (later : List Step) (o : Origin) →
       slice_get found n ≡ None → IsTraced g k f found p n later →
       IsOrigin g k f p o × IsOnPath g k f p o
   nothing_traced found p n later o none h = let there = h.there in absurd (cc)

@@ -16,21 +16,21 @@ use Rattle.flt_explain_ways.specs.Gathering.{common_by, common_of, same, is_of, 
 use Rattle.flt_explain_ways.specs.Grouping.{is_like, is_unlike, share, group, groups_in}
 use Rattle.flt_explain_ways.specs.declared.grouping.Common.{Common}
 use Rattle.flt_explain_ways.specs.declared.grouping.Group.{Group}
-use Rattle.flt_explain_ways.specs.declared.grouping.Traced.{Traced}
+use Rattle.flt_explain_ways.specs.declared.grouping.TracedFinding.{TracedFinding}
 use Rattle.flt_explain_ways.specs.declared.origin.Cause.{Cause}
 use Rattle.flt_explain_ways.specs.declared.origin.Cause.TheVariants as cause
 
 -- ---- one more finding
 
 -- nothing is left of nothing
-pub none_left : (turns : List Traced) → groups_in turns [] ≡ []
+pub none_left : (turns : List TracedFinding) → groups_in turns [] ≡ []
 none_left [] = refl
 none_left (turn ∷ turns) = refl
 
-fewer : (p : Traced → Bool) (xs : List Traced) → length (filter p xs) ≤ length xs
+fewer : (p : TracedFinding → Bool) (xs : List TracedFinding) → length (filter p xs) ≤ length xs
 fewer p xs = let e = length-filter p xs in let h = count_by-le-length p xs in omega (arith, e, h)
 
-module _ (turns : List Traced) (y x : Traced) (ys : List Traced) where
+module _ (turns : List TracedFinding) (y x : TracedFinding) (ys : List TracedFinding) where
   abbrev Rest : Type 0
   Rest = groups_in turns (filter (is_unlike y) ys ++ x ∷ []) ≡ added x (groups_in turns (filter (is_unlike y) ys))
 
@@ -64,7 +64,7 @@ module _ (turns : List Traced) (y x : Traced) (ys : List Traced) where
       ∙ ap (λ gs. group y (filter (is_like y) ys) ∷ gs) rest ∙ sym (goes_in false e)
 
 -- the groups of findings with one more are those without it, to which it is added
-pub more : (turns xs : List Traced) (x : Traced) → length xs < length turns → groups_in turns (xs ++ x ∷ []) ≡ added x (groups_in turns xs)
+pub more : (turns xs : List TracedFinding) (x : TracedFinding) → length xs < length turns → groups_in turns (xs ++ x ∷ []) ≡ added x (groups_in turns xs)
 more [] xs x h = absurd (omega (arith, h))
 more (turn ∷ turns) [] x h = ap (λ gs. group x [] ∷ gs) (none_left turns)
 more (turn ∷ turns) (y ∷ ys) x h =
@@ -73,7 +73,7 @@ more (turn ∷ turns) (y ∷ ys) x h =
     (is_like y x) refl
 
 -- the same of the next finding
-pub more_taken : (found : List Traced) (i : ℕ) (d : Traced) → i < length found →
+pub more_taken : (found : List TracedFinding) (i : ℕ) (d : TracedFinding) → i < length found →
     groups_in found (take (i + 1) found) ≡ added (get_or found i d) (groups_in found (take i found))
 more_taken found i d h =
     ap (groups_in found) (take_more found i d h)
@@ -113,13 +113,13 @@ answers true false = refl
 answers false true = refl
 answers false false = refl
 
-nothing : (x y : Traced) → false ≡ ((y.finding.callback == x.finding.callback) && ((number y.finding.rule == number x.finding.rule)
+nothing : (x y : TracedFinding) → false ≡ ((y.finding.callback == x.finding.callback) && ((number y.finding.rule == number x.finding.rule)
     && ((place y.finding.subject == place x.finding.subject) && false)))
 nothing x y =
     sym (none_of (y.finding.callback == x.finding.callback) (number y.finding.rule == number x.finding.rule)
     (place y.finding.subject == place x.finding.subject))
 
-turned : (x y : Traced) (d h : Bool) → d ≡ h → ((x.finding.callback == y.finding.callback)
+turned : (x y : TracedFinding) (d h : Bool) → d ≡ h → ((x.finding.callback == y.finding.callback)
     && ((number x.finding.rule == number y.finding.rule) && ((place x.finding.subject == place y.finding.subject) && d)))
     ≡ ((y.finding.callback == x.finding.callback) && ((number y.finding.rule == number x.finding.rule)
     && ((place y.finding.subject == place x.finding.subject) && h)))
@@ -130,7 +130,7 @@ turned x y d h e =
     (flip x.finding.callback y.finding.callback) (flip (number x.finding.rule) (number y.finding.rule))
     (flip (place x.finding.subject) (place y.finding.subject)) e
 
-like_by : (x y : Traced) (c d : Option Cause) → agree (common_by x c) (common_by y d)
+like_by : (x y : TracedFinding) (c d : Option Cause) → agree (common_by x c) (common_by y d)
     ≡ ((y.finding.callback == x.finding.callback) && ((number y.finding.rule == number x.finding.rule)
     && ((place y.finding.subject == place x.finding.subject) && share d c)))
 like_by x y None None = nothing x y
@@ -146,26 +146,26 @@ like_by x y (Some (cause.Made s)) (Some (cause.Made u)) =
     (ap (λ b. b && beq s.granted u.granted) (flip s.point u.point) ∙ ap (λ b. (u.point == s.point) && b) (answers s.granted u.granted))
 
 -- what a finding has in common with others says which are like it
-alike : (x y : Traced) (k : Common) → common_of x ≡ Some k → is_of k (common_of y) ≡ is_like y x
+alike : (x y : TracedFinding) (k : Common) → common_of x ≡ Some k → is_of k (common_of y) ≡ is_like y x
 alike x y k e = sym (ap (λ o. agree o (common_of y)) e) ∙ like_by x y x.cause y.cause
 
 -- none is like one whose origin isn't known
-unlike : (x y : Traced) → common_of x ≡ None → is_like y x ≡ false
+unlike : (x y : TracedFinding) → common_of x ≡ None → is_like y x ≡ false
 unlike x y e = sym (like_by x y x.cause y.cause) ∙ ap (λ o. agree o (common_of y)) e
 
 -- ---- where it joins
 
 -- a group of its own behind the others, if none is like it
-alone : (x : Traced) (gs : List Group) → ((y : Traced) → is_like y x ≡ false) → added x gs ≡ gs ++ group x [] ∷ []
+alone : (x : TracedFinding) (gs : List Group) → ((y : TracedFinding) → is_like y x ≡ false) → added x gs ≡ gs ++ group x [] ∷ []
 alone x [] h = refl
 alone x (g ∷ gs) h =
     ap (λ b. if b then group g.first (g.others ++ x ∷ []) ∷ gs else g ∷ added x gs) (h g.first) ∙ ap (λ hs. g ∷ hs) (alone x gs h)
 
 -- a finding that has no group begins one
-pub unknown : (x : Traced) (gs : List Group) → common_of x ≡ None → added x gs ≡ gs ++ group x [] ∷ []
+pub unknown : (x : TracedFinding) (gs : List Group) → common_of x ≡ None → added x gs ≡ gs ++ group x [] ∷ []
 unknown x gs e = alone x gs (λ y. unlike x y e)
 
-module _ (x : Traced) (k : Common) (e : common_of x ≡ Some k) (g : Group) (gs : List Group) where
+module _ (x : TracedFinding) (k : Common) (e : common_of x ≡ Some k) (g : Group) (gs : List Group) where
   -- it goes into the first group or on, by whether that is of this
   into : (b : Bool) → is_of k (common_of g.first) ≡ b →
       added x (g ∷ gs) ≡ (if b then group g.first (g.others ++ x ∷ []) ∷ gs else g ∷ added x gs)
@@ -198,26 +198,26 @@ module _ (x : Traced) (k : Common) (e : common_of x ≡ Some k) (g : Group) (gs 
       into false t ∙ ap (λ hs. g ∷ hs) (begins_on rest (place_in k gs) refl (first_place false t ∙ h))
 
 -- it joins the group at the place that is kept
-pub joins : (x : Traced) (k : Common) → common_of x ≡ Some k → (gs : List Group) (i : ℕ) → place_in k gs ≡ Some i →
+pub joins : (x : TracedFinding) (k : Common) → common_of x ≡ Some k → (gs : List Group) (i : ℕ) → place_in k gs ≡ Some i →
     added x gs ≡ joined gs i x
 joins x k e [] i h = absurd (none-some i h)
 joins x k e (g ∷ gs) i h = joins_here x k e g gs i (λ j f. joins x k e gs j f) h (is_of k (common_of g.first)) refl
 
 -- it begins a group where no place is kept
-pub begins : (x : Traced) (k : Common) → common_of x ≡ Some k → (gs : List Group) → place_in k gs ≡ None →
+pub begins : (x : TracedFinding) (k : Common) → common_of x ≡ Some k → (gs : List Group) → place_in k gs ≡ None →
     added x gs ≡ gs ++ group x [] ∷ []
 begins x k e [] h = refl
 begins x k e (g ∷ gs) h = begins_here x k e g gs (λ f. begins x k e gs f) h (is_of k (common_of g.first)) refl
 
 -- what a list lends is written back
-pub written : (gs : List Group) (i : ℕ) (g : Group) (x : Traced) → i < length gs → g ≡ slice_index_or gs i g →
+pub written : (gs : List Group) (i : ℕ) (g : Group) (x : TracedFinding) → i < length gs → g ≡ slice_index_or gs i g →
     slice_set gs i (group g.first (g.others ++ x ∷ [])) ≡ joined gs i x
 written [] i g x within e = absurd (omega (arith, within))
 written (h ∷ gs) zero g x within e = ap (λ (f : Group). group f.first (f.others ++ x ∷ []) ∷ gs) e
 written (h ∷ gs) (suc i) g x within e = ap (λ hs. h ∷ hs) (written gs i g x (omega (arith, within)) e)
 
 -- nothing is where no group is
-pub outside : (gs : List Group) (i : ℕ) (x : Traced) → (i < length gs → ⊥) → gs ≡ joined gs i x
+pub outside : (gs : List Group) (i : ℕ) (x : TracedFinding) → (i < length gs → ⊥) → gs ≡ joined gs i x
 outside [] i x h = refl
 outside (g ∷ gs) zero x h = absurd (h (omega arith))
 outside (g ∷ gs) (suc i) x h = ap (λ hs. g ∷ hs) (outside gs i x (λ w. h (omega (arith, w))))
@@ -225,7 +225,7 @@ outside (g ∷ gs) (suc i) x h = ap (λ hs. g ∷ hs) (outside gs i x (λ w. h (
 -- ---- the places that are kept
 
 -- they stay where a finding joins a group
-pub stay : (q : Common) (gs : List Group) (i : ℕ) (x : Traced) → place_in q (joined gs i x) ≡ place_in q gs
+pub stay : (q : Common) (gs : List Group) (i : ℕ) (x : TracedFinding) → place_in q (joined gs i x) ≡ place_in q gs
 stay q [] i x = refl
 stay q (g ∷ gs) zero x = refl
 stay q (g ∷ gs) (suc i) x = ap (λ o. if is_of q (common_of g.first) then Some 0 else option_map suc o) (stay q gs i x)
@@ -240,14 +240,14 @@ next (Some i) b n = refl
 next None true n = refl
 next None false n = refl
 
-place_behind : (q : Common) (x : Traced) (g : Group) (gs : List Group) →
+place_behind : (q : Common) (x : TracedFinding) (g : Group) (gs : List Group) →
     place_in q (gs ++ group x [] ∷ []) ≡ or_last (place_in q gs) (is_of q (common_of x)) (length gs) → (b : Bool) →
     (if b then Some 0 else option_map suc (place_in q (gs ++ group x [] ∷ [])))
     ≡ or_last (if b then Some 0 else option_map suc (place_in q gs)) (is_of q (common_of x)) (suc (length gs))
 place_behind q x g gs rest true = refl
 place_behind q x g gs rest false = ap (option_map suc) rest ∙ next (place_in q gs) (is_of q (common_of x)) (length gs)
 
-behind : (q : Common) (x : Traced) (gs : List Group) →
+behind : (q : Common) (x : TracedFinding) (gs : List Group) →
     place_in q (gs ++ group x [] ∷ []) ≡ or_last (place_in q gs) (is_of q (common_of x)) (length gs)
 behind q x [] = refl
 behind q x (g ∷ gs) = place_behind q x g gs (behind q x gs) (is_of q (common_of g.first))
@@ -261,7 +261,7 @@ of_none q None e = refl
 of_none q (Some k) e = absurd (none-some k (sym e))
 
 -- they stay where a finding begins a group whose origin isn't known
-pub stay_behind : (q : Common) (x : Traced) (gs : List Group) → common_of x ≡ None → place_in q (gs ++ group x [] ∷ []) ≡ place_in q gs
+pub stay_behind : (q : Common) (x : TracedFinding) (gs : List Group) → common_of x ≡ None → place_in q (gs ++ group x [] ∷ []) ≡ place_in q gs
 stay_behind q x gs e =
     behind q x gs ∙ ap (λ b. or_last (place_in q gs) b (length gs)) (of_none q (common_of x) e) ∙ no_last (place_in q gs) (length gs)
 
@@ -298,7 +298,7 @@ both : (k q : Common) → k ≡ q → same k q ≡ same q k
 both k q e = subst (λ z. same k z ≡ same z k) e refl
 
 -- one more is kept where a finding begins a group of which none was before
-pub one_more : (q : Common) (x : Traced) (k : Common) (gs : List Group) → common_of x ≡ Some k → place_in k gs ≡ None →
+pub one_more : (q : Common) (x : TracedFinding) (k : Common) (gs : List Group) → common_of x ≡ Some k → place_in k gs ≡ None →
     place_in q (gs ++ group x [] ∷ []) ≡ (if same k q then Some (length gs) else place_in q gs)
 one_more q x k gs e h =
     behind q x gs ∙ ap (λ o. or_last (place_in q gs) (is_of q o) (length gs)) e ∙ by_test (same k q) (same q k) refl refl

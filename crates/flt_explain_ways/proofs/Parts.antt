@@ -6,13 +6,13 @@ use Rattle.std.proofs.lemmas.Bool.{and_from}
 use Rattle.std.proofs.lemmas.List.Filters.{sum_by-filter_both}
 use Rattle.std.proofs.lemmas.List.Sums.{length-filter, count_by-le-length, sum_by-cons}
 use Rattle.flt_explain_ways.specs.Grouping.{is_like, is_unlike, group, groups_in, weight, Part, is_alike, Alike}
-use Rattle.flt_explain_ways.specs.declared.grouping.Traced.{Traced}
+use Rattle.flt_explain_ways.specs.declared.grouping.TracedFinding.{TracedFinding}
 
 -- fewer are left
-fewer : (p : Traced → Bool) (xs : List Traced) → length (filter p xs) ≤ length xs
+fewer : (p : TracedFinding → Bool) (xs : List TracedFinding) → length (filter p xs) ≤ length xs
 fewer p xs = let e = length-filter p xs in let h = count_by-le-length p xs in omega (arith, e, h)
 
-part_in : (weigh : Traced → ℕ) (turns xs : List Traced) → length xs ≤ length turns →
+part_in : (weigh : TracedFinding → ℕ) (turns xs : List TracedFinding) → length xs ≤ length turns →
     sum_by (weight weigh) (groups_in turns xs) ≡ sum_by weigh xs
 part_in weigh [] [] h = refl
 part_in weigh [] (x ∷ xs) h = absurd (omega arith)
@@ -31,7 +31,7 @@ part_in weigh (turn ∷ turns) (x ∷ xs) h =
 pub part : Part
 part xs weigh = part_in weigh xs xs (omega arith)
 
-passed : (p : Traced → Bool) (xs : List Traced) → list_all p (filter p xs) ≡ true
+passed : (p : TracedFinding → Bool) (xs : List TracedFinding) → list_all p (filter p xs) ≡ true
 passed p [] = refl
 passed p (x ∷ xs) = by_test (p x) refl (passed p xs)
   where
@@ -39,7 +39,7 @@ passed p (x ∷ xs) = by_test (p x) refl (passed p xs)
     by_test true e rest = and_from _ _ e rest
     by_test false e rest = rest
 
-alike_in : (turns xs : List Traced) → list_all is_alike (groups_in turns xs) ≡ true
+alike_in : (turns xs : List TracedFinding) → list_all is_alike (groups_in turns xs) ≡ true
 alike_in [] xs = refl
 alike_in (turn ∷ turns) [] = refl
 alike_in (turn ∷ turns) (x ∷ xs) = and_from _ _ (passed (is_like x) xs) (alike_in turns (filter (is_unlike x) xs))

@@ -20,7 +20,7 @@ use Rattle.flt_explain_ways.specs.declared.origin.Cause.{Cause}
 use Rattle.flt_explain_ways.specs.declared.origin.Cause.TheVariants as cause
 use Rattle.flt_explain_ways.specs.declared.facts.Fact.{Fact}
 use Rattle.flt_explain_ways.specs.declared.path.Mark.{Mark}
-use Rattle.flt_explain_ways.specs.declared.path.Reached.{Reached}
+use Rattle.flt_explain_ways.specs.declared.path.ReachedPoint.{ReachedPoint}
 use Rattle.flt_explain_ways.specs.declared.path.Search.{Search}
 use Rattle.flt_explain_ways.specs.declared.answer.Step.{Step}
 use borrow.Author.Count.{below_more}
@@ -63,7 +63,7 @@ module _ (g : Graph) (k : ℕ) (f : Fact) where
 
   -- ---- one point more is followed
 
-  module _ (p : ℕ) (x : Search) (n : ℕ) (r : Reached) (h : IsSearched g k f p x n) (there : slice_get x.found n ≡ Some r) where
+  module _ (p : ℕ) (x : Search) (n : ℕ) (r : ReachedPoint) (h : IsSearched g k f p x n) (there : slice_get x.found n ≡ Some r) where
     abbrev y : Search
     y = gone_on g k f n r x
 
@@ -71,24 +71,24 @@ module _ (g : Graph) (k : ℕ) (f : Fact) where
     more = gone_more g k f n r x
 
     -- what is reached before is there already
-    there_before : (m : ℕ) (s : Reached) → m < n → slice_get y.found m ≡ Some s → slice_get x.found m ≡ Some s
+    there_before : (m : ℕ) (s : ReachedPoint) → m < n → slice_get y.found m ≡ Some s → slice_get x.found m ≡ Some s
     there_before m s less at =
         let before = slice_get_within x.found n r there in
         let old = slice_get-get_or x.found m r (omega (arith, less, before)) in
         let new = more.more m (get_or x.found m r) old in cc
 
-    the_same : (s : Reached) → slice_get y.found n ≡ Some s → r ≡ s
+    the_same : (s : ReachedPoint) → slice_get y.found n ≡ Some s → r ≡ s
     the_same s at = let new = more.more n r there in cc
 
-    follows : (m : ℕ) → m < n + 1 → (s : Reached) → slice_get y.found m ≡ Some s → IsFollowed g k f y s
-    follows = below_more (λ (m : ℕ). (s : Reached) → slice_get y.found m ≡ Some s → IsFollowed g k f y s) n
+    follows : (m : ℕ) → m < n + 1 → (s : ReachedPoint) → slice_get y.found m ≡ Some s → IsFollowed g k f y s
+    follows = below_more (λ (m : ℕ). (s : ReachedPoint) → slice_get y.found m ≡ Some s → IsFollowed g k f y s) n
         (λ m less s at. still_followed g k f x y s more (h.followed m s less (there_before m s less at)))
-        (λ s at. subst (λ (t : Reached). IsFollowed g k f y t) (the_same s at) (gone_followed g k f n r x h.marks))
+        (λ s at. subst (λ (t : ReachedPoint). IsFollowed g k f y t) (the_same s at) (gone_followed g k f n r x h.marks))
 
-    others : is_sought r p ≡ false → (m : ℕ) → m < n + 1 → (s : Reached) → slice_get y.found m ≡ Some s → is_sought s p ≡ false
-    others other = below_more (λ (m : ℕ). (s : Reached) → slice_get y.found m ≡ Some s → is_sought s p ≡ false) n
+    others : is_sought r p ≡ false → (m : ℕ) → m < n + 1 → (s : ReachedPoint) → slice_get y.found m ≡ Some s → is_sought s p ≡ false
+    others other = below_more (λ (m : ℕ). (s : ReachedPoint) → slice_get y.found m ≡ Some s → is_sought s p ≡ false) n
         (λ m less s at. h.others m s less (there_before m s less at))
-        (λ s at. subst (λ (t : Reached). is_sought t p ≡ false) (the_same s at) other)
+        (λ s at. subst (λ (t : ReachedPoint). is_sought t p ≡ false) (the_same s at) other)
 
     pub one_more : is_sought r p ≡ false → IsSearched g k f p (gone_on g k f n r x) (n + 1)
     one_more other = record {
@@ -315,7 +315,7 @@ module _ (g : Graph) (k : ℕ) (f : Fact) where
       subst (λ (z : Search). IsSearched g k f p z 0) (sym is) (entered_if p x (subst (λ n. IsUnsearched n p x) same h) so (sym may))
 
   -- each point that is followed is one less
-  pub fewer_left : (x : Search) (n : ℕ) (r : Reached) (y : Search) → slice_get x.found n ≡ Some r → y ≡ gone_on g k f n r x →
+  pub fewer_left : (x : Search) (n : ℕ) (r : ReachedPoint) (y : Search) → slice_get x.found n ≡ Some r → y ≡ gone_on g k f n r x →
       (open_in y.seen + (length y.found - (n + 1))) + 1 ≡ open_in x.seen + (length x.found - n)
   fewer_left x n r y there is =
       let more = subst (λ (z : Search). IsMore x z) (sym is) (gone_more g k f n r x) in
@@ -325,7 +325,7 @@ module _ (g : Graph) (k : ℕ) (f : Fact) where
       omega (arith, sum, before, after)
 
   -- each point that is followed is one more
-  pub followed_more : (p : ℕ) (x : Search) (n : ℕ) (r : Reached) (y : Search) → IsSearched g k f p x n → slice_get x.found n ≡ Some r →
+  pub followed_more : (p : ℕ) (x : Search) (n : ℕ) (r : ReachedPoint) (y : Search) → IsSearched g k f p x n → slice_get x.found n ≡ Some r →
       is_sought r p ≡ false → y ≡ gone_on g k f n r x → IsSearched g k f p y (n + 1)
   followed_more p x n r y h there other is =
       subst (λ (z : Search). IsSearched g k f p z (n + 1)) (sym is) (one_more g k f p x n r h there other)

@@ -12,7 +12,7 @@ use Rattle.flt_explain_ways.specs.Search.{is_marked, marked, added, arrived_by, 
 use Rattle.flt_explain_ways.specs.Search.{step, gone_on, IsArrival, AreArrivals, IsReached, AreMarks, IsFollowed, open_sides, open_in}
 use Rattle.flt_explain_ways.specs.declared.facts.Fact.{Fact}
 use Rattle.flt_explain_ways.specs.declared.path.Mark.{Mark}
-use Rattle.flt_explain_ways.specs.declared.path.Reached.{Reached}
+use Rattle.flt_explain_ways.specs.declared.path.ReachedPoint.{ReachedPoint}
 use Rattle.flt_explain_ways.specs.declared.path.Search.{Search}
 use Rattle.flt_explain_ways.specs.declared.answer.Step.{Step}
 
@@ -89,7 +89,7 @@ fewer_open (x ∷ ms) (suc p) m b there e = let h = fewer_open ms p m b there e 
 
 -- a search has all that another one has
 pub record IsMore (x y : Search) : Type 0 where
-  pub more : (n : ℕ) (r : Reached) → slice_get x.found n ≡ Some r → slice_get y.found n ≡ Some r
+  pub more : (n : ℕ) (r : ReachedPoint) → slice_get x.found n ≡ Some r → slice_get y.found n ≡ Some r
   pub marks : AreMarks x → AreMarks y
   pub long : length y.seen ≡ length x.seen
   pub sum : open_in y.seen + length y.found ≡ open_in x.seen + length x.found
@@ -111,7 +111,7 @@ pub still_reached : (x y : Search) (p : ℕ) (so : Bool) → IsMore x y → IsRe
 still_reached x y p so a h =
     record { number = h.number; one = h.one; there = a.more h.number h.one h.there; point = h.point; same = h.same }
 
-added_marks : (x : Search) (r : Reached) (m : Mark) → slice_get x.seen r.point ≡ Some m → AreMarks x → AreMarks (added x r m)
+added_marks : (x : Search) (r : ReachedPoint) (m : Mark) → slice_get x.seen r.point ≡ Some m → AreMarks x → AreMarks (added x r m)
 added_marks x r m e all p n so there is = by (at_set x.seen r.point (marked m r.is_so) n p there) where
   old : IsReached x.found p so → IsReached (x.found ++ r ∷ []) p so
   old h = record { number = h.number; one = h.one; there = kept_at x.found (r ∷ []) h.number h.one h.there; point = h.point; same = h.same }
@@ -124,7 +124,7 @@ added_marks x r m e all p n so there is = by (at_set x.seen r.point (marked m r.
   by (inl before) = old (all p n so before is)
   by (inr (at, same)) = new at (marked_cases m r.is_so so (subst (λ v. is_marked v so ≡ true) (sym same) is))
 
-added_more : (x : Search) (r : Reached) (m : Mark) →
+added_more : (x : Search) (r : ReachedPoint) (m : Mark) →
     slice_get x.seen r.point ≡ Some m → is_marked m r.is_so ≡ false → IsMore x (added x r m)
 added_more x r m e is = record {
   more = λ n s h. kept_at x.found (r ∷ []) n s h;
@@ -136,38 +136,38 @@ added_more x r m e is = record {
       let one : length (r ∷ []) ≡ 1 = refl in omega (arith, fewer, longer, one);
 }
 
-marked_more : (x : Search) (r : Reached) (m : Mark) → slice_get x.seen r.point ≡ Some m → (b : Bool) → is_marked m r.is_so ≡ b →
+marked_more : (x : Search) (r : ReachedPoint) (m : Mark) → slice_get x.seen r.point ≡ Some m → (b : Bool) → is_marked m r.is_so ≡ b →
     IsMore x (if b then x else added x r m)
 marked_more x r m e true is = more_same x
 marked_more x r m e false is = added_more x r m e is
 
-arrived_by_more : (x : Search) (r : Reached) (o : Option Mark) → slice_get x.seen r.point ≡ o → IsMore x (arrived_by o x r)
+arrived_by_more : (x : Search) (r : ReachedPoint) (o : Option Mark) → slice_get x.seen r.point ≡ o → IsMore x (arrived_by o x r)
 arrived_by_more x r None e = more_same x
 arrived_by_more x r (Some m) e = marked_more x r m e (is_marked m r.is_so) refl
 
 -- an arrival leaves all that was reached
-pub arrived_more : (x : Search) (r : Reached) → IsMore x (arrived x r)
+pub arrived_more : (x : Search) (r : ReachedPoint) → IsMore x (arrived x r)
 arrived_more x r = arrived_by_more x r (slice_get x.seen r.point) refl
 
-reached_if : (x : Search) (r : Reached) (m : Mark) → AreMarks x → slice_get x.seen r.point ≡ Some m → (b : Bool) → is_marked m r.is_so ≡ b →
+reached_if : (x : Search) (r : ReachedPoint) (m : Mark) → AreMarks x → slice_get x.seen r.point ≡ Some m → (b : Bool) → is_marked m r.is_so ≡ b →
     IsReached (if b then x else added x r m).found r.point r.is_so
 reached_if x r m all e true is = all r.point m r.is_so e is
 reached_if x r m all e false is = record { number = length x.found; one = r; there = last_at x.found r; point = refl; same = refl }
 
-reached_by : (x : Search) (r : Reached) → AreMarks x → r.point < length x.seen → (o : Option Mark) → slice_get x.seen r.point ≡ o →
+reached_by : (x : Search) (r : ReachedPoint) → AreMarks x → r.point < length x.seen → (o : Option Mark) → slice_get x.seen r.point ≡ o →
     IsReached (arrived_by o x r).found r.point r.is_so
 reached_by x r all less None e =
     let there = slice_get-get_or x.seen r.point (record { absent = false; present = false }) less in absurd (cc)
 reached_by x r all less (Some m) e = reached_if x r m all e (is_marked m r.is_so) refl
 
 -- a point of the table is reached
-pub arrived_there : (x : Search) (r : Reached) → AreMarks x → r.point < length x.seen → IsReached (arrived x r).found r.point r.is_so
+pub arrived_there : (x : Search) (r : ReachedPoint) → AreMarks x → r.point < length x.seen → IsReached (arrived x r).found r.point r.is_so
 arrived_there x r all less = reached_by x r all less (slice_get x.seen r.point) refl
 
 -- ---- one step more
 
 module _ (g : Graph) (k : ℕ) (f : Fact) where
-  still_arrival : (found more : List Reached) (n : ℕ) (r : Reached) (a : Option (ℕ × Step)) → IsArrival g k f found n r a →
+  still_arrival : (found more : List ReachedPoint) (n : ℕ) (r : ReachedPoint) (a : Option (ℕ × Step)) → IsArrival g k f found n r a →
       IsArrival g k f (found ++ more) n r a
   still_arrival found more n r None h = h
   still_arrival found more n r (Some a) h = record {
@@ -180,7 +180,7 @@ module _ (g : Graph) (k : ℕ) (f : Fact) where
     so = h.so;
   }
 
-  added_arrivals : (x : Search) (r : Reached) (m : Mark) →
+  added_arrivals : (x : Search) (r : ReachedPoint) (m : Mark) →
       IsArrival g k f x.found (length x.found) r r.arrival → AreArrivals g k f x.found →
       AreArrivals g k f (added x r m).found
   added_arrivals x r m new all n s there = by (at_push x.found r s n there) where
@@ -189,20 +189,20 @@ module _ (g : Graph) (k : ℕ) (f : Fact) where
     by (inr (at, same)) =
         let here = subst (λ i. IsArrival g k f (x.found ++ r ∷ []) i r r.arrival) (sym at)
         (still_arrival x.found (r ∷ []) (length x.found) r r.arrival new) in
-        subst (λ (t : Reached). IsArrival g k f (x.found ++ r ∷ []) n t t.arrival) same here
+        subst (λ (t : ReachedPoint). IsArrival g k f (x.found ++ r ∷ []) n t t.arrival) same here
 
-  arrivals_if : (x : Search) (r : Reached) (m : Mark) → IsArrival g k f x.found (length x.found) r r.arrival → AreArrivals g k f x.found →
+  arrivals_if : (x : Search) (r : ReachedPoint) (m : Mark) → IsArrival g k f x.found (length x.found) r r.arrival → AreArrivals g k f x.found →
       (b : Bool) → AreArrivals g k f (if b then x else added x r m).found
   arrivals_if x r m new all true = all
   arrivals_if x r m new all false = added_arrivals x r m new all
 
-  arrivals_by : (x : Search) (r : Reached) → IsArrival g k f x.found (length x.found) r r.arrival → AreArrivals g k f x.found →
+  arrivals_by : (x : Search) (r : ReachedPoint) → IsArrival g k f x.found (length x.found) r r.arrival → AreArrivals g k f x.found →
       (o : Option Mark) → AreArrivals g k f (arrived_by o x r).found
   arrivals_by x r new all None = all
   arrivals_by x r new all (Some m) = arrivals_if x r m new all (is_marked m r.is_so)
 
   -- what is reached by one more step is reached by steps
-  pub arrived_arrivals : (x : Search) (r : Reached) → IsArrival g k f x.found (length x.found) r r.arrival → AreArrivals g k f x.found →
+  pub arrived_arrivals : (x : Search) (r : ReachedPoint) → IsArrival g k f x.found (length x.found) r r.arrival → AreArrivals g k f x.found →
       AreArrivals g k f (arrived x r).found
   arrived_arrivals x r new all = arrivals_by x r new all (slice_get x.seen r.point)
 
@@ -212,7 +212,7 @@ module _ (g : Graph) (k : ℕ) (f : Fact) where
       more_then x y (arrived y (reached p false n s)) (arrived_more x (reached p true n s)) (arrived_more y (reached p false n s))
   both_more false p n s x = arrived_more x (reached p false n s)
 
-  both_arrivals : (so : Bool) (p n : ℕ) (r : Reached) (s : Step) (x : Search) → slice_get x.found n ≡ Some r → s.point ≡ r.point →
+  both_arrivals : (so : Bool) (p n : ℕ) (r : ReachedPoint) (s : Step) (x : Search) → slice_get x.found n ≡ Some r → s.point ≡ r.point →
       is_outcome (instruction_at g k s.point) s.granted ≡ true → successor (instruction_at g k s.point) s.granted ≡ Some p →
       may_be_after g k f r s ≡ so → AreArrivals g k f x.found → AreArrivals g k f (arrived_both so p n s x).found
   both_arrivals so p n r s x there at outcome leads is all = by so is where
@@ -255,12 +255,12 @@ module _ (g : Graph) (k : ℕ) (f : Fact) where
   led_more (Some p) false so n s x = more_same x
   led_more None b so n s x = more_same x
 
-  pub taken_more : (n : ℕ) (r : Reached) (s : Step) (x : Search) → IsMore x (taken g k f n r s x)
+  pub taken_more : (n : ℕ) (r : ReachedPoint) (s : Step) (x : Search) → IsMore x (taken g k f n r s x)
   taken_more n r s x =
       led_more (successor (instruction_at g k s.point) s.granted) (is_outcome (instruction_at g k s.point) s.granted)
       (may_be_after g k f r s) n s x
 
-  led_arrivals : (o : Option ℕ) (b : Bool) (n : ℕ) (r : Reached) (s : Step) (x : Search) →
+  led_arrivals : (o : Option ℕ) (b : Bool) (n : ℕ) (r : ReachedPoint) (s : Step) (x : Search) →
       slice_get x.found n ≡ Some r → s.point ≡ r.point →
       is_outcome (instruction_at g k s.point) s.granted ≡ b → successor (instruction_at g k s.point) s.granted ≡ o →
       AreArrivals g k f x.found → AreArrivals g k f (led o b (may_be_after g k f r s) n s x).found
@@ -269,7 +269,7 @@ module _ (g : Graph) (k : ℕ) (f : Fact) where
   led_arrivals (Some p) false n r s x there at outcome leads all = all
   led_arrivals None b n r s x there at outcome leads all = all
 
-  taken_arrivals : (n : ℕ) (r : Reached) (s : Step) (x : Search) → slice_get x.found n ≡ Some r → s.point ≡ r.point →
+  taken_arrivals : (n : ℕ) (r : ReachedPoint) (s : Step) (x : Search) → slice_get x.found n ≡ Some r → s.point ≡ r.point →
       AreArrivals g k f x.found → AreArrivals g k f (taken g k f n r s x).found
   taken_arrivals n r s x there at all =
       led_arrivals (successor (instruction_at g k s.point) s.granted)
@@ -290,7 +290,7 @@ module _ (g : Graph) (k : ℕ) (f : Fact) where
   led_reached (Some q) false so p n s x outcome leads all less = cc
   led_reached None b so p n s x outcome leads all less = absurd (cc)
 
-  taken_reached : (n : ℕ) (r : Reached) (s : Step) (x : Search) (p : ℕ) → is_outcome (instruction_at g k s.point) s.granted ≡ true →
+  taken_reached : (n : ℕ) (r : ReachedPoint) (s : Step) (x : Search) (p : ℕ) → is_outcome (instruction_at g k s.point) s.granted ≡ true →
       successor (instruction_at g k s.point) s.granted ≡ Some p → AreMarks x → p < length x.seen →
       AreReached (taken g k f n r s x) p (may_be_after g k f r s)
   taken_reached n r s x p outcome leads all less =
@@ -299,7 +299,7 @@ module _ (g : Graph) (k : ℕ) (f : Fact) where
 
   -- ---- all steps from a point
 
-  module _ (n : ℕ) (r : Reached) (x : Search) where
+  module _ (n : ℕ) (r : ReachedPoint) (x : Search) where
     abbrev one : Search
     one = taken g k f n r (step r.point true true) x
 
@@ -361,7 +361,7 @@ module _ (g : Graph) (k : ℕ) (f : Fact) where
         taken_reached n r (step r.point false false) three p outcome leads (to_three.marks all) (omega (arith, e, less))
 
   -- what was followed in a search is followed in one with more
-  pub still_followed : (x y : Search) (r : Reached) → IsMore x y → IsFollowed g k f x r → IsFollowed g k f y r
+  pub still_followed : (x y : Search) (r : ReachedPoint) → IsMore x y → IsFollowed g k f x r → IsFollowed g k f y r
   still_followed x y r a h granted gives p outcome leads less =
       let e = a.long in
       still_both x y p (may_be_after g k f r (step r.point granted gives)) a (h granted gives p outcome leads (omega (arith, e, less)))

@@ -6,14 +6,14 @@ use Rattle.flt_explain.specs.Subjects.{place}
 use Rattle.flt_explain_ways.specs.Grouping.{is_like, group}
 use Rattle.flt_explain_ways.specs.contracts.grouping.CommonPartialEq.TheImpl as common_eq
 use Rattle.flt_explain_ways.specs.declared.grouping.Common.{Common}
-use Rattle.flt_explain_ways.specs.declared.grouping.Gathered.{Gathered}
+use Rattle.flt_explain_ways.specs.declared.grouping.GatheredGroups.{GatheredGroups}
 use Rattle.flt_explain_ways.specs.declared.grouping.Group.{Group}
-use Rattle.flt_explain_ways.specs.declared.grouping.Traced.{Traced}
+use Rattle.flt_explain_ways.specs.declared.grouping.TracedFinding.{TracedFinding}
 use Rattle.flt_explain_ways.specs.declared.origin.Cause.{Cause}
 use Rattle.flt_explain_ways.specs.declared.origin.Cause.TheVariants as cause
 
 -- what a finding has in common with those that are like it, by what made it so
-abbrev pub common_by : Traced → Option Cause → Option Common
+abbrev pub common_by : TracedFinding → Option Cause → Option Common
 common_by t (Some cause.Entry) = Some (record {
   callback = t.finding.callback;
   rule = number t.finding.rule;
@@ -30,7 +30,7 @@ common_by t (Some (cause.Made s)) = Some (record {
 })
 common_by t None = None
 
-abbrev pub common_of : Traced → Option Common
+abbrev pub common_of : TracedFinding → Option Common
 common_of t = common_by t t.cause
 
 -- whether findings have the same in common
@@ -42,12 +42,12 @@ is_of k None = false
 is_of k (Some c) = same k c
 
 -- the groups with one more finding: it joins the first one that it is like, or begins another one
-abbrev pub added : Traced → List Group → List Group
+abbrev pub added : TracedFinding → List Group → List Group
 added x [] = group x [] ∷ []
 added x (g ∷ gs) = if is_like g.first x then group g.first (g.others ++ x ∷ []) ∷ gs else g ∷ added x gs
 
 -- the groups with one more finding in the one at a place
-abbrev pub joined : List Group → ℕ → Traced → List Group
+abbrev pub joined : List Group → ℕ → TracedFinding → List Group
 joined [] i x = []
 joined (g ∷ gs) zero x = group g.first (g.others ++ x ∷ []) ∷ gs
 joined (g ∷ gs) (suc i) x = g ∷ joined gs i x
@@ -58,5 +58,5 @@ place_in k [] = None
 place_in k (g ∷ gs) = if is_of k (common_of g.first) then Some 0 else option_map suc (place_in k gs)
 
 -- each place that is kept is that of the first such group
-abbrev pub ArePlaced : Gathered → Type 0
+abbrev pub ArePlaced : GatheredGroups → Type 0
 ArePlaced a = (k : Common) → hash.get same a.places k ≡ place_in k a.groups.items

@@ -6,7 +6,7 @@ use Rattle.flt_abs.specs.Outcome.{agrees}
 use Rattle.flt_explain.specs.Subjects.{place}
 use Rattle.flt_explain_ways.specs.declared.answer.Step.{Step}
 use Rattle.flt_explain_ways.specs.declared.grouping.Group.{Group}
-use Rattle.flt_explain_ways.specs.declared.grouping.Traced.{Traced}
+use Rattle.flt_explain_ways.specs.declared.grouping.TracedFinding.{TracedFinding}
 use Rattle.flt_explain_ways.specs.declared.origin.Cause.{Cause}
 use Rattle.flt_explain_ways.specs.declared.origin.Cause.TheVariants as cause
 
@@ -25,33 +25,33 @@ share (Some a) (Some b) = same_cause a b
 share _ _ = false
 
 -- whether a finding is of one callback, rule, subject and origin with another
-abbrev pub is_like : Traced → Traced → Bool
+abbrev pub is_like : TracedFinding → TracedFinding → Bool
 is_like a b =
     (a.finding.callback == b.finding.callback) && ((number a.finding.rule == number b.finding.rule)
     && ((place a.finding.subject == place b.finding.subject) && share a.cause b.cause))
 
-abbrev pub is_unlike : Traced → Traced → Bool
+abbrev pub is_unlike : TracedFinding → TracedFinding → Bool
 is_unlike a b = not (is_like a b)
 
-abbrev pub group : Traced → List Traced → Group
+abbrev pub group : TracedFinding → List TracedFinding → Group
 group x others = record { first = x; others = others }
 
 -- the first finding with all that are like it; then the same with those that are left, as long as turns are left
-abbrev pub groups_in : List Traced → List Traced → List Group
+abbrev pub groups_in : List TracedFinding → List TracedFinding → List Group
 groups_in [] xs = []
 groups_in (turn ∷ turns) [] = []
 groups_in (turn ∷ turns) (x ∷ xs) = group x (filter (is_like x) xs) ∷ groups_in turns (filter (is_unlike x) xs)
 
-abbrev pub groups_of : List Traced → List Group
+abbrev pub groups_of : List TracedFinding → List Group
 groups_of xs = groups_in xs xs
 
 -- what the findings of a group weigh together
-abbrev pub weight : (Traced → ℕ) → Group → ℕ
+abbrev pub weight : (TracedFinding → ℕ) → Group → ℕ
 weight weigh g = weigh g.first + sum_by weigh g.others
 
 -- each finding stands in exactly one group: whatever the findings weigh, the groups weigh together as much
 abbrev pub Part : Type 0
-Part = (xs : List Traced) (weigh : Traced → ℕ) → sum_by (weight weigh) (groups_of xs) ≡ sum_by weigh xs
+Part = (xs : List TracedFinding) (weigh : TracedFinding → ℕ) → sum_by (weight weigh) (groups_of xs) ≡ sum_by weigh xs
 
 -- whether all of a group are like its first
 abbrev pub is_alike : Group → Bool
@@ -59,4 +59,4 @@ is_alike g = list_all (is_like g.first) g.others
 
 -- all of a group are of one callback, rule, subject and origin
 abbrev pub Alike : Type 0
-Alike = (xs : List Traced) → IsTrue (list_all is_alike (groups_of xs))
+Alike = (xs : List TracedFinding) → IsTrue (list_all is_alike (groups_of xs))

@@ -3,7 +3,7 @@
 use crate::ground::Ground;
 use crate::held::Lists;
 use crate::possible::{FAST, HELD, IRP, NO, NOT_HELD, Part, Possible, YES};
-use crate::search::{Followed, Node, Stop, kept};
+use crate::search::{FollowedParts, Node, Stop, kept};
 use flt_explain::{Finding, Subject};
 use flt_graph::{Graph, Instruction};
 use flt_rules::{
@@ -162,7 +162,7 @@ impl LockWant {
 }
 
 /// The part of the state that is followed for a finding alone: its subject.
-pub(crate) fn asked(finding: &Finding) -> Followed {
+pub(crate) fn asked(finding: &Finding) -> FollowedParts {
     let part = match finding.subject {
         Subject::Context(v) => Some(Part::context(v)),
         Subject::Operation(v) => Some(Part::operation(v)),
@@ -170,7 +170,7 @@ pub(crate) fn asked(finding: &Finding) -> Followed {
         Subject::Draining => Some(Part::DRAINING),
         Subject::Lock(_) | Subject::Call | Subject::Status => None,
     };
-    Followed {
+    FollowedParts {
         parts: match part {
             Some(part) => Possible::whole(part),
             None => Possible::NOTHING,
@@ -273,7 +273,7 @@ impl Aims {
     pub(crate) fn look(
         &mut self,
         ground: &Ground<'_>,
-        followed: Followed,
+        followed: FollowedParts,
         number: usize,
         node: Node,
     ) {

@@ -26,7 +26,7 @@ pub(crate) struct Branch {
 
 /// A step, with all that is possible where it is taken, given the point's outcome.
 #[derive(Clone, Copy)]
-struct Passed {
+struct StepChoice {
     branch: Branch,
     left: Possible,
     side: Side,
@@ -70,7 +70,7 @@ pub(crate) fn branches_to(
 /// All that is possible on a path, step by step.
 #[derive(Drop)]
 struct Passage {
-    passed: Vec<Passed>,
+    passed: Vec<StepChoice>,
     end: Possible,
 }
 
@@ -90,7 +90,7 @@ fn passage_of(
         };
         let fine = if clean { all.without(spot.bad) } else { all };
         let left = fine.and(side.keeps);
-        passed.push(Passed {
+        passed.push(StepChoice {
             branch: *branch,
             left,
             side,
@@ -133,7 +133,7 @@ pub(crate) fn path_along(
     let mut need = passage.end.and(wants);
     let mut steps = Vec::new(alloc);
     for passed in passage.passed.iter().rev() {
-        let Passed { branch, left, side } = *passed;
+        let StepChoice { branch, left, side } = *passed;
         steps.push(Step {
             point: branch.point,
             granted: branch.granted,

@@ -14,7 +14,7 @@ use std::collections::HashMap;
 
 /// A finding, its number among all, from 0, and its cause, if that is known.
 #[derive(Clone, Copy)]
-pub struct Traced {
+pub struct TracedFinding {
     pub number: usize,
     pub finding: Finding,
     pub cause: Option<Cause>,
@@ -23,8 +23,8 @@ pub struct Traced {
 /// Findings of one callback, rule, subject and origin, in their order.
 #[derive(Drop)]
 pub struct Group {
-    pub first: Traced,
-    pub others: Items<Traced>,
+    pub first: TracedFinding,
+    pub others: Items<TracedFinding>,
 }
 
 /// The place of a subject among all: the variables, mode and draining, the locks, the call and the status.
@@ -55,7 +55,7 @@ struct Common {
 }
 
 /// The properties that a finding shares with others; none if its origin isn't known.
-fn common_of(traced: &Traced) -> Option<Common>
+fn common_of(traced: &TracedFinding) -> Option<Common>
     ensures { result ≡ common_of traced.now }
 {
     let (point, granted) = match traced.cause? {
@@ -73,13 +73,13 @@ fn common_of(traced: &Traced) -> Option<Common>
 
 /// Groups in the making, and the place of each by the properties that its findings share.
 #[derive(Drop)]
-struct Gathered {
+struct GatheredGroups {
     groups: Vec<Group>,
     places: HashMap<Common, usize>,
 }
 
 /// Begins a group with a finding.
-fn begin(alloc: Global, groups: &mut Vec<Group>, traced: Traced) -> Result<(), AllocError>
+fn begin(alloc: Global, groups: &mut Vec<Group>, traced: TracedFinding) -> Result<(), AllocError>
     ensures { OnOk result (groups.new.items ≡ groups.old.items ++ spec.group traced [] ∷ []) }
 {
     groups.push(Group {
@@ -90,7 +90,7 @@ fn begin(alloc: Global, groups: &mut Vec<Group>, traced: Traced) -> Result<(), A
 }
 
 /// Adds a finding to the group at a place.
-fn join(groups: &mut Vec<Group>, place: usize, traced: Traced) -> Result<(), AllocError>
+fn join(groups: &mut Vec<Group>, place: usize, traced: TracedFinding) -> Result<(), AllocError>
     ensures { OnOk result (groups.new.items ≡ joined groups.old.items place traced) }
 {
     match groups.get_mut(place) {
@@ -99,9 +99,9 @@ fn join(groups: &mut Vec<Group>, place: usize, traced: Traced) -> Result<(), All
     }
 }
 
-impl Gathered {
+impl GatheredGroups {
     /// Adds the next finding to the first group that it is like, or begins one with it.
-    fn add(&mut self, alloc: Global, traced: Traced) -> Result<(), AllocError>
+    fn add(&mut self, alloc: Global, traced: TracedFinding) -> Result<(), AllocError>
         requires places { ArePlaced self.old }
         ensures places { OnOk result (ArePlaced self.new) }
         ensures groups { OnOk result (self.new.groups.items ≡ added traced self.old.groups.items) }
@@ -125,10 +125,10 @@ impl Gathered {
 /// # Errors
 ///
 /// `AllocError` if a growth is refused.
-pub fn groups(alloc: Global, found: &[Traced]) -> Result<Items<Group>, AllocError>
+pub fn groups(alloc: Global, found: &[TracedFinding]) -> Result<Items<Group>, AllocError>
     ensures { IfOk result (λ gs. gs ≡ spec.groups_of found.now) }
 {
-    let mut gathered = Gathered {
+    let mut gathered = GatheredGroups {
         groups: Vec::new(alloc),
         places: HashMap::new(alloc),
     };

@@ -12,7 +12,7 @@ const LISTS: usize = 4096;
 
 /// A state in which the locks of a list are held, and the level that they make.
 #[derive(Drop)]
-struct Held {
+struct LockedState {
     state: Abs,
     level: Level,
 }
@@ -20,7 +20,7 @@ struct Held {
 /// The lists of a callback. The first one is empty.
 #[derive(Drop)]
 pub(crate) struct Lists {
-    lists: Vec<Held>,
+    lists: Vec<LockedState>,
 }
 
 fn level_of(graph: &Graph, callback: usize, locks: &[HeldLock]) -> Level {
@@ -69,11 +69,11 @@ impl Lists {
             return Ok(None);
         }
         let level = level_of(graph, callback, state.locks().as_slice());
-        self.lists.push(Held { state, level })?;
+        self.lists.push(LockedState { state, level })?;
         Ok(Some(number))
     }
 
-    fn held(&self, number: usize) -> Option<&Held> {
+    fn held(&self, number: usize) -> Option<&LockedState> {
         self.lists.get(number)
     }
 

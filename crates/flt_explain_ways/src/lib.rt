@@ -36,7 +36,7 @@ mod to_finding;
 pub use about::fact_about;
 pub use answer::{Answer, Step, Way, Ways};
 pub use facts::{Fact, VariableStatus, keeps, makes, steps_follow_situations};
-pub use grouping::{Group, Traced, groups, groups_part_findings};
+pub use grouping::{Group, TracedFinding, groups, groups_part_findings};
 pub use origin::{Cause, Origin, origin_on, ways_have_origins};
 pub use path::origin_at;
 pub use situation::{Moment, Situation};

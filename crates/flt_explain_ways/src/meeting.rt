@@ -4,8 +4,8 @@ use crate::choices::{Branch, Path, branches_to, path_along};
 use crate::cover::Cover;
 use crate::ground::Ground;
 use crate::possible::Possible;
-use crate::search::{Followed, Manner, Node, Search, Stop};
-use crate::sought::{Budget, Found, Sought};
+use crate::search::{FollowedParts, Manner, Node, Search, Stop};
+use crate::sought::{Budget, Found, SearchResults};
 use flt_explain::Finding;
 use std::alloc::{AllocError, Global};
 
@@ -120,7 +120,7 @@ fn ways_to(
     search: &Search,
     finding: &Finding,
     pair: Pair,
-) -> Result<Sought, AllocError> {
+) -> Result<SearchResults, AllocError> {
     let last = Branch {
         point: finding.point,
         granted: pair.granted,
@@ -128,18 +128,18 @@ fn ways_to(
     let first = path_to(alloc, ground, search, pair.number, Some(last))?;
     let second = path_to(alloc, ground, search, pair.other, None)?;
     match (first, second) {
-        (Some(first), Some(second)) => Ok(Sought::of(
+        (Some(first), Some(second)) => Ok(SearchResults::of(
             search.manner.clean,
             Found::Two(first, second),
         )),
-        _ => Ok(Sought::Unknown),
+        _ => Ok(SearchResults::Unknown),
     }
 }
 
 /// The result of a search: paths, or the next part that must be followed too, or neither.
 #[derive(Drop)]
 enum Came {
-    To(Sought),
+    To(SearchResults),
     Stopped(Stop),
 }
 
@@ -165,9 +165,9 @@ fn meeting_of(
         Some(pair) => Ok(Came::To(ways_to(alloc, ground, search, finding, pair)?)),
         None if is_all => {
             let number = search.write_down(alloc, ground, covers)?;
-            Ok(Came::To(Sought::Nothing(number)))
+            Ok(Came::To(SearchResults::Nothing(number)))
         }
-        None => Ok(Came::To(Sought::Unknown)),
+        None => Ok(Came::To(SearchResults::Unknown)),
     }
 }
 
@@ -194,8 +194,8 @@ pub(crate) fn seek_meeting(
     clean: bool,
     budget: &mut Budget,
     covers: &mut Vec<Cover>,
-) -> Result<Sought, AllocError> {
-    let mut followed = Followed {
+) -> Result<SearchResults, AllocError> {
+    let mut followed = FollowedParts {
         parts: Possible::NOTHING,
         locks: true,
     };
@@ -211,5 +211,5 @@ pub(crate) fn seek_meeting(
             Came::Stopped(stop) => followed = followed.with(stop),
         }
     }
-    Ok(Sought::Unknown)
+    Ok(SearchResults::Unknown)
 }

@@ -23,7 +23,7 @@ struct Mark {
 
 /// A point that is reached, whether the fact holds there, and the step that leads there, from the point of a number.
 #[derive(Clone, Copy)]
-struct Reached {
+struct ReachedPoint {
     point: usize,
     is_so: bool,
     arrival: Option<(usize, Step)>,
@@ -80,7 +80,7 @@ fn unmarked(alloc: Global, count: usize) -> Result<Items<Mark>, AllocError>
 /// The points that are reached, in order, and for each point whether it is without the fact and with it.
 #[derive(Drop)]
 struct Search {
-    found: Items<Reached>,
+    found: Items<ReachedPoint>,
     seen: Items<Mark>,
 }
 
@@ -101,7 +101,7 @@ impl Search {
     }
 
     /// Reaches a point, with the fact or without it, unless it was reached like that before.
-    fn arrive(&mut self, one: Reached) -> Result<(), AllocError>
+    fn arrive(&mut self, one: ReachedPoint) -> Result<(), AllocError>
         ensures { IfOk result (λ _. self.new ≡ spec.arrived self.old one) }
     {
         let Some(mark) = self.seen.get(one.point) else {
@@ -121,13 +121,13 @@ impl Search {
         ensures { IfOk result (λ _. self.new ≡ spec.entered so self.old) }
     {
         if so {
-            self.arrive(Reached {
+            self.arrive(ReachedPoint {
                 point: 0,
                 is_so: true,
                 arrival: None,
             })?;
         }
-        self.arrive(Reached {
+        self.arrive(ReachedPoint {
             point: 0,
             is_so: false,
             arrival: None,
@@ -136,7 +136,7 @@ impl Search {
 }
 
 /// Whether a fact may hold after a step.
-fn may_be_after(graph: &Graph, callback: usize, fact: Fact, from: Reached, step: Step) -> bool
+fn may_be_after(graph: &Graph, callback: usize, fact: Fact, from: ReachedPoint, step: Step) -> bool
     ensures { result ≡ spec.may_be_after graph.now callback fact from step }
 {
     let instruction = graph.instruction_ref(callback, step.point);
@@ -151,7 +151,7 @@ fn take(
     fact: Fact,
     search: &mut Search,
     number: usize,
-    from: Reached,
+    from: ReachedPoint,
     step: Step,
 ) -> Result<(), AllocError>
     ensures { IfOk result (λ _. search.new ≡ spec.taken graph.now callback fact number from step search.old) }
@@ -165,13 +165,13 @@ fn take(
     }
     let arrival = Some((number, step));
     if may_be_after(graph, callback, fact, from, step) {
-        search.arrive(Reached {
+        search.arrive(ReachedPoint {
             point,
             is_so: true,
             arrival,
         })?;
     }
-    search.arrive(Reached {
+    search.arrive(ReachedPoint {
         point,
         is_so: false,
         arrival,
@@ -195,7 +195,7 @@ fn go_on(
     fact: Fact,
     search: &mut Search,
     number: usize,
-    from: Reached,
+    from: ReachedPoint,
 ) -> Result<(), AllocError>
     ensures { IfOk result (λ _. search.new ≡ spec.gone_on graph.now callback fact number from search.old) }
 {
@@ -254,7 +254,7 @@ fn entered(
 }
 
 /// Whether this is the point that is sought, with the fact.
-fn is_sought(one: Reached, point: usize) -> bool
+fn is_sought(one: ReachedPoint, point: usize) -> bool
     ensures { result ≡ spec.is_sought one point }
 {
     one.point == point && one.is_so
@@ -306,7 +306,7 @@ fn traced(
     graph: &Graph,
     callback: usize,
     fact: Fact,
-    found: &Items<Reached>,
+    found: &Items<ReachedPoint>,
     number: usize,
 ) -> Result<Origin, AllocError>
     requires { spec.AreArrivals graph.now callback fact found.now }

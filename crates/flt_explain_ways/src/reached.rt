@@ -3,7 +3,7 @@
 use crate::cover::Cover;
 use crate::ground::Ground;
 use crate::possible::{Part, Possible};
-use crate::search::{Followed, Node, Search};
+use crate::search::{FollowedParts, Node, Search};
 use flt_abs::{Abs, CONTEXTS, Draining, Modes, OPERATIONS, Statuses, entry_state};
 use flt_explain_closed::Member;
 use flt_graph::Place;
@@ -11,7 +11,7 @@ use sqlite_items::Items;
 use std::alloc::{AllocError, Global};
 
 /// All that is possible if only some parts are followed: anything, in the other parts.
-fn seen(followed: Followed, all: Possible) -> Possible {
+fn seen(followed: FollowedParts, all: Possible) -> Possible {
     let others = Possible::ALL.without(followed.parts);
     all.and(followed.parts).or(others)
 }

@@ -12,7 +12,7 @@ use std::alloc::{AllocError, Global};
 
 /// The parts of the state that are followed: moments that differ in other parts are the same.
 #[derive(Clone, Copy)]
-pub(crate) struct Followed {
+pub(crate) struct FollowedParts {
     pub(crate) parts: Possible,
     pub(crate) locks: bool,
 }
@@ -46,19 +46,19 @@ pub(crate) struct Lead {
 /// No number.
 pub(crate) const NOWHERE: usize = usize::MAX;
 
-impl Followed {
-    pub(crate) fn is_same(self, other: Followed) -> bool {
+impl FollowedParts {
+    pub(crate) fn is_same(self, other: FollowedParts) -> bool {
         self.parts.is_same(other.parts) && self.locks == other.locks
     }
 
     /// The same with the part or the locks that stopped a path.
-    pub(crate) fn with(self, stop: Stop) -> Followed {
+    pub(crate) fn with(self, stop: Stop) -> FollowedParts {
         match stop {
-            Stop::Part(part) => Followed {
+            Stop::Part(part) => FollowedParts {
                 parts: self.parts.or(Possible::whole(part)),
                 ..self
             },
-            Stop::Locks => Followed {
+            Stop::Locks => FollowedParts {
                 locks: true,
                 ..self
             },
@@ -104,7 +104,7 @@ pub(crate) fn kept(
 pub(crate) struct Manner {
     /// Only past points where no rule is broken.
     pub(crate) clean: bool,
-    pub(crate) followed: Followed,
+    pub(crate) followed: FollowedParts,
     /// The refused outcome is looked at first. It stops paths less often, since less is held then.
     pub(crate) refused_first: bool,
     /// The search doesn't continue from moments to which the path was stopped.

@@ -5,7 +5,7 @@ ghost use Rattle.std.specs.Prelude.{◌≤◌, length};
 use crate::cover::Cover;
 use crate::ground::Ground;
 use crate::meeting::seek_meeting;
-use crate::sought::{Budgets, Outcomes, Sought};
+use crate::sought::{Budgets, Outcomes, SearchResults};
 use crate::tasks::Tasks;
 use flt_explain::Finding;
 use flt_graph::Graph;
@@ -13,7 +13,7 @@ use flt_rules::Rule;
 use std::alloc::{AllocError, Global};
 
 /// A list with no result yet for each of some findings.
-fn unsought(alloc: Global, found: &[Finding]) -> Result<Vec<Option<Sought>>, AllocError> {
+fn unsought(alloc: Global, found: &[Finding]) -> Result<Vec<Option<SearchResults>>, AllocError> {
     let mut sought = Vec::new(alloc);
     for _finding in found {
         sought.push(None)?;
@@ -28,9 +28,9 @@ fn seek_pair(
     finding: &Finding,
     budgets: &mut Budgets,
     covers: &mut Vec<Cover>,
-) -> Result<Sought, AllocError> {
+) -> Result<SearchResults, AllocError> {
     match seek_meeting(alloc, ground, finding, true, &mut budgets.text, covers)? {
-        Sought::Nothing(_) => {
+        SearchResults::Nothing(_) => {
             seek_meeting(alloc, ground, finding, false, &mut budgets.text, covers)
         }
         sought => Ok(sought),

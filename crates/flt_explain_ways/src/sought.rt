@@ -21,7 +21,7 @@ pub(crate) enum Found {
 
 /// The results of the searches for a finding.
 #[derive(Drop)]
-pub(crate) enum Sought {
+pub(crate) enum SearchResults {
     /// Only past points where no rule is broken.
     Clean(Found),
     Behind(Found),
@@ -30,13 +30,13 @@ pub(crate) enum Sought {
     Unknown,
 }
 
-impl Sought {
+impl SearchResults {
     /// A result with paths: if `clean`, only past points where no rule is broken.
-    pub(crate) fn of(clean: bool, found: Found) -> Sought {
+    pub(crate) fn of(clean: bool, found: Found) -> SearchResults {
         if clean {
-            Sought::Clean(found)
+            SearchResults::Clean(found)
         } else {
-            Sought::Behind(found)
+            SearchResults::Behind(found)
         }
     }
 }
@@ -82,13 +82,13 @@ impl Budget {
 /// The results of the searches for the findings of a text, by their numbers, and the covers that these name.
 #[derive(Drop)]
 pub(crate) struct Outcomes {
-    pub(crate) sought: Vec<Option<Sought>>,
+    pub(crate) sought: Vec<Option<SearchResults>>,
     pub(crate) covers: Vec<Cover>,
 }
 
 impl Outcomes {
     /// Writes down the result of the searches for the finding of a number.
-    pub(crate) fn put(&mut self, number: usize, sought: Sought) {
+    pub(crate) fn put(&mut self, number: usize, sought: SearchResults) {
         let mut sought = Some(sought);
         if let Some(place) = self.sought.get_mut(number) {
             swap(place, &mut sought);

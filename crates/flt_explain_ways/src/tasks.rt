@@ -4,8 +4,8 @@ use crate::aims::{Aim, Aims, asked};
 use crate::choices::{branches_to, path_along};
 use crate::ground::Ground;
 use crate::possible::Possible;
-use crate::search::{Followed, Manner, NOWHERE, Search, Stop};
-use crate::sought::{Budget, Budgets, Found, Outcomes, Sought};
+use crate::search::{FollowedParts, Manner, NOWHERE, Search, Stop};
+use crate::sought::{Budget, Budgets, Found, Outcomes, SearchResults};
 use flt_explain::Finding;
 use std::alloc::{AllocError, Global};
 
@@ -29,7 +29,7 @@ enum Standing {
 struct Task {
     number: usize,
     finding: Finding,
-    followed: Followed,
+    followed: FollowedParts,
     refused_first: bool,
     standing: Standing,
 }
@@ -46,7 +46,7 @@ impl Task {
     }
 
     /// Whether one search is for both.
-    fn is_sought_with(&self, followed: Followed, refused_first: bool) -> bool {
+    fn is_sought_with(&self, followed: FollowedParts, refused_first: bool) -> bool {
         self.is_open() && self.followed.is_same(followed) && self.refused_first == refused_first
     }
 
@@ -215,8 +215,8 @@ impl Tasks {
     fn write_down(&self, outcomes: &mut Outcomes) {
         for task in self.tasks.iter() {
             let came = match task.standing {
-                Standing::Ended(number) => Some(Sought::Nothing(number)),
-                Standing::Open | Standing::Cut => Some(Sought::Unknown),
+                Standing::Ended(number) => Some(SearchResults::Nothing(number)),
+                Standing::Open | Standing::Cut => Some(SearchResults::Unknown),
                 Standing::Found => None,
             };
             if let Some(came) = came {
@@ -270,11 +270,11 @@ fn found_by(
     search: &Search,
     number: usize,
     wants: Possible,
-) -> Result<Sought, AllocError> {
+) -> Result<SearchResults, AllocError> {
     let clean = search.manner.clean;
     let branches = branches_to(alloc, search, number, None)?;
     match path_along(alloc, ground, clean, branches.as_slice(), wants)? {
-        Some(path) => Ok(Sought::of(clean, Found::One(path))),
-        None => Ok(Sought::Unknown),
+        Some(path) => Ok(SearchResults::of(clean, Found::One(path))),
+        None => Ok(SearchResults::Unknown),
     }
 }

@@ -13,7 +13,7 @@ use crate::ends::{end_of, is_last};
 use crate::faults::{are_apart, is_found_in};
 use crate::seeking::seek_all;
 use crate::situation::Moment;
-use crate::sought::{Found, Outcomes, Sought};
+use crate::sought::{Found, Outcomes, SearchResults};
 use flt_explain::Finding;
 use flt_graph::Graph;
 use sqlite_items::Items;
@@ -127,7 +127,7 @@ fn answer(
     alloc: Global,
     graph: &Graph,
     finding: &Finding,
-    sought: Sought,
+    sought: SearchResults,
     covers: &[Cover],
     closed: &[bool],
 ) -> Result<Answer, AllocError>
@@ -135,24 +135,24 @@ fn answer(
     ensures { IfOk result (told.IsAnswer graph.now finding.now) }
 {
     match sought {
-        Sought::Clean(found) => match confirmed(alloc, graph, finding, true, found)? {
+        SearchResults::Clean(found) => match confirmed(alloc, graph, finding, true, found)? {
             Some(ways) => Ok(Answer::Clean(ways)),
             None => Ok(Answer::Unknown),
         },
-        Sought::Behind(found) => match confirmed(alloc, graph, finding, false, found)? {
+        SearchResults::Behind(found) => match confirmed(alloc, graph, finding, false, found)? {
             Some(ways) => Ok(Answer::Behind(ways)),
             None => Ok(Answer::Unknown),
         },
-        Sought::Nothing(number) => Ok(without_way(graph, finding, covers, closed, number)),
-        Sought::Unknown => Ok(Answer::Unknown),
+        SearchResults::Nothing(number) => Ok(without_way(graph, finding, covers, closed, number)),
+        SearchResults::Unknown => Ok(Answer::Unknown),
     }
 }
 
 /// Takes the result of the searches for the finding of a number.
-fn taken_from(sought: &mut Vec<Option<Sought>>, number: usize) -> Sought {
+fn taken_from(sought: &mut Vec<Option<SearchResults>>, number: usize) -> SearchResults {
     match sought.get_mut(number) {
-        Some(place) => place.take().unwrap_or(Sought::Unknown),
-        None => Sought::Unknown,
+        Some(place) => place.take().unwrap_or(SearchResults::Unknown),
+        None => SearchResults::Unknown,
     }
 }
 

@@ -5,7 +5,7 @@ use flt_model::Verdict;
 use flt_order::Acquisition;
 use flt_replay::replay;
 use flt_rules::LockNumber;
-use flt_search_deadlocks::{Answer, Bounds, Deadlock, UnwatchedSearch, Watched, find_deadlock};
+use flt_search_deadlocks::{Answer, Bounds, Deadlock, UnwatchedSearch, WatchedSearch, find_deadlock};
 use flt_syntax::{Tree, parse};
 use std::alloc::{AllocError, Global};
 use std::test::Fail;
@@ -166,7 +166,7 @@ fn is_found(alloc: Global, case: &Case<'_>) -> Result<bool, Fail> {
     let circle = circle_in(alloc, trees.as_slice(), filter, steps)?;
     let bounds = Bounds { states: 4_000 };
     let mut watch = UnwatchedSearch;
-    let mut watched = Watched::new(&mut watch);
+    let mut watched = WatchedSearch::new(&mut watch);
     let answer = find_deadlock(
         alloc,
         trees.as_slice(),

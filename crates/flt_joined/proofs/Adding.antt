@@ -13,10 +13,10 @@ use Rattle.flt_joined.proofs.Parts.{in_part, zipped_on}
 use Rattle.flt_joined.specs.Made.{AreFirstJoined, AreJoined, AreJoinedOf, IsAdded, IsJoined}
 use Rattle.flt_joined.specs.Texts.{Given, given_of, givens, groups_of, make_text, name_by, refused_at, refused_in, text_of}
 use Rattle.flt_joined.specs.declared.given.GivenFile.{GivenFile}
-use Rattle.flt_joined.specs.declared.joined.Joined.{Joined}
+use Rattle.flt_joined.specs.declared.joined.JoinedTexts.{JoinedTexts}
 
 -- the files from one number up to another have no text: one of them is refused
-pub none_added : (files : List GivenFile) (first end : ℕ) (old new : Joined) (flaw : FileFlaw) →
+pub none_added : (files : List GivenFile) (first end : ℕ) (old new : JoinedTexts) (flaw : FileFlaw) →
     text_of (givens (slice_range files first end)) ≡ Err flaw → flaw.file < end - first → new.texts.items ≡ old.texts.items →
     new.refused.items ≡ old.refused.items ++ record { file = first + flaw.file; flaw = flaw.flaw } ∷ [] →
     IsAdded files (givens (slice_range files first end)) old new
@@ -33,7 +33,7 @@ none_added files first end old new flaw is within texts refused = record {
 }
 
 -- a group more
-pub one_more_joined : (files : List GivenFile) (first end : ℕ) (old new : Joined) → AreFirstJoined files first old →
+pub one_more_joined : (files : List GivenFile) (first end : ℕ) (old new : JoinedTexts) → AreFirstJoined files first old →
     groups_of (givens (drop first files)) ≡ givens (slice_range files first end) ∷ groups_of (givens (drop end files)) →
     IsAdded files (givens (slice_range files first end)) old new → AreFirstJoined files end new
 one_more_joined files first end old new before group added =
@@ -55,7 +55,7 @@ one_more_joined files first end old new before group added =
     }
 
 -- all of them
-pub all_joined : (files : List GivenFile) (first : ℕ) (j : Joined) → first ≡ length files → AreFirstJoined files first j → AreJoined files j
+pub all_joined : (files : List GivenFile) (first : ℕ) (j : JoinedTexts) → first ≡ length files → AreFirstJoined files first j → AreJoined files j
 all_joined files first j end before =
     let none : drop first files ≡ [] = ap (λ n. drop n files) end ∙ drop_all files (length files) (omega arith) in
     let all : before.groups ≡ groups_of (givens files) =

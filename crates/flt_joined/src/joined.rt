@@ -40,13 +40,13 @@ impl JoinedText {
 
 /// The texts that files make.
 #[derive(Drop)]
-pub struct Joined {
+pub struct JoinedTexts {
     pub texts: Vec<JoinedText>,
     /// The files with which a text would be too long, so that there is none of the files with which they go on.
     pub refused: Vec<FileFlaw>,
 }
 
-impl Joined {
+impl JoinedTexts {
     /// Adds the text of the files from one number up to another, or the file by which there is none.
     fn add(
         &mut self,
@@ -82,11 +82,11 @@ impl Joined {
 /// # Errors
 ///
 /// `AllocError` if a growth is refused.
-pub fn join(alloc: Global, files: &[GivenFile<'_>]) -> Result<Joined, AllocError>
+pub fn join(alloc: Global, files: &[GivenFile<'_>]) -> Result<JoinedTexts, AllocError>
     requires { made.AreOwn files.now }
     ensures { IfOk result (made.AreJoined files.now) }
 {
-    let mut joined = Joined {
+    let mut joined = JoinedTexts {
         texts: Vec::new(alloc),
         refused: Vec::new(alloc),
     };

@@ -8,4 +8,4 @@ mod joined;
 mod making;
 
 pub use given::GivenFile;
-pub use joined::{Joined, JoinedText, join, source_file, source_files};
+pub use joined::{JoinedText, JoinedTexts, join, source_file, source_files};

@@ -14,8 +14,8 @@ use Rattle.flt_kinds.specs.Kinds.{IsThere, MaySet, IsBegun, IsGiven, IsNeeded, A
 use Rattle.flt_kinds.specs.Kinds.{allocated, of_stream, of_instance}
 use Rattle.flt_kinds.specs.Settled.{IsJust, IsComplete, IsSettled}
 use Rattle.flt_kinds.specs.Sites.{begun_at, given_at}
-use Rattle.flt_kinds.specs.declared.mixed.Mixed.{Mixed}
-use Rattle.flt_kinds.specs.declared.sites.Given.{Given}
+use Rattle.flt_kinds.specs.declared.mixed.MixedContext.{MixedContext}
+use Rattle.flt_kinds.specs.declared.sites.ContextSite.{ContextSite}
 use Rattle.flt_kinds.specs.declared.slot.Slot.{Slot}
 use Rattle.flt_kinds.specs.declared.slot.Spot.{Spot}
 use Rattle.flt_kinds.proofs.Closing.{is_callback, equal_or_below}
@@ -36,7 +36,7 @@ not_both : Stream ≡ Instance → ⊥
 unfolding is_stream
 not_both e = true≢false (ap is_stream e)
 
-held_apart : (g : Graph) (listed : List Spot) (m : Mixed) → KindsHold g listed → IsMixed g m → ⊥
+held_apart : (g : Graph) (listed : List Spot) (m : MixedContext) → KindsHold g listed → IsMixed g m → ⊥
 held_apart g listed _ k (allocated {site = site} {stream = a} {instance = b} {slot = slot} begun stream instance) =
     k.of_stream site a slot begun stream (k.of_instance site b slot begun instance)
 held_apart g listed _ k (of_stream {site = site} {instance = b} {slot = slot} given instance) =
@@ -45,7 +45,7 @@ held_apart g listed _ k (of_instance {site = site} {stream = a} {slot = slot} gi
     not_both (sym (k.given site a slot Instance Stream given stream))
 
 -- a context that is mixed has no kinds
-pub exclusive : (g : Graph) (listed : List Spot) (m : Mixed) → AreKinds g listed → IsMixed g m → ⊥
+pub exclusive : (g : Graph) (listed : List Spot) (m : MixedContext) → AreKinds g listed → IsMixed g m → ⊥
 unfolding AreKinds
 exclusive g listed m k x = held_apart g listed m k x
 
@@ -65,16 +65,16 @@ may_cell g anchor cells s at settled may = settled.complete s at may
 some_spot : (a b : Spot) → Some a ≡ Some b → a ≡ b
 some_spot a b e = ap (λ (o : Option Spot). unwrap_or o a) e
 
-some_mixed : (a b : Mixed) → Some a ≡ Some b → a ≡ b
-some_mixed a b e = ap (λ (o : Option Mixed). unwrap_or o a) e
+some_mixed : (a b : MixedContext) → Some a ≡ Some b → a ≡ b
+some_mixed a b e = ap (λ (o : Option MixedContext). unwrap_or o a) e
 
-mixture : Spot → Spot → Spot → Mixed
+mixture : Spot → Spot → Spot → MixedContext
 mixture at a b = record { site = at; stream = a; instance = b }
 
-nothing_mixed : (m : Mixed) → None ≡ Some m → ⊥
+nothing_mixed : (m : MixedContext) → None ≡ Some m → ⊥
 nothing_mixed m e = true≢false (ap is_none e)
 
-both_is : (g : Graph) (at : Spot) (x y : Option Spot) (m : Mixed) →
+both_is : (g : Graph) (at : Spot) (x y : Option Spot) (m : MixedContext) →
     ((a b : Spot) → x ≡ Some a → y ≡ Some b → IsMixed g (mixture at a b)) → both at x y ≡ Some m → IsMixed g m
 unfolding mixture
 both_is g at (Some a) (Some b) m h e = subst (λ x. IsMixed g x) (some_mixed (mixture at a b) m e) (h a b refl refl)
@@ -97,7 +97,7 @@ some_cell cells slot None q h = absurd (true≢false (sym h))
 some_cell cells slot (Some at) q h = (slot, (at, (refl, q)))
 
 module _ (g : Graph) (streams instances : Cells) (s : IsSettled g Stream streams) (i : IsSettled g Instance instances) where
-  begun_is : (at : Spot) (found : Option Slot) (m : Mixed) → IsThere g at → begun_at g at.callback at.point ≡ found →
+  begun_is : (at : Spot) (found : Option Slot) (m : MixedContext) → IsThere g at → begun_at g at.callback at.point ≡ found →
       begun_twice streams instances at found ≡ Some m → IsMixed g m
   unfolding mixture
   begun_is at None m there is e = absurd (nothing_mixed m e)
@@ -106,7 +106,7 @@ module _ (g : Graph) (streams instances : Cells) (s : IsSettled g Stream streams
       (λ a b x y. allocated (record { there = there; begins = is }) (cell_may g Stream streams slot a s x)
       (cell_may g Instance instances slot b i y)) e
 
-  elsewhere_is : (at : Spot) (anchor : Anchor) (slot : Slot) (m : Mixed) → IsGiven g anchor at slot →
+  elsewhere_is : (at : Spot) (anchor : Anchor) (slot : Slot) (m : MixedContext) → IsGiven g anchor at slot →
       set_elsewhere streams instances at anchor slot ≡ Some m → IsMixed g m
   unfolding mixture
   elsewhere_is at Stream slot m given e =
@@ -116,18 +116,18 @@ module _ (g : Graph) (streams instances : Cells) (s : IsSettled g Stream streams
       both_is g at (cell streams slot) (Some at) m
       (λ a b x y. subst (λ z. IsMixed g (mixture at a z)) (some_spot at b y) (of_instance given (cell_may g Stream streams slot a s x))) e
 
-  given_is : (at : Spot) (outcome : Bool) (found : Option Given) (m : Mixed) → IsThere g at →
+  given_is : (at : Spot) (outcome : Bool) (found : Option ContextSite) (m : MixedContext) → IsThere g at →
       given_at g at.callback at.point outcome ≡ found → given_twice streams instances at found ≡ Some m → IsMixed g m
   given_is at outcome None m there is e = absurd (nothing_mixed m e)
   given_is at outcome (Some found) m there is e =
       elsewhere_is at found.anchor found.slot m (record { there = there; outcome = outcome; gives = is }) e
 
-  first_is : (x y : Option Mixed) (m : Mixed) → (x ≡ Some m → IsMixed g m) → (y ≡ Some m → IsMixed g m) →
+  first_is : (x y : Option MixedContext) (m : MixedContext) → (x ≡ Some m → IsMixed g m) → (y ≡ Some m → IsMixed g m) →
       first_of x y ≡ Some m → IsMixed g m
   first_is (Some x) y m h k e = h e
   first_is None y m h k e = k e
 
-  statement_is : (callback point : ℕ) (m : Mixed) → point < points_at g callback →
+  statement_is : (callback point : ℕ) (m : MixedContext) → point < points_at g callback →
       mixed_at g streams instances callback point ≡ Some m → IsMixed g m
   unfolding mixed_at
   statement_is callback point m there e =
@@ -138,13 +138,13 @@ module _ (g : Graph) (streams instances : Cells) (s : IsSettled g Stream streams
       (λ f. first_is granted failed m (given_is (spot callback point) true (given_at g callback point true) m there refl)
       (given_is (spot callback point) false (given_at g callback point false) m there refl) f) e
 
-  below_is : (callback n : ℕ) (m : Mixed) → n ≤ points_at g callback → mixed_below g streams instances callback n ≡ Some m → IsMixed g m
+  below_is : (callback n : ℕ) (m : MixedContext) → n ≤ points_at g callback → mixed_below g streams instances callback n ≡ Some m → IsMixed g m
   below_is callback zero m low e = absurd (nothing_mixed m e)
   below_is callback (suc n) m low e =
       first_is (mixed_below g streams instances callback n) (mixed_at g streams instances callback n) m
       (below_is callback n m (omega (arith, low))) (statement_is callback n m (omega (arith, low))) e
 
-  in_is : (n : ℕ) (m : Mixed) → mixed_in g streams instances n ≡ Some m → IsMixed g m
+  in_is : (n : ℕ) (m : MixedContext) → mixed_in g streams instances n ≡ Some m → IsMixed g m
   in_is zero m e = absurd (nothing_mixed m e)
   in_is (suc n) m e =
       first_is (mixed_in g streams instances n) (mixed_below g streams instances n (points_at g n)) m (in_is n m) (below_is n
@@ -152,11 +152,11 @@ module _ (g : Graph) (streams instances : Cells) (s : IsSettled g Stream streams
 
   -- ---- no mixture
 
-  left_none : (x y : Option Mixed) → first_of x y ≡ None → x ≡ None
+  left_none : (x y : Option MixedContext) → first_of x y ≡ None → x ≡ None
   left_none None y e = refl
   left_none (Some m) y e = e
 
-  right_none : (x y : Option Mixed) → first_of x y ≡ None → y ≡ None
+  right_none : (x y : Option MixedContext) → first_of x y ≡ None → y ≡ None
   right_none None y e = e
   right_none (Some m) y e = absurd (nothing_mixed m (sym e))
 
@@ -194,13 +194,13 @@ module _ (g : Graph) (streams instances : Cells) (s : IsSettled g Stream streams
       (given_twice streams instances at (given_at g at.callback at.point false))) e))
       (may_cell g Stream streams slot a s x) (may_cell g Instance instances slot b i y)
 
-  begun : Spot → Option Mixed
+  begun : Spot → Option MixedContext
   begun at = begun_twice streams instances at (begun_at g at.callback at.point)
 
-  granted : Spot → Option Mixed
+  granted : Spot → Option MixedContext
   granted at = given_twice streams instances at (given_at g at.callback at.point true)
 
-  failed : Spot → Option Mixed
+  failed : Spot → Option MixedContext
   failed at = given_twice streams instances at (given_at g at.callback at.point false)
 
   given_none : (at : Spot) (outcome : Bool) → mixed_at g streams instances at.callback at.point ≡ None →
@@ -298,7 +298,7 @@ module _ (g : Graph) (streams instances : Cells) (s : IsSettled g Stream streams
       (subst (λ x. MaySet g Instance x needed.at) (begun_once g site needed.slot slot needed.begun begun) needed.sets)
 
   -- what is found mixed in the cells of both kinds is mixed
-  pub mixed_is : (m : Mixed) → mixed_in g streams instances (length g.callbacks) ≡ Some m → IsMixed g m
+  pub mixed_is : (m : MixedContext) → mixed_in g streams instances (length g.callbacks) ≡ Some m → IsMixed g m
   mixed_is m e = in_is (length g.callbacks) m e
 
   -- where nothing is found mixed, each context has its kind

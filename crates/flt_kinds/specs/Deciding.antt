@@ -7,37 +7,37 @@ use Rattle.flt_graph.specs.declared.graph.Graph.{Graph}
 use Rattle.flt_kinds.specs.Cells.{Cells, cell}
 use Rattle.flt_kinds.specs.Flows.{spot}
 use Rattle.flt_kinds.specs.Sites.{begun_at, given_at}
-use Rattle.flt_kinds.specs.declared.mixed.Mixed.{Mixed}
-use Rattle.flt_kinds.specs.declared.sites.Given.{Given}
+use Rattle.flt_kinds.specs.declared.mixed.MixedContext.{MixedContext}
+use Rattle.flt_kinds.specs.declared.sites.ContextSite.{ContextSite}
 use Rattle.flt_kinds.specs.declared.slot.Slot.{Slot}
 use Rattle.flt_kinds.specs.declared.slot.Spot.{Spot}
 
 -- ---- one statement
 
 -- a context that two statements set, each for its kind
-abbrev pub both : Spot → Option Spot → Option Spot → Option Mixed
+abbrev pub both : Spot → Option Spot → Option Spot → Option MixedContext
 both at (Some stream) (Some instance) = Some (record { site = at; stream = stream; instance = instance })
 both at _ _ = None
 
 -- a context that is allocated
-abbrev pub begun_twice : Cells → Cells → Spot → Option Slot → Option Mixed
+abbrev pub begun_twice : Cells → Cells → Spot → Option Slot → Option MixedContext
 begun_twice streams instances at (Some slot) = both at (cell streams slot) (cell instances slot)
 begun_twice streams instances at None = None
 
-abbrev pub set_elsewhere : Cells → Cells → Spot → Anchor → Slot → Option Mixed
+abbrev pub set_elsewhere : Cells → Cells → Spot → Anchor → Slot → Option MixedContext
 set_elsewhere streams instances at Stream slot = both at (Some at) (cell instances slot)
 set_elsewhere streams instances at Instance slot = both at (cell streams slot) (Some at)
 
 -- a context that is given
-abbrev pub given_twice : Cells → Cells → Spot → Option Given → Option Mixed
+abbrev pub given_twice : Cells → Cells → Spot → Option ContextSite → Option MixedContext
 given_twice streams instances at (Some found) = set_elsewhere streams instances at found.anchor found.slot
 given_twice streams instances at None = None
 
-abbrev pub first_of : Option Mixed → Option Mixed → Option Mixed
+abbrev pub first_of : Option MixedContext → Option MixedContext → Option MixedContext
 first_of (Some m) other = Some m
 first_of None other = other
 
-unfoldable pub mixed_at : Graph → Cells → Cells → ℕ → ℕ → Option Mixed
+unfoldable pub mixed_at : Graph → Cells → Cells → ℕ → ℕ → Option MixedContext
 mixed_at g streams instances callback point =
     first_of (begun_twice streams instances (spot callback point) (begun_at g callback point))
     (first_of (given_twice streams instances (spot callback point) (given_at g callback point true))
@@ -45,12 +45,12 @@ mixed_at g streams instances callback point =
 
 -- ---- all statements
 
-abbrev pub mixed_below : Graph → Cells → Cells → ℕ → ℕ → Option Mixed
+abbrev pub mixed_below : Graph → Cells → Cells → ℕ → ℕ → Option MixedContext
 mixed_below g streams instances callback zero = None
 mixed_below g streams instances callback (suc n) =
     first_of (mixed_below g streams instances callback n) (mixed_at g streams instances callback n)
 
-abbrev pub mixed_in : Graph → Cells → Cells → ℕ → Option Mixed
+abbrev pub mixed_in : Graph → Cells → Cells → ℕ → Option MixedContext
 mixed_in g streams instances zero = None
 mixed_in g streams instances (suc n) =
     first_of (mixed_in g streams instances n) (mixed_below g streams instances n (points_at g n))

@@ -10,7 +10,7 @@ use Rattle.flt_kinds.specs.Flows.{flows, source}
 use Rattle.flt_kinds.specs.Sites.{begun_at, given_at, set_at}
 use Rattle.flt_kinds.specs.declared.kinds.ContextKinds.{ContextKinds}
 use Rattle.flt_kinds.specs.declared.kinds.ContextKinds.TheVariants.{Known, Refused}
-use Rattle.flt_kinds.specs.declared.mixed.Mixed.{Mixed}
+use Rattle.flt_kinds.specs.declared.mixed.MixedContext.{MixedContext}
 use Rattle.flt_kinds.specs.declared.slot.Flow.{Flow}
 use Rattle.flt_kinds.specs.declared.slot.Slot.{Slot}
 use Rattle.flt_kinds.specs.declared.slot.Slot.TheVariants.{Variable}
@@ -82,7 +82,7 @@ AreKinds g listed = KindsHold g listed
 
 -- one context may be set on a stream and on the instance, or be set on one and come from the other: `stream` and `instance` are the
 -- statements that say so
-pub data IsMixed (g : Graph) : Mixed → Type 0 where
+pub data IsMixed (g : Graph) : MixedContext → Type 0 where
   allocated : {site stream instance : Spot} {slot : Slot} → IsBegun g site slot → MaySet g Stream slot stream →
       MaySet g Instance slot instance → IsMixed g (record { site = site; stream = stream; instance = instance })
   of_stream : {site instance : Spot} {slot : Slot} → IsGiven g Stream site slot → MaySet g Instance slot instance →

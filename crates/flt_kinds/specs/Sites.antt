@@ -10,7 +10,7 @@ use Rattle.flt_graph.specs.declared.graph.Graph.{Graph}
 use Rattle.flt_graph.specs.declared.instruction.Instruction.{Instruction}
 use Rattle.flt_graph.specs.declared.instruction.Instruction.TheVariants as instruction
 use Rattle.flt_kinds.specs.Flows.{spot}
-use Rattle.flt_kinds.specs.declared.sites.Given.{Given}
+use Rattle.flt_kinds.specs.declared.sites.ContextSite.{ContextSite}
 use Rattle.flt_kinds.specs.declared.slot.Slot.{Slot}
 use Rattle.flt_kinds.specs.declared.slot.Slot.TheVariants.{Variable}
 use Rattle.flt_kinds.specs.declared.slot.Spot.{Spot}
@@ -65,15 +65,15 @@ abbrev pub side : Bool → ℕ → ℕ → ℕ
 side true granted failed = granted
 side false granted failed = failed
 
-abbrev pub gives : Option Anchor → Option Slot → Option Given
+abbrev pub gives : Option Anchor → Option Slot → Option ContextSite
 gives (Some anchor) (Some slot) = Some (record { anchor = anchor; slot = slot })
 gives _ _ = None
 
 -- the stream's or the instance's context that an instruction gives, as it comes out, and where that is
-abbrev pub given_by : ℕ → Bool → Instruction → Option Given
+abbrev pub given_by : ℕ → Bool → Instruction → Option ContextSite
 given_by callback outcome (instruction.Call i granted failed) =
     gives (giver i.call outcome) (in_variable (spot callback (side outcome granted failed)) i.output)
 given_by callback outcome _ = None
 
-unfoldable pub given_at : Graph → ℕ → ℕ → Bool → Option Given
+unfoldable pub given_at : Graph → ℕ → ℕ → Bool → Option ContextSite
 given_at g callback point outcome = given_by callback outcome (instruction_at g callback point)

@@ -5,7 +5,7 @@ ghost use Rattle.flt_graph.specs.declared.graph.Graph.{Graph};
 ghost use Rattle.flt_kinds.specs.Kinds as spec;
 ghost use Rattle.std.specs.Prelude.{◌≡◌, List, IfOk};
 
-use crate::mixed::{Mixed, Setters, mixed_in, needed_in};
+use crate::mixed::{MixedContext, Setters, mixed_in, needed_in};
 use crate::rounds::settled;
 use crate::slot::Spot;
 use flt_graph::{Graph, Tree};
@@ -18,13 +18,13 @@ pub enum ContextKinds {
     /// Each has one kind: contexts of the instance are allocated at these statements, and contexts of a stream at all others.
     Known(Vec<Spot>),
     /// One has two.
-    Refused(Mixed),
+    Refused(MixedContext),
 }
 
 /// If each context has a kind, none has two. It does nothing at run time: its clause is a law.
 
 pub fn kinds_exclude_mixtures()
-    ensures { (g : Graph) (listed : List Spot) (m : Mixed) → spec.AreKinds g listed → spec.IsMixed g m → ⊥ }
+    ensures { (g : Graph) (listed : List Spot) (m : MixedContext) → spec.AreKinds g listed → spec.IsMixed g m → ⊥ }
 {}
 
 /// The kinds of a filter's contexts, or one that has two. The graph is the tree's.

@@ -15,5 +15,5 @@ mod slot;
 
 pub use creates::completed_create;
 pub use kinds::{ContextKinds, context_kinds, kinds_exclude_mixtures};
-pub use mixed::Mixed;
+pub use mixed::MixedContext;
 pub use slot::{Flow, Slot, Spot};

@@ -6,7 +6,7 @@ ghost use Rattle.flt_kinds.specs.Deciding as spec;
 ghost use Rattle.std.specs.Prelude.{◌≡◌, ◌++◌, length, IfOk, OnOk};
 
 use crate::cells::cell;
-use crate::sites::{Given, begun_at, given_at};
+use crate::sites::{ContextSite, begun_at, given_at};
 use crate::slot::{Slot, Spot};
 use flt_graph::Graph;
 use flt_rules::Anchor;
@@ -14,7 +14,7 @@ use std::alloc::{AllocError, Global};
 
 /// A context that may be set on a stream and on the instance, or be set on one and come from the other.
 #[derive(Clone, Copy)]
-pub struct Mixed {
+pub struct MixedContext {
     /// The statement that allocates or gives it.
     pub site: Spot,
     /// The statement that sets it on a stream, or `site` if that gives a stream's context.
@@ -31,11 +31,11 @@ pub(crate) struct Setters<'a> {
     pub(crate) instances: &'a [Option<Spot>],
 }
 
-fn both(site: Spot, stream: Option<Spot>, instance: Option<Spot>) -> Option<Mixed>
+fn both(site: Spot, stream: Option<Spot>, instance: Option<Spot>) -> Option<MixedContext>
     ensures { result ≡ spec.both site stream instance }
 {
     match (stream, instance) {
-        (Some(stream), Some(instance)) => Some(Mixed {
+        (Some(stream), Some(instance)) => Some(MixedContext {
             site,
             stream,
             instance,
@@ -45,7 +45,7 @@ fn both(site: Spot, stream: Option<Spot>, instance: Option<Spot>) -> Option<Mixe
 }
 
 /// A context that is allocated.
-fn begun_twice(setters: Setters<'_>, at: Spot, slot: Option<Slot>) -> Option<Mixed>
+fn begun_twice(setters: Setters<'_>, at: Spot, slot: Option<Slot>) -> Option<MixedContext>
     requires streams { length setters.streams.now ≡ cells_for setters.callbacks }
     requires instances { length setters.instances.now ≡ cells_for setters.callbacks }
     ensures { result ≡ spec.begun_twice setters.entry.streams.now setters.entry.instances.now at slot }
@@ -61,14 +61,14 @@ fn begun_twice(setters: Setters<'_>, at: Spot, slot: Option<Slot>) -> Option<Mix
 }
 
 /// A context that is given.
-fn given_twice(setters: Setters<'_>, at: Spot, given: Option<Given>) -> Option<Mixed>
+fn given_twice(setters: Setters<'_>, at: Spot, given: Option<ContextSite>) -> Option<MixedContext>
     requires streams { length setters.streams.now ≡ cells_for setters.callbacks }
     requires instances { length setters.instances.now ≡ cells_for setters.callbacks }
     ensures { result ≡ spec.given_twice setters.entry.streams.now setters.entry.instances.now at given }
 {
     match given {
         Some(
-            Given {
+            ContextSite {
                 anchor: Anchor::Stream,
                 slot,
             },
@@ -78,7 +78,7 @@ fn given_twice(setters: Setters<'_>, at: Spot, given: Option<Given>) -> Option<M
             cell(setters.callbacks, setters.instances, slot),
         ),
         Some(
-            Given {
+            ContextSite {
                 anchor: Anchor::Instance,
                 slot,
             },
@@ -87,7 +87,7 @@ fn given_twice(setters: Setters<'_>, at: Spot, given: Option<Given>) -> Option<M
     }
 }
 
-fn first_of(first: Option<Mixed>, other: Option<Mixed>) -> Option<Mixed>
+fn first_of(first: Option<MixedContext>, other: Option<MixedContext>) -> Option<MixedContext>
     ensures { result ≡ spec.first_of first other }
 {
     match first {
@@ -98,7 +98,12 @@ fn first_of(first: Option<Mixed>, other: Option<Mixed>) -> Option<Mixed>
 
 /// A context with two kinds that a statement allocates or gives.
 #[tactic(auto, unfolding(crate::specs::Deciding::mixed_at))]
-fn mixed_at(graph: &Graph, setters: Setters<'_>, callback: usize, point: usize) -> Option<Mixed>
+fn mixed_at(
+    graph: &Graph,
+    setters: Setters<'_>,
+    callback: usize,
+    point: usize,
+) -> Option<MixedContext>
     requires streams { length setters.streams.now ≡ cells_for setters.callbacks }
     requires instances { length setters.instances.now ≡ cells_for setters.callbacks }
     ensures { result ≡ spec.mixed_at graph.now setters.entry.streams.now setters.entry.instances.now callback point }
@@ -111,7 +116,7 @@ fn mixed_at(graph: &Graph, setters: Setters<'_>, callback: usize, point: usize) 
 }
 
 /// The first one in a callback.
-fn mixed_below(graph: &Graph, setters: Setters<'_>, callback: usize) -> Option<Mixed>
+fn mixed_below(graph: &Graph, setters: Setters<'_>, callback: usize) -> Option<MixedContext>
     requires streams { length setters.streams.now ≡ cells_for setters.callbacks }
     requires instances { length setters.instances.now ≡ cells_for setters.callbacks }
     ensures { result ≡ spec.mixed_below graph.now setters.entry.streams.now setters.entry.instances.now callback
@@ -125,7 +130,7 @@ fn mixed_below(graph: &Graph, setters: Setters<'_>, callback: usize) -> Option<M
 }
 
 /// The first one in a filter.
-pub(crate) fn mixed_in(graph: &Graph, setters: Setters<'_>) -> Option<Mixed>
+pub(crate) fn mixed_in(graph: &Graph, setters: Setters<'_>) -> Option<MixedContext>
     requires streams { length setters.streams.now ≡ cells_for setters.callbacks }
     requires instances { length setters.instances.now ≡ cells_for setters.callbacks }
     ensures { result ≡ spec.mixed_in graph.now setters.entry.streams.now setters.entry.instances.now (length graph.now.callbacks) }

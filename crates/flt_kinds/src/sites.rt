@@ -9,7 +9,7 @@ use flt_rules::Anchor;
 
 /// A context of a stream or of the instance, and where it is.
 #[derive(Clone, Copy)]
-pub(crate) struct Given {
+pub(crate) struct ContextSite {
     pub(crate) anchor: Anchor,
     pub(crate) slot: Slot,
 }
@@ -83,18 +83,23 @@ fn giver(call: Call, outcome: bool) -> Option<Anchor>
     }
 }
 
-fn gives(anchor: Option<Anchor>, slot: Option<Slot>) -> Option<Given>
+fn gives(anchor: Option<Anchor>, slot: Option<Slot>) -> Option<ContextSite>
     ensures { result ≡ spec.gives anchor slot }
 {
     match (anchor, slot) {
-        (Some(anchor), Some(slot)) => Some(Given { anchor, slot }),
+        (Some(anchor), Some(slot)) => Some(ContextSite { anchor, slot }),
         _ => None,
     }
 }
 
 /// The stream's or the instance's context that the statement at a point gives, by its outcome, and the place of that context.
 #[tactic(auto, unfolding(crate::specs::Sites::given_at))]
-pub(crate) fn given_at(graph: &Graph, callback: usize, point: usize, outcome: bool) -> Option<Given>
+pub(crate) fn given_at(
+    graph: &Graph,
+    callback: usize,
+    point: usize,
+    outcome: bool,
+) -> Option<ContextSite>
     ensures { result ≡ spec.given_at graph.now callback point outcome }
 {
     match graph.instruction_ref(callback, point) {

@@ -26,7 +26,7 @@ use crate::actor::Actor;
 use crate::board::Board;
 use crate::events::{Events, events_of};
 use crate::fault::ApplyFault;
-use crate::kept::Kept;
+use crate::kept::StoredStanding;
 use crate::tickets::subjects_by;
 use crate::writing::write;
 use counted_heap::Heap;
@@ -228,7 +228,7 @@ impl Board {
         heap.reserve(&mut self.actors, 1)?;
         heap.reserve(&mut self.standings, 1)?;
         make_room(heap, &mut self.active, start.filter)?;
-        let kept = Kept::new(heap, standing_of(start))?;
+        let kept = StoredStanding::new(heap, standing_of(start))?;
         write(
             heap,
             &mut self.journal,

@@ -21,7 +21,7 @@ ghost use Rattle.flt_tree.specs.declared.filter.Filter.{Filter};
 
 use crate::active::has_any;
 use crate::actor::Actor;
-use crate::kept::Kept;
+use crate::kept::StoredStanding;
 use counted_heap::Heap;
 use flt_costs::journals_stay_within_costs;
 use flt_machine_frames::{Frame, Loaded, Standing};
@@ -36,7 +36,7 @@ use std::marker::Model;
 #[derive(Drop)]
 pub struct Board {
     pub(crate) actors: Vec<Actor>,
-    pub(crate) standings: Vec<Option<Kept>>,
+    pub(crate) standings: Vec<Option<StoredStanding>>,
     /// For each filter, how many of its activations haven't ended. A filter without a count has none.
     pub(crate) active: Vec<usize>,
     pub(crate) store: Store,

@@ -25,7 +25,7 @@ ghost use Rattle.flt_rules.specs.Limits.{max_cost, max_entries};
 use crate::active::count_end;
 use crate::board::Board;
 use crate::events::Events;
-use crate::kept::Kept;
+use crate::kept::StoredStanding;
 use crate::tickets::subjects_by;
 use crate::writing::write;
 use counted_heap::Heap;
@@ -271,7 +271,7 @@ fn standing_after(caller: &Caller, instruction: Instruction, plan: &Plan) -> Opt
 }
 
 /// Replaces the `Standing` of an activation that hasn't ended.
-fn renew(standings: &mut Vec<Option<Kept>>, activation: usize, later: Standing)
+fn renew(standings: &mut Vec<Option<StoredStanding>>, activation: usize, later: Standing)
     requires { IsSome (get_or standings.old.items activation None) }
     ensures { standings.new.items ≡ set standings.old.items activation (Some later) }
 {

@@ -9,11 +9,11 @@ use std::marker::Model;
 
 /// A `Standing` that takes no room once its activation has ended.
 #[derive(Drop)]
-pub(crate) struct Kept {
+pub(crate) struct StoredStanding {
     inner: Box<Standing>,
 }
 
-impl Model for Kept {
+impl Model for StoredStanding {
     ghost use Rattle.flt_machine_frames.specs.declared.standing.Standing.{Standing};
 
     ghost Value = { Standing };
@@ -21,13 +21,13 @@ impl Model for Kept {
     ghost view = { λ k. k.inner.value };
 }
 
-impl Kept {
-    pub(crate) fn new(heap: &mut Heap, standing: Standing) -> Result<Kept, AllocError>
+impl StoredStanding {
+    pub(crate) fn new(heap: &mut Heap, standing: Standing) -> Result<StoredStanding, AllocError>
         ensures kept { IfOk result (λ k. k ≡ standing) }
         ensures granted { OnOk result (heap.new ≡ heap.old) }
         ensures memory { OnErr result (heap.new ≢ heap.old) }
     {
-        Ok(Kept {
+        Ok(StoredStanding {
             inner: heap.boxed(standing)?,
         })
     }

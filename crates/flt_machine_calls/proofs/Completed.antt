@@ -25,18 +25,18 @@ use Rattle.flt_machine_calls.specs.Own.{AreOwn}
 use Rattle.flt_machine_calls.specs.Plans.{IsPlanned, world_of}
 use Rattle.flt_machine_calls.specs.declared.plans.Plan.{Plan}
 use Rattle.flt_machine_calls.specs.declared.settling.Completion.{Completion}
-use Rattle.flt_machine_calls.specs.declared.settling.Settled.{Settled}
+use Rattle.flt_machine_calls.specs.declared.settling.Settlement.{Settlement}
 use Rattle.flt_machine_calls.proofs.Owned.{AreUpTo, joined, loses_up_to, own_call}
 
 -- ---- what is settled is what the answer settles
 
 module _ (p : List Filter) (w : World) (a : ℕ) (rest : List Statement) where
-  led_is : (v : ℕ) (x : Option ℕ) (answer : Answer) (settled : Option Settled) →
+  led_is : (v : ℕ) (x : Option ℕ) (answer : Answer) (settled : Option Settlement) →
       IsLed p w.store v x answer settled → settles_by w a rest settled ≡ completed w a p rest v x answer
   led_is v x answer None h = absurd h
   led_is v x answer (Some e) h = rw (h.0, h.1, h.2) refl
 
-  pre_effect : (d : OperationVariable) (st : Status) (v : Option ℕ) (c : Option (Option ℕ)) (settled : Option Settled) →
+  pre_effect : (d : OperationVariable) (st : Status) (v : Option ℕ) (c : Option (Option ℕ)) (settled : Option Settlement) →
       IsSettledBy p w.store (record { visit = v; context = c }) (option_map (λ (u : ℕ). CompletesPre (whose d) u st) v) settled →
       settles_by w a rest settled ≡ complete_by w a p d st rest v c
   pre_effect d st None c settled h = rw (h) refl
@@ -44,7 +44,7 @@ module _ (p : List Filter) (w : World) (a : ℕ) (rest : List Statement) where
   pre_effect d st (Some v) (Some (Some x)) settled h = led_is v (Some x) (CompletesPre (whose d) v st) settled h
   pre_effect d st (Some v) None settled h = led_is v None (CompletesPre (whose d) v st) settled h
 
-  post_effect : (v : Option ℕ) (settled : Option Settled) →
+  post_effect : (v : Option ℕ) (settled : Option Settlement) →
       IsSettledBy p w.store (record { visit = v; context = None }) (option_map CompletesPost v) settled →
       settles_by w a rest settled ≡ complete_post_by w a p rest v
   post_effect None settled h = rw (h) refl
@@ -69,7 +69,7 @@ module _ (p : List Filter) (w : World) (a : ℕ) (rest : List Statement) where
 
   -- a pre completion by the operands that were read is that of the statement
   pub pre_is : (d : OperationVariable) (st : Status) (k : Possessed) (v : Option ℕ) (c : Option (Option ℕ)) (answer : Option Answer)
-      (settled : Option Settled) →
+      (settled : Option Settlement) →
       k ≡ whose d → v ≡ operation_in (activation_at w a) d → c ≡ named_in (activation_at w a) (context_of st) →
       answer ≡ option_map (λ (u : ℕ). CompletesPre (whose d) u st) v →
       IsSettledBy p w.store (record { visit = v; context = c }) answer settled →
@@ -89,7 +89,7 @@ module _ (p : List Filter) (w : World) (a : ℕ) (rest : List Statement) where
       ∙ ap (λ (x : Option (Option ℕ)). pre_step d st (operation_in (activation_at w a) d) x) context_is
 
   -- a post completion by the operand that was read is that of the statement
-  pub post_is : (v : Option ℕ) (answer : Option Answer) (settled : Option Settled) →
+  pub post_is : (v : Option ℕ) (answer : Option Answer) (settled : Option Settlement) →
       v ≡ operation_in (activation_at w a) Data → answer ≡ option_map CompletesPost v →
       IsSettledBy p w.store (record { visit = v; context = None }) answer settled →
       completes w a
@@ -117,7 +117,7 @@ lost_up_to : (a : ℕ) (b : Bool) (x : Option ℕ) → AreUpTo a 1 (if b then lo
 lost_up_to a true x = loses_up_to a x
 lost_up_to a false x = (tt, omega arith)
 
-settled_up_to : (w : World) (a : ℕ) (rest : List Statement) (settled : Option Settled) → AreUpTo a 8 (settles_by w a rest settled).events
+settled_up_to : (w : World) (a : ℕ) (rest : List Statement) (settled : Option Settlement) → AreUpTo a 8 (settles_by w a rest settled).events
 settled_up_to w a rest None = (tt, omega arith)
 settled_up_to w a rest (Some e) =
     let frame = makes_frame w.store e.visit (parts.way_of e.way) in

@@ -19,8 +19,8 @@ use Rattle.flt_model.specs.World.{World, Store, actor_at}
 use Rattle.flt_model.specs.declared.event.Event.{Event}
 use Rattle.flt_machine_frames.specs.Loading.{AreGraphsOfFilters, graph_at}
 use Rattle.flt_machine_calls.specs.declared.caller.Caller.{Caller}
-use Rattle.flt_machine_calls.specs.declared.decoding.Asked.{Asked}
-use Rattle.flt_machine_calls.specs.declared.decoding.Asked.TheVariants as asked
+use Rattle.flt_machine_calls.specs.declared.decoding.ResolvedCall.{ResolvedCall}
+use Rattle.flt_machine_calls.specs.declared.decoding.ResolvedCall.TheVariants as asked
 use Rattle.flt_machine_calls.specs.declared.plans.Plan.{Plan}
 use Rattle.flt_machine_calls.specs.Plans.{IsPlanned, Plans, world_of}
 use Rattle.flt_machine_calls.specs.Decoding.{plain_by, asked_by, asked_of, asked_step, choice_of}
@@ -75,7 +75,7 @@ step_is p t w a grant granted refused (fallible.QueueDeferredIoWorkItem r c) = r
 step_is p t w a grant granted refused (fallible.QueueGenericWorkItem r c) = refl
 
 -- a plan of a call by its operands is a plan of the call
-pub asked_planned : (p : List Filter) (t : List Event) (s : Store) (c : Caller) (plan : Plan) (x : Asked) (call : FallibleCall)
+pub asked_planned : (p : List Filter) (t : List Event) (s : Store) (c : Caller) (plan : Plan) (x : ResolvedCall) (call : FallibleCall)
     (grant : Bool) → x ≡ asked_of (callbacks_at p c.filter) call →
     Plans s c plan (λ (w : World) (granted refused : List Statement). asked_step w c.activation grant granted refused x) →
     Plans s c plan (λ (w : World) (granted refused : List Statement). fallible_step p t w c.activation
@@ -83,7 +83,7 @@ pub asked_planned : (p : List Filter) (t : List Event) (s : Store) (c : Caller) 
 asked_planned p t s c plan x call grant is planned = λ actors acts granted refused h.
     let w = world_of s actors acts in
     subst (IsPlanned w c.activation plan [] granted refused)
-    (ap (λ (y : Asked). asked_step w c.activation grant granted refused y) is
+    (ap (λ (y : ResolvedCall). asked_step w c.activation grant granted refused y) is
     ∙ ap (λ (f : ℕ). asked_step w c.activation grant granted refused (asked_of (callbacks_at p f) call)) (sym h.filter)
     ∙ sym (step_is p t w c.activation grant granted refused call))
     (planned actors acts granted refused h)

@@ -41,8 +41,8 @@ use Rattle.flt_model.specs.declared.event.Object.TheVariants.{Visit}
 use Rattle.flt_machine_calls.specs.Decoding.{asked_step}
 use Rattle.flt_machine_calls.specs.Plans.{Plans, TakesNone, is_end, world_of, written}
 use Rattle.flt_machine_calls.specs.declared.caller.Caller.{Caller}
-use Rattle.flt_machine_calls.specs.declared.decoding.Asked.{Asked}
-use Rattle.flt_machine_calls.specs.declared.decoding.Asked.TheVariants as asked
+use Rattle.flt_machine_calls.specs.declared.decoding.ResolvedCall.{ResolvedCall}
+use Rattle.flt_machine_calls.specs.declared.decoding.ResolvedCall.TheVariants as asked
 use Rattle.flt_machine_calls.specs.declared.plans.Plan.{Plan}
 use Rattle.flt_machine_calls.specs.declared.plans.Write.{Write}
 use Rattle.flt_machine_calls.specs.declared.plans.Write.TheVariants as write
@@ -308,7 +308,7 @@ module _ (w : World) (a : ℕ) (lives : (activation_at w a).ended ≡ false) whe
   same_world x y is = like (ap (λ (u : World). u.activations) is)
 
   -- a call that can fail leaves its activation going on
-  pub asked_lasts : (grant : Bool) (granted refused : List Statement) (x : Asked) → Lasts w a (asked_step w a grant granted refused x)
+  pub asked_lasts : (grant : Bool) (granted refused : List Statement) (x : ResolvedCall) → Lasts w a (asked_step w a grant granted refused x)
   asked_lasts grant granted refused (asked.Allocate d) =
       same_world (if grant then calls.allocated w a d granted (length w.store.contexts) else gives_nothing w a (Some d) refused)
       (calls.allocate w a d grant granted refused) refl (allocated d grant granted refused)
@@ -393,7 +393,7 @@ module _ (s : Store) (c : Caller) (plan : Plan) where
       (λ w lives. plain_lasts w c.activation lives [] [] [] call)
 
   -- the plan of a call that can fail takes no lock that the caller holds
-  pub asked_takes : (grant : Bool) (x : Asked) → Plans s c plan (λ w granted refused. asked_step w c.activation grant granted refused x) →
+  pub asked_takes : (grant : Bool) (x : ResolvedCall) → Plans s c plan (λ w granted refused. asked_step w c.activation grant granted refused x) →
       TakesNone c.standing.locks plan.write
   asked_takes grant x planned = takes_none s c plan (λ w granted refused. asked_step w c.activation grant granted refused x) planned
       (λ w lives. asked_lasts w c.activation lives grant [] [] x)

@@ -19,8 +19,8 @@ use Rattle.flt_model.specs.Calls as calls
 use Rattle.flt_model.specs.Effects.{Step}
 use Rattle.flt_model.specs.Steps.{may_be_refused}
 use Rattle.flt_model.specs.World.{World}
-use Rattle.flt_machine_calls.specs.declared.decoding.Asked.{Asked}
-use Rattle.flt_machine_calls.specs.declared.decoding.Asked.TheVariants as asked
+use Rattle.flt_machine_calls.specs.declared.decoding.ResolvedCall.{ResolvedCall}
+use Rattle.flt_machine_calls.specs.declared.decoding.ResolvedCall.TheVariants as asked
 
 -- the variable that receives an operation, if the operation's is one
 abbrev pub removed_in : Option OperationVariable → Option RemovedVariable
@@ -54,7 +54,7 @@ abbrev pub plain_by : Invocation → Option PlainCall
 plain_by i = plain_as i i.call
 
 -- the call that can fail with these operands, if it is one, in a filter with so many callbacks
-abbrev pub asked_as : Invocation → ℕ → Call → Option Asked
+abbrev pub asked_as : Invocation → ℕ → Call → Option ResolvedCall
 asked_as i n call.AllocateContext = of_one asked.Allocate i.output
 asked_as i n (call.GetContext anchor) = of_one (asked.Get anchor) i.output
 asked_as i n (call.SetContext anchor existing) = of_one (λ c. asked.Set anchor existing c i.output) i.context
@@ -66,11 +66,11 @@ asked_as i n call.QueueGenericWorkItem = Some (asked.Queue (unwrap_or i.routine 
 asked_as i n _ = None
 
 -- the same of the whole invocation
-abbrev pub asked_by : Invocation → ℕ → Option Asked
+abbrev pub asked_by : Invocation → ℕ → Option ResolvedCall
 asked_by i n = asked_as i n i.call
 
 -- a call that can fail, with the number of the routine that it names
-abbrev pub asked_of : List Callback → FallibleCall → Asked
+abbrev pub asked_of : List Callback → FallibleCall → ResolvedCall
 asked_of cs (fallible.AllocateContext d) = asked.Allocate d
 asked_of cs (fallible.GetContext on d) = asked.Get on d
 asked_of cs (fallible.SetContext on existing c old) = asked.Set on existing c old
@@ -81,7 +81,7 @@ asked_of cs (fallible.QueueDeferredIoWorkItem r c) = asked.Defer (routine_of cs 
 asked_of cs (fallible.QueueGenericWorkItem r c) = asked.Queue (routine_of cs r) c
 
 -- the machine's step of it; `grant` is the system's choice, where the call leaves one
-abbrev pub asked_step : World → ℕ → Bool → List Statement → List Statement → Asked → Step
+abbrev pub asked_step : World → ℕ → Bool → List Statement → List Statement → ResolvedCall → Step
 asked_step w a grant granted refused (asked.Allocate d) = calls.allocate w a d grant granted refused
 asked_step w a grant granted refused (asked.Get on d) = calls.get w a on d granted refused
 asked_step w a grant granted refused (asked.Set on existing c old) = calls.set_context w a on existing c old granted refused

@@ -13,7 +13,7 @@ use flt_tree::{ContextVariable, OperationVariable, PlainCall, RemovedVariable};
 
 /// A call that can fail, with the number of the routine that it names.
 #[derive(Clone, Copy)]
-pub(crate) enum Asked {
+pub(crate) enum ResolvedCall {
     Allocate(ContextVariable),
     Get(Anchor, ContextVariable),
     Set(Anchor, Existing, ContextVariable, Option<ContextVariable>),
@@ -55,28 +55,31 @@ fn removed_in(operation: Option<OperationVariable>) -> Option<RemovedVariable>
 }
 
 /// The call that can fail with these operands, if it is one, in a filter with so many callbacks.
-pub(crate) fn asked_by(made: Invocation, callbacks: usize) -> Option<Asked>
+pub(crate) fn asked_by(made: Invocation, callbacks: usize) -> Option<ResolvedCall>
     ensures { result ≡ spec.asked_by made callbacks }
 {
     match made.call {
-        Call::AllocateContext => Some(Asked::Allocate(made.output?)),
-        Call::GetContext(anchor) => Some(Asked::Get(anchor, made.output?)),
-        Call::SetContext(anchor, existing) => Some(Asked::Set(
+        Call::AllocateContext => Some(ResolvedCall::Allocate(made.output?)),
+        Call::GetContext(anchor) => Some(ResolvedCall::Get(anchor, made.output?)),
+        Call::SetContext(anchor, existing) => Some(ResolvedCall::Set(
             anchor,
             existing,
             made.context?,
             made.output,
         )),
-        Call::DeleteContextOf(anchor) => Some(Asked::DeleteAt(anchor, made.output)),
-        Call::InsertIo => Some(Asked::Insert(made.context)),
-        Call::RemoveNextIo => Some(Asked::RemoveNext(removed_in(made.operation)?, made.output?)),
+        Call::DeleteContextOf(anchor) => Some(ResolvedCall::DeleteAt(anchor, made.output)),
+        Call::InsertIo => Some(ResolvedCall::Insert(made.context)),
+        Call::RemoveNextIo => Some(ResolvedCall::RemoveNext(
+            removed_in(made.operation)?,
+            made.output?,
+        )),
         Call::QueueDeferredIoWorkItem => {
             let routine = made.routine.unwrap_or(callbacks);
-            Some(Asked::Defer(routine, made.context))
+            Some(ResolvedCall::Defer(routine, made.context))
         }
         Call::QueueGenericWorkItem => {
             let routine = made.routine.unwrap_or(callbacks);
-            Some(Asked::Queue(routine, made.context))
+            Some(ResolvedCall::Queue(routine, made.context))
         }
         _ => None,
     }

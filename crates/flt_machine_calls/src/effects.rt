@@ -84,7 +84,7 @@ pub(crate) fn need(
 
 /// The operands of a call: an operation, and a context that the call need not have.
 #[derive(Clone, Copy)]
-pub(crate) struct Named {
+pub(crate) struct CallOperands {
     pub(crate) visit: Option<usize>,
     pub(crate) context: Option<Option<usize>>,
 }
@@ -93,7 +93,7 @@ pub(crate) struct Named {
 pub(crate) fn need_named(
     heap: &mut Heap,
     a: usize,
-    named: Named,
+    named: CallOperands,
     events: &mut Vec<Event>,
 ) -> Result<(), AllocError>
     ensures told { OnOk result (events.new.items ≡ events.old.items

@@ -20,7 +20,7 @@ ghost use Rattle.flt_tree.specs.declared.filter.PlainCall.{PlainCall};
 ghost use Rattle.flt_tree.specs.declared.filter.Statement.{Statement};
 
 use crate::caller::Caller;
-use crate::decoding::{Asked, asked_by, callbacks, plain_by};
+use crate::decoding::{ResolvedCall, asked_by, callbacks, plain_by};
 use crate::plans::{Plan, Write, made_plan};
 use crate::{contexts, locking, queueing, reads, settling};
 use counted_heap::Heap;
@@ -145,7 +145,7 @@ fn plan_asked(
     heap: &mut Heap,
     store: &Store,
     caller: &Caller,
-    asked: Asked,
+    asked: ResolvedCall,
     grant: bool,
 ) -> Result<Plan, AllocError>
     ensures planned { IfOk result (λ plan. Plans store.now caller.now plan
@@ -157,20 +157,20 @@ fn plan_asked(
     ensures memory { OnErr result (heap.new ≢ heap.old) }
 {
     match asked {
-        Asked::Allocate(output) => contexts::allocate(heap, store, caller, output, grant),
-        Asked::Get(on, output) => contexts::get(heap, store, caller, on, output),
-        Asked::Set(on, existing, context, old) => {
+        ResolvedCall::Allocate(output) => contexts::allocate(heap, store, caller, output, grant),
+        ResolvedCall::Get(on, output) => contexts::get(heap, store, caller, on, output),
+        ResolvedCall::Set(on, existing, context, old) => {
             contexts::set_context(heap, store, caller, on, existing, context, old)
         }
-        Asked::DeleteAt(on, old) => contexts::delete_at(heap, store, caller, on, old),
-        Asked::Insert(context) => queueing::insert(heap, store, caller, context),
-        Asked::RemoveNext(operation, output) => {
+        ResolvedCall::DeleteAt(on, old) => contexts::delete_at(heap, store, caller, on, old),
+        ResolvedCall::Insert(context) => queueing::insert(heap, store, caller, context),
+        ResolvedCall::RemoveNext(operation, output) => {
             queueing::remove_next(heap, store, caller, operation, output)
         }
-        Asked::Defer(routine, context) => {
+        ResolvedCall::Defer(routine, context) => {
             queueing::queue_deferred(heap, store, caller, routine, context, grant)
         }
-        Asked::Queue(routine, context) => {
+        ResolvedCall::Queue(routine, context) => {
             queueing::queue_generic(heap, store, caller, routine, context, grant)
         }
     }

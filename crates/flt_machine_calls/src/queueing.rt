@@ -13,7 +13,7 @@ ghost use Rattle.flt_machine_store.specs.Changes.{AreCounted, IsPossible, cancel
 ghost use Rattle.flt_tree.specs.declared.variable.OperationVariable.TheVariants.{Data};
 
 use crate::caller::Caller;
-use crate::effects::{Named, context, gain_context, lose_context, need, need_named};
+use crate::effects::{CallOperands, context, gain_context, lose_context, need, need_named};
 use crate::plans::{Plan, Write, made_plan};
 use counted_heap::Heap;
 use flt_machine_frames::Standing;
@@ -34,11 +34,11 @@ fn named(standing: &Standing, variable: Option<ContextVariable>) -> Option<Optio
 }
 
 /// The operation and the context that a call with this variable hands over.
-fn handed(standing: &Standing, variable: Option<ContextVariable>) -> Named
+fn handed(standing: &Standing, variable: Option<ContextVariable>) -> CallOperands
     ensures visit { result.visit ≡ variables.operation_in (activation_with standing.now []) Data }
     ensures context { result.context ≡ variables.named_in (activation_with standing.now []) variable }
 {
-    Named {
+    CallOperands {
         visit: standing.operation(OperationVariable::Data),
         context: named(standing, variable),
     }
@@ -102,7 +102,7 @@ fn insert_by(
     heap: &mut Heap,
     store: &Store,
     caller: &Caller,
-    handed: Named,
+    handed: CallOperands,
     events: Vec<Event>,
 ) -> Result<Plan, AllocError>
     ensures planned { IfOk result (λ plan. Follows store.now caller.now events.items plan
@@ -167,7 +167,7 @@ fn removed(
 
 /// The routine that is queued, by its number, and whether the system grants it.
 #[derive(Clone, Copy)]
-struct Asked {
+struct Request {
     routine: usize,
     grant: bool,
 }
@@ -176,7 +176,7 @@ struct Asked {
 fn deferred(
     heap: &mut Heap,
     caller: &Caller,
-    asked: Asked,
+    asked: Request,
     visit: usize,
     context: Option<usize>,
     mut events: Vec<Event>,
@@ -206,8 +206,8 @@ fn deferred(
 fn defer_by(
     heap: &mut Heap,
     caller: &Caller,
-    asked: Asked,
-    handed: Named,
+    asked: Request,
+    handed: CallOperands,
     events: Vec<Event>,
 ) -> Result<Plan, AllocError>
     ensures planned { IfOk result (λ plan. (s : machine.Store) → Follows s caller.now events.items plan
@@ -233,7 +233,7 @@ fn defer_by(
 fn queued(
     heap: &mut Heap,
     caller: &Caller,
-    asked: Asked,
+    asked: Request,
     context: Option<usize>,
     mut events: Vec<Event>,
 ) -> Result<Plan, AllocError>
@@ -258,7 +258,7 @@ fn queued(
 fn queue_by(
     heap: &mut Heap,
     caller: &Caller,
-    asked: Asked,
+    asked: Request,
     named: Option<Option<usize>>,
     events: Vec<Event>,
 ) -> Result<Plan, AllocError>
@@ -349,7 +349,7 @@ pub(crate) fn queue_deferred(
         Event::Call(caller.activation, Call::QueueDeferredIoWorkItem),
     )?;
     need_named(heap, caller.activation, handed, &mut events)?;
-    defer_by(heap, caller, Asked { routine, grant }, handed, events)
+    defer_by(heap, caller, Request { routine, grant }, handed, events)
 }
 
 /// FltQueueGenericWorkItem, of the routine of a number.
@@ -377,5 +377,5 @@ pub(crate) fn queue_generic(
         Event::Call(caller.activation, Call::QueueGenericWorkItem),
     )?;
     need_optional(heap, caller.activation, named, &mut events)?;
-    queue_by(heap, caller, Asked { routine, grant }, named, events)
+    queue_by(heap, caller, Request { routine, grant }, named, events)
 }

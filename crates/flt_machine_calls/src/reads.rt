@@ -109,7 +109,7 @@ pub(crate) fn read_file(
 
 /// A written value: an atom, and its number.
 #[derive(Clone, Copy)]
-struct Written {
+struct AtomValue {
     atom: Atom,
     value: u64,
 }
@@ -118,7 +118,7 @@ struct Written {
 fn value_written(
     store: &Store,
     a: usize,
-    written: Written,
+    written: AtomValue,
     context: Option<usize>,
     events: Vec<Event>,
 ) -> Plan
@@ -154,7 +154,7 @@ pub(crate) fn write_value(
 {
     let a = caller.activation;
     let named = caller.standing.context(context);
-    let written = Written {
+    let written = AtomValue {
         atom: value,
         value: caller.standing.atom(value),
     };

@@ -27,7 +27,7 @@ ghost use Rattle.flt_ops.specs.Parts as parts;
 ghost use Rattle.flt_machine_store.specs.Changes.{AreCounted, IsPossible, cancels_entries};
 
 use crate::caller::Caller;
-use crate::effects::{Named, context, lose_context, need, need_named};
+use crate::effects::{CallOperands, context, lose_context, need, need_named};
 use crate::plans::{Plan, Write, made_plan};
 use crate::ways::{settles_visit, way_of};
 use counted_heap::Heap;
@@ -62,7 +62,7 @@ fn there(named: Option<Option<usize>>) -> Option<usize>
 
 /// How a visit is settled: the visit, the context for a frame, and where its operation is led.
 #[derive(Clone, Copy)]
-struct Settled {
+struct Settlement {
     visit: usize,
     context: Option<usize>,
     way: Way,
@@ -73,8 +73,8 @@ struct Settled {
 struct Completion {
     call: Call,
     answer: Option<Answer>,
-    named: Named,
-    settled: Option<Settled>,
+    named: CallOperands,
+    settled: Option<Settlement>,
 }
 
 /// The visit is given back and settled; a frame takes the context over.
@@ -82,7 +82,7 @@ fn tell_settled(
     heap: &mut Heap,
     store: &Store,
     a: usize,
-    settled: Settled,
+    settled: Settlement,
     events: &mut Vec<Event>,
 ) -> Result<(), AllocError>
     ensures told { OnOk result (events.new.items ≡ events.old.items ++ settled_told store.now a settled) }
@@ -179,18 +179,18 @@ fn post_answer(visit: Option<usize>) -> Option<Answer>
 fn settled_by(
     loaded: &Loaded,
     store: &Store,
-    named: Named,
+    named: CallOperands,
     answer: Option<Answer>,
-) -> Option<Settled>
+) -> Option<Settlement>
     ensures { (p : List Filter) → AreLoaded p loaded.now → IsSettledBy p store.now named answer result }
 {
     match (named.visit, named.context, answer) {
-        (Some(visit), None, Some(answer)) => Some(Settled {
+        (Some(visit), None, Some(answer)) => Some(Settlement {
             visit,
             context: None,
             way: way_of(loaded, store, visit, answer),
         }),
-        (Some(visit), Some(Some(x)), Some(answer)) => Some(Settled {
+        (Some(visit), Some(Some(x)), Some(answer)) => Some(Settlement {
             visit,
             context: Some(x),
             way: way_of(loaded, store, visit, answer),
@@ -217,7 +217,7 @@ pub(crate) fn complete_pre(
     ensures granted { OnOk result (heap.new ≡ heap.old) }
     ensures memory { OnErr result (heap.new ≢ heap.old) }
 {
-    let named = Named {
+    let named = CallOperands {
         visit: caller.standing.operation(operation),
         context: named_in(&caller.standing, status.context()),
     };
@@ -247,7 +247,7 @@ pub(crate) fn complete_post(
     ensures granted { OnOk result (heap.new ≡ heap.old) }
     ensures memory { OnErr result (heap.new ≢ heap.old) }
 {
-    let named = Named {
+    let named = CallOperands {
         visit: caller.standing.operation(OperationVariable::Data),
         context: None,
     };

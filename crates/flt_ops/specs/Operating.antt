@@ -3,7 +3,7 @@ use Rattle.std.specs.Prelude.{◌≡◌, ℕ, ◌+◌, Bool, true, false, not, n
 use Rattle.flt_rules.specs.declared.place.Stage.TheVariants as stage
 use Rattle.flt_model.specs.Moves as moves
 use Rattle.flt_model.specs.World.{Arrival, Down, Frame, Position, Route, Store, Up, Visit, Visiting, route_at, with_route}
-use Rattle.flt_ops.specs.declared.parts.Started.{Started}
+use Rattle.flt_ops.specs.declared.parts.CallbackStart.{CallbackStart}
 
 -- the parts of the machine's store that are of operations, and how many filters there are
 pub record Operating : Type 0 where
@@ -110,7 +110,7 @@ with_cancel o s = with_route s o (record (route_at s o) { cancelled = true })
 -- ---- what a call answers that starts a post callback
 
 -- where a frame is next, its callback starts with a new visit, and the operations change so; else nothing does
-abbrev pub IsStarted : Operating → Option Frame → (Frame → Store → Store) → Option Started → Operating → Type 0
+abbrev pub IsStarted : Operating → Option Frame → (Frame → Store → Store) → Option CallbackStart → Operating → Type 0
 IsStarted old next change started new =
     MatchOption next ((started ≡ None) × (new ≡ old))
     (λ frame. (started ≡ Some (record { visit = length old.visits; filter = frame.filter; context = frame.context }))

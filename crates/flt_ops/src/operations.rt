@@ -14,7 +14,7 @@ ghost use Rattle.flt_rules.specs.Limits.{max_operations};
 
 use crate::OutOfMemory;
 use crate::fault::ArriveFault;
-use crate::parts::{Arrival, Frame, Outcome, Position, Started, Visit, Way};
+use crate::parts::{Arrival, CallbackStart, Frame, Outcome, Position, Visit, Way};
 use crate::route_rows::Routes;
 use crate::visit_rows::Visits;
 use counted_heap::Heap;
@@ -248,7 +248,7 @@ impl Operations {
         &mut self,
         heap: &mut Heap,
         serial: u32,
-    ) -> Result<Option<Started>, OutOfMemory>
+    ) -> Result<Option<CallbackStart>, OutOfMemory>
         ensures started { IfOk result (λ started. MatchOption (filter_at self.old serial)
             ((started ≡ None) × (self.new ≡ self.old))
             (λ f. (started ≡ Some (record { visit = length self.old.visits; filter = f; context = None }))
@@ -270,7 +270,7 @@ impl Operations {
             },
         )?;
         self.routes.set_position(serial, Position::Visiting);
-        Ok(Some(Started {
+        Ok(Some(CallbackStart {
             visit,
             filter,
             context: None,
@@ -310,7 +310,7 @@ impl Operations {
         &mut self,
         heap: &mut Heap,
         serial: u32,
-    ) -> Result<Option<Started>, OutOfMemory>
+    ) -> Result<Option<CallbackStart>, OutOfMemory>
         ensures started { IfOk result (λ started. IsStarted self.old (frame_at self.old serial) (in_post_visit serial) started self.new) }
         ensures refused { OnErr result (self.new ≡ self.old) }
         ensures granted { OnOk result (heap.new ≡ heap.old) }
@@ -329,7 +329,7 @@ impl Operations {
             },
         )?;
         self.routes.pop_frame(serial);
-        Ok(Some(Started {
+        Ok(Some(CallbackStart {
             visit,
             filter: frame.filter,
             context: frame.context,
@@ -344,7 +344,7 @@ impl Operations {
         heap: &mut Heap,
         filter: usize,
         serial: u32,
-    ) -> Result<Option<Started>, OutOfMemory>
+    ) -> Result<Option<CallbackStart>, OutOfMemory>
         ensures started { IfOk result (λ started. IsStarted self.old
             (find (moves.is_frame_of filter) (route_of self.old serial).frames) (in_draining_visit serial) started self.new) }
         ensures refused { OnErr result (self.new ≡ self.old) }
@@ -364,7 +364,7 @@ impl Operations {
             },
         )?;
         self.routes.take_frame(serial, frame.filter);
-        Ok(Some(Started {
+        Ok(Some(CallbackStart {
             visit,
             filter: frame.filter,
             context: frame.context,

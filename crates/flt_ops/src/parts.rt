@@ -122,7 +122,7 @@ impl Model for Visit {
 
 /// The start of a callback: a new visit, the filter whose callback it is, and the completion context that its frame kept.
 #[derive(Clone, Copy)]
-pub struct Started {
+pub struct CallbackStart {
     pub visit: usize,
     pub filter: usize,
     pub context: Option<usize>,

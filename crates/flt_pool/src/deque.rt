@@ -3,7 +3,7 @@ ghost use Rattle.std.specs.Prelude.{◌≡◌, ◌≤◌, IfSome, IfNone, IfOk, 
 ghost use Rattle.crossbeam_deque.specs.Handles.{worker_deque, worker_view, worker_capacity, worker_index, stealer_deque};
 ghost use Rattle.flt_pool.specs.Hands.{newcomer, having_put, having_taken};
 
-use crate::rule::{Counted, Puts, Takes};
+use crate::rule::{Puts, Takes, TicketRule};
 use crate::way::Thief;
 use crate::{Hand, OutOfMemory, Ticket};
 use crossbeam_deque::Worker;
@@ -15,7 +15,7 @@ const FIRST_SLOTS: usize = 64;
 /// A deque, first in, first out, which its owner pushes to. Neither push nor pop waits.
 #[derive(Drop)]
 pub(crate) struct Deque {
-    pub(crate) owner: Worker<Ticket, Global, Hand, Counted>,
+    pub(crate) owner: Worker<Ticket, Global, Hand, TicketRule>,
     ghost roomy: { 64 ≤ worker_capacity owner },
     ghost counted: { worker_index owner ≤ length (worker_view owner).put },
 }

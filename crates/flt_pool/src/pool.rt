@@ -5,7 +5,7 @@ ghost use Rattle.flt_pool.specs.Hands.{AreNewcomers, having_put, having_taken, n
 ghost use Rattle.flt_pool.specs.Seats.{deque_of, hands, IsPutSeatOf, IsTakenOf, IsTakeSeatOf, put_hand, reached, ReachesOthers};
 
 use crate::opening::{put_seats, take_seats};
-use crate::rule::{Counted, Puts, Takes};
+use crate::rule::{Puts, Takes, TicketRule};
 use crate::seats::{PutSeat, TakeSeat, steal_any};
 use crate::{Hand, OutOfMemory, Ticket};
 use crossbeam_deque::{Injector, InjectorPass, Steal};
@@ -13,7 +13,7 @@ use std::alloc::Global;
 use std::sync::Wait;
 
 /// The injector, under the rule.
-pub(crate) type Inlet = Injector<Ticket, Global, Hand, Counted>;
+pub(crate) type Inlet = Injector<Ticket, Global, Hand, TicketRule>;
 
 /// A seat's pass for the injector.
 pub(crate) type InletPass = InjectorPass<Ticket, Hand>;

@@ -4,9 +4,9 @@ use crate::{Hand, Ticket};
 use crossbeam_deque::protocol::{Outcome, Protocol};
 
 /// Each ticket was taken as often as it was put, less how often it is left.
-pub(crate) struct Counted;
+pub(crate) struct TicketRule;
 
-impl Protocol<Ticket, Hand> for Counted {
+impl Protocol<Ticket, Hand> for TicketRule {
     ghost use Rattle.flt_pool.specs.Hands.{newcomer};
     ghost use Rattle.flt_pool.specs.Rule.{Balanced};
 

@@ -3,14 +3,14 @@ ghost use Rattle.std.specs.Prelude.{◌≡◌, IfSome, IfNone};
 ghost use Rattle.crossbeam_deque.specs.Handles.{view, IsPassOf, stealer_deque};
 ghost use Rattle.flt_pool.specs.Hands.{newcomer, having_taken};
 
-use crate::rule::{Counted, Takes};
+use crate::rule::{Takes, TicketRule};
 use crate::{Hand, Ticket};
 use crossbeam_deque::{Pass, Steal, Stealer};
 use std::alloc::Global;
 use std::sync::Wait;
 
 /// A handle that steals from a deque under the rule.
-pub(crate) type Thief = Stealer<Ticket, Global, Hand, Counted>;
+pub(crate) type Thief = Stealer<Ticket, Global, Hand, TicketRule>;
 
 /// A path by which a worker steals from one deque.
 #[derive(Drop)]

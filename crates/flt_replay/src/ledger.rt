@@ -65,7 +65,7 @@ impl Model for Ledger {
 
 /// The rules that the events of a step have kept so far, and whether an activation ended.
 #[derive(Clone, Copy)]
-struct Kept {
+struct StepRules {
     /// No activation ended that still held a context.
     tight: bool,
     /// No visit was settled again.
@@ -74,12 +74,12 @@ struct Kept {
     ends: bool,
 }
 
-impl Kept {
+impl StepRules {
     /// All is kept before the first event.
-    fn all() -> Kept
+    fn all() -> StepRules
         ensures { result ≡ record { tight = true; once = true; ends = false } }
     {
-        Kept {
+        StepRules {
             tight: true,
             once: true,
             ends: false,
@@ -289,7 +289,7 @@ impl Ledger {
     }
 
     /// Takes in the end of an activation: whether it holds no context.
-    fn keep_at_end(&self, a: usize, kept: &mut Kept)
+    fn keep_at_end(&self, a: usize, kept: &mut StepRules)
         ensures tight { (t : List Event) → spec.Tells t self.now → kept.new.tight ≡ (kept.old.tight && rules.leaks_nothing t (End a)) }
         ensures others { (kept.new.once ≡ kept.old.once) × (kept.new.ends ≡ true) }
     {
@@ -298,7 +298,7 @@ impl Ledger {
     }
 
     /// Takes in the settling of a visit: whether it is the first.
-    fn keep_at_settling(&self, visit: usize, kept: &mut Kept)
+    fn keep_at_settling(&self, visit: usize, kept: &mut StepRules)
         ensures once { (t : List Event) → spec.Tells t self.now →
             kept.new.once ≡ (kept.old.once && rules.is_first_settling t (Settle visit)) }
         ensures others { (kept.new.tight ≡ kept.old.tight) × (kept.new.ends ≡ kept.old.ends) }
@@ -313,7 +313,7 @@ impl Ledger {
         world: &World<'_>,
         event: Event,
         touched: &mut Vec<usize>,
-        kept: &mut Kept,
+        kept: &mut StepRules,
     ) -> Result<bool, AllocError>
         ensures stale { IfOk result
             (λ fresh. fresh ≡ false → (t : List Event) → spec.Tells t self.old → rules.is_fresh world.now t event ≡ false) }
@@ -373,7 +373,7 @@ impl Ledger {
             spec.Judged world.now t events.now self.old self.new touched.old.items touched.new.items true true) }
         ensures ends { IfOk result (λ found. found ≡ None → ends.new ≡ false → (a : ℕ) → ends_in a events.now ≡ false) }
     {
-        let mut kept = Kept::all();
+        let mut kept = StepRules::all();
         for event in events {
             let fresh = self.take_event(alloc, world, *event, touched, &mut kept)?;
             if !fresh {

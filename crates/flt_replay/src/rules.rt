@@ -268,14 +268,14 @@ impl<'b, 'a> Scene<'b, 'a> {
 
 /// The rules that the events so far keep.
 #[derive(Clone, Copy)]
-struct Kept {
+struct KeptRules {
     statuses: bool,
     levels: bool,
     locks: bool,
     places: bool,
 }
 
-impl Kept {
+impl KeptRules {
     /// The least violation of those that aren't kept.
     fn broken(self) -> Option<Violation>
         ensures { result ≡ least_of self.statuses self.levels self.locks self.places }
@@ -297,7 +297,7 @@ impl Kept {
 impl<'b, 'a> Scene<'b, 'a> {
     /// Updates the rules kept by a call. Its row is looked up once.
     #[inline(always)]
-    fn also_call(&self, call: Call, kept: &mut Kept)
+    fn also_call(&self, call: Call, kept: &mut KeptRules)
         ensures statuses { (t : List Event) →
             kept.new.statuses ≡ (kept.old.statuses && spec.is_legal self.now.stack.now (before self.now) t
             (Called self.now.activation call)) }
@@ -318,7 +318,7 @@ impl<'b, 'a> Scene<'b, 'a> {
     /// Updates the rules kept by an event: the latest lock is released first, none is taken twice, and none is kept at the end. Most events
     /// are subject to no rule.
     #[tactic(auto, using(crate::proofs::Judging::Rules::kept_still))]
-    fn also(&self, event: Event, kept: &mut Kept)
+    fn also(&self, event: Event, kept: &mut KeptRules)
         ensures statuses { (t : List Event) → self.now.held ≡ holds_given t (before self.now) self.now.activation →
             is_by self.now.activation event ≡ true →
             kept.new.statuses ≡ (kept.old.statuses && spec.is_legal self.now.stack.now (before self.now) t event) }
@@ -346,7 +346,7 @@ impl<'b, 'a> Scene<'b, 'a> {
             list_all (is_by self.now.activation) events.now ≡ true →
             result ≡ find (λ v. not (keeps_rule self.now.stack.now (before self.now) t events.now v)) of_rules }
     {
-        let mut kept = Kept {
+        let mut kept = KeptRules {
             statuses: true,
             levels: true,
             locks: true,

@@ -7,7 +7,7 @@ use Rattle.std.proofs.lemmas.List.{get_or-set_other, get_or-set_same, get_or_pas
 use Rattle.flt_model.specs.Moves.{is_linked_by}
 use Rattle.flt_model.specs.World.{Context, Link, no_context}
 use Rattle.flt_replay_records.specs.ContextLists.{no_one, context_from, contexts_of}
-use Rattle.flt_replay_records.specs.declared.context_list.Allocated.{Allocated}
+use Rattle.flt_replay_records.specs.declared.context_list.Allocation.{Allocation}
 use Rattle.flt_replay_records.proofs.NumberMaps.{filled}
 
 -- ---- room
@@ -25,7 +25,7 @@ links_filled xs new size l is n = filled None xs new size l is n
 -- ---- one context
 
 -- as many contexts are there as were allocated
-pub length_is : (owners : List Allocated) (vs : List ℕ) (ls : List (Option Link)) → length (contexts_of owners vs ls) ≡ length owners
+pub length_is : (owners : List Allocation) (vs : List ℕ) (ls : List (Option Link)) → length (contexts_of owners vs ls) ≡ length owners
 unfolding contexts_of
 length_is [] vs ls = refl
 length_is (a ∷ rest) [] [] = ap suc (length_is rest [] [])
@@ -33,7 +33,7 @@ length_is (a ∷ rest) [] (l ∷ ls) = ap suc (length_is rest [] ls)
 length_is (a ∷ rest) (v ∷ vs) [] = ap suc (length_is rest vs [])
 length_is (a ∷ rest) (v ∷ vs) (l ∷ ls) = ap suc (length_is rest vs ls)
 
-pub read_at : (owners : List Allocated) (vs : List ℕ) (ls : List (Option Link)) (x : ℕ) (d : Context) → x < length owners →
+pub read_at : (owners : List Allocation) (vs : List ℕ) (ls : List (Option Link)) (x : ℕ) (d : Context) → x < length owners →
     get_or (contexts_of owners vs ls) x d ≡ context_from (get_or owners x no_one) (get_or vs x 0) (get_or ls x None)
 unfolding contexts_of
 read_at [] vs ls x d h = absurd (omega arith)
@@ -47,30 +47,30 @@ read_at (a ∷ rest) (v ∷ vs) (l ∷ ls) zero d h = refl
 read_at (a ∷ rest) (v ∷ vs) (l ∷ ls) (suc x) d h = read_at rest vs ls x d (omega arith)
 
 -- what isn't there is nothing
-pub read_past : (owners : List Allocated) (vs : List ℕ) (ls : List (Option Link)) (x : ℕ) (d : Context) → length owners ≤ x →
+pub read_past : (owners : List Allocation) (vs : List ℕ) (ls : List (Option Link)) (x : ℕ) (d : Context) → length owners ≤ x →
     get_or (contexts_of owners vs ls) x d ≡ d
 read_past owners vs ls x d l = get_or_past (contexts_of owners vs ls) x d (let e = length_is owners vs ls in omega (arith, e))
 
 -- a context's owner is that of its allocation
-pub owner_is : (owners : List Allocated) (vs : List ℕ) (ls : List (Option Link)) (x : ℕ) →
+pub owner_is : (owners : List Allocation) (vs : List ℕ) (ls : List (Option Link)) (x : ℕ) →
     (get_or (contexts_of owners vs ls) x no_context).owner ≡ (get_or owners x no_one).owner
 owner_is owners vs ls x =
     ⊎_elim (λ (l : x < length owners). ap (λ (c : Context). c.owner) (read_at owners vs ls x no_context l))
     (λ (l : length owners ≤ x). ap (λ (c : Context). c.owner) (read_past owners vs ls x no_context l)
-    ∙ sym (ap (λ (a : Allocated). a.owner) (get_or_past owners x no_one l)))
+    ∙ sym (ap (λ (a : Allocation). a.owner) (get_or_past owners x no_one l)))
     (cases_lt x (length owners))
 
 -- a context's references are those of its allocation
-pub references_are : (owners : List Allocated) (vs : List ℕ) (ls : List (Option Link)) (x : ℕ) →
+pub references_are : (owners : List Allocation) (vs : List ℕ) (ls : List (Option Link)) (x : ℕ) →
     (get_or (contexts_of owners vs ls) x no_context).references ≡ (get_or owners x no_one).references
 references_are owners vs ls x =
     ⊎_elim (λ (l : x < length owners). ap (λ (c : Context). c.references) (read_at owners vs ls x no_context l))
     (λ (l : length owners ≤ x). ap (λ (c : Context). c.references) (read_past owners vs ls x no_context l)
-    ∙ sym (ap (λ (a : Allocated). a.references) (get_or_past owners x no_one l)))
+    ∙ sym (ap (λ (a : Allocation). a.references) (get_or_past owners x no_one l)))
     (cases_lt x (length owners))
 
 -- a context's value stands in the list of values, and is 0 where none was written
-pub value_is : (owners : List Allocated) (vs : List ℕ) (ls : List (Option Link)) (x : ℕ) → length vs ≤ length owners →
+pub value_is : (owners : List Allocation) (vs : List ℕ) (ls : List (Option Link)) (x : ℕ) → length vs ≤ length owners →
     (get_or (contexts_of owners vs ls) x no_context).value ≡ get_or vs x 0
 value_is owners vs ls x h =
     ⊎_elim (λ (l : x < length owners). ap (λ (c : Context). c.value) (read_at owners vs ls x no_context l))
@@ -79,7 +79,7 @@ value_is owners vs ls x h =
     (cases_lt x (length owners))
 
 -- a context's link stands in the list of links, and is none where none was made
-pub link_is : (owners : List Allocated) (vs : List ℕ) (ls : List (Option Link)) (x : ℕ) → length ls ≤ length owners →
+pub link_is : (owners : List Allocation) (vs : List ℕ) (ls : List (Option Link)) (x : ℕ) → length ls ≤ length owners →
     (get_or (contexts_of owners vs ls) x no_context).link ≡ get_or ls x None
 link_is owners vs ls x h =
     ⊎_elim (λ (l : x < length owners). ap (λ (c : Context). c.link) (read_at owners vs ls x no_context l))
@@ -90,7 +90,7 @@ link_is owners vs ls x h =
 -- ---- changes
 
 -- one is changed where its parts are, and the others stay
-pub changed : (owners new : List Allocated) (vs ws : List ℕ) (ls ms : List (Option Link)) (x : ℕ) (c : Context) →
+pub changed : (owners new : List Allocation) (vs ws : List ℕ) (ls ms : List (Option Link)) (x : ℕ) (c : Context) →
     length new ≡ length owners → x < length owners →
     context_from (get_or new x no_one) (get_or ws x 0) (get_or ms x None) ≡ c →
     ((n : ℕ) → n ≢ x → (get_or new n no_one ≡ get_or owners n no_one) × (get_or ws n 0 ≡ get_or vs n 0) ×
@@ -117,26 +117,26 @@ changed owners new vs ws ls ms x c e l is same =
     (cases_eq k x))
 
 -- nothing is changed of what isn't there
-pub changed_past : (owners : List Allocated) (vs : List ℕ) (ls : List (Option Link)) (x : ℕ) (c : Context) → length owners ≤ x →
+pub changed_past : (owners : List Allocation) (vs : List ℕ) (ls : List (Option Link)) (x : ℕ) (c : Context) → length owners ≤ x →
     contexts_of owners vs ls ≡ set (contexts_of owners vs ls) x c
 changed_past owners vs ls x c l =
     sym (set_past (contexts_of owners vs ls) x c (let e = length_is owners vs ls in omega (arith, e, l)))
 
-module _ (owners : List Allocated) (vs : List ℕ) (ls : List (Option Link)) (x : ℕ) where
+module _ (owners : List Allocation) (vs : List ℕ) (ls : List (Option Link)) (x : ℕ) where
   -- a count of references that is changed among the allocations is changed in its context
   pub referenced : (r : ℕ) →
       contexts_of (set owners x (record (get_or owners x no_one) { references = r })) vs ls
       ≡ set (contexts_of owners vs ls) x (record (get_or (contexts_of owners vs ls) x no_context) { references = r })
   referenced r =
-      let a : Allocated = record (get_or owners x no_one) { references = r } in
+      let a : Allocation = record (get_or owners x no_one) { references = r } in
       ⊎_elim (λ (l : x < length owners).
       changed owners (set owners x a) vs vs ls ls x (record (get_or (contexts_of owners vs ls) x no_context) { references = r })
       (length-set owners x a) l
-      (ap (λ (b : Allocated). context_from b (get_or vs x 0) (get_or ls x None)) (get_or-set_same owners x a no_one l)
+      (ap (λ (b : Allocation). context_from b (get_or vs x 0) (get_or ls x None)) (get_or-set_same owners x a no_one l)
       ∙ ap (λ (c : Context). record c { references = r }) (sym (read_at owners vs ls x no_context l)))
       (λ n ne. (get_or-set_other owners x n a no_one ne, refl, refl)))
       (λ (l : length owners ≤ x).
-      ap (λ (os : List Allocated). contexts_of os vs ls) (set_past owners x a l)
+      ap (λ (os : List Allocation). contexts_of os vs ls) (set_past owners x a l)
       ∙ changed_past owners vs ls x (record (get_or (contexts_of owners vs ls) x no_context) { references = r }) l)
       (cases_lt x (length owners))
 
@@ -175,7 +175,7 @@ module _ (owners : List Allocated) (vs : List ℕ) (ls : List (Option Link)) (x 
       (cases_lt x (length owners))
 
 -- one more allocation is one more context, with the value 0 and no link
-pub added : (owners : List Allocated) (vs : List ℕ) (ls : List (Option Link)) (a : Allocated) → length vs ≤ length owners →
+pub added : (owners : List Allocation) (vs : List ℕ) (ls : List (Option Link)) (a : Allocation) → length vs ≤ length owners →
     length ls ≤ length owners → contexts_of (owners ++ a ∷ []) vs ls ≡ contexts_of owners vs ls ++ context_from a 0 None ∷ []
 unfolding contexts_of
 added [] [] [] a v l = refl
@@ -192,7 +192,7 @@ added (o ∷ rest) (w ∷ vs) (m ∷ ls) a v l =
 -- ---- whether one is linked by a filter
 
 -- a filter has a link to a context where the list of links has one of it
-pub any_linked : (f : ℕ) (owners : List Allocated) (vs : List ℕ) (ls : List (Option Link)) → length ls ≤ length owners →
+pub any_linked : (f : ℕ) (owners : List Allocation) (vs : List ℕ) (ls : List (Option Link)) → length ls ≤ length owners →
     list_any (λ (c : Context). is_linked_by f c.link) (contexts_of owners vs ls) ≡ list_any (is_linked_by f) ls
 unfolding contexts_of
 any_linked f [] vs [] h = refl

@@ -8,24 +8,24 @@ use Rattle.std.proofs.lemmas.List.{reverse-append}
 use Rattle.std.specs.Borrow.{Bor}
 use Rattle.flt_tree.specs.declared.filter.Statement.{Statement}
 use Rattle.flt_replay_records.specs.Behind.{is_place, parts_from, parts_of, TurnsBegun, TurnsLast}
-use Rattle.flt_replay_records.specs.declared.behind.Begun.{Begun}
+use Rattle.flt_replay_records.specs.declared.behind.OpenRepeat.{OpenRepeat}
 use Rattle.flt_replay_records.specs.declared.rest.Part.{Part}
 use Rattle.flt_replay_records.specs.declared.rest.Part.TheVariants.{Block, Repeat}
 
 -- ---- the last one
 
 -- without blocks nothing is gone on with
-pub nothing_left : (blocks : List (Bor (List Statement))) (repeats : List Begun) → blocks ≡ [] → parts_of blocks repeats ≡ []
+pub nothing_left : (blocks : List (Bor (List Statement))) (repeats : List OpenRepeat) → blocks ≡ [] → parts_of blocks repeats ≡ []
 unfolding parts_from
 nothing_left blocks repeats e = rw e refl
 
-block_first : (b : Bor (List Statement)) (blocks : List (Bor (List Statement))) (repeats : List Begun) → is_place b.now ≡ false →
+block_first : (b : Bor (List Statement)) (blocks : List (Bor (List Statement))) (repeats : List OpenRepeat) → is_place b.now ≡ false →
     parts_from (b ∷ blocks) repeats ≡ Block b ∷ parts_from blocks repeats
 unfolding parts_from
 block_first b blocks [] h = refl
 block_first b blocks (r ∷ repeats) h = rw h refl
 
-repeat_first : (b : Bor (List Statement)) (blocks : List (Bor (List Statement))) (r : Begun) (repeats : List Begun) →
+repeat_first : (b : Bor (List Statement)) (blocks : List (Bor (List Statement))) (r : OpenRepeat) (repeats : List OpenRepeat) →
     is_place b.now ≡ true →
     parts_from (b ∷ blocks) (r ∷ repeats) ≡ Repeat r.span r.turns r.body ∷ parts_from blocks repeats
 unfolding parts_from
@@ -54,7 +54,7 @@ module _ (p : Part) (ps : List Part) where
   back = reverse-append (p ∷ []) ps
 
 -- a block that isn't empty is the last part
-pub block_last : (old blocks : List (Bor (List Statement))) (b : Bor (List Statement)) (repeats : List Begun) → old ≡ blocks ++ b ∷ [] →
+pub block_last : (old blocks : List (Bor (List Statement))) (b : Bor (List Statement)) (repeats : List OpenRepeat) → old ≡ blocks ++ b ∷ [] →
     0 < length b.now → parts_of old repeats ≡ parts_of blocks repeats ++ Block b ∷ []
 block_last old blocks b repeats e h =
     ap (λ (bs : List (Bor (List Statement))). reverse (parts_from bs (reverse repeats))) (ap reverse e ∙ round b blocks)
@@ -62,7 +62,7 @@ block_last old blocks b repeats e h =
     ∙ back (Block b) (parts_from (reverse blocks) (reverse repeats))
 
 -- where a block is empty though no `repeat` is left
-pub block_alone : (old blocks : List (Bor (List Statement))) (b : Bor (List Statement)) (repeats : List Begun) → old ≡ blocks ++ b ∷ [] →
+pub block_alone : (old blocks : List (Bor (List Statement))) (b : Bor (List Statement)) (repeats : List OpenRepeat) → old ≡ blocks ++ b ∷ [] →
     repeats ≡ [] → parts_of old repeats ≡ parts_of blocks repeats ++ Block b ∷ []
 block_alone old blocks b repeats e none =
     rw none
@@ -70,17 +70,17 @@ block_alone old blocks b repeats e none =
     ∙ ap reverse (alone_first b (reverse blocks)) ∙ back (Block b) (parts_from (reverse blocks) []))
 
 -- a block that is empty stands for the last `repeat`
-pub repeat_last : (old blocks : List (Bor (List Statement))) (b : Bor (List Statement)) (were repeats : List Begun) (r : Begun) →
+pub repeat_last : (old blocks : List (Bor (List Statement))) (b : Bor (List Statement)) (were repeats : List OpenRepeat) (r : OpenRepeat) →
     old ≡ blocks ++ b ∷ [] → length b.now < 1 → were ≡ repeats ++ r ∷ [] →
     parts_of old were ≡ parts_of blocks repeats ++ Repeat r.span r.turns r.body ∷ []
 repeat_last old blocks b were repeats r e h f =
     ap (λ (bs : List (Bor (List Statement))). reverse (parts_from bs (reverse were))) (ap reverse e ∙ round b blocks)
-    ∙ ap (λ (rs : List Begun). reverse (parts_from (b ∷ reverse blocks) rs)) (ap reverse f ∙ reverse-append repeats (r ∷ []))
+    ∙ ap (λ (rs : List OpenRepeat). reverse (parts_from (b ∷ reverse blocks) rs)) (ap reverse f ∙ reverse-append repeats (r ∷ []))
     ∙ ap reverse (repeat_first b (reverse blocks) r (reverse repeats) (none_left b.now h))
     ∙ back (Repeat r.span r.turns r.body) (parts_from (reverse blocks) (reverse repeats))
 
 -- its place is put behind the blocks
-pub repeat_put : (new room old : List (Bor (List Statement))) (b : Bor (List Statement)) (are were : List Begun) (r : Begun) →
+pub repeat_put : (new room old : List (Bor (List Statement))) (b : Bor (List Statement)) (are were : List OpenRepeat) (r : OpenRepeat) →
     new ≡ room ++ b ∷ [] → room ≡ old → b.now ≡ [] → are ≡ were ++ r ∷ [] →
     parts_of new are ≡ parts_of old were ++ Repeat r.span r.turns r.body ∷ []
 repeat_put new room old b are were r e same empty f =
@@ -101,7 +101,7 @@ last_set (x ∷ []) zero y h = refl
 last_set (x ∷ z ∷ xs) zero y h = absurd (omega (arith, h))
 last_set {X} (x ∷ xs) (suc i) y h = ap (λ (l : List X). x ∷ l) (last_set xs i y (omega (arith, h)))
 
-pub turned_last : (old blocks : List (Bor (List Statement))) (b : Bor (List Statement)) (were are : List Begun) (body : List Statement) →
+pub turned_last : (old blocks : List (Bor (List Statement))) (b : Bor (List Statement)) (were are : List OpenRepeat) (body : List Statement) →
     old ≡ blocks ++ b ∷ [] → length b.now < 1 → TurnsBegun were body are → TurnsLast (parts_of old were) body (parts_of old are)
 unfolding TurnsBegun TurnsLast
 turned_last old blocks b [] are body e h t = absurd (omega (arith, t.0))
@@ -111,7 +111,7 @@ turned_last old blocks b (x ∷ xs) are body e h t =
     let l : i + 1 ≡ length were = omega (arith, t.0) in
     let r = get_or were i x in
     let is = t.1 x in
-    let next : Begun = record r { turns = r.turns - 1 } in (
+    let next : OpenRepeat = record r { turns = r.turns - 1 } in (
       parts_of blocks (take i were),
       Repeat r.span r.turns r.body,
       repeat_last old blocks b were (take i were) r e h (before_last were i x l),
@@ -128,7 +128,7 @@ last_is {X} (y ∷ ys) x e =
     before_last xs i y (omega arith) ∙ ap (λ (z : X). take i xs ++ z ∷ []) (get_or_from_slice_get xs i x y e)
 
 -- what comes of a turn of the last `repeat`, where the last block is its place
-pub turned_if : (old : List (Bor (List Statement))) (b : Bor (List Statement)) (were are : List Begun) (r : Option (Bor (List Statement))) →
+pub turned_if : (old : List (Bor (List Statement))) (b : Bor (List Statement)) (were are : List OpenRepeat) (r : Option (Bor (List Statement))) →
     slice_get old (length old - 1) ≡ Some b → length b.now < 1 →
     MatchOption r (are ≡ were) (λ body. TurnsBegun were body.now are) →
     MatchOption r (parts_of old are ≡ parts_of old were) (λ body. TurnsLast (parts_of old were) body.now (parts_of old are))

@@ -1,17 +1,17 @@
 -- What lists that stand apart say of contexts.
 use Rattle.std.specs.Prelude.{ℕ, List, [], ◌∷◌, Option, None}
 use Rattle.flt_model.specs.World.{Context, Link}
-use Rattle.flt_replay_records.specs.declared.context_list.Allocated.{Allocated}
+use Rattle.flt_replay_records.specs.declared.context_list.Allocation.{Allocation}
 
 -- nobody allocated it
-abbrev pub no_one : Allocated
+abbrev pub no_one : Allocation
 no_one = record { owner = 0; references = 0 }
 
-abbrev pub context_from : Allocated → ℕ → Option Link → Context
+abbrev pub context_from : Allocation → ℕ → Option Link → Context
 context_from a value link = record { owner = a.owner; references = a.references; value = value; link = link }
 
 -- who allocated each and its references, with its value and its link; what is past the end of these two is 0 and none
-unfoldable pub contexts_of : List Allocated → List ℕ → List (Option Link) → List Context
+unfoldable pub contexts_of : List Allocation → List ℕ → List (Option Link) → List Context
 contexts_of [] values links = []
 contexts_of (a ∷ rest) [] [] = context_from a 0 None ∷ contexts_of rest [] []
 contexts_of (a ∷ rest) [] (l ∷ links) = context_from a 0 l ∷ contexts_of rest [] links

@@ -4,7 +4,7 @@ use Rattle.flt_rules.specs.declared.held.HeldLock.{HeldLock}
 use Rattle.flt_replay_records.specs.declared.kept.Few.{Few}
 use Rattle.flt_replay_records.specs.declared.kept.Form.{Form}
 use Rattle.flt_replay_records.specs.declared.kept.Form.TheVariants as form
-use Rattle.flt_replay_records.specs.declared.kept.Kept.{Kept}
+use Rattle.flt_replay_records.specs.declared.kept.ActivationRest.{ActivationRest}
 use Rattle.flt_replay_records.specs.declared.rest.Part.{Part}
 use Rattle.flt_replay_records.specs.Behind.{parts}
 
@@ -47,7 +47,7 @@ contents_of (form.All ended all) = record {
   ended = ended;
 }
 
-abbrev pub contents : Kept → Contents
+abbrev pub contents : ActivationRest → Contents
 contents kept = contents_of kept.form
 
 -- there is memory for all

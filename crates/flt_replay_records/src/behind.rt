@@ -11,7 +11,7 @@ use std::alloc::{AllocError, Global};
 
 /// A `repeat` that was begun.
 #[derive(Drop)]
-struct Begun<'a> {
+struct OpenRepeat<'a> {
     span: &'a Span,
     /// The number of turns left.
     turns: u64,
@@ -22,13 +22,13 @@ struct Begun<'a> {
 #[derive(Drop)]
 pub(crate) struct Behind<'a> {
     blocks: Vec<&'a [Statement]>,
-    repeats: Vec<Begun<'a>>,
+    repeats: Vec<OpenRepeat<'a>>,
 }
 
 /// Takes a turn of the last of some `repeat`s, if one is left, and returns its body.
 #[inline(always)]
 #[tactic(auto, unfolding(crate::specs::Behind::TurnsBegun))]
-fn turn_of<'a>(repeats: &mut Vec<Begun<'a>>) -> Option<&'a [Statement]>
+fn turn_of<'a>(repeats: &mut Vec<OpenRepeat<'a>>) -> Option<&'a [Statement]>
     ensures { MatchOption result (repeats.new.items ≡ repeats.old.items) (λ body. TurnsBegun repeats.old.items body.now repeats.new.items) }
 {
     let last = repeats.len().checked_sub(1)?;
@@ -111,7 +111,7 @@ impl<'a> Behind<'a> {
         ensures { OnOk result (parts self.new ≡ parts self.old ++ Repeat span.entry turns body.entry ∷ []) }
     {
         self.blocks.reserve(1)?;
-        self.repeats.push(Begun { span, turns, body })?;
+        self.repeats.push(OpenRepeat { span, turns, body })?;
         self.blocks.push_reserved(&[]);
         Ok(())
     }

@@ -13,7 +13,7 @@ use std::marker::Model;
 
 /// The filter that allocated a context, and its references; without any it is freed.
 #[derive(Drop)]
-struct Allocated {
+struct Allocation {
     owner: u32,
     references: u32,
 }
@@ -21,7 +21,7 @@ struct Allocated {
 /// Contexts by number.
 #[derive(Drop)]
 pub(crate) struct ContextList {
-    list: Vec<Allocated>,
+    list: Vec<Allocation>,
     /// The value of each. Past the end, it is 0.
     values: Vec<u64>,
     /// The link of each. Past the end, there is none.
@@ -79,7 +79,7 @@ fn make_link(links: &mut Vec<Option<Link>>, context: usize) -> Result<(), AllocE
 
 /// Sets the number of a context's references.
 #[inline(always)]
-fn put_references(list: &mut Vec<Allocated>, context: usize, references: u32)
+fn put_references(list: &mut Vec<Allocation>, context: usize, references: u32)
     ensures { list.new.items ≡ set list.old.items context (record (get_or list.old.items context no_one) { references = references }) }
 {
     if let Some(allocated) = list.get_mut(context) {
@@ -188,7 +188,7 @@ impl ContextList {
         ensures err { OnErr result (self.new ≡ self.old) }
     {
         let owner = in_four_bytes(owner)?;
-        self.list.push(Allocated {
+        self.list.push(Allocation {
             owner,
             references: 1,
         })?;

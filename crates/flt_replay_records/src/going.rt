@@ -8,7 +8,7 @@ ghost use Rattle.flt_replay_records.specs.Rest.{statement_of, others, IsTurn};
 ghost use Rattle.flt_replay_records.specs.Writes.{written};
 
 use crate::activation::Write;
-use crate::kept::{Few, Kept};
+use crate::kept::{ActivationRest, Few};
 use crate::rest::{Rest, Upcoming};
 use flt_rules::{HeldLock, LockNumber};
 use flt_tree::{
@@ -22,7 +22,7 @@ use std::marker::Model;
 #[derive(Drop)]
 pub(crate) struct Going<'a> {
     rest: Rest<'a>,
-    pub(crate) kept: Kept<'a>,
+    pub(crate) kept: ActivationRest<'a>,
 }
 
 impl<'a> Model for Going<'a> {
@@ -60,7 +60,7 @@ impl<'a> Going<'a> {
     {
         Ok(Going {
             rest: Rest::new(body),
-            kept: Kept::starting(alloc, given, arg)?,
+            kept: ActivationRest::starting(alloc, given, arg)?,
         })
     }
 
@@ -70,7 +70,7 @@ impl<'a> Going<'a> {
     {
         Going {
             rest: Rest::new(&[]),
-            kept: Kept::ended(alloc, few),
+            kept: ActivationRest::ended(alloc, few),
         }
     }
 

@@ -45,7 +45,7 @@ enum Form<'a> {
 
 /// Further blocks, variables and locks, and whether the activation ended.
 #[derive(Drop)]
-pub(crate) struct Kept<'a> {
+pub(crate) struct ActivationRest<'a> {
     alloc: Global,
     form: Form<'a>,
 }
@@ -177,13 +177,13 @@ fn see_to_all(form: &mut Form<'_>, alloc: Global) -> Result<(), AllocError>
     Ok(())
 }
 
-impl<'a> Kept<'a> {
+impl<'a> ActivationRest<'a> {
     /// The state at entry: all is 0 or NULL except the given operation and the given context. It fails if a number is 2^32 - 1 or greater.
     pub(crate) fn starting(
         alloc: Global,
         given: Option<usize>,
         arg: Option<usize>,
-    ) -> Result<Kept<'a>, AllocError>
+    ) -> Result<ActivationRest<'a>, AllocError>
         ensures { IfOk result (λ kept. contents kept ≡ record {
           after = [];
           numbers = replicate 8 0;
@@ -200,17 +200,17 @@ impl<'a> Kept<'a> {
             o0: Slot::null(),
             data: Slot::naming(given)?,
         };
-        Ok(Kept {
+        Ok(ActivationRest {
             alloc,
             form: Form::Few(false, few),
         })
     }
 
     /// The state of an activation that ended.
-    pub(crate) fn ended(alloc: Global, few: Few) -> Kept<'a>
+    pub(crate) fn ended(alloc: Global, few: Few) -> ActivationRest<'a>
         ensures { contents result ≡ few_alone true few }
     {
-        Kept {
+        ActivationRest {
             alloc,
             form: Form::Few(true, few),
         }

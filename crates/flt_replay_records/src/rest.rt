@@ -6,7 +6,7 @@ ghost use Rattle.flt_replay_records.specs.Kept.{contents};
 ghost use Rattle.flt_replay_records.specs.Rest.{statement_of, before, remains, others, IsTurn};
 ghost use Rattle.flt_replay_records.specs.declared.rest.Part.{Part};
 
-use crate::kept::Kept;
+use crate::kept::ActivationRest;
 use flt_tree::{Span, Statement};
 use std::alloc::AllocError;
 
@@ -45,7 +45,7 @@ impl<'a> Rest<'a> {
 
     /// Takes out the first statement.
     #[tactic(auto, using(crate::proofs::Remaining::before_push))]
-    pub(crate) fn next(&mut self, kept: &mut Kept<'a>) -> Option<Upcoming<'a>>
+    pub(crate) fn next(&mut self, kept: &mut ActivationRest<'a>) -> Option<Upcoming<'a>>
         ensures rest { MatchOption result
             ((remains self.old (contents kept.old).after ≡ []) × (remains self.new (contents kept.new).after ≡ []))
             (λ u. remains self.old (contents kept.old).after ≡ statement_of u ∷ remains self.new (contents kept.new).after) }
@@ -86,7 +86,7 @@ impl<'a> Rest<'a> {
 
     /// Begins another turn of a `repeat` whose body is through. False, and nothing is changed, if that doesn't come next.
     #[inline(always)]
-    pub(crate) fn turn_again(&mut self, kept: &mut Kept<'a>) -> bool
+    pub(crate) fn turn_again(&mut self, kept: &mut ActivationRest<'a>) -> bool
         ensures turned { result ≡ true → IsTurn (remains self.old (contents kept.old).after) (remains self.new (contents kept.new).after) }
         ensures same { result ≡ false → (self.new ≡ self.old) × (contents kept.new ≡ contents kept.old) }
         ensures others { contents kept.new ≡ record (contents kept.old) { after = (contents kept.new).after } }
@@ -106,7 +106,10 @@ impl<'a> Rest<'a> {
 
     /// The first statement, which stays. A `repeat` that was begun is taken out and put back.
     #[inline(always)]
-    pub(crate) fn first(&mut self, kept: &mut Kept<'a>) -> Result<Option<Upcoming<'a>>, AllocError>
+    pub(crate) fn first(
+        &mut self,
+        kept: &mut ActivationRest<'a>,
+    ) -> Result<Option<Upcoming<'a>>, AllocError>
         ensures same { OnOk result (remains self.new (contents kept.new).after ≡ remains self.old (contents kept.old).after) }
         ensures first { IfOk result (λ f. MatchOption f (remains self.old (contents kept.old).after ≡ [])
             (λ u. remains self.old (contents kept.old).after ≡ statement_of u ∷ others (remains self.old (contents kept.old).after))) }
@@ -133,7 +136,7 @@ impl<'a> Rest<'a> {
     /// Enters a block in place of the first statement, after which execution continues with the others.
     pub(crate) fn replace_first(
         &mut self,
-        kept: &mut Kept<'a>,
+        kept: &mut ActivationRest<'a>,
         block: &'a [Statement],
     ) -> Result<(), AllocError>
         ensures rest { OnOk result
@@ -148,7 +151,7 @@ impl<'a> Rest<'a> {
     #[inline(always)]
     pub(crate) fn enter(
         &mut self,
-        kept: &mut Kept<'a>,
+        kept: &mut ActivationRest<'a>,
         block: &'a [Statement],
     ) -> Result<(), AllocError>
         ensures rest { OnOk result (remains self.new (contents kept.new).after ≡ block.now ++ remains self.old (contents kept.old).after) }
@@ -172,7 +175,7 @@ impl<'a> Rest<'a> {
     #[tactic(auto, using(crate::proofs::Remaining::before_push, crate::proofs::Remaining::turn_left))]
     pub(crate) fn turn(
         &mut self,
-        kept: &mut Kept<'a>,
+        kept: &mut ActivationRest<'a>,
         span: &'a Span,
         turns: u64,
         body: &'a [Statement],
@@ -197,7 +200,7 @@ impl<'a> Rest<'a> {
 
 /// Puts off the rest of a block.
 #[tactic(auto, using(crate::proofs::Remaining::before_push))]
-fn suspend<'a>(kept: &mut Kept<'a>, here: &'a [Statement]) -> Result<(), AllocError>
+fn suspend<'a>(kept: &mut ActivationRest<'a>, here: &'a [Statement]) -> Result<(), AllocError>
     ensures rest { OnOk result (before [] (contents kept.new).after ≡ here.now ++ before [] (contents kept.old).after) }
     ensures others { OnOk result (contents kept.new ≡ record (contents kept.old) { after = (contents kept.new).after }) }
 {

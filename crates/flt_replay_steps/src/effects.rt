@@ -86,13 +86,17 @@ pub(crate) fn need_one(
 
 /// The operands of a call: an operation, and a context that the call need not have.
 #[derive(Clone, Copy)]
-pub(crate) struct Named {
+pub(crate) struct CallOperands {
     pub(crate) visit: Option<usize>,
     pub(crate) context: Option<Option<usize>>,
 }
 
 /// Both are used, or reported if they are NULL.
-pub(crate) fn need_named(a: usize, named: Named, events: &mut Vec<Event>) -> Result<(), AllocError>
+pub(crate) fn need_named(
+    a: usize,
+    named: CallOperands,
+    events: &mut Vec<Event>,
+) -> Result<(), AllocError>
     ensures { OnOk result (events.new.items ≡ events.old.items
         ++ (spec.uses a (spec.operation named.visit ∷ spec.optional named.context)
         ++ spec.empties a (spec.operation named.visit ∷ spec.optional named.context))) }

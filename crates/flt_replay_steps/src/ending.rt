@@ -20,7 +20,7 @@ use std::alloc::AllocError;
 
 /// The visit that an activation was given, and whether it holds it.
 #[derive(Clone, Copy)]
-struct Given {
+struct HeldVisit {
     visit: usize,
     held: bool,
 }
@@ -96,7 +96,7 @@ fn tell_status(
 fn give_visit_back(
     world: &World<'_>,
     a: usize,
-    given: Given,
+    given: HeldVisit,
     context: Option<usize>,
     way: Way,
     events: &mut Vec<Event>,
@@ -131,7 +131,7 @@ fn answered<'a>(
     stack: &Stack<'a>,
     a: usize,
     status: Option<Status>,
-    given: Given,
+    given: HeldVisit,
     events: &mut Vec<Event>,
 ) -> Result<(), AllocError>
     ensures { OnOk result ((t : List Event) → given.held ≡ is_held t a (Visit given.visit) →
@@ -161,7 +161,7 @@ pub(crate) fn end<'a>(
 {
     match world.operation_in(a, OperationVariable::Data) {
         Some(visit) if world.place(a).answers() => {
-            answered(world, stack, a, status, Given { visit, held }, events)
+            answered(world, stack, a, status, HeldVisit { visit, held }, events)
         }
         _ => {
             tell_status(world, a, status, events)?;

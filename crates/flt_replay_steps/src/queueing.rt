@@ -10,7 +10,7 @@ ghost use Rattle.flt_replay_world.specs.Happening.{later, Happened};
 ghost use Rattle.flt_tree.specs.declared.variable.OperationVariable.TheVariants.{Data};
 
 use crate::contexts::Branches;
-use crate::effects::{Named, context, gain_context, lose_context, need_named, need_one};
+use crate::effects::{CallOperands, context, gain_context, lose_context, need_named, need_one};
 use flt_model::{Event, Object};
 use flt_replay_records::{Entry, Item, Write};
 use flt_replay_world::{World, push_event};
@@ -34,11 +34,11 @@ fn need_optional(
 }
 
 /// The operation and the context that a call with this variable hands over.
-fn handed(world: &World<'_>, a: usize, c: Option<ContextVariable>) -> Named
+fn handed(world: &World<'_>, a: usize, c: Option<ContextVariable>) -> CallOperands
     ensures visit { result.visit ≡ variables.operation_in (spec.activation_at world.now a) Data }
     ensures context { result.context ≡ variables.named_in (spec.activation_at world.now a) c }
 {
-    Named {
+    CallOperands {
         visit: world.operation_in(a, OperationVariable::Data),
         context: world.named_in(a, c),
     }
@@ -74,7 +74,7 @@ fn enqueued<'a>(
 fn insert_by<'a>(
     world: &mut World<'a>,
     a: usize,
-    handed: Named,
+    handed: CallOperands,
     to: Branches<'a>,
     events: &mut Vec<Event>,
 ) -> Result<(), AllocError>
@@ -181,7 +181,7 @@ fn defer_by<'a>(
     a: usize,
     routine: usize,
     grant: bool,
-    handed: Named,
+    handed: CallOperands,
     to: Branches<'a>,
     events: &mut Vec<Event>,
 ) -> Result<(), AllocError>

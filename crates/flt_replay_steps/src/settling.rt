@@ -11,7 +11,7 @@ ghost use Rattle.flt_replay_steps.specs.Ways.{way_meant};
 ghost use Rattle.flt_replay_world.specs.Happening.{later, Happened};
 ghost use Rattle.flt_tree.specs.Variable.{whose};
 
-use crate::effects::{Named, lose_context, need_named, need_one, operation};
+use crate::effects::{CallOperands, lose_context, need_named, need_one, operation};
 use flt_model::{Answer, Event, Object};
 use flt_replay_records::{Frame, Outcome, Position, Route, Write};
 use flt_replay_world::{Stack, World, push_event};
@@ -231,7 +231,7 @@ fn complete_by<'a>(
     a: usize,
     d: OperationVariable,
     status: Status,
-    named: Named,
+    named: CallOperands,
     events: &mut Vec<Event>,
 ) -> Result<(), AllocError>
     ensures { OnOk result (Happened world.new events.old.items events.new.items
@@ -262,7 +262,7 @@ pub(crate) fn complete_pre<'a>(
     ensures { OnOk result (Happened world.new events.old.items events.new.items
         (calls.complete_pre world.old a stack.now d status (later world.old a))) }
 {
-    let named = Named {
+    let named = CallOperands {
         visit: world.operation_in(a, d),
         context: world.named_in(a, status.context()),
     };

@@ -6,17 +6,17 @@ use Rattle.flt_model.specs.Expansion as model
 use Rattle.flt_model.specs.declared.verdict.Verdict.TheVariants.{Breaks}
 use Rattle.flt_model.specs.declared.verdict.Violation.{Violation}
 use Rattle.flt_search.specs.declared.goal.Goal.{Goal}
-use Rattle.flt_search.specs.declared.judging.Broken.{Broken}
+use Rattle.flt_search.specs.declared.judging.BreakingJournal.{BreakingJournal}
 use Rattle.flt_search.specs.declared.answering.Answer.{Answer}
 use Rattle.flt_search.specs.declared.answering.Answer.TheVariants as answer
 
 -- the journal is a run up to its last entry, which is the first to break anything: this violation
-pub record IsRun (p : List Filter) (b : Broken) : Type 0 where
+pub record IsRun (p : List Filter) (b : BreakingJournal) : Type 0 where
   pub verdict : model.verdict p b.journal ≡ Breaks b.violation b.entry
   pub last : length b.journal ≡ b.entry + 1
 
 -- the same, and the violation is one of those that are wanted
-pub record IsFound (p : List Filter) (wanted : List Violation) (b : Broken) : Type 0 where
+pub record IsFound (p : List Filter) (wanted : List Violation) (b : BreakingJournal) : Type 0 where
   pub verdict : model.verdict p b.journal ≡ Breaks b.violation b.entry
   pub last : length b.journal ≡ b.entry + 1
   pub meant : Contains wanted b.violation
@@ -31,5 +31,5 @@ abbrev pub AreAnswers : List Filter → List Goal → List Answer → Type 0
 AreAnswers p goals answers = AllZip (IsAnswer p) goals answers
 
 -- those that are there are such runs
-abbrev pub AreRuns : List Filter → List (Option Broken) → Type 0
-AreRuns p runs = All (λ (run : Option Broken). IfSome run (IsRun p)) runs
+abbrev pub AreRuns : List Filter → List (Option BreakingJournal) → Type 0
+AreRuns p runs = All (λ (run : Option BreakingJournal). IfSome run (IsRun p)) runs

@@ -5,7 +5,7 @@ ghost use Rattle.flt_replay_world.specs.Filters.{filters_of};
 ghost use Rattle.flt_search.specs.Found as spec;
 
 use crate::goal::Goal;
-use crate::judging::{Broken, is_wanted, judge};
+use crate::judging::{BreakingJournal, is_wanted, judge};
 use flt_model::JournalEntry;
 use flt_tree::Tree;
 use std::alloc::{AllocError, Global};
@@ -14,7 +14,7 @@ use std::alloc::{AllocError, Global};
 #[derive(Drop)]
 pub enum Answer {
     /// This run breaks something that is looked for.
-    Breaks(Broken),
+    Breaks(BreakingJournal),
     /// Each round came to its end.
     NotWithin,
     /// Something was beyond the bounds.
@@ -35,7 +35,7 @@ fn judge_all(
     alloc: Global,
     trees: &[Tree],
     journals: &[Vec<JournalEntry>],
-) -> Result<Vec<Option<Broken>>, AllocError>
+) -> Result<Vec<Option<BreakingJournal>>, AllocError>
     ensures { IfOk result (λ runs. spec.AreRuns (filters_of trees.now) runs.items) }
 {
     let mut runs = Vec::new(alloc);
@@ -51,7 +51,7 @@ fn breaks(
     alloc: Global,
     _trees: &[Tree],
     goal: &Goal<'_>,
-    run: &Broken,
+    run: &BreakingJournal,
 ) -> Result<Answer, AllocError>
     requires { spec.IsRun (filters_of _trees.now) run.now }
     ensures { IfOk result (spec.IsAnswer (filters_of _trees.now) goal.now) }
@@ -65,9 +65,9 @@ fn breaks(
 /// The run of a number on some filters, if the monitor agrees.
 fn run_at<'r>(
     _trees: &[Tree],
-    runs: &'r [Option<Broken>],
+    runs: &'r [Option<BreakingJournal>],
     number: Option<usize>,
-) -> Option<&'r Broken>
+) -> Option<&'r BreakingJournal>
     requires { spec.AreRuns (filters_of _trees.now) runs.now }
     ensures { IfSome result (λ run. spec.IsRun (filters_of _trees.now) run.now) }
 {
@@ -81,7 +81,7 @@ fn run_at<'r>(
 fn answer_of(
     alloc: Global,
     trees: &[Tree],
-    runs: &[Option<Broken>],
+    runs: &[Option<BreakingJournal>],
     goal: &Goal<'_>,
     number: Option<usize>,
     is_cut: bool,

@@ -11,7 +11,7 @@ use std::alloc::{AllocError, Global};
 
 /// A journal that breaks something by its last entry, and nothing before.
 #[derive(Drop)]
-pub struct Broken {
+pub struct BreakingJournal {
     pub journal: Journal,
     pub violation: Violation,
     /// The number of the last entry, from 0.
@@ -63,16 +63,16 @@ pub fn journal_of(alloc: Global, entries: &[JournalEntry]) -> Result<Journal, Al
     Ok(journal)
 }
 
-impl Broken {
+impl BreakingJournal {
     /// A second one of the same.
     ///
     /// # Errors
     ///
     /// `AllocError` if a growth is refused.
-    pub fn copy(&self, alloc: Global) -> Result<Broken, AllocError>
+    pub fn copy(&self, alloc: Global) -> Result<BreakingJournal, AllocError>
         ensures { IfOk result (λ b. b ≡ self.now) }
     {
-        Ok(Broken {
+        Ok(BreakingJournal {
             journal: journal_of(alloc, self.journal.entries())?,
             violation: self.violation,
             entry: self.entry,
@@ -85,7 +85,7 @@ pub(crate) fn judge(
     alloc: Global,
     trees: &[Tree],
     entries: &[JournalEntry],
-) -> Result<Option<Broken>, AllocError>
+) -> Result<Option<BreakingJournal>, AllocError>
     ensures { IfOk result (λ found. IfSome found (spec.IsRun (filters_of trees.now))) }
 {
     let journal = journal_of(alloc, entries)?;
@@ -95,7 +95,7 @@ pub(crate) fn judge(
             if entry.checked_add(1) != Some(journal.len()) {
                 return Ok(None);
             }
-            Ok(Some(Broken {
+            Ok(Some(BreakingJournal {
                 journal,
                 violation,
                 entry,

@@ -13,7 +13,7 @@ mod searching;
 mod shortening;
 
 pub use answering::Answer;
-pub use flt_search_rounds::{SearchWatch, UnwatchedSearch, Watched};
+pub use flt_search_rounds::{SearchWatch, UnwatchedSearch, WatchedSearch};
 pub use goal::{Bounds, Goal};
-pub use judging::{Broken, journal_of};
+pub use judging::{BreakingJournal, journal_of};
 pub use searching::search;

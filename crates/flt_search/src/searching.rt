@@ -12,7 +12,7 @@ use flt_model::{JournalEntry, Violation};
 use flt_rules::MAX_FILTERS;
 use flt_search_plan::Plan;
 use flt_search_rounds::{
-    Firsts, Found, Left, ROUNDS, Round, Search, SearchWatch, Stand, Targets, Watched, explore,
+    Firsts, Found, Left, ROUNDS, Round, Search, SearchWatch, Stand, Targets, WatchedSearch, explore,
 };
 use flt_search_world::Violations;
 use flt_tree::Tree;
@@ -25,7 +25,7 @@ const MAX_SHORTENED: usize = 100_000;
 
 /// The judgement on a break that was found.
 #[derive(Clone, Copy)]
-enum Judged {
+enum BreakJudgement {
     NotYet,
     /// The monitor doesn't agree, or there was no room to ask it.
     No,
@@ -88,14 +88,14 @@ impl Runs {
 #[derive(Drop)]
 struct Harvest<'p, 's> {
     search: &'s Search<'p>,
-    judged: Vec<Judged>,
+    judged: Vec<BreakJudgement>,
 }
 
 impl<'p, 's> Harvest<'p, 's> {
     fn of(alloc: Global, search: &'s Search<'p>) -> Result<Harvest<'p, 's>, AllocError> {
         let mut judged = Vec::new(alloc);
         for _ in 0..search.found.len() {
-            judged.push(Judged::NotYet)?;
+            judged.push(BreakJudgement::NotYet)?;
         }
         Ok(Harvest { search, judged })
     }
@@ -126,8 +126,8 @@ impl<'p, 's> Harvest<'p, 's> {
         number: usize,
     ) -> Result<Option<usize>, AllocError> {
         match self.judged.get(number) {
-            Some(Judged::Run(run)) => return Ok(Some(*run)),
-            Some(Judged::NotYet) => {}
+            Some(BreakJudgement::Run(run)) => return Ok(Some(*run)),
+            Some(BreakJudgement::NotYet) => {}
             _ => return Ok(None),
         }
         let Some(found) = self.search.found.get(number) else {
@@ -136,8 +136,8 @@ impl<'p, 's> Harvest<'p, 's> {
         let run = runs.judge(alloc, trees, self.search, found)?;
         if let Some(judged) = self.judged.get_mut(number) {
             *judged = match run {
-                Some(run) => Judged::Run(run),
-                None => Judged::No,
+                Some(run) => BreakJudgement::Run(run),
+                None => BreakJudgement::No,
             };
         }
         Ok(run)
@@ -333,7 +333,7 @@ fn go_through<W: SearchWatch>(
     plan: &Plan,
     round: Round,
     state: &mut State,
-    watched: &mut Watched<'_, W>,
+    watched: &mut WatchedSearch<'_, W>,
 ) -> Result<(), AllocError> {
     let targets = targets_of(alloc, plan, goals, state.hits.as_slice())?;
     let search = explore(alloc, plan, round, targets, state.left, watched)?;
@@ -358,7 +358,7 @@ fn state_behind<W: SearchWatch>(
     trees: &[Tree],
     goals: &[Goal<'_>],
     bounds: Bounds,
-    watched: &mut Watched<'_, W>,
+    watched: &mut WatchedSearch<'_, W>,
 ) -> Result<State, AllocError> {
     let mut state = State {
         runs: Runs {
@@ -417,7 +417,7 @@ pub fn search<W: SearchWatch>(
     trees: &[Tree],
     goals: &[Goal<'_>],
     bounds: Bounds,
-    watched: &mut Watched<'_, W>,
+    watched: &mut WatchedSearch<'_, W>,
 ) -> Result<Vec<Answer>, AllocError>
     ensures { IfOk result (λ answers. spec.AreAnswers (filters_of trees.now) goals.now answers.items) }
 {

@@ -6,25 +6,25 @@ use flt_graph::{ContextVariable, NumberVariable, OperationVariable};
 
 /// The value of a variable: NULL, an object that no longer exists, or the object at a place.
 #[derive(Clone, Copy)]
-pub enum Named {
+pub enum VariableValue {
     Null,
     Gone,
     At(u8),
 }
 
-impl Named {
+impl VariableValue {
     /// The object at a place, or NULL if there is no place.
-    fn by(place: Option<u8>) -> Named {
+    fn by(place: Option<u8>) -> VariableValue {
         match place {
-            Some(place) => Named::At(place),
-            None => Named::Null,
+            Some(place) => VariableValue::At(place),
+            None => VariableValue::Null,
         }
     }
 
     /// Whether it names the object at a place.
     fn is(self, place: u8) -> bool {
         match self {
-            Named::At(own) => own == place,
+            VariableValue::At(own) => own == place,
             _ => false,
         }
     }
@@ -57,10 +57,10 @@ pub struct Activation {
     /// Whether the operation that it was given is an I/O request packet, if there is one.
     pub is_packet: bool,
     /// The visit that it was given.
-    pub given: Named,
+    pub given: VariableValue,
     pub(crate) numbers: [u64; 8],
-    pub(crate) contexts: [Named; 9],
-    pub(crate) operations: [Named; 5],
+    pub(crate) contexts: [VariableValue; 9],
+    pub(crate) operations: [VariableValue; 5],
     /// How often it holds each context, and each visit.
     holds: [u8; 16],
     visits: [u8; 8],
@@ -79,10 +79,10 @@ pub const NOBODY: Activation = Activation {
     is_draining: false,
     is_leaking: false,
     is_packet: true,
-    given: Named::Null,
+    given: VariableValue::Null,
     numbers: [0; 8],
-    contexts: [Named::Null; 9],
-    operations: [Named::Null; 5],
+    contexts: [VariableValue::Null; 9],
+    operations: [VariableValue::Null; 5],
     holds: [0; 16],
     visits: [0; 8],
     locks: Locks::NONE,
@@ -99,11 +99,11 @@ impl Activation {
             callback: start.callback,
             is_draining: start.is_draining,
             is_packet,
-            given: Named::by(start.visit),
+            given: VariableValue::by(start.visit),
             ..NOBODY
         };
-        activation.set_context(ContextVariable::Arg, Named::by(start.context));
-        activation.set_operation(OperationVariable::Data, Named::by(start.visit));
+        activation.set_context(ContextVariable::Arg, VariableValue::by(start.context));
+        activation.set_operation(OperationVariable::Data, VariableValue::by(start.visit));
         if let Some(context) = start.context {
             activation.hold(context);
         }
@@ -114,12 +114,12 @@ impl Activation {
     }
 
     /// The context that a variable names.
-    pub fn context(&self, variable: ContextVariable) -> Named {
+    pub fn context(&self, variable: ContextVariable) -> VariableValue {
         self.contexts[variable.place()]
     }
 
     /// The visit that a variable names.
-    pub fn operation(&self, variable: OperationVariable) -> Named {
+    pub fn operation(&self, variable: OperationVariable) -> VariableValue {
         self.operations[variable.place()]
     }
 
@@ -128,11 +128,11 @@ impl Activation {
         self.numbers[variable.place()]
     }
 
-    pub fn set_context(&mut self, variable: ContextVariable, named: Named) {
+    pub fn set_context(&mut self, variable: ContextVariable, named: VariableValue) {
         self.contexts[variable.place()] = named;
     }
 
-    pub fn set_operation(&mut self, variable: OperationVariable, named: Named) {
+    pub fn set_operation(&mut self, variable: OperationVariable, named: VariableValue) {
         self.operations[variable.place()] = named;
     }
 
@@ -200,7 +200,7 @@ impl Activation {
     pub fn free(&mut self, context: u8) {
         for named in self.contexts.iter_mut() {
             if named.is(context) {
-                *named = Named::Gone;
+                *named = VariableValue::Gone;
             }
         }
     }
@@ -208,11 +208,11 @@ impl Activation {
     /// Settles a visit: each variable that named it is `Gone`.
     pub fn settle(&mut self, visit: u8) {
         if self.given.is(visit) {
-            self.given = Named::Gone;
+            self.given = VariableValue::Gone;
         }
         for named in self.operations.iter_mut() {
             if named.is(visit) {
-                *named = Named::Gone;
+                *named = VariableValue::Gone;
             }
         }
     }

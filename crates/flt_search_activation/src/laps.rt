@@ -1,6 +1,6 @@
 //! Turns of a `repeat` that do the same: the rest of them is made at once.
 
-use crate::activation::{Activation, Named};
+use crate::activation::{Activation, VariableValue};
 use flt_graph::OperationVariable;
 use flt_search_plan::{CONTEXTS, Live, NUMBERS, Plan, REMOVED};
 
@@ -33,8 +33,8 @@ pub(crate) struct Laps {
 
 pub(crate) const NO_LAPS: Laps = Laps { laps: [None; 4] };
 
-fn is_null(named: Named) -> bool {
-    matches!(named, Named::Null)
+fn is_null(named: VariableValue) -> bool {
+    matches!(named, VariableValue::Null)
 }
 
 /// How a turn begins.

@@ -11,6 +11,6 @@ mod local;
 mod locks;
 mod turns;
 
-pub use activation::{Activation, NOBODY, Named, Start};
+pub use activation::{Activation, NOBODY, Start, VariableValue};
 pub use locks::Locks;
 pub use turns::Turns;

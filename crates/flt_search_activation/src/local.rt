@@ -1,6 +1,6 @@
 //! The steps of an activation that nobody else sees.
 
-use crate::activation::{Activation, Named};
+use crate::activation::{Activation, VariableValue};
 use crate::laps::{Laps, NO_LAPS};
 use flt_graph::{Action, Instruction, OperationVariable, Test, Turn};
 use flt_rules::MAX_COST;
@@ -52,11 +52,11 @@ impl Activation {
                 Some(next)
             }
             Action::ClearContext(variable) => {
-                self.set_context(variable, Named::Null);
+                self.set_context(variable, VariableValue::Null);
                 Some(next)
             }
             Action::ClearOperation(variable) => {
-                self.set_operation(OperationVariable::Removed(variable), Named::Null);
+                self.set_operation(OperationVariable::Removed(variable), VariableValue::Null);
                 Some(next)
             }
             _ => None,
@@ -141,6 +141,6 @@ fn spend(left: &mut u32, steps: u32) -> bool {
     }
 }
 
-fn is_some(named: Named) -> bool {
-    !matches!(named, Named::Null)
+fn is_some(named: VariableValue) -> bool {
+    !matches!(named, VariableValue::Null)
 }

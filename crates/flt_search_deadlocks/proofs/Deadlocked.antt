@@ -11,24 +11,24 @@ use Rattle.flt_order.specs.declared.order.Acquisition.{Acquisition}
 use Rattle.flt_replay.specs.Lesser.{moment_after}
 use Rattle.flt_explain_waits.specs.Stuck.{IsStuck, LocalStepsAreRuns, WhatWaitsIsStuck}
 use Rattle.flt_explain_waits.specs.Waiting.{AreSettled, AreWaits, waits_at}
-use Rattle.flt_explain_waits.specs.declared.waits.Blocked.{Blocked}
+use Rattle.flt_explain_waits.specs.declared.waits.BlockedActivation.{BlockedActivation}
 use Rattle.flt_search_deadlocks.specs.Deadlocks.{IsDeadlockIn, IsHeldAmong, WaitsAt}
 use Rattle.flt_search_deadlocks.specs.declared.judging.Deadlock.{Deadlock}
 use Rattle.flt_search_deadlocks.proofs.Legal.{legal}
 
 -- where nothing waits, nothing is chosen of it
-none_chosen : (round : List Blocked) → All (Contains []) round → (round ≡ [] → ⊥) → ⊥
+none_chosen : (round : List BlockedActivation) → All (Contains []) round → (round ≡ [] → ⊥) → ⊥
 none_chosen [] chosen some = some refl
 none_chosen (b ∷ rest) chosen some = let first = chosen 0 b (omega arith) in elim first.1 [ ]
 
 -- those that are chosen of what waits are stuck
-chosen_stuck : (p : List Filter) (m : Moment) (waits round : List Blocked) → WhatWaitsIsStuck →
+chosen_stuck : (p : List Filter) (m : Moment) (waits round : List BlockedActivation) → WhatWaitsIsStuck →
     waits ≡ waits_at m.world (length m.world.activations) → All (Contains waits) round → All (IsStuck p m) round
 chosen_stuck p m waits round law are chosen k d less =
     let whole : All (IsStuck p m) waits = subst (All (IsStuck p m)) (sym are) (law p m (length m.world.activations)) in
     All-contains (IsStuck p m) waits (get_or round k d) whole (chosen k d less)
 
-module _ (filters : List Filter) (number : ℕ) (circle : List Acquisition) (d : Deadlock) (waits : List Blocked)
+module _ (filters : List Filter) (number : ℕ) (circle : List Acquisition) (d : Deadlock) (waits : List BlockedActivation)
     (runs : LocalStepsAreRuns) (law : WhatWaitsIsStuck) (chosen : All (Contains waits) d.waits.items)
     (zipped : AllZip (WaitsAt number) circle d.waits.items) (held : All (IsHeldAmong d.waits.items) d.waits.items)
     (some : d.waits.items ≡ [] → ⊥) where
@@ -55,7 +55,7 @@ module _ (filters : List Filter) (number : ℕ) (circle : List Acquisition) (d :
   by_moment : (o : Option Moment) → moment_after p (start p) d.journal ≡ o →
       MatchOption o (waits ≡ []) (λ m. (u : World) × AreWaits m.world u waits) → IsDeadlockIn filters number circle d
   by_moment None reached none =
-      absurd (none_chosen d.waits.items (subst (λ (w : List Blocked). All (Contains w) d.waits.items) none chosen) some)
+      absurd (none_chosen d.waits.items (subst (λ (w : List BlockedActivation). All (Contains w) d.waits.items) none chosen) some)
   by_moment (Some m) reached (u, (settled, are)) = by_waits m u reached settled are
 
   -- where those that wait after a journal wait for locks of one another, it leads to a deadlock

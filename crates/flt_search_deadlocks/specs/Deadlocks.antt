@@ -11,20 +11,20 @@ use Rattle.flt_model.specs.declared.verdict.Verdict.TheVariants.{Legal}
 use Rattle.flt_order.specs.declared.order.Acquisition.{Acquisition}
 use Rattle.flt_replay.specs.Lesser.{moment_after}
 use Rattle.flt_explain_waits.specs.Stuck.{IsStuck}
-use Rattle.flt_explain_waits.specs.declared.waits.Blocked.{Blocked}
+use Rattle.flt_explain_waits.specs.declared.waits.BlockedActivation.{BlockedActivation}
 use Rattle.flt_search_deadlocks.specs.declared.judging.Deadlock.{Deadlock}
 use Rattle.flt_search_deadlocks.specs.declared.searching.Answer.{Answer}
 use Rattle.flt_search_deadlocks.specs.declared.searching.Answer.TheVariants.{Found}
 
 -- the activation waits at the acquisition: in this filter, on its line, for the lock that it takes
-pub record WaitsAt (number : ℕ) (a : Acquisition) (b : Blocked) : Type 0 where
+pub record WaitsAt (number : ℕ) (a : Acquisition) (b : BlockedActivation) : Type 0 where
   pub filter : b.filter ≡ number
   pub line : b.span.line ≡ a.line
   pub lock : b.lock ≡ a.taken
 
 -- the one that is named as the holder of the lock for which the activation waits is one of these
-pub record IsHeldAmong (round : List Blocked) (b : Blocked) : Type 0 where
-  pub other : Blocked
+pub record IsHeldAmong (round : List BlockedActivation) (b : BlockedActivation) : Type 0 where
+  pub other : BlockedActivation
   pub among : Contains round other
   pub named : b.holder ≡ Some other.activation
 

@@ -5,7 +5,7 @@ ghost use Rattle.std.specs.List.{AllZip};
 ghost use Rattle.flt_replay_world.specs.Filters.{filters_of};
 ghost use Rattle.flt_search_deadlocks.specs.Deadlocks as spec;
 
-use flt_explain_waits::{Blocked, local_steps_are_runs, waits_of, what_waits_is_stuck};
+use flt_explain_waits::{BlockedActivation, local_steps_are_runs, waits_of, what_waits_is_stuck};
 use flt_model::Journal;
 use flt_order::Acquisition;
 use flt_replay_world::Stack;
@@ -17,7 +17,7 @@ use std::alloc::{AllocError, Global};
 pub struct Deadlock {
     pub journal: Journal,
     /// For each acquisition of the circle, in their order, the activation that waits at it.
-    pub waits: Vec<Blocked>,
+    pub waits: Vec<BlockedActivation>,
 }
 
 /// The number of a tree's filter, from the highest altitude; none if there is no such tree.
@@ -39,14 +39,18 @@ pub(crate) fn number_of(
 }
 
 /// Whether an activation waits at an acquisition of a filter.
-fn is_at(wait: &Blocked, filter: usize, acquisition: Acquisition) -> bool
+fn is_at(wait: &BlockedActivation, filter: usize, acquisition: Acquisition) -> bool
     ensures { IsTrue result → spec.WaitsAt filter acquisition wait.now }
 {
     wait.filter == filter && wait.span.line == acquisition.line && wait.lock == acquisition.taken
 }
 
 /// The first of some activations that waits at an acquisition of a filter.
-fn waiting_at(waits: &[Blocked], filter: usize, acquisition: Acquisition) -> Option<Blocked>
+fn waiting_at(
+    waits: &[BlockedActivation],
+    filter: usize,
+    acquisition: Acquisition,
+) -> Option<BlockedActivation>
     ensures { IfSome result (λ b. Contains waits.now b × spec.WaitsAt filter acquisition b) }
 {
     for wait in waits {
@@ -60,10 +64,10 @@ fn waiting_at(waits: &[Blocked], filter: usize, acquisition: Acquisition) -> Opt
 /// For each acquisition of a circle an activation that waits at it; none if one of them has none.
 fn waiting_round(
     alloc: Global,
-    waits: &[Blocked],
+    waits: &[BlockedActivation],
     filter: usize,
     circle: &[Acquisition],
-) -> Result<Option<Vec<Blocked>>, AllocError>
+) -> Result<Option<Vec<BlockedActivation>>, AllocError>
     ensures { IfOk result (λ found. IfSome found (λ round.
         All (Contains waits.now) round.items × AllZip (spec.WaitsAt filter) circle.now round.items)) }
 {
@@ -78,7 +82,7 @@ fn waiting_round(
 }
 
 /// Whether one of some activations holds the lock for which one waits.
-fn is_held_among(round: &[Blocked], wait: &Blocked) -> bool
+fn is_held_among(round: &[BlockedActivation], wait: &BlockedActivation) -> bool
     ensures { IsTrue result → spec.IsHeldAmong round.now wait.now }
 {
     for other in round {
@@ -90,7 +94,7 @@ fn is_held_among(round: &[Blocked], wait: &Blocked) -> bool
 }
 
 /// Whether each of some activations waits for a lock that one of them holds.
-fn are_held_among(round: &[Blocked]) -> bool
+fn are_held_among(round: &[BlockedActivation]) -> bool
     ensures { IsTrue result → All (spec.IsHeldAmong round.now) round.now }
 {
     for wait in round {
@@ -102,7 +106,7 @@ fn are_held_among(round: &[Blocked]) -> bool
 }
 
 /// Whether there are some activations, and each waits for a lock that one of them holds.
-fn is_round(round: &[Blocked]) -> bool
+fn is_round(round: &[BlockedActivation]) -> bool
     ensures { IsTrue result → (round.now ≡ [] → ⊥) × All (spec.IsHeldAmong round.now) round.now }
 {
     !round.is_empty() && are_held_among(round)

@@ -9,6 +9,6 @@ mod judging;
 mod searching;
 
 pub use flt_search::Bounds;
-pub use flt_search_rounds::{SearchWatch, UnwatchedSearch, Watched};
+pub use flt_search_rounds::{SearchWatch, UnwatchedSearch, WatchedSearch};
 pub use judging::Deadlock;
 pub use searching::{Answer, find_deadlock};

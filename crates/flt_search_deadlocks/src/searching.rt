@@ -9,7 +9,9 @@ use flt_order::Acquisition;
 use flt_rules::MAX_FILTERS;
 use flt_search::{Bounds, journal_of};
 use flt_search_plan::Plan;
-use flt_search_rounds::{Left, MEETINGS, Search, SearchWatch, Stand, Targets, Watched, explore};
+use flt_search_rounds::{
+    Left, MEETINGS, Search, SearchWatch, Stand, Targets, WatchedSearch, explore,
+};
 use flt_tree::Tree;
 use std::alloc::{AllocError, Global};
 
@@ -83,7 +85,7 @@ fn find_at<W: SearchWatch>(
     plan: &Plan,
     stands: &[Stand],
     bounds: Bounds,
-    watched: &mut Watched<'_, W>,
+    watched: &mut WatchedSearch<'_, W>,
 ) -> Result<Answer, AllocError>
     ensures { IfOk result (spec.IsAnswer (filters_of trees.now) filter circle.now) }
 {
@@ -127,7 +129,7 @@ pub fn find_deadlock<W: SearchWatch>(
     filter: usize,
     circle: &[Acquisition],
     bounds: Bounds,
-    watched: &mut Watched<'_, W>,
+    watched: &mut WatchedSearch<'_, W>,
 ) -> Result<Answer, AllocError>
     ensures { IfOk result (spec.IsAnswer (filters_of trees.now) filter circle.now) }
 {

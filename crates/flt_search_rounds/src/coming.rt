@@ -6,7 +6,7 @@ use flt_model::fits_mode;
 use flt_rules::{Mode, Operation, Place};
 use flt_search_plan::KINDS;
 use flt_search_world::{
-    Anchored, MAX_ACTIVATIONS, MAX_CONTEXTS, MAX_FILTERS, MAX_ITEMS, MAX_OPERATIONS, Next,
+    ContextLink, MAX_ACTIVATIONS, MAX_CONTEXTS, MAX_FILTERS, MAX_ITEMS, MAX_OPERATIONS, Next,
     Whereabouts, World,
 };
 use std::alloc::AllocError;
@@ -66,7 +66,7 @@ impl<'p> Search<'p> {
         }
         for place in 0..MAX_CONTEXTS {
             let context = from.world.context(place);
-            if context.filter == filter && context.link != Anchored::Nowhere {
+            if context.filter == filter && context.link != ContextLink::Nowhere {
                 self.take(from, Next::Unlink(filter, context.link), cost)?;
             }
         }

@@ -3,10 +3,10 @@
 
 use flt_graph::OperationVariable;
 use flt_rules::{Access, Operation, Stage};
-use flt_search_activation::{Activation, Named};
+use flt_search_activation::{Activation, VariableValue};
 use flt_search_plan::{CONTEXTS, Live, NUMBERS, Plan, REMOVED};
 use flt_search_world::{
-    Anchored, MAX_ACTIVATIONS, MAX_CONTEXTS, MAX_FILTERS, MAX_ITEMS, MAX_OPERATIONS, MAX_VISITS,
+    ContextLink, MAX_ACTIVATIONS, MAX_CONTEXTS, MAX_FILTERS, MAX_ITEMS, MAX_OPERATIONS, MAX_VISITS,
     Passage, Whereabouts, World,
 };
 
@@ -161,11 +161,11 @@ fn put_numbers(mix: &mut Mix, activation: &Activation, live: Live) {
     }
 }
 
-fn put_named_context(mix: &mut Mix, activation: &Activation, named: Named) {
+fn put_named_context(mix: &mut Mix, activation: &Activation, named: VariableValue) {
     let part = match named {
-        Named::Null => 101,
-        Named::Gone => 102,
-        Named::At(place) => {
+        VariableValue::Null => 101,
+        VariableValue::Gone => 102,
+        VariableValue::At(place) => {
             if activation.held(place) > 0 {
                 mix.context(place)
             } else {
@@ -176,11 +176,11 @@ fn put_named_context(mix: &mut Mix, activation: &Activation, named: Named) {
     mix.put(part);
 }
 
-fn put_named_visit(mix: &mut Mix, activation: &Activation, named: Named) {
+fn put_named_visit(mix: &mut Mix, activation: &Activation, named: VariableValue) {
     let part = match named {
-        Named::Null => 103,
-        Named::Gone => 104,
-        Named::At(place) => {
+        VariableValue::Null => 103,
+        VariableValue::Gone => 104,
+        VariableValue::At(place) => {
             if activation.held_visit(place) > 0 {
                 mix.visit(place)
             } else {
@@ -261,11 +261,11 @@ fn put_activation(mix: &mut Mix, plan: &Plan, activation: &Activation) {
 
 // ---- links, values and visits
 
-fn link_part(link: Anchored) -> u64 {
+fn link_part(link: ContextLink) -> u64 {
     match link {
-        Anchored::Nowhere => 0,
-        Anchored::Instance => 1,
-        Anchored::Stream(file) => u64::from(file).wrapping_add(2),
+        ContextLink::Nowhere => 0,
+        ContextLink::Instance => 1,
+        ContextLink::Stream(file) => u64::from(file).wrapping_add(2),
     }
 }
 

@@ -20,4 +20,4 @@ mod watch;
 pub use round_search::{Found, Left, Search, explore};
 pub use rounds::{MEETINGS, ROUNDS, Round};
 pub use targets::{Firsts, Stand, Targets};
-pub use watch::{SearchWatch, UnwatchedSearch, Watched};
+pub use watch::{SearchWatch, UnwatchedSearch, WatchedSearch};

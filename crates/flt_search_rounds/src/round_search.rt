@@ -5,7 +5,7 @@ use crate::key::key_of;
 use crate::paths::Paths;
 use crate::rounds::Round;
 use crate::targets::{Met, Stand, Targets};
-use crate::watch::{SearchWatch, Watched};
+use crate::watch::{SearchWatch, WatchedSearch};
 use flt_model::{JournalEntry, Violation};
 use flt_search_plan::Plan;
 use flt_search_world::{Course, NOTHING_MADE, Next, OPENING, World};
@@ -139,7 +139,7 @@ pub struct Search<'p> {
 
 /// The end of a move.
 #[derive(Clone, Copy)]
-pub(crate) enum Taken {
+pub(crate) enum MoveEnd {
     Stuck,
     Broke,
     Went,
@@ -512,7 +512,7 @@ impl<'p> Search<'p> {
         self.push_state(from, state, begin)
     }
 
-    fn go(&mut self, from: &State, a: u8, grant: bool, cost: u8) -> Result<Taken, AllocError> {
+    fn go(&mut self, from: &State, a: u8, grant: bool, cost: u8) -> Result<MoveEnd, AllocError> {
         let mut state = *from;
         state.runner = Some(a);
         state.is_left = false;
@@ -525,14 +525,14 @@ impl<'p> Search<'p> {
         match self.step(&mut state.world, a, grant)? {
             Course::Goes => {
                 self.chain(from, &mut state, first)?;
-                Ok(Taken::Went)
+                Ok(MoveEnd::Went)
             }
             Course::Breaks(violation) => {
                 self.meet(from, first, stand, violation)?;
-                Ok(Taken::Broke)
+                Ok(MoveEnd::Broke)
             }
-            Course::Stuck => Ok(Taken::Stuck),
-            Course::Full => Ok(Taken::Went),
+            Course::Stuck => Ok(MoveEnd::Stuck),
+            Course::Full => Ok(MoveEnd::Went),
         }
     }
 
@@ -573,15 +573,20 @@ impl<'p> Search<'p> {
         }
     }
 
-    pub(crate) fn take(&mut self, from: &State, next: Next, cost: u8) -> Result<Taken, AllocError> {
+    pub(crate) fn take(
+        &mut self,
+        from: &State,
+        next: Next,
+        cost: u8,
+    ) -> Result<MoveEnd, AllocError> {
         if !self.spend_move() {
-            return Ok(Taken::Went);
+            return Ok(MoveEnd::Went);
         }
         match next {
             Next::Go(a, grant) => self.go(from, a, grant, cost),
             _ => {
                 self.make(from, next, cost)?;
-                Ok(Taken::Went)
+                Ok(MoveEnd::Went)
             }
         }
     }
@@ -605,10 +610,10 @@ impl<'p> Search<'p> {
             self.take(from, Next::Go(a, false), 0)?;
         }
         match taken {
-            Taken::Stuck => Ok(Some(0)),
-            Taken::Broke => Ok(Some(1)),
-            Taken::Went if is_seen => Ok(Some(1)),
-            Taken::Went => Ok(None),
+            MoveEnd::Stuck => Ok(Some(0)),
+            MoveEnd::Broke => Ok(Some(1)),
+            MoveEnd::Went if is_seen => Ok(Some(1)),
+            MoveEnd::Went => Ok(None),
         }
     }
 
@@ -684,7 +689,7 @@ impl<'p> Search<'p> {
         depth: usize,
         number: usize,
         counts: &mut Counts,
-        watched: &mut Watched<'_, W>,
+        watched: &mut WatchedSearch<'_, W>,
     ) -> Result<bool, AllocError> {
         let class = match self.states.get(number) {
             Some(state) => state.class(),
@@ -725,7 +730,7 @@ impl<'p> Search<'p> {
     fn go_through<W: SearchWatch>(
         &mut self,
         depth: usize,
-        watched: &mut Watched<'_, W>,
+        watched: &mut WatchedSearch<'_, W>,
     ) -> Result<bool, AllocError> {
         let mut counts = NO_COUNTS;
         let mut next = self.take_layer(depth);
@@ -743,7 +748,10 @@ impl<'p> Search<'p> {
     }
 
     /// Passes through all depths. False if the round is over.
-    fn pass<W: SearchWatch>(&mut self, watched: &mut Watched<'_, W>) -> Result<bool, AllocError> {
+    fn pass<W: SearchWatch>(
+        &mut self,
+        watched: &mut WatchedSearch<'_, W>,
+    ) -> Result<bool, AllocError> {
         for depth in 0..MAX_DEPTH {
             if depth >= self.layers.len() {
                 return Ok(self.waiting > 0);
@@ -756,7 +764,10 @@ impl<'p> Search<'p> {
     }
 
     /// Runs the round.
-    fn run<W: SearchWatch>(&mut self, watched: &mut Watched<'_, W>) -> Result<(), AllocError> {
+    fn run<W: SearchWatch>(
+        &mut self,
+        watched: &mut WatchedSearch<'_, W>,
+    ) -> Result<(), AllocError> {
         let opening = State {
             node: None,
             depth: 0,
@@ -791,7 +802,7 @@ pub fn explore<'p, W: SearchWatch>(
     round: Round,
     targets: Targets,
     left: Left,
-    watched: &mut Watched<'_, W>,
+    watched: &mut WatchedSearch<'_, W>,
 ) -> Result<Search<'p>, AllocError> {
     let mut search = Search::new(alloc, plan, round, targets, left);
     search.run(watched)?;

@@ -19,15 +19,15 @@ impl SearchWatch for UnwatchedSearch {
 
 /// The number of states expanded, in one search or in several, and the watcher.
 #[derive(Drop)]
-pub struct Watched<'w, W: SearchWatch> {
+pub struct WatchedSearch<'w, W: SearchWatch> {
     watch: &'w mut W,
     states: u32,
 }
 
-impl<'w, W: SearchWatch> Watched<'w, W> {
+impl<'w, W: SearchWatch> WatchedSearch<'w, W> {
     /// A watched search in which no state has been expanded yet.
-    pub fn new(watch: &'w mut W) -> Watched<'w, W> {
-        Watched { watch, states: 0 }
+    pub fn new(watch: &'w mut W) -> WatchedSearch<'w, W> {
+        WatchedSearch { watch, states: 0 }
     }
 
     /// Counts one more expanded state.

@@ -1,5 +1,5 @@
 //! The callbacks of a filter that may start: a set that nothing leads out of, reached from the pre callbacks by the requests of statements,
-//! and then tested. It exports `Started`, which rules out the others by the law of `flt_starts`.
+//! and then tested. It exports `StartedCallbacks`, which rules out the others by the law of `flt_starts`.
 #![tactic(auto)]
 
 mod asked;
@@ -7,4 +7,4 @@ mod callbacks;
 mod started;
 mod within;
 
-pub use started::Started;
+pub use started::StartedCallbacks;

@@ -19,11 +19,11 @@ use std::marker::Model;
 
 /// The callbacks of a filter that may start, and no others. Contracts see a mark for each callback.
 #[derive(Drop)]
-pub struct Started {
+pub struct StartedCallbacks {
     marks: Items<bool>,
 }
 
-impl Model for Started {
+impl Model for StartedCallbacks {
     ghost use Rattle.std.specs.Prelude.{Bool, List};
 
     ghost Value = { List Bool };
@@ -111,13 +111,13 @@ fn are_closed(callbacks: &[Callback], marks: &[bool]) -> bool
     has_entries(callbacks, marks) && are_kept(callbacks, marks)
 }
 
-impl Started {
+impl StartedCallbacks {
     /// The callbacks of a filter that may start; none only if the search for them ended too early, which it doesn't.
     ///
     /// # Errors
     ///
     /// `AllocError` if a growth is refused.
-    pub fn of(alloc: Global, callbacks: &[Callback]) -> Result<Option<Started>, AllocError>
+    pub fn of(alloc: Global, callbacks: &[Callback]) -> Result<Option<StartedCallbacks>, AllocError>
         ensures { IfOk result (λ found. IfSome found (λ s. IsClosed callbacks.now (spec.is_marked s))) }
     {
         let mut marks = entered(alloc, callbacks)?;
@@ -125,7 +125,7 @@ impl Started {
             mark_more(callbacks, &mut marks);
         }
         if are_closed(callbacks, marks.as_slice()) {
-            Ok(Some(Started { marks }))
+            Ok(Some(StartedCallbacks { marks }))
         } else {
             Ok(None)
         }

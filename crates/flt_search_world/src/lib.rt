@@ -17,10 +17,10 @@ mod world;
 
 pub use entries::{Entries, Entry};
 pub use frames::{Frame, Frames};
-pub use moves::{Made, NOTHING_MADE, Next};
+pub use moves::{MoveEntries, NOTHING_MADE, Next};
 pub use step::Course;
 pub use violations::{VIOLATIONS, Violations};
 pub use world::{
-    Anchored, Context, Item, MAX_ACTIVATIONS, MAX_CONTEXTS, MAX_FILTERS, MAX_ITEMS, MAX_OPERATIONS,
-    MAX_VISITS, OPENING, Passage, Visit, Whereabouts, World,
+    Context, ContextLink, Item, MAX_ACTIVATIONS, MAX_CONTEXTS, MAX_FILTERS, MAX_ITEMS,
+    MAX_OPERATIONS, MAX_VISITS, OPENING, Passage, Visit, Whereabouts, World,
 };

@@ -2,7 +2,7 @@
 
 use crate::frames::Frame;
 use crate::step::Course;
-use crate::world::{Anchored, NO_ITEM, NO_PASSAGE, Passage, Visit, Whereabouts, World};
+use crate::world::{ContextLink, NO_ITEM, NO_PASSAGE, Passage, Visit, Whereabouts, World};
 use flt_model::{JournalEntry, Key, Move};
 use flt_rules::{Mode, Operation, Place, Stage};
 use flt_search_activation::{Activation, Start};
@@ -13,18 +13,18 @@ const MAX_ENTRIES: usize = 24;
 
 /// The entries that a move makes.
 #[derive(Clone, Copy)]
-pub struct Made {
+pub struct MoveEntries {
     entries: [Option<Move>; 24],
     used: usize,
 }
 
 /// No entry.
-pub const NOTHING_MADE: Made = Made {
+pub const NOTHING_MADE: MoveEntries = MoveEntries {
     entries: [None; 24],
     used: 0,
 };
 
-impl Made {
+impl MoveEntries {
     fn push(&mut self, step: Move) {
         if self.used < MAX_ENTRIES {
             self.entries[self.used] = Some(step);
@@ -57,7 +57,7 @@ pub enum Next {
     Work(u8),
     Detach(u8),
     Drain(u8, u8),
-    Unlink(u8, Anchored),
+    Unlink(u8, ContextLink),
     /// An activation makes a step, granted or not.
     Go(u8, bool),
 }
@@ -189,7 +189,7 @@ impl World {
         plan: &Plan,
         place: u8,
         filter: u8,
-        made: &mut Made,
+        made: &mut MoveEntries,
         left: &mut u32,
     ) -> Onward {
         let operation = self.operation(place);
@@ -208,7 +208,7 @@ impl World {
         Onward::Again
     }
 
-    fn go_up(&mut self, plan: &Plan, place: u8, made: &mut Made, left: &mut u32) -> Onward {
+    fn go_up(&mut self, plan: &Plan, place: u8, made: &mut MoveEntries, left: &mut u32) -> Onward {
         let serial = self.operation(place).serial;
         match self.pop_frame(place) {
             Some(frame) => {
@@ -220,7 +220,13 @@ impl World {
         }
     }
 
-    fn go_onward(&mut self, plan: &Plan, place: u8, made: &mut Made, left: &mut u32) -> Onward {
+    fn go_onward(
+        &mut self,
+        plan: &Plan,
+        place: u8,
+        made: &mut MoveEntries,
+        left: &mut u32,
+    ) -> Onward {
         match self.operation(place).at {
             Whereabouts::Down(filter) => self.go_down(plan, place, filter, made, left),
             Whereabouts::Up => self.go_up(plan, place, made, left),
@@ -229,7 +235,13 @@ impl World {
     }
 
     /// Continues an operation to its next callback, which starts. None if it has no next callback, or no room is left.
-    fn onwards(&mut self, plan: &Plan, place: u8, made: &mut Made, left: &mut u32) -> Option<u8> {
+    fn onwards(
+        &mut self,
+        plan: &Plan,
+        place: u8,
+        made: &mut MoveEntries,
+        left: &mut u32,
+    ) -> Option<u8> {
         for _ in 0..MAX_ENTRIES {
             match self.go_onward(plan, place, made, left) {
                 Onward::Again => {}
@@ -246,7 +258,7 @@ impl World {
         kind: Operation,
         mode: Mode,
         file: u32,
-        made: &mut Made,
+        made: &mut MoveEntries,
         left: &mut u32,
     ) -> Option<u8> {
         let place = self.free_operation()?;
@@ -274,15 +286,15 @@ impl World {
 
 // ---- other moves
 
-fn key_of(link: Anchored) -> Key {
+fn key_of(link: ContextLink) -> Key {
     match link {
-        Anchored::Stream(file) => Key::Stream(file),
+        ContextLink::Stream(file) => Key::Stream(file),
         _ => Key::Instance,
     }
 }
 
 impl World {
-    fn cancel(&mut self, place: u8, made: &mut Made) {
+    fn cancel(&mut self, place: u8, made: &mut MoveEntries) {
         if let Some(operation) = self.operations.get_mut(usize::from(place)) {
             operation.is_cancelled = true;
             made.push(Move::Cancel {
@@ -297,7 +309,7 @@ impl World {
         plan: &Plan,
         filter: u8,
         place: u8,
-        made: &mut Made,
+        made: &mut MoveEntries,
         left: &mut u32,
     ) -> Option<u8> {
         let number = self.entry_of(filter, place)?;
@@ -317,7 +329,13 @@ impl World {
         self.start(plan, start, left)
     }
 
-    fn work(&mut self, plan: &Plan, place: u8, made: &mut Made, left: &mut u32) -> Option<u8> {
+    fn work(
+        &mut self,
+        plan: &Plan,
+        place: u8,
+        made: &mut MoveEntries,
+        left: &mut u32,
+    ) -> Option<u8> {
         let item = self.item(place);
         if let Some(taken) = self.items.get_mut(usize::from(place)) {
             *taken = NO_ITEM;
@@ -333,7 +351,7 @@ impl World {
         self.start(plan, start, left)
     }
 
-    fn detach(&mut self, plan: &Plan, filter: u8, made: &mut Made) {
+    fn detach(&mut self, plan: &Plan, filter: u8, made: &mut MoveEntries) {
         if let Some(detaching) = self.is_detaching.get_mut(usize::from(filter)) {
             *detaching = true;
         }
@@ -347,7 +365,7 @@ impl World {
         plan: &Plan,
         filter: u8,
         place: u8,
-        made: &mut Made,
+        made: &mut MoveEntries,
         left: &mut u32,
     ) -> Option<u8> {
         let frame = self.take_frame(place, filter)?;
@@ -361,10 +379,10 @@ impl World {
         }
     }
 
-    fn unlink(&mut self, plan: &Plan, filter: u8, link: Anchored, made: &mut Made) {
+    fn unlink(&mut self, plan: &Plan, filter: u8, link: ContextLink, made: &mut MoveEntries) {
         if let Some(place) = self.linked(filter, link) {
             if let Some(context) = self.contexts.get_mut(usize::from(place)) {
-                context.link = Anchored::Nowhere;
+                context.link = ContextLink::Nowhere;
             }
         }
         made.push(Move::Unlink {
@@ -378,7 +396,7 @@ impl World {
         &mut self,
         plan: &Plan,
         next: Next,
-        made: &mut Made,
+        made: &mut MoveEntries,
         left: &mut u32,
     ) -> Option<Option<u8>> {
         let started = match next {

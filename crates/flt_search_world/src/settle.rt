@@ -5,7 +5,7 @@ use crate::world::{NO_VISIT, Visit, Whereabouts, World};
 use flt_graph::{Invocation, OperationVariable, Status};
 use flt_model::Violation;
 use flt_rules::{Mode, Place, Possessed, Possession, Stage, StatusRow, StatusWord, status_row};
-use flt_search_activation::{NOBODY, Named};
+use flt_search_activation::{NOBODY, VariableValue};
 use flt_search_plan::Plan;
 use flt_tree::named_context;
 
@@ -80,7 +80,7 @@ impl World {
     fn holds_given(&self, a: u8) -> bool {
         let activation = self.activation(a);
         match activation.given {
-            Named::At(visit) => activation.held_visit(visit) > 0,
+            VariableValue::At(visit) => activation.held_visit(visit) > 0,
             _ => false,
         }
     }
@@ -233,8 +233,8 @@ impl World {
     /// The visit that a callback answers for.
     fn answer_given(&mut self, plan: &Plan, a: u8, context: Option<u8>, status: Option<Status>) {
         match self.activation(a).given {
-            Named::At(visit) => self.answer(plan, a, visit, context, true, status),
-            Named::Gone => {
+            VariableValue::At(visit) => self.answer(plan, a, visit, context, true, status),
+            VariableValue::Gone => {
                 if !matches!(
                     status,
                     Some(Status::Pending | Status::MoreProcessingRequired)
@@ -242,7 +242,7 @@ impl World {
                     self.broken.add(Violation::V3);
                 }
             }
-            Named::Null => {}
+            VariableValue::Null => {}
         }
     }
 

@@ -1,7 +1,7 @@
 //! The steps that others see, and the violations of each.
 
 use crate::entries::Entry;
-use crate::world::{Anchored, Context, Item, MAX_ACTIVATIONS, MAX_VISITS, NO_CONTEXT, World};
+use crate::world::{Context, ContextLink, Item, MAX_ACTIVATIONS, MAX_VISITS, NO_CONTEXT, World};
 use flt_graph::{
     Action, ContextVariable, Instruction, Invocation, NumberVariable, OperationVariable,
 };
@@ -10,7 +10,7 @@ use flt_rules::{
     Access, Anchor, Call, Existing, HeldLock, Level, LockNumber, entry_level, is_legal_in_draining,
     raised_by, row,
 };
-use flt_search_activation::Named;
+use flt_search_activation::VariableValue;
 use flt_search_plan::Plan;
 use flt_tree::Atom;
 
@@ -42,7 +42,7 @@ impl World {
     /// The context that an activation holds by a variable. It breaks V1 if it holds none.
     fn used_context(&mut self, a: u8, variable: ContextVariable) -> Option<u8> {
         let activation = self.activation(a);
-        if let Named::At(place) = activation.context(variable) {
+        if let VariableValue::At(place) = activation.context(variable) {
             if activation.held(place) > 0 {
                 return Some(place);
             }
@@ -54,7 +54,7 @@ impl World {
     /// The visit that an activation holds by a variable. It breaks V1 if it holds none.
     pub(crate) fn used_visit(&mut self, a: u8, variable: OperationVariable) -> Option<u8> {
         let activation = self.activation(a);
-        if let Named::At(place) = activation.operation(variable) {
+        if let VariableValue::At(place) = activation.operation(variable) {
             if activation.held_visit(place) > 0 {
                 return Some(place);
             }
@@ -82,13 +82,13 @@ impl World {
         }
     }
 
-    fn put_context(&mut self, a: u8, variable: ContextVariable, named: Named) {
+    fn put_context(&mut self, a: u8, variable: ContextVariable, named: VariableValue) {
         if let Some(activation) = self.activations.get_mut(usize::from(a)) {
             activation.set_context(variable, named);
         }
     }
 
-    fn put_operation(&mut self, a: u8, variable: OperationVariable, named: Named) {
+    fn put_operation(&mut self, a: u8, variable: OperationVariable, named: VariableValue) {
         if let Some(activation) = self.activations.get_mut(usize::from(a)) {
             activation.set_operation(variable, named);
         }
@@ -121,18 +121,18 @@ impl World {
     /// A variable that a call need not have receives a context that is held from now on.
     fn give(&mut self, a: u8, variable: Option<ContextVariable>, context: u8) {
         if let Some(variable) = variable {
-            self.put_context(a, variable, Named::At(context));
+            self.put_context(a, variable, VariableValue::At(context));
             self.hold(a, context);
         }
     }
 
     fn clear(&mut self, a: u8, variable: Option<ContextVariable>) {
         if let Some(variable) = variable {
-            self.put_context(a, variable, Named::Null);
+            self.put_context(a, variable, VariableValue::Null);
         }
     }
 
-    fn set_link(&mut self, context: u8, link: Anchored) {
+    fn set_link(&mut self, context: u8, link: ContextLink) {
         if let Some(context) = self.contexts.get_mut(usize::from(context)) {
             context.link = link;
         }
@@ -178,13 +178,13 @@ impl World {
 
 impl World {
     /// The link that a call works on. It breaks V1 if that is of an operation that isn't held.
-    fn link_of(&mut self, a: u8, anchor: Anchor) -> Option<Anchored> {
+    fn link_of(&mut self, a: u8, anchor: Anchor) -> Option<ContextLink> {
         match anchor {
-            Anchor::Instance => Some(Anchored::Instance),
+            Anchor::Instance => Some(ContextLink::Instance),
             Anchor::Stream => {
                 let visit = self.used_visit(a, OperationVariable::Data)?;
                 let operation = self.visit(visit).operation;
-                Some(Anchored::Stream(self.operation(operation).file))
+                Some(ContextLink::Stream(self.operation(operation).file))
             }
         }
     }
@@ -231,7 +231,7 @@ impl World {
         a: u8,
         existing: Existing,
         context: u8,
-        link: Anchored,
+        link: ContextLink,
         old: Option<ContextVariable>,
     ) -> Ending {
         let other = self.linked(self.activation(a).filter, link);
@@ -246,7 +246,7 @@ impl World {
                 Ending::Refused
             }
             (Some(other), Existing::Replace) => {
-                self.set_link(other, Anchored::Nowhere);
+                self.set_link(other, ContextLink::Nowhere);
                 self.give(a, old, other);
                 self.set_link(context, link);
                 Ending::Granted
@@ -266,7 +266,7 @@ impl World {
         let (Some(context), Some(link)) = (context, link) else {
             return Ending::Refused;
         };
-        let is_linked = self.context(context).link != Anchored::Nowhere;
+        let is_linked = self.context(context).link != ContextLink::Nowhere;
         if is_linked || self.detaches(self.activation(a).filter) {
             self.clear(a, call.output);
             return Ending::Refused;
@@ -280,7 +280,7 @@ impl World {
         };
         match self.linked(self.activation(a).filter, link) {
             Some(context) => {
-                self.set_link(context, Anchored::Nowhere);
+                self.set_link(context, ContextLink::Nowhere);
                 self.give(a, old, context);
                 Ending::Granted
             }
@@ -293,7 +293,7 @@ impl World {
 
     fn delete(&mut self, a: u8, variable: Option<ContextVariable>) -> Ending {
         if let Some(context) = self.used_named(a, variable) {
-            self.set_link(context, Anchored::Nowhere);
+            self.set_link(context, ContextLink::Nowhere);
         }
         Ending::Granted
     }
@@ -416,13 +416,13 @@ impl World {
         };
         let front = self.front(self.activation(a).filter);
         let Some(front) = front else {
-            self.put_operation(a, variable, Named::Null);
+            self.put_operation(a, variable, VariableValue::Null);
             self.clear(a, call.output);
             return Ending::Refused;
         };
         if let Some(entry) = self.entries.get(front) {
             self.entries.remove(front);
-            self.put_operation(a, variable, Named::At(entry.visit));
+            self.put_operation(a, variable, VariableValue::At(entry.visit));
             if let Some(activation) = self.activations.get_mut(usize::from(a)) {
                 activation.hold_visit(entry.visit);
             }
@@ -682,10 +682,10 @@ fn is_choice(instruction: &Instruction) -> bool {
 impl World {
     /// Whether anything but an activation reaches the context that its variable names.
     fn is_shared(&self, a: u8, variable: ContextVariable) -> bool {
-        let Named::At(context) = self.activation(a).context(variable) else {
+        let VariableValue::At(context) = self.activation(a).context(variable) else {
             return false;
         };
-        if self.context(context).link != Anchored::Nowhere {
+        if self.context(context).link != ContextLink::Nowhere {
             return true;
         }
         for place in 0..MAX_ACTIVATIONS {

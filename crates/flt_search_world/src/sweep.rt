@@ -1,20 +1,20 @@
 //! Takes objects that nothing reaches any more out of a world.
 
 use crate::world::{
-    Anchored, MAX_ACTIVATIONS, MAX_CONTEXTS, MAX_FILTERS, MAX_OPERATIONS, MAX_VISITS, NO_CONTEXT,
-    NO_PASSAGE, Whereabouts, World,
+    ContextLink, MAX_ACTIVATIONS, MAX_CONTEXTS, MAX_FILTERS, MAX_OPERATIONS, MAX_VISITS,
+    NO_CONTEXT, NO_PASSAGE, Whereabouts, World,
 };
 use flt_rules::{Operation, Place};
-use flt_search_activation::Named;
+use flt_search_activation::VariableValue;
 use flt_search_plan::{CONTEXTS, Plan};
 
 /// Some contexts of a world.
 #[derive(Clone, Copy)]
-struct Reached {
+struct ReachedContexts {
     flags: [bool; 16],
 }
 
-impl Reached {
+impl ReachedContexts {
     fn add(&mut self, context: u8) {
         if let Some(flag) = self.flags.get_mut(usize::from(context)) {
             *flag = true;
@@ -35,17 +35,17 @@ impl Reached {
     }
 }
 
-const NONE_REACHED: Reached = Reached { flags: [false; 16] };
+const NONE_REACHED: ReachedContexts = ReachedContexts { flags: [false; 16] };
 
 impl World {
     /// The contexts that an activation names by a variable which is read later.
-    fn named_later(&self, plan: &Plan, a: u8) -> Reached {
+    fn named_later(&self, plan: &Plan, a: u8) -> ReachedContexts {
         let activation = self.activation(a);
         let live = plan.live(activation.filter, activation.callback, activation.point);
         let mut named = NONE_REACHED;
         for variable in CONTEXTS {
             if live.context(variable) {
-                if let Named::At(context) = activation.context(variable) {
+                if let VariableValue::At(context) = activation.context(variable) {
                     named.add(context);
                 }
             }
@@ -69,7 +69,7 @@ impl World {
         }
     }
 
-    fn add_held(&self, reached: &mut Reached) {
+    fn add_held(&self, reached: &mut ReachedContexts) {
         for place in 0..MAX_ACTIVATIONS {
             let activation = self.activation(place);
             if activation.is_on {
@@ -82,7 +82,7 @@ impl World {
         }
     }
 
-    fn add_framed(&self, reached: &mut Reached) {
+    fn add_framed(&self, reached: &mut ReachedContexts) {
         for operation in self.operations.iter() {
             if operation.is_there {
                 for place in 0..operation.frames.len() {
@@ -94,7 +94,7 @@ impl World {
         }
     }
 
-    fn add_waiting(&self, reached: &mut Reached) {
+    fn add_waiting(&self, reached: &mut ReachedContexts) {
         for place in 0..self.entries.len() {
             if let Some(entry) = self.entries.get(place) {
                 reached.add_optional(entry.context);
@@ -108,13 +108,13 @@ impl World {
     }
 
     /// The contexts that something reaches.
-    fn reached(&self) -> Reached {
+    fn reached(&self) -> ReachedContexts {
         let mut reached = NONE_REACHED;
         self.add_held(&mut reached);
         self.add_framed(&mut reached);
         self.add_waiting(&mut reached);
         for place in 0..MAX_CONTEXTS {
-            if self.context(place).link != Anchored::Nowhere {
+            if self.context(place).link != ContextLink::Nowhere {
                 reached.add(place);
             }
         }

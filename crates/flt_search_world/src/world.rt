@@ -60,7 +60,7 @@ pub struct Visit {
 
 /// The link of a context.
 #[derive(Clone, Copy, PartialEq, Eq)]
-pub enum Anchored {
+pub enum ContextLink {
     Nowhere,
     Instance,
     Stream(u32),
@@ -72,7 +72,7 @@ pub struct Context {
     pub is_there: bool,
     pub filter: u8,
     pub value: u64,
-    pub link: Anchored,
+    pub link: ContextLink,
 }
 
 /// A work item that is queued.
@@ -130,7 +130,7 @@ pub(crate) const NO_CONTEXT: Context = Context {
     is_there: false,
     filter: 0,
     value: 0,
-    link: Anchored::Nowhere,
+    link: ContextLink::Nowhere,
 };
 
 pub(crate) const NO_ITEM: Item = Item {
@@ -215,7 +215,7 @@ impl World {
     }
 
     /// The context of a filter that has this link.
-    pub(crate) fn linked(&self, filter: u8, link: Anchored) -> Option<u8> {
+    pub(crate) fn linked(&self, filter: u8, link: ContextLink) -> Option<u8> {
         for place in 0..MAX_CONTEXTS {
             let context = self.context(place);
             if context.is_there && context.filter == filter && context.link == link {

@@ -8,7 +8,7 @@ use crate::focus::{Focus, focus_by, symbols_in};
 use crate::places::Document;
 use crate::trial::trial_text;
 use flt_explain::{Finding, Subject};
-use flt_explain_details::{Judged, call_name, judge, word_of};
+use flt_explain_details::{TextJudgement, call_name, judge, word_of};
 use flt_explain_hints::{Trouble, describe};
 use flt_graph::{Graph, Instruction, Place};
 use flt_rules::{Call, LockNumber, Rule};
@@ -379,13 +379,13 @@ fn put_judged(
     alloc: Global,
     writer: &mut Writer,
     document: &Document<'_>,
-    judged: &Judged,
+    judged: &TextJudgement,
     part: Part,
 ) -> Result<(), AllocError> {
     match judged {
-        Judged::Unread(fault) => put_for_fault(alloc, writer, document, *fault, part),
-        Judged::Known(_, _, _) if document.c_file.is_some() => Ok(()),
-        Judged::Known(tree, graph, found) => {
+        TextJudgement::Unread(fault) => put_for_fault(alloc, writer, document, *fault, part),
+        TextJudgement::Known(_, _, _) if document.c_file.is_some() => Ok(()),
+        TextJudgement::Known(tree, graph, found) => {
             put_for_findings(alloc, writer, document, tree, graph, found.as_slice(), part)
         }
     }

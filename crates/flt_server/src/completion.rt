@@ -4,7 +4,7 @@ use crate::members::{put_number, put_text};
 use crate::places::Document;
 use crate::trial::{byte_of_fault, fault_of, trial_text};
 use flt_explain_details::tokens_of;
-use flt_explain_hints::{Choices, Expected, describe};
+use flt_explain_hints::{Choices, ExpectedWord, describe};
 use flt_server_outline::is_variable;
 use flt_syntax::{Kind, SyntaxFault};
 use json::Writer;
@@ -84,7 +84,7 @@ fn put_choice(
 fn put_expected(
     alloc: Global,
     writer: &mut Writer,
-    expected: &[Expected],
+    expected: &[ExpectedWord],
 ) -> Result<(), AllocError> {
     for one in expected {
         put_choice(alloc, writer, one.word, kind_of(one.word, one.kind))?;

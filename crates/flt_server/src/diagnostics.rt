@@ -8,7 +8,7 @@ use crate::flaws::put_flaw;
 use crate::places::{Document, document_in_c, document_of};
 use crate::warned::put_warnings;
 use flt_c::{Flaw, PlaceFlaw};
-use flt_explain_details::{Judged, judge};
+use flt_explain_details::{TextJudgement, judge};
 use flt_server_session::OpenText;
 use json::Writer;
 use std::alloc::{AllocError, Global};
@@ -18,11 +18,11 @@ fn put_judged(
     alloc: Global,
     writer: &mut Writer,
     document: &Document<'_>,
-    judged: &Judged,
+    judged: &TextJudgement,
 ) -> Result<(), AllocError> {
     match judged {
-        Judged::Unread(fault) => put_unread(alloc, writer, document, *fault),
-        Judged::Known(tree, graph, found) => {
+        TextJudgement::Unread(fault) => put_unread(alloc, writer, document, *fault),
+        TextJudgement::Known(tree, graph, found) => {
             put_findings(alloc, writer, document, tree, graph, found.as_slice())?;
             put_warnings(alloc, writer, document, tree, graph, found.as_slice())
         }

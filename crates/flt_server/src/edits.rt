@@ -4,7 +4,7 @@ use crate::focus::Focus;
 use crate::members::{put_string, put_text};
 use crate::places::Document;
 use flt_explain::Finding;
-use flt_explain_details::{Judged, judge};
+use flt_explain_details::{TextJudgement, judge};
 use flt_server_outline::Part;
 use json::Writer;
 use std::alloc::{AllocError, Global};
@@ -47,8 +47,8 @@ pub(crate) fn findings_in(
     callback: usize,
 ) -> Result<Option<usize>, AllocError> {
     match judge(alloc, text)? {
-        Judged::Known(_, _, found) => Ok(Some(count_in(found.as_slice(), callback))),
-        Judged::Unread(_) => Ok(None),
+        TextJudgement::Known(_, _, found) => Ok(Some(count_in(found.as_slice(), callback))),
+        TextJudgement::Unread(_) => Ok(None),
     }
 }
 

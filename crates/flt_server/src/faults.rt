@@ -4,7 +4,7 @@ use crate::members::{add_line, put_number, put_string, put_text};
 use crate::places::{Document, own_files};
 use crate::trial::trial_text;
 use flt_explain_details::{fault_name, line_words};
-use flt_explain_hints::{Told, Trouble, describe, tell};
+use flt_explain_hints::{FaultExplanation, Trouble, describe, tell};
 use flt_places::{Region, lines_of};
 use flt_rules::MAX_TEXT;
 use flt_server_outline::Part;
@@ -42,7 +42,7 @@ fn add_notes(alloc: Global, out: &mut Vec<u8>, notes: &[u8]) -> Result<(), Alloc
 }
 
 /// The mistake, and how to fix it.
-fn message_of(alloc: Global, told: &Told) -> Result<Vec<u8>, AllocError> {
+fn message_of(alloc: Global, told: &FaultExplanation) -> Result<Vec<u8>, AllocError> {
     let mut out = Vec::new(alloc);
     add_line(&mut out, told.title.as_slice())?;
     add_line(&mut out, told.meant.as_slice())?;

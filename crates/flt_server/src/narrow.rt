@@ -2,7 +2,7 @@
 
 use crate::focus::{Focus, add_hollow};
 use flt_explain_details::tokens_of;
-use flt_server_outline::{Marked, Role, is_variable, mark_tokens};
+use flt_server_outline::{MarkedToken, Role, is_variable, mark_tokens};
 use flt_syntax::{Kind, Token};
 use sqlite_items::Items;
 use std::alloc::{AllocError, Global};
@@ -20,19 +20,19 @@ struct Stretch {
 
 /// Where the last two statements of a block begin.
 #[derive(Clone, Copy)]
-struct Begun {
+struct BlockTail {
     before: Option<usize>,
     last: Option<usize>,
 }
 
-const NONE_BEGUN: Begun = Begun {
+const NONE_BEGUN: BlockTail = BlockTail {
     before: None,
     last: None,
 };
 
 /// The kinds of the tokens before and after one.
 #[derive(Clone, Copy)]
-struct Between {
+struct Neighbours {
     before: Kind,
     after: Kind,
 }
@@ -46,7 +46,7 @@ fn is_call(bytes: &[u8]) -> bool {
 }
 
 /// Whether a word of the grammar begins a statement.
-fn begins_by_word(kind: Kind, bytes: &[u8], between: Between) -> bool {
+fn begins_by_word(kind: Kind, bytes: &[u8], between: Neighbours) -> bool {
     match kind {
         Kind::If | Kind::Return => true,
         Kind::Value => !matches!(between.before, Kind::Assign),
@@ -55,11 +55,11 @@ fn begins_by_word(kind: Kind, bytes: &[u8], between: Between) -> bool {
 }
 
 /// Whether a variable begins a statement: something is assigned to it.
-fn begins_by_variable(between: Between) -> bool {
+fn begins_by_variable(between: Neighbours) -> bool {
     matches!(between.after, Kind::Assign) && !matches!(between.before, Kind::Value)
 }
 
-fn begins(text: &[u8], marked: Marked, between: Between) -> bool {
+fn begins(text: &[u8], marked: MarkedToken, between: Neighbours) -> bool {
     let kind = marked.token.word.kind;
     match marked.role {
         Role::Plain => {
@@ -75,7 +75,7 @@ fn begins(text: &[u8], marked: Marked, between: Between) -> bool {
 #[derive(Drop)]
 struct Statements {
     /// The blocks that are open.
-    blocks: Vec<Begun>,
+    blocks: Vec<BlockTail>,
     /// The stretches that may be left out, in order.
     over: Vec<Stretch>,
     count: usize,
@@ -114,7 +114,7 @@ impl Statements {
                 end: last,
             })?;
         }
-        self.blocks.push(Begun {
+        self.blocks.push(BlockTail {
             before: block.last,
             last: Some(start),
         })?;
@@ -122,7 +122,12 @@ impl Statements {
     }
 
     /// Notes a token.
-    fn pass(&mut self, text: &[u8], marked: Marked, between: Between) -> Result<(), AllocError> {
+    fn pass(
+        &mut self,
+        text: &[u8],
+        marked: MarkedToken,
+        between: Neighbours,
+    ) -> Result<(), AllocError> {
         if begins(text, marked, between) {
             return self.begin(marked.token.start);
         }
@@ -138,7 +143,7 @@ impl Statements {
     }
 }
 
-fn kind_of(tokens: &[Marked], number: usize) -> Kind {
+fn kind_of(tokens: &[MarkedToken], number: usize) -> Kind {
     match tokens.get(number) {
         Some(marked) => marked.token.word.kind,
         None => Kind::End,
@@ -149,7 +154,7 @@ fn kind_of(tokens: &[Marked], number: usize) -> Kind {
 fn statements_before(
     alloc: Global,
     text: &[u8],
-    tokens: &[Marked],
+    tokens: &[MarkedToken],
     byte: usize,
 ) -> Result<Statements, AllocError> {
     let mut found = Statements {
@@ -164,7 +169,7 @@ fn statements_before(
             break;
         }
         let after = kind_of(tokens, number.saturating_add(1));
-        found.pass(text, *marked, Between { before, after })?;
+        found.pass(text, *marked, Neighbours { before, after })?;
         before = marked.token.word.kind;
     }
     Ok(found)
@@ -195,7 +200,7 @@ fn without(
     })
 }
 
-fn marked_of(alloc: Global, text: &[u8]) -> Result<Items<Marked>, AllocError> {
+fn marked_of(alloc: Global, text: &[u8]) -> Result<Items<MarkedToken>, AllocError> {
     let tokens: Items<Token> = tokens_of(alloc, text)?;
     mark_tokens(alloc, tokens.as_slice())
 }

@@ -6,7 +6,7 @@ ghost use Rattle.flt_server_session.specs.Answers.{IsAnswered};
 ghost use Rattle.flt_server_session.specs.declared.phase.Phase.TheVariants.{Fresh};
 
 use crate::filters::Filters;
-use flt_server_frames::{Answered, Handler};
+use flt_server_frames::{Handler, MessageAnswer};
 use flt_server_session::{Reporter, Session};
 use std::alloc::{AllocError, Global};
 
@@ -35,7 +35,7 @@ impl<R: Reporter + Drop> Handler for Server<R> {
 
     ghost answers = { λ old body answer new. IsAnswered R.reports old.session body answer new.session };
 
-    fn answer(&mut self, alloc: Global, body: &[u8]) -> Result<Answered, AllocError>
+    fn answer(&mut self, alloc: Global, body: &[u8]) -> Result<MessageAnswer, AllocError>
         ensures answered { IfOk result (λ a. IsAnswered R.reports self.old.session body.now (reply_of a) self.new.session) }
         ensures kept { OnErr result (self.new ≡ self.old) }
     {

@@ -3,13 +3,13 @@
 use crate::members::null;
 use crate::places::{Document, region_of};
 use flt_explain_details::tokens_of;
-use flt_server_outline::{Marked, Part, declaration_of, mark_tokens, mention_at, uses_of};
+use flt_server_outline::{MarkedToken, Part, declaration_of, mark_tokens, mention_at, uses_of};
 use flt_syntax::Token;
 use json::Writer;
 use sqlite_items::Items;
 use std::alloc::{AllocError, Global};
 
-fn marked_of(alloc: Global, text: &[u8]) -> Result<Items<Marked>, AllocError> {
+fn marked_of(alloc: Global, text: &[u8]) -> Result<Items<MarkedToken>, AllocError> {
     let tokens = tokens_of(alloc, text)?;
     mark_tokens(alloc, tokens.as_slice())
 }
@@ -23,7 +23,7 @@ fn put_token(writer: &mut Writer, document: &Document<'_>, token: Token) -> Resu
 }
 
 /// The token that declares the thing named at a byte; of a variable its first use.
-fn declared_at(document: &Document<'_>, tokens: &[Marked], byte: usize) -> Option<Token> {
+fn declared_at(document: &Document<'_>, tokens: &[MarkedToken], byte: usize) -> Option<Token> {
     declaration_of(document.text, tokens, mention_at(tokens, byte)?)
 }
 

@@ -14,7 +14,7 @@ use Rattle.flt_server_frames.proofs.Reading.{body_with}
 use Rattle.flt_server_frames.specs.Frames.{AreFrames, Ending, Front, body_of, cut, ended, ends, ends_cut}
 use Rattle.flt_server_frames.specs.Frames.{ends_malformed, framed, front_of, in_header, malformed, whole}
 use Rattle.flt_server_frames.specs.Line.{Text, after_blanks, length_in, number_after, said_by, said_of_length, without_return}
-use Rattle.flt_server_frames.specs.declared.line.Said.TheVariants as said
+use Rattle.flt_server_frames.specs.declared.line.HeaderLine.TheVariants as said
 
 -- ---- one reading
 

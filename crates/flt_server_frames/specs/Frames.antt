@@ -8,8 +8,8 @@ use Rattle.flt_server_frames.specs.declared.frame.Frame.{Frame}
 use Rattle.flt_server_frames.specs.declared.frame.Frame.TheVariants as frame
 use Rattle.flt_server_frames.specs.declared.header.Head.{Head}
 use Rattle.flt_server_frames.specs.declared.header.Head.TheVariants as head
-use Rattle.flt_server_frames.specs.declared.line.Said.{Said}
-use Rattle.flt_server_frames.specs.declared.line.Said.TheVariants as said
+use Rattle.flt_server_frames.specs.declared.line.HeaderLine.{HeaderLine}
+use Rattle.flt_server_frames.specs.declared.line.HeaderLine.TheVariants as said
 
 -- ---- reading
 
@@ -34,7 +34,7 @@ body_if None bytes = malformed
 body_if (Some n) bytes = body_of n bytes
 
 -- after one more line of a header, whose earlier lines say this length or none, and how its next lines are read. A header says one length
-abbrev pub after_line : Said → Option ℕ → Text → (Option ℕ → Front) → Front
+abbrev pub after_line : HeaderLine → Option ℕ → Text → (Option ℕ → Front) → Front
 after_line said.End length bytes more = body_if length bytes
 after_line (said.Length n) None bytes more = more (Some n)
 after_line (said.Length n) (Some m) bytes more = malformed

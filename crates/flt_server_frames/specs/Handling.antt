@@ -4,7 +4,7 @@ use Rattle.std.specs.List.{flat_map}
 use Rattle.std.specs.Prelude.{◌≡◌, ◌-◌, ◌^◌, ◌++◌, [], ◌∷◌, ⊤, ℕ, List, Option, Some, None, length, map, option_map, option_to_list}
 use Rattle.flt_server_frames.specs.Frames.{AreFrames, Ending, ends, ends_cut, ends_malformed, framed}
 use Rattle.flt_server_frames.specs.Line.{Text}
-use Rattle.flt_server_frames.specs.declared.handler.Answered.{Answered}
+use Rattle.flt_server_frames.specs.declared.handler.MessageAnswer.{MessageAnswer}
 
 -- an answer to a message's body, without where it lies in memory
 pub record Reply : Type 0 where
@@ -13,7 +13,7 @@ pub record Reply : Type 0 where
   pub ends : Option ℕ
 
 -- what was answered
-abbrev pub reply_of : Answered → Reply
+abbrev pub reply_of : MessageAnswer → Reply
 reply_of a = record {
   response = option_map (λ v. v.items) a.response;
   notifications = map (λ v. v.items) a.notifications.items;

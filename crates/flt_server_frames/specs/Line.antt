@@ -2,8 +2,8 @@
 use Rattle.std.specs.Char.{is_ascii_digit, to_ascii_lowercase}
 use Rattle.std.specs.Prelude.{ℕ, ◌+◌, ◌-◌, ◌*◌, Bool, true, false, ◌||◌, ◌&&◌, ◌==◌, nat_lt, if◌then◌else◌}
 use Rattle.std.specs.Prelude.{List, [], ◌∷◌, codes, length, slice_index, take, Option, Some, None}
-use Rattle.flt_server_frames.specs.declared.line.Said.{Said}
-use Rattle.flt_server_frames.specs.declared.line.Said.TheVariants as said
+use Rattle.flt_server_frames.specs.declared.line.HeaderLine.{HeaderLine}
+use Rattle.flt_server_frames.specs.declared.line.HeaderLine.TheVariants as said
 
 -- bytes
 abbrev pub Text : Type 0
@@ -50,16 +50,16 @@ length_of digits (Some found) =
 abbrev pub length_in : Text → Option ℕ
 length_in value = length_of (after_blanks value) (number_after 0 (after_blanks value))
 
-abbrev pub said_of_length : Option ℕ → Said
+abbrev pub said_of_length : Option ℕ → HeaderLine
 said_of_length None = said.Malformed
 said_of_length (Some length) = said.Length length
 
-abbrev pub said_of_value : Option Text → Said
+abbrev pub said_of_value : Option Text → HeaderLine
 said_of_value None = said.Other
 said_of_value (Some value) = said_of_length (length_in value)
 
 -- what a line says, its line feed left out: that the header ends, how long the body is, or something else
-abbrev pub said_by : Text → Said
+abbrev pub said_by : Text → HeaderLine
 said_by line =
     if is_empty (without_return line) then said.End
     else said_of_value (after_name (codes "content-length:") (without_return line))

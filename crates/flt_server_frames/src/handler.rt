@@ -7,7 +7,7 @@ use std::alloc::{AllocError, Global};
 
 /// The answer to a message's body.
 #[derive(Drop)]
-pub struct Answered {
+pub struct MessageAnswer {
     /// The response. A body has one at most.
     pub response: Option<Vec<u8>>,
     /// Notifications to send after it, in order.
@@ -22,6 +22,6 @@ pub trait Handler {
     ghost answers: { Self → List ℕ → Reply → Self → Type 0 };
 
     /// The answer to a body, which may be no message of the protocol. Its own state is unspecified after an error.
-    fn answer(&mut self, alloc: Global, body: &[u8]) -> Result<Answered, AllocError>
+    fn answer(&mut self, alloc: Global, body: &[u8]) -> Result<MessageAnswer, AllocError>
         ensures { IfOk result (λ answered. answers self.old body.now (reply_of answered) self.new) };
 }

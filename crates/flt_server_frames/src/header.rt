@@ -7,7 +7,7 @@ ghost use Rattle.std.specs.Prelude.{◌≡◌, ◌≢◌, ℕ, List, [], IfOk, I
 
 use crate::fault::ServeFault;
 use crate::incoming::{Incoming, next_byte};
-use crate::line::{Said, said_by};
+use crate::line::{HeaderLine, said_by};
 use std::alloc::{AllocError, Global};
 
 /// The header at the front of a stream, or why there is none.
@@ -51,9 +51,9 @@ impl Part {
             (spec.after_line (said_by_line self.old.line.items) self.old.length more (λ said. spec.in_header room [] said more)) }
     {
         match (said_by(self.line.as_slice()), self.length) {
-            (Said::End, Some(length)) => return Some(Head::Length(length)),
-            (Said::Length(length), None) => self.next_line(Some(length)),
-            (Said::Other, length) => self.next_line(length),
+            (HeaderLine::End, Some(length)) => return Some(Head::Length(length)),
+            (HeaderLine::Length(length), None) => self.next_line(Some(length)),
+            (HeaderLine::Other, length) => self.next_line(length),
             _ => return Some(Head::Malformed),
         }
         None

@@ -15,7 +15,7 @@ mod serving;
 
 pub use fault::ServeFault;
 pub use frame::{Frame, push_frame, read_frame};
-pub use handler::{Answered, Handler};
+pub use handler::{Handler, MessageAnswer};
 pub use incoming::Incoming;
 pub use laws::{streams_have_one_reading, written_frames_are_read};
 pub use serving::serve;

@@ -5,7 +5,7 @@ ghost use Rattle.std.specs.Prelude.{◌≡◌, option_map};
 
 /// The content of a line of a header.
 #[derive(Clone, Copy, Drop)]
-pub(crate) enum Said {
+pub(crate) enum HeaderLine {
     /// Nothing: it is empty, and the header ends with it.
     End,
     /// The length of the body.
@@ -101,18 +101,18 @@ fn length_in(value: &[u8]) -> Option<u32>
 }
 
 /// The content of a line, which is given without the line feed at its end.
-pub(crate) fn said_by(line: &[u8]) -> Said
+pub(crate) fn said_by(line: &[u8]) -> HeaderLine
     ensures { result ≡ spec.said_by line.now }
 {
     let line = without_return(line);
     if line.is_empty() {
-        return Said::End;
+        return HeaderLine::End;
     }
     match after_name(NAME, line) {
         Some(value) => match length_in(value) {
-            Some(length) => Said::Length(length),
-            None => Said::Malformed,
+            Some(length) => HeaderLine::Length(length),
+            None => HeaderLine::Malformed,
         },
-        None => Said::Other,
+        None => HeaderLine::Other,
     }
 }

@@ -8,7 +8,7 @@ ghost use Rattle.std.specs.Prelude.{◌≡◌, ◌≢◌, ◌⊎◌, ◌++◌, I
 
 use crate::fault::ServeFault;
 use crate::frame::{Frame, push_frame, read_frame};
-use crate::handler::{Answered, Handler};
+use crate::handler::{Handler, MessageAnswer};
 use crate::incoming::Incoming;
 use flt_model::{Sink, put_all};
 use std::alloc::{AllocError, Global};
@@ -24,7 +24,7 @@ fn push_frames(alloc: Global, out: &mut Vec<u8>, bodies: &[Vec<u8>]) -> Result<(
 }
 
 /// The messages of an answer as frames.
-fn frames_of(alloc: Global, answered: &Answered) -> Result<Vec<u8>, AllocError>
+fn frames_of(alloc: Global, answered: &MessageAnswer) -> Result<Vec<u8>, AllocError>
     ensures { IfOk result (λ v. v.items ≡ flat_map framed (spec.messages_of (spec.reply_of answered.now))) }
 {
     let mut out = Vec::new(alloc);

@@ -2,7 +2,7 @@
 use Rattle.std.specs.Prelude.{Bool, true, false, ◌||◌, if◌then◌else◌, List, [], ◌∷◌}
 use Rattle.flt_server_outline.specs.declared.roles.After.{After}
 use Rattle.flt_server_outline.specs.declared.roles.After.TheVariants as after
-use Rattle.flt_server_outline.specs.declared.roles.Marked.{Marked}
+use Rattle.flt_server_outline.specs.declared.roles.MarkedToken.{MarkedToken}
 use Rattle.flt_server_outline.specs.declared.roles.NameOf.TheVariants as name
 use Rattle.flt_server_outline.specs.declared.roles.Role.{Role}
 use Rattle.flt_server_outline.specs.declared.roles.Role.TheVariants as role
@@ -98,7 +98,7 @@ role_of after.Operation kind = plain_role kind
 role_of after.Anything kind = plain_role kind
 
 -- tokens, each with what it is
-abbrev pub marked_from : After → List Token → List Marked
+abbrev pub marked_from : After → List Token → List MarkedToken
 marked_from before [] = []
 marked_from before (t ∷ ts) =
     (record { token = t; role = role_of before t.word.kind }) ∷ marked_from (after_token before t.word.kind) ts

@@ -4,7 +4,7 @@ use Rattle.std.specs.Prelude.{nat_lt, List, [], ◌∷◌, Option, Some, None, f
 use Rattle.std.specs.Str.{bytes_eq}
 use Rattle.flt_server_outline.specs.Blocks.{depth_after}
 use Rattle.flt_server_outline.specs.Symbols.{is_close_brace}
-use Rattle.flt_server_outline.specs.declared.roles.Marked.{Marked}
+use Rattle.flt_server_outline.specs.declared.roles.MarkedToken.{MarkedToken}
 use Rattle.flt_server_outline.specs.declared.roles.NameOf.{NameOf}
 use Rattle.flt_server_outline.specs.declared.roles.NameOf.TheVariants as name
 use Rattle.flt_server_outline.specs.declared.roles.Role.{Role}
@@ -12,8 +12,8 @@ use Rattle.flt_server_outline.specs.declared.roles.Role.TheVariants as role
 use Rattle.flt_server_outline.specs.declared.symbols.Part.{Part}
 use Rattle.flt_server_outline.specs.declared.uses.Body.{Body}
 use Rattle.flt_server_outline.specs.declared.uses.Mention.{Mention}
-use Rattle.flt_server_outline.specs.declared.uses.Named.{Named}
-use Rattle.flt_server_outline.specs.declared.uses.Named.TheVariants as named
+use Rattle.flt_server_outline.specs.declared.uses.NamedThing.{NamedThing}
+use Rattle.flt_server_outline.specs.declared.uses.NamedThing.TheVariants as named
 use Rattle.flt_syntax.specs.Cursor.{bytes_of}
 use Rattle.flt_syntax.specs.declared.token.Kind.{Kind}
 use Rattle.flt_syntax.specs.declared.token.Kind.TheVariants as k
@@ -28,12 +28,12 @@ has byte t = nat_le t.start byte && nat_lt byte t.end
 abbrev pub ends_at : ℕ → Token → Bool
 ends_at byte t = t.end == byte && nat_lt t.start byte
 
-abbrev pub or_else : Option Marked → Option Marked → Option Marked
+abbrev pub or_else : Option MarkedToken → Option MarkedToken → Option MarkedToken
 or_else None other = other
 or_else (Some m) other = Some m
 
 -- the token that has a byte, or else the one that ends before it
-abbrev pub marked_at : ℕ → List Marked → Option Marked
+abbrev pub marked_at : ℕ → List MarkedToken → Option MarkedToken
 marked_at byte ms = or_else (find (λ m. has byte m.token) ms) (find (λ m. ends_at byte m.token) ms)
 
 -- ---- the body of a callback
@@ -52,28 +52,28 @@ abbrev pub ends_body : Body → Token → ℕ → Bool
 ends_body body t byte = is_close_brace t.word.kind && nat_le body.depth 1 && nat_lt byte t.end
 
 -- the body that has a byte, which begins in these tokens or has begun before; up to the end of all texts if it isn't closed
-abbrev pub body_from : Body → ℕ → List Marked → Part
+abbrev pub body_from : Body → ℕ → List MarkedToken → Part
 body_from body byte [] = record { start = body.start; end = 2 ^ 64 - 1 }
 body_from body byte (m ∷ ms) =
     if ends_body body m.token byte then record { start = body.start; end = m.token.end } else body_from (body_after body m.token) byte ms
 
 -- ---- mentions
 
-abbrev pub named_as : List Marked → ℕ → Role → Option Named
+abbrev pub named_as : List MarkedToken → ℕ → Role → Option NamedThing
 named_as ms byte role.Plain = None
 named_as ms byte role.Variable = Some (named.Variable (body_from (record { depth = 0; start = 0 }) byte ms))
 named_as ms byte (role.Declared of) = Some (named.Name of)
 named_as ms byte (role.Used of) = Some (named.Name of)
 
 -- what a token names
-abbrev pub named_by : List Marked → Marked → Option Named
+abbrev pub named_by : List MarkedToken → MarkedToken → Option NamedThing
 named_by ms m = named_as ms m.token.start m.role
 
-abbrev pub mention_of : List Marked → Marked → Option Mention
+abbrev pub mention_of : List MarkedToken → MarkedToken → Option Mention
 mention_of ms m = option_and_then (λ n. Some (record { token = m.token; named = n })) (named_by ms m)
 
 -- the token at a place, and what it names
-abbrev pub mention_at : ℕ → List Marked → Option Mention
+abbrev pub mention_at : ℕ → List MarkedToken → Option Mention
 mention_at byte ms = option_and_then (mention_of ms) (marked_at byte ms)
 
 -- ---- uses
@@ -97,7 +97,7 @@ variable_as part t role.Variable = is_within part t
 variable_as part t _ = false
 
 -- a token names the same kind of thing, in the same body if that is a variable
-abbrev pub may_name : Named → Marked → Bool
+abbrev pub may_name : NamedThing → MarkedToken → Bool
 may_name (named.Name of) m = name_as of m.role
 may_name (named.Variable part) m = variable_as part m.token m.role
 
@@ -106,7 +106,7 @@ abbrev pub are_alike : Text → Token → Token → Bool
 are_alike text t u = bytes_eq (bytes_of text t) (bytes_of text u)
 
 -- a token names the same
-abbrev pub names_it : Text → Mention → Marked → Bool
+abbrev pub names_it : Text → Mention → MarkedToken → Bool
 names_it text mention m = may_name mention.named m && are_alike text mention.token m.token
 
 abbrev pub declares : Role → Bool
@@ -114,13 +114,13 @@ declares (role.Declared of) = true
 declares _ = false
 
 -- a token is a use, among which the declaration is or isn't
-abbrev pub is_use : Text → Mention → Bool → Marked → Bool
+abbrev pub is_use : Text → Mention → Bool → MarkedToken → Bool
 is_use text mention with_declaration m = names_it text mention m && (with_declaration || not (declares m.role))
 
-abbrev pub is_variable : Named → Bool
+abbrev pub is_variable : NamedThing → Bool
 is_variable (named.Variable part) = true
 is_variable (named.Name of) = false
 
 -- a token declares what is named, or may be the first use of a variable
-abbrev pub is_first : Text → Mention → Marked → Bool
+abbrev pub is_first : Text → Mention → MarkedToken → Bool
 is_first text mention m = names_it text mention m && (is_variable mention.named || declares m.role)

@@ -10,6 +10,6 @@ mod uses;
 
 pub use blocks::{Fold, folds_of};
 pub use places::{byte_of, spot_of};
-pub use roles::{Marked, NameOf, Role, is_variable, mark_tokens};
+pub use roles::{MarkedToken, NameOf, Role, is_variable, mark_tokens};
 pub use symbols::{Part, Symbol, SymbolKind, symbols_of};
-pub use uses::{Mention, Named, declaration_of, mention_at, uses_of};
+pub use uses::{Mention, NamedThing, declaration_of, mention_at, uses_of};

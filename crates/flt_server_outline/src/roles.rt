@@ -31,7 +31,7 @@ pub enum Role {
 
 /// A token, and its role.
 #[derive(Clone, Copy)]
-pub struct Marked {
+pub struct MarkedToken {
     pub token: Token,
     pub role: Role,
 }
@@ -177,14 +177,14 @@ fn role_of(before: After, kind: Kind) -> Role
 /// # Errors
 ///
 /// `AllocError` if a growth is refused.
-pub fn mark_tokens(alloc: Global, tokens: &[Token]) -> Result<Items<Marked>, AllocError>
+pub fn mark_tokens(alloc: Global, tokens: &[Token]) -> Result<Items<MarkedToken>, AllocError>
     ensures { IfOk result (λ ms. ms ≡ spec.marked_from Anything tokens.now) }
 {
     let mut found = Items::new(alloc);
     let mut before = After::Anything;
     for token in tokens {
         let role = role_of(before, token.word.kind);
-        found.push(Marked {
+        found.push(MarkedToken {
             token: *token,
             role,
         })?;

@@ -4,7 +4,7 @@ ghost use Rattle.std.specs.Prelude.{◌≡◌, ◌++◌, IfOk, option_to_list};
 ghost use Rattle.flt_server_outline.specs.Symbols as spec;
 
 use crate::blocks::depth_after;
-use crate::roles::{Marked, NameOf, Role, is_word};
+use crate::roles::{MarkedToken, NameOf, Role, is_word};
 use flt_syntax::{Kind, Token};
 use sqlite_items::Items;
 use std::alloc::{AllocError, Global};
@@ -69,7 +69,7 @@ pub(crate) fn is_close_brace(kind: Kind) -> bool
 }
 
 /// The brace that closes a block, after tokens in it. Blocks nest so deep before them, from 1.
-fn closing(tokens: &[Marked]) -> Option<Token>
+fn closing(tokens: &[MarkedToken]) -> Option<Token>
     ensures { result ≡ spec.closing 1 tokens.now }
 {
     let mut depth: usize = 1;
@@ -84,7 +84,7 @@ fn closing(tokens: &[Marked]) -> Option<Token>
 }
 
 /// The last token of a callback whose head ends with a token: the brace that closes its block, or that token if no block follows.
-fn end_of(last: Token, after: &[Marked]) -> Token
+fn end_of(last: Token, after: &[MarkedToken]) -> Token
     ensures { result ≡ spec.end_of last after.now }
 {
     match after {
@@ -95,7 +95,7 @@ fn end_of(last: Token, after: &[Marked]) -> Token
     }
 }
 
-fn callback_over(first: Token, last: Token, after: &[Marked]) -> Symbol
+fn callback_over(first: Token, last: Token, after: &[MarkedToken]) -> Symbol
     ensures { result ≡ spec.callback_over first last after.now }
 {
     Symbol {
@@ -106,7 +106,7 @@ fn callback_over(first: Token, last: Token, after: &[Marked]) -> Symbol
 }
 
 /// The callback that begins with a token: its head has one more token if that is a word.
-fn callback_at(first: Token, after: &[Marked]) -> Symbol
+fn callback_at(first: Token, after: &[MarkedToken]) -> Symbol
     ensures { result ≡ spec.callback_at first after.now }
 {
     match after {
@@ -124,7 +124,7 @@ fn declares_lock(role: Role) -> bool
 }
 
 /// The lock that begins with a token: two more tokens, if the second is its name.
-fn lock_at(first: Token, after: &[Marked]) -> Option<Symbol>
+fn lock_at(first: Token, after: &[MarkedToken]) -> Option<Symbol>
     ensures { result ≡ spec.lock_at first after.now }
 {
     match after {
@@ -137,7 +137,7 @@ fn lock_at(first: Token, after: &[Marked]) -> Option<Symbol>
     }
 }
 
-fn symbol_of(first: Token, after: &[Marked]) -> Option<Symbol>
+fn symbol_of(first: Token, after: &[MarkedToken]) -> Option<Symbol>
     ensures { result ≡ spec.symbol_of first after.now }
 {
     let kind = first.word.kind;
@@ -151,7 +151,7 @@ fn symbol_of(first: Token, after: &[Marked]) -> Option<Symbol>
 }
 
 /// The symbol that begins with the first of some tokens, which are in no block.
-fn symbol_at(tokens: &[Marked]) -> Option<Symbol>
+fn symbol_at(tokens: &[MarkedToken]) -> Option<Symbol>
     ensures { result ≡ spec.symbol_at tokens.now }
 {
     let [first, after @ ..] = tokens else {
@@ -164,7 +164,7 @@ fn symbol_at(tokens: &[Marked]) -> Option<Symbol>
 }
 
 /// The same, if no block is open.
-fn symbol_if(depth: usize, tokens: &[Marked]) -> Option<Symbol>
+fn symbol_if(depth: usize, tokens: &[MarkedToken]) -> Option<Symbol>
     ensures { result ≡ spec.symbol_if depth tokens.now }
 {
     if depth == 0 { symbol_at(tokens) } else { None }
@@ -184,7 +184,7 @@ fn push_if(symbols: &mut Items<Symbol>, symbol: Option<Symbol>) -> Result<(), Al
 /// # Errors
 ///
 /// `AllocError` if a growth is refused.
-pub fn symbols_of(alloc: Global, tokens: &[Marked]) -> Result<Items<Symbol>, AllocError>
+pub fn symbols_of(alloc: Global, tokens: &[MarkedToken]) -> Result<Items<Symbol>, AllocError>
     ensures { IfOk result (λ ss. ss ≡ spec.symbols_from 0 tokens.now) }
 {
     let mut symbols = Items::new(alloc);

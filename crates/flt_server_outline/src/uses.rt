@@ -4,7 +4,7 @@ ghost use Rattle.std.specs.Prelude.{◌≡◌, ◌<◌, ◌≤◌, ◌+◌, ◌^
 ghost use Rattle.flt_server_outline.specs.Uses as spec;
 
 use crate::blocks::depth_after;
-use crate::roles::{Marked, NameOf, Role};
+use crate::roles::{MarkedToken, NameOf, Role};
 use crate::symbols::{Part, is_close_brace};
 use flt_syntax::{Kind, Token, bytes_of};
 use sqlite_items::Items;
@@ -12,7 +12,7 @@ use std::alloc::{AllocError, Global};
 
 /// The thing that a token names.
 #[derive(Clone, Copy)]
-pub enum Named {
+pub enum NamedThing {
     /// The filter, a lock or a routine.
     Name(NameOf),
     /// A variable of the callback whose body is this part of the text.
@@ -23,7 +23,7 @@ pub enum Named {
 #[derive(Clone, Copy)]
 pub struct Mention {
     pub token: Token,
-    pub named: Named,
+    pub named: NamedThing,
 }
 
 // ---- the token at a place
@@ -40,7 +40,7 @@ fn ends_at(token: Token, byte: usize) -> bool
     token.end == byte && token.start < byte
 }
 
-fn first_with(tokens: &[Marked], byte: usize) -> Option<Marked>
+fn first_with(tokens: &[MarkedToken], byte: usize) -> Option<MarkedToken>
     ensures { result ≡ find (λ m. spec.has byte m.token) tokens.now }
 {
     for marked in tokens {
@@ -51,7 +51,7 @@ fn first_with(tokens: &[Marked], byte: usize) -> Option<Marked>
     None
 }
 
-fn first_up_to(tokens: &[Marked], byte: usize) -> Option<Marked>
+fn first_up_to(tokens: &[MarkedToken], byte: usize) -> Option<MarkedToken>
     ensures { result ≡ find (λ m. spec.ends_at byte m.token) tokens.now }
 {
     for marked in tokens {
@@ -63,7 +63,7 @@ fn first_up_to(tokens: &[Marked], byte: usize) -> Option<Marked>
 }
 
 /// The token that has a byte, or else the one that ends before it.
-fn marked_at(tokens: &[Marked], byte: usize) -> Option<Marked>
+fn marked_at(tokens: &[MarkedToken], byte: usize) -> Option<MarkedToken>
     ensures { result ≡ spec.marked_at byte tokens.now }
 {
     match first_with(tokens, byte) {
@@ -110,7 +110,7 @@ fn ends_body(body: Body, token: Token, byte: usize) -> bool
 }
 
 /// The body of the callback that has a byte: up to the end of all texts if it isn't closed.
-fn body_around(tokens: &[Marked], byte: usize) -> Part
+fn body_around(tokens: &[MarkedToken], byte: usize) -> Part
     ensures { result ≡ spec.body_from (record { depth = 0; start = 0 }) byte tokens.now }
 {
     let mut body = Body { depth: 0, start: 0 };
@@ -131,17 +131,17 @@ fn body_around(tokens: &[Marked], byte: usize) -> Part
 
 // ---- mentions
 
-fn named_by(tokens: &[Marked], marked: Marked) -> Option<Named>
+fn named_by(tokens: &[MarkedToken], marked: MarkedToken) -> Option<NamedThing>
     ensures { result ≡ spec.named_by tokens.now marked }
 {
     match marked.role {
-        Role::Declared(of) | Role::Used(of) => Some(Named::Name(of)),
-        Role::Variable => Some(Named::Variable(body_around(tokens, marked.token.start))),
+        Role::Declared(of) | Role::Used(of) => Some(NamedThing::Name(of)),
+        Role::Variable => Some(NamedThing::Variable(body_around(tokens, marked.token.start))),
         Role::Plain => None,
     }
 }
 
-fn mention_of(tokens: &[Marked], marked: Marked) -> Option<Mention>
+fn mention_of(tokens: &[MarkedToken], marked: MarkedToken) -> Option<Mention>
     ensures { result ≡ spec.mention_of tokens.now marked }
 {
     let named = named_by(tokens, marked)?;
@@ -152,7 +152,7 @@ fn mention_of(tokens: &[Marked], marked: Marked) -> Option<Mention>
 }
 
 /// The token that has a byte of a text, from 0, or else the one that ends before it, if it is a name or a variable.
-pub fn mention_at(tokens: &[Marked], byte: usize) -> Option<Mention>
+pub fn mention_at(tokens: &[MarkedToken], byte: usize) -> Option<Mention>
     ensures { result ≡ spec.mention_at byte tokens.now }
 {
     mention_of(tokens, marked_at(tokens, byte)?)
@@ -178,12 +178,12 @@ fn is_within(token: Token, part: Part) -> bool
 }
 
 /// Whether a token names something of the same kind, in the same body if that is a variable.
-fn may_name(named: Named, marked: Marked) -> bool
+fn may_name(named: NamedThing, marked: MarkedToken) -> bool
     ensures { result ≡ spec.may_name named marked }
 {
     match (named, marked.role) {
-        (Named::Name(of), Role::Declared(other) | Role::Used(other)) => is_same(of, other),
-        (Named::Variable(part), Role::Variable) => is_within(marked.token, part),
+        (NamedThing::Name(of), Role::Declared(other) | Role::Used(other)) => is_same(of, other),
+        (NamedThing::Variable(part), Role::Variable) => is_within(marked.token, part),
         _ => false,
     }
 }
@@ -194,7 +194,7 @@ fn are_alike(text: &[u8], first: Token, second: Token) -> bool
     bytes_of(text, first) == bytes_of(text, second)
 }
 
-fn names_it(text: &[u8], mention: Mention, marked: Marked) -> bool
+fn names_it(text: &[u8], mention: Mention, marked: MarkedToken) -> bool
     ensures { result ≡ spec.names_it text.now mention marked }
 {
     may_name(mention.named, marked) && are_alike(text, mention.token, marked.token)
@@ -206,7 +206,7 @@ fn declares(role: Role) -> bool
     matches!(role, Role::Declared(_))
 }
 
-fn is_use(text: &[u8], mention: Mention, with_declaration: bool, marked: Marked) -> bool
+fn is_use(text: &[u8], mention: Mention, with_declaration: bool, marked: MarkedToken) -> bool
     ensures { result ≡ spec.is_use text.now mention with_declaration marked }
 {
     names_it(text, mention, marked) && (with_declaration || !declares(marked.role))
@@ -220,7 +220,7 @@ fn is_use(text: &[u8], mention: Mention, with_declaration: bool, marked: Marked)
 pub fn uses_of(
     alloc: Global,
     text: &[u8],
-    tokens: &[Marked],
+    tokens: &[MarkedToken],
     mention: Mention,
     with_declaration: bool,
 ) -> Result<Items<Token>, AllocError>
@@ -236,20 +236,20 @@ pub fn uses_of(
     Ok(found)
 }
 
-fn is_variable(named: Named) -> bool
+fn is_variable(named: NamedThing) -> bool
     ensures { result ≡ spec.is_variable named }
 {
-    matches!(named, Named::Variable(_))
+    matches!(named, NamedThing::Variable(_))
 }
 
-fn is_first(text: &[u8], mention: Mention, marked: Marked) -> bool
+fn is_first(text: &[u8], mention: Mention, marked: MarkedToken) -> bool
     ensures { result ≡ spec.is_first text.now mention marked }
 {
     names_it(text, mention, marked) && (is_variable(mention.named) || declares(marked.role))
 }
 
 /// The token of a text that declares the thing of a mention; of a variable its first use in the callback.
-pub fn declaration_of(text: &[u8], tokens: &[Marked], mention: Mention) -> Option<Token>
+pub fn declaration_of(text: &[u8], tokens: &[MarkedToken], mention: Mention) -> Option<Token>
     ensures { result ≡ option_map (λ m. m.token) (find (spec.is_first text.now mention) tokens.now) }
 {
     for marked in tokens {

@@ -2,7 +2,7 @@
 use Rattle.std.proofs.Common.{◌≡◌, ℕ, List, Option, Some, None, Result, Ok, Err, IfOk, OnOk, option_map, refl}
 use Rattle.std.specs.declared.alloc.AllocError.{AllocError}
 use Rattle.flt_server_frames.specs.Handling.{reply_of}
-use Rattle.flt_server_frames.specs.declared.handler.Answered.{Answered}
+use Rattle.flt_server_frames.specs.declared.handler.MessageAnswer.{MessageAnswer}
 use Rattle.json.specs.Json.{Json}
 use Rattle.flt_server_session.specs.Answers.{Answers, IsAnswered, IsRead, IsReported, after_body, end_of_body, of_body, report_of_body}
 use Rattle.flt_server_session.specs.Commands.{Report}
@@ -10,7 +10,7 @@ use Rattle.flt_server_session.specs.Replies as replies
 use Rattle.flt_server_session.specs.declared.session.Session.{Session}
 
 -- what is read is answered
-pub answered : (reports : List ℕ → List ℕ → List ℕ → Type 0) (r : Result Answered AllocError) (old new : Session) (body : List ℕ)
+pub answered : (reports : List ℕ → List ℕ → List ℕ → Type 0) (r : Result MessageAnswer AllocError) (old new : Session) (body : List ℕ)
     (read : Option Json) → IsRead body read → IfOk r (Answers (of_body old read) (end_of_body old.phase read)) →
     IfOk r (λ a. IsReported reports (report_of_body old read) (option_map (λ v. v.items) a.response)) →
     OnOk r (new.phase ≡ after_body old.phase read) → IfOk r (λ a. IsAnswered reports old body (reply_of a) new)
@@ -25,14 +25,14 @@ answered reports (Ok a) old new body read is answers report phase = record {
 answered reports (Err e) old new body read is answers report phase = tt
 
 -- what isn't JSON is refused, and the session stays
-pub not_read : (reports : List ℕ → List ℕ → List ℕ → Type 0) (r : Result Answered AllocError) (old : Session) (body : List ℕ) →
+pub not_read : (reports : List ℕ → List ℕ → List ℕ → Type 0) (r : Result MessageAnswer AllocError) (old : Session) (body : List ℕ) →
     IsRead body None → IfOk r (Answers (of_body old None) (end_of_body old.phase None)) →
     IfOk r (λ a. IsAnswered reports old body (reply_of a) old)
 not_read reports (Ok a) old body is answers = answered reports (Ok a) old old body None is answers tt refl
 not_read reports (Err e) old body is answers = tt
 
 -- a result that the reporter may write is the report that is asked for
-pub reported : (reports : List ℕ → List ℕ → List ℕ → Type 0) (report : Report) (text : List ℕ) (r : Result Answered AllocError) →
+pub reported : (reports : List ℕ → List ℕ → List ℕ → Type 0) (report : Report) (text : List ℕ) (r : Result MessageAnswer AllocError) →
     reports report.uri report.text text → IfOk r (λ a. option_map (λ v. v.items) a.response ≡ Some (replies.answered report.id text)) →
     IfOk r (λ a. IsReported reports (Some report) (option_map (λ v. v.items) a.response))
 reported reports report text (Ok a) may is = (text, may, is)

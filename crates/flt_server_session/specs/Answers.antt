@@ -7,7 +7,7 @@ use Rattle.json.specs.Json.{Json, document}
 use Rattle.json.specs.Print.{print}
 use Rattle.json.specs.Tree.{json_tokens}
 use Rattle.flt_server_frames.specs.Handling as handling
-use Rattle.flt_server_frames.specs.declared.handler.Answered.{Answered}
+use Rattle.flt_server_frames.specs.declared.handler.MessageAnswer.{MessageAnswer}
 use Rattle.flt_server_session.specs.Commands.{Report, report_asked}
 use Rattle.flt_server_session.specs.Messages.{Message, malformed, reply, notification, request, message_of}
 use Rattle.flt_server_session.specs.Replies as replies
@@ -172,7 +172,7 @@ after_body phase (Some j) = after_message phase (message_of j)
 -- ---- answers
 
 -- an answer has the response that is expected, and ends the server so
-pub record Answers (e : Expected) (end : Option ℕ) (a : Answered) : Type 0 where
+pub record Answers (e : Expected) (end : Option ℕ) (a : MessageAnswer) : Type 0 where
   pub response : IsResponse e (option_map (λ v. v.items) a.response)
   pub ends : a.ends ≡ end
 

@@ -24,7 +24,7 @@ use crate::params::{
 };
 use crate::phase::Phase;
 use crate::reply::{Refusal, answered, refused};
-use flt_server_frames::Answered;
+use flt_server_frames::MessageAnswer;
 use json::{Error, Scratch, Value, to_vec};
 use sqlite_items::Items;
 use std::alloc::{AllocError, Global};
@@ -44,21 +44,21 @@ const NO_ID: &[u8] = b"null";
 // ---- answers
 
 /// No answer.
-fn silent(alloc: Global) -> Answered
+fn silent(alloc: Global) -> MessageAnswer
     ensures { spec.Answers no_response None result }
 {
-    Answered {
+    MessageAnswer {
         response: None,
         notifications: Vec::new(alloc),
         ends: None,
     }
 }
 
-fn responding(alloc: Global, response: Vec<u8>) -> Answered
+fn responding(alloc: Global, response: Vec<u8>) -> MessageAnswer
     ensures response { option_map (λ v. v.items) result.response ≡ Some response.items }
     ensures ends { result.ends ≡ None }
 {
-    Answered {
+    MessageAnswer {
         response: Some(response),
         notifications: Vec::new(alloc),
         ends: None,
@@ -66,7 +66,7 @@ fn responding(alloc: Global, response: Vec<u8>) -> Answered
 }
 
 /// The answer that refuses a message.
-fn refusing(alloc: Global, id: &[u8], refusal: Refusal) -> Result<Answered, AllocError>
+fn refusing(alloc: Global, id: &[u8], refusal: Refusal) -> Result<MessageAnswer, AllocError>
     ensures { IfOk result (spec.Answers (an_error id.now refusal) None) }
 {
     let response = refused(alloc, id, refusal)?;
@@ -74,7 +74,7 @@ fn refusing(alloc: Global, id: &[u8], refusal: Refusal) -> Result<Answered, Allo
 }
 
 /// The answer with this text as its result.
-fn resulting(alloc: Global, id: &[u8], text: &[u8]) -> Result<Answered, AllocError>
+fn resulting(alloc: Global, id: &[u8], text: &[u8]) -> Result<MessageAnswer, AllocError>
     ensures answers { IfOk result (spec.Answers (a_result id.now) None) }
     ensures text { IfOk result (λ a. option_map (λ v. v.items) a.response ≡ Some (replies.answered id.now text.now)) }
 {
@@ -89,7 +89,7 @@ fn reporting<R: Reporter>(
     id: &[u8],
     uri: &str,
     document: &Document,
-) -> Result<Answered, AllocError>
+) -> Result<MessageAnswer, AllocError>
     ensures answers { IfOk result (spec.Answers (a_result id.now) None) }
     ensures report { IfOk result (λ a. spec.IsReported R.reports (commands.report_on id.now uri.now (Some document.now))
         (option_map (λ v. v.items) a.response)) }
@@ -99,12 +99,12 @@ fn reporting<R: Reporter>(
 }
 
 /// The answer that notifies of something.
-fn notifying(alloc: Global, notification: Vec<u8>) -> Result<Answered, AllocError>
+fn notifying(alloc: Global, notification: Vec<u8>) -> Result<MessageAnswer, AllocError>
     ensures { IfOk result (spec.Answers no_response None) }
 {
     let mut notifications = Vec::new(alloc);
     notifications.push(notification)?;
-    Ok(Answered {
+    Ok(MessageAnswer {
         response: None,
         notifications,
         ends: None,
@@ -112,10 +112,10 @@ fn notifying(alloc: Global, notification: Vec<u8>) -> Result<Answered, AllocErro
 }
 
 /// The answer that ends the server.
-fn ending(alloc: Global, phase: Phase) -> Answered
+fn ending(alloc: Global, phase: Phase) -> MessageAnswer
     ensures { spec.Answers no_response (Some (spec.exit_status phase)) result }
 {
-    Answered {
+    MessageAnswer {
         response: None,
         notifications: Vec::new(alloc),
         ends: Some(phase.exit_status()),
@@ -136,7 +136,7 @@ fn diagnosed<L: Language>(
     language: &L,
     open: OpenText<'_>,
     version: Option<i64>,
-) -> Result<Answered, AllocError>
+) -> Result<MessageAnswer, AllocError>
     ensures { IfOk result (spec.Answers no_response None) }
 {
     let diagnostics = language.diagnostics(alloc, open)?;
@@ -190,7 +190,7 @@ impl Session {
         uri: &str,
         version: Option<i64>,
         text: &str,
-    ) -> Result<Answered, AllocError>
+    ) -> Result<MessageAnswer, AllocError>
         ensures answers { IfOk result (spec.Answers no_response None) }
         ensures phase { self.new.phase ≡ self.old.phase }
         ensures kept { OnErr result (self.new ≡ self.old) }
@@ -210,7 +210,7 @@ impl Session {
         uri: &str,
         version: Option<i64>,
         text: &str,
-    ) -> Result<Answered, AllocError>
+    ) -> Result<MessageAnswer, AllocError>
         requires within { at < length self.old.documents }
         ensures answers { IfOk result (spec.Answers no_response None) }
         ensures phase { self.new.phase ≡ self.old.phase }
@@ -230,7 +230,7 @@ impl Session {
         uri: &str,
         version: Option<i64>,
         text: &str,
-    ) -> Result<Answered, AllocError>
+    ) -> Result<MessageAnswer, AllocError>
         ensures answers { IfOk result (spec.Answers no_response None) }
         ensures phase { self.new.phase ≡ self.old.phase }
         ensures kept { OnErr result (self.new ≡ self.old) }
@@ -250,7 +250,7 @@ impl Session {
         uri: &str,
         version: Option<i64>,
         text: &str,
-    ) -> Result<Answered, AllocError>
+    ) -> Result<MessageAnswer, AllocError>
         ensures answers { IfOk result (spec.Answers no_response None) }
         ensures phase { self.new.phase ≡ self.old.phase }
         ensures kept { OnErr result (self.new ≡ self.old) }
@@ -269,7 +269,7 @@ impl Session {
         uri: &str,
         version: Option<i64>,
         text: &str,
-    ) -> Result<Answered, AllocError>
+    ) -> Result<MessageAnswer, AllocError>
         ensures answers { IfOk result (spec.Answers no_response None) }
         ensures phase { self.new.phase ≡ self.old.phase }
         ensures kept { OnErr result (self.new ≡ self.old) }
@@ -289,7 +289,7 @@ impl Session {
     }
 
     /// Closes a document.
-    fn close(&mut self, alloc: Global, uri: &str) -> Result<Answered, AllocError>
+    fn close(&mut self, alloc: Global, uri: &str) -> Result<MessageAnswer, AllocError>
         ensures answers { IfOk result (spec.Answers no_response None) }
         ensures phase { self.new.phase ≡ self.old.phase }
         ensures kept { OnErr result (self.new ≡ self.old) }
@@ -307,7 +307,7 @@ impl Session {
         alloc: Global,
         language: &L,
         params: &Value<'_>,
-    ) -> Result<Answered, AllocError>
+    ) -> Result<MessageAnswer, AllocError>
         ensures answers { IfOk result (spec.Answers no_response None) }
         ensures phase { self.new.phase ≡ self.old.phase }
         ensures kept { OnErr result (self.new ≡ self.old) }
@@ -323,7 +323,7 @@ impl Session {
         alloc: Global,
         language: &L,
         params: &Value<'_>,
-    ) -> Result<Answered, AllocError>
+    ) -> Result<MessageAnswer, AllocError>
         ensures answers { IfOk result (spec.Answers no_response None) }
         ensures phase { self.new.phase ≡ self.old.phase }
         ensures kept { OnErr result (self.new ≡ self.old) }
@@ -336,7 +336,7 @@ impl Session {
         }
     }
 
-    fn closed(&mut self, alloc: Global, params: &Value<'_>) -> Result<Answered, AllocError>
+    fn closed(&mut self, alloc: Global, params: &Value<'_>) -> Result<MessageAnswer, AllocError>
         ensures answers { IfOk result (spec.Answers no_response None) }
         ensures phase { self.new.phase ≡ self.old.phase }
         ensures kept { OnErr result (self.new ≡ self.old) }
@@ -353,7 +353,7 @@ impl Session {
         language: &L,
         notice: Notice,
         params: &Value<'_>,
-    ) -> Result<Answered, AllocError>
+    ) -> Result<MessageAnswer, AllocError>
         ensures answers { IfOk result (spec.Answers no_response None) }
         ensures phase { self.new.phase ≡ self.old.phase }
         ensures kept { OnErr result (self.new ≡ self.old) }
@@ -372,7 +372,7 @@ impl Session {
         language: &L,
         method: &str,
         params: Option<&Value<'_>>,
-    ) -> Result<Answered, AllocError>
+    ) -> Result<MessageAnswer, AllocError>
         ensures answers { IfOk result (spec.Answers no_response None) }
         ensures phase { self.new.phase ≡ self.old.phase }
         ensures kept { OnErr result (self.new ≡ self.old) }
@@ -389,7 +389,7 @@ impl Session {
         language: &L,
         method: &str,
         params: Option<&Value<'_>>,
-    ) -> Result<Answered, AllocError>
+    ) -> Result<MessageAnswer, AllocError>
         ensures answers { IfOk result (spec.Answers no_response (spec.end_of_notification self.old.phase method.now)) }
         ensures phase { self.new.phase ≡ self.old.phase }
         ensures kept { OnErr result (self.new ≡ self.old) }
@@ -410,7 +410,7 @@ impl Session {
         alloc: Global,
         id: &[u8],
         params: Option<&Value<'_>>,
-    ) -> Result<Answered, AllocError>
+    ) -> Result<MessageAnswer, AllocError>
         ensures answers { IfOk result (spec.Answers (a_result id.now) None) }
         ensures phase { OnOk result (self.new.phase ≡ Ready) }
         ensures kept { OnErr result (self.new ≡ self.old) }
@@ -422,7 +422,7 @@ impl Session {
         Ok(answer)
     }
 
-    fn shut_down(&mut self, alloc: Global, id: &[u8]) -> Result<Answered, AllocError>
+    fn shut_down(&mut self, alloc: Global, id: &[u8]) -> Result<MessageAnswer, AllocError>
         ensures answers { IfOk result (spec.Answers (a_result id.now) None) }
         ensures phase { OnOk result (self.new.phase ≡ Stopped) }
         ensures kept { OnErr result (self.new ≡ self.old) }
@@ -479,7 +479,7 @@ impl Session {
         id: &[u8],
         method: &str,
         params: Option<&Value<'_>>,
-    ) -> Result<Answered, AllocError>
+    ) -> Result<MessageAnswer, AllocError>
         ensures { IfOk result (spec.Answers (spec.of_question id.now method.now) None) }
     {
         let Some(topic) = topic_of(method) else {
@@ -496,7 +496,7 @@ impl Session {
         reporter: &R,
         id: &[u8],
         params: Option<&Value<'_>>,
-    ) -> Result<Answered, AllocError>
+    ) -> Result<MessageAnswer, AllocError>
         ensures answers { IfOk result (spec.Answers (spec.of_report id.now (commands.report_asked self.now.documents id.now
             (option_map (λ v. value_view v.now) params.entry))) None) }
         ensures report { IfOk result (λ a. spec.IsReported R.reports (commands.report_asked self.now.documents id.now
@@ -518,7 +518,7 @@ impl Session {
         id: &[u8],
         method: &str,
         params: Option<&Value<'_>>,
-    ) -> Result<Answered, AllocError>
+    ) -> Result<MessageAnswer, AllocError>
         requires fresh { self.old.phase ≡ Fresh }
         ensures answers { IfOk result (spec.Answers (spec.of_first id.now method.now) None) }
         ensures phase { OnOk result (self.new.phase ≡ spec.after_request Fresh method.now) }
@@ -540,7 +540,7 @@ impl Session {
         id: &[u8],
         method: &str,
         params: Option<&Value<'_>>,
-    ) -> Result<Answered, AllocError>
+    ) -> Result<MessageAnswer, AllocError>
         requires ready { self.old.phase ≡ Ready }
         ensures answers { IfOk result
             (spec.Answers (spec.of_asked self.old.documents id.now method.now (option_map (λ v. value_view v.now) params.entry)) None) }
@@ -569,7 +569,7 @@ impl Session {
         id: &[u8],
         method: &str,
         params: Option<&Value<'_>>,
-    ) -> Result<Answered, AllocError>
+    ) -> Result<MessageAnswer, AllocError>
         ensures answers { IfOk result
             (spec.Answers (spec.of_request self.old id.now method.now (option_map (λ v. value_view v.now) params.entry)) None) }
         ensures report { IfOk result
@@ -594,7 +594,7 @@ impl Session {
         id: &Value<'_>,
         method: &str,
         params: Option<&Value<'_>>,
-    ) -> Result<Answered, AllocError>
+    ) -> Result<MessageAnswer, AllocError>
         requires numbers { HasNumbers (value_view id.now) }
         ensures answers { IfOk result
             (spec.Answers (spec.of_request self.old (spec.id_text (value_view id.now)) method.now
@@ -619,7 +619,7 @@ impl Session {
         reporter: &R,
         message: Message<'_, '_>,
         params: Option<&Value<'_>>,
-    ) -> Result<Answered, AllocError>
+    ) -> Result<MessageAnswer, AllocError>
         requires numbers { messages.IsWritable message }
         ensures answers { IfOk result
             (spec.Answers (spec.of_message self.old (messages.view_of message.entry) (option_map (λ v. value_view v.now) params.entry))
@@ -645,7 +645,7 @@ impl Session {
         language: &L,
         reporter: &R,
         value: &Value<'_>,
-    ) -> Result<Answered, AllocError>
+    ) -> Result<MessageAnswer, AllocError>
         requires numbers { HasNumbers (value_view value.now) }
         ensures answers { IfOk result (spec.Answers (spec.of_body self.old (Some (value_view value.now)))
             (spec.end_of_body self.old.phase (Some (value_view value.now)))) }
@@ -669,7 +669,7 @@ impl Session {
         language: &L,
         reporter: &R,
         body: &[u8],
-    ) -> Result<Answered, AllocError>
+    ) -> Result<MessageAnswer, AllocError>
         ensures answered { IfOk result (λ a. spec.IsAnswered R.reports self.old body.now (reply_of a) self.new) }
         ensures kept { OnErr result (self.new ≡ self.old) }
     {

@@ -3,7 +3,7 @@
 ghost use Rattle.std.specs.Prelude.{⊤};
 
 use flt_server::Server;
-use flt_server_frames::{Answered, Handler};
+use flt_server_frames::{Handler, MessageAnswer};
 use flt_server_session::Reporter;
 use std::alloc::{AllocError, Global};
 use std::test::Fail;
@@ -254,7 +254,7 @@ fn is_notified(found: &[Vec<u8>], wanted: &str) -> bool {
     }
 }
 
-fn is_as(answered: &Answered, row: Row<'_>) -> bool {
+fn is_as(answered: &MessageAnswer, row: Row<'_>) -> bool {
     is_response(&answered.response, row.1)
         && is_notified(answered.notifications.as_slice(), row.2)
         && answered.ends.unwrap_or(GOES_ON) == row.3

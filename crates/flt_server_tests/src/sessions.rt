@@ -2,7 +2,7 @@
 
 ghost use Rattle.std.specs.Prelude.{⊤};
 
-use flt_server_frames::Answered;
+use flt_server_frames::MessageAnswer;
 use flt_server_session::{Encoding, Language, OpenText, Question, Reporter, Session, Spot};
 use std::alloc::{AllocError, Global};
 use std::test::Fail;
@@ -780,7 +780,7 @@ static SHORT: [Row; 1] = [(
     Some(1),
 )];
 
-fn is_row(answered: &Answered, row: &Row) -> bool {
+fn is_row(answered: &MessageAnswer, row: &Row) -> bool {
     is_response(&answered.response, row.1)
         && is_notified(answered.notifications.as_slice(), row.2)
         && answered.ends == row.3

@@ -2,7 +2,7 @@
 
 use flt_model::{ReadFault, Sink, WriteFault};
 use flt_server_frames::{
-    Answered, Frame, Handler, Incoming, ServeFault, push_frame, read_frame, serve,
+    Frame, Handler, Incoming, MessageAnswer, ServeFault, push_frame, read_frame, serve,
 };
 use std::alloc::{AllocError, Global};
 use std::test::Fail;
@@ -210,11 +210,11 @@ impl Handler for Echo {
 
     ghost answers = { λ _ _ _ _. ⊤ };
 
-    fn answer(&mut self, alloc: Global, body: &[u8]) -> Result<Answered, AllocError> {
+    fn answer(&mut self, alloc: Global, body: &[u8]) -> Result<MessageAnswer, AllocError> {
         let mut notifications = Vec::new(alloc);
         let mut response = None;
         if body == b"end".as_slice() {
-            return Ok(Answered {
+            return Ok(MessageAnswer {
                 response,
                 notifications,
                 ends: Some(self.bodies),
@@ -226,7 +226,7 @@ impl Handler for Echo {
         }
         notifications.push(Vec::from_slice(alloc, b"one")?)?;
         notifications.push(Vec::from_slice(alloc, b"")?)?;
-        Ok(Answered {
+        Ok(MessageAnswer {
             response,
             notifications,
             ends: None,

@@ -25,4 +25,4 @@ pub use flt_stack_receipts::Receipt;
 pub use names::{CallerEntries, Counts, Fulls, OtherEntries, StackName};
 pub use receipts::Receipts;
 pub use turn_fault::TurnFault;
-pub use turns::Turned;
+pub use turns::TicketTurn;

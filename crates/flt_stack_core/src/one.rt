@@ -22,20 +22,20 @@ const MOST_NAMED: usize = 2;
 
 /// The result of a subject's turn.
 #[derive(Drop)]
-struct Turned {
+struct SubjectTurn {
     /// The subjects that it names.
     next: Vec<Subject>,
     /// Whether the subject goes to the end of the list.
     stays: bool,
 }
 
-impl Turned {
+impl SubjectTurn {
     /// Nothing is named.
-    fn alone(alloc: Global, stays: bool) -> Turned
+    fn alone(alloc: Global, stays: bool) -> SubjectTurn
         ensures stays { result.stays ≡ stays }
         ensures next { result.next.items ≡ [] }
     {
-        Turned {
+        SubjectTurn {
             next: Vec::new(alloc),
             stays,
         }
@@ -82,7 +82,7 @@ fn move_on(
     board: &mut Board,
     loaded: &Loaded,
     subject: Subject,
-) -> Result<Turned, TurnFault>
+) -> Result<SubjectTurn, TurnFault>
     requires own { IsOwn loaded.now board.old }
     ensures own { spec.RemainsBoard loaded.now board.old board.new }
     ensures entries { spec.GoesOn board.old board.new }
@@ -95,14 +95,14 @@ fn move_on(
 {
     let teardown = is_teardown(board, loaded, subject);
     let Some(step) = asked_by(board, loaded, subject) else {
-        return Ok(Turned::alone(heap.alloc(), teardown));
+        return Ok(SubjectTurn::alone(heap.alloc(), teardown));
     };
     match board.apply(heap, loaded, step) {
-        Ok(events) => Ok(Turned {
+        Ok(events) => Ok(SubjectTurn {
             next: events.next,
             stays: stays_after(teardown, step),
         }),
-        Err(ApplyFault::NotEnabled) => Ok(Turned::alone(heap.alloc(), teardown)),
+        Err(ApplyFault::NotEnabled) => Ok(SubjectTurn::alone(heap.alloc(), teardown)),
         Err(ApplyFault::Full) => Err(TurnFault::Full),
         Err(ApplyFault::OutOfMemory) => Err(TurnFault::OutOfMemory),
     }
@@ -115,7 +115,7 @@ fn go_on(
     loaded: &Loaded,
     choices: &mut Choices,
     activation: u32,
-) -> Result<Turned, TurnFault>
+) -> Result<SubjectTurn, TurnFault>
     requires own { IsOwn loaded.now board.old }
     ensures own { spec.RemainsBoard loaded.now board.old board.new }
     ensures entries { spec.GoesOn board.old board.new }
@@ -128,20 +128,20 @@ fn go_on(
     ensures memory { result ≡ Err fault.OutOfMemory → heap.new ≢ heap.old }
 {
     let Some(frame) = board.checkout(activation) else {
-        return Ok(Turned::alone(heap.alloc(), false));
+        return Ok(SubjectTurn::alone(heap.alloc(), false));
     };
     let advanced = advance(loaded, frame);
     match board.commit(heap, loaded, &advanced, choices.next()) {
         Commit::Committed(events) => {
             choices.count(loaded, &advanced);
-            Ok(Turned {
+            Ok(SubjectTurn {
                 next: events.next,
                 stays: false,
             })
         }
         // What is committed was taken just now, so it isn't stale.
-        Commit::Stale => Ok(Turned::alone(heap.alloc(), true)),
-        Commit::Blocked => Ok(Turned::alone(heap.alloc(), true)),
+        Commit::Stale => Ok(SubjectTurn::alone(heap.alloc(), true)),
+        Commit::Blocked => Ok(SubjectTurn::alone(heap.alloc(), true)),
         Commit::Full => Err(TurnFault::Full),
         Commit::OutOfMemory => Err(TurnFault::OutOfMemory),
     }
@@ -154,7 +154,7 @@ fn go(
     loaded: &Loaded,
     choices: &mut Choices,
     subject: Subject,
-) -> Result<Turned, TurnFault>
+) -> Result<SubjectTurn, TurnFault>
     requires own { IsOwn loaded.now board.old }
     ensures own { spec.RemainsBoard loaded.now board.old board.new }
     ensures entries { spec.GoesOn board.old board.new }
@@ -184,7 +184,7 @@ fn push_all(subjects: &mut VecDeque<Subject>, next: &[Subject])
 }
 
 /// The first subject has had its turn.
-fn put_behind(subjects: &mut VecDeque<Subject>, first: Subject, turned: Turned)
+fn put_behind(subjects: &mut VecDeque<Subject>, first: Subject, turned: SubjectTurn)
     requires room { deque_len subjects.old + 2 ≤ deque_capacity subjects.old }
     requires some { (others : List Subject) × (subjects.old.items ≡ first ∷ others) }
     requires few { length turned.next.items ≤ 2 }

@@ -21,7 +21,7 @@ use std::sync::ledger::Share;
 
 /// The result of a ticket's turn.
 #[derive(Drop)]
-pub struct Turned {
+pub struct TicketTurn {
     /// The subjects that get a ticket by it.
     pub next: Vec<Subject>,
     /// Whether the ticket goes to the back.
@@ -31,12 +31,12 @@ pub struct Turned {
 }
 
 /// A turn in which nothing was made.
-fn unmade(alloc: Global, stays: bool) -> Turned
+fn unmade(alloc: Global, stays: bool) -> TicketTurn
     ensures next { result.next.items ≡ [] }
     ensures stays { result.stays ≡ stays }
     ensures made { result.made ≡ false }
 {
-    Turned {
+    TicketTurn {
         next: Vec::new(alloc),
         stays,
         made: false,
@@ -62,7 +62,7 @@ impl<N: StackName> Core<N> {
         mine: &mut Share<OtherEntries<N>>,
         fulls: &mut Share<Fulls<N>>,
         ticket: Subject,
-    ) -> Result<Turned, TurnFault>
+    ) -> Result<TicketTurn, TurnFault>
         requires loaded { AreLoaded N.trees loaded.now }
         requires part { (0 < mine.old.parts) × (0 < fulls.old.parts) }
         ensures moved { IfOk result (λ t. spec.HasMoved loaded.now self.old.board self.new.board ticket t.stays t.next.items) }
@@ -77,7 +77,7 @@ impl<N: StackName> Core<N> {
             return Ok(unmade(alloc, teardown));
         };
         match self.apply(alloc, loaded, mine, step) {
-            Ok(events) => Ok(Turned {
+            Ok(events) => Ok(TicketTurn {
                 next: events.next,
                 stays: stays_after(teardown, step),
                 made: true,
@@ -100,7 +100,7 @@ impl<N: StackName> Core<N> {
         mine: &mut Share<OtherEntries<N>>,
         fulls: &mut Share<Fulls<N>>,
         advanced: &Advanced,
-    ) -> Result<Turned, TurnFault>
+    ) -> Result<TicketTurn, TurnFault>
         requires loaded { AreLoaded N.trees loaded.now }
         requires part { (0 < mine.old.parts) × (0 < fulls.old.parts) }
         requires advance { IsAdvanced loaded.now advanced.now }
@@ -119,7 +119,7 @@ impl<N: StackName> Core<N> {
             Commit::Committed(events) => {
                 self.others.add(mine, 1);
                 self.choices.count(loaded, advanced);
-                Ok(Turned {
+                Ok(TicketTurn {
                     next: events.next,
                     stays: false,
                     made: true,
@@ -143,7 +143,7 @@ impl<N: StackName> Core<N> {
         mine: &mut Share<OtherEntries<N>>,
         fulls: &mut Share<Fulls<N>>,
         serial: u32,
-    ) -> Result<Turned, TurnFault>
+    ) -> Result<TicketTurn, TurnFault>
         requires loaded { AreLoaded N.trees loaded.now }
         requires part { (0 < mine.old.parts) × (0 < fulls.old.parts) }
         ensures cancelled { IfOk result (λ t. IsCancel loaded.now self.old.board self.new.board serial t.made t.stays t.next.items) }
@@ -155,7 +155,7 @@ impl<N: StackName> Core<N> {
     {
         let step = Move::Cancel { serial };
         match self.apply(alloc, loaded, mine, step) {
-            Ok(events) => Ok(Turned {
+            Ok(events) => Ok(TicketTurn {
                 next: events.next,
                 stays: false,
                 made: true,

@@ -2,7 +2,7 @@
 use Rattle.std.proofs.Common.{◌≡◌, List, None, Result, Ok, Err, IfOk, sym, subst}
 use Rattle.std.specs.Prelude.{◌↔◌}
 use Rattle.flt_stack_crew.specs.Running.{IsDriven, IsEnded}
-use Rattle.flt_stack_crew.specs.declared.running.Driven.{Driven}
+use Rattle.flt_stack_crew.specs.declared.running.DrivenRun.{DrivenRun}
 use Rattle.flt_model.specs.Expansion.{IsCleanRun, verdict}
 use Rattle.flt_model.specs.Program.{by_altitude}
 use Rattle.flt_model.specs.Runs.{breaks}
@@ -16,7 +16,7 @@ module _ (loaded trees : List Filter) (named : loaded ≡ trees) (ordered : by_a
     (unbroken : (transitions : List Transition) → breaks loaded transitions ≡ None)
     (law : (filters : List Filter) (entries : List JournalEntry) → (verdict filters entries ≡ Legal) ↔ IsCleanRun filters entries) where
   -- what ends as it should was driven on what is loaded, of which nothing is broken
-  pub driven : {E : Type 0} (commands : Commands) (result : Result Driven E) →
+  pub driven : {E : Type 0} (commands : Commands) (result : Result DrivenRun E) →
       IfOk result (λ d. IsCleanRun trees d.journal) → IfOk result (λ d. IsEnded commands d.journal d.made d.ending) →
       IfOk result (λ d. IsDriven loaded commands d.journal d.made d.ending)
   driven commands (Ok d) clean ended =
@@ -31,7 +31,7 @@ module _ (loaded trees : List Filter) (named : loaded ≡ trees) (ordered : by_a
   driven commands (Err e) clean ended = tt
 
 -- where what ends so is known of any commands, it is known of these
-pub ended_by : {E : Type 0} (commands : Commands) (result : Result Driven E) (Q : Commands → Type 0) → Q commands →
+pub ended_by : {E : Type 0} (commands : Commands) (result : Result DrivenRun E) (Q : Commands → Type 0) → Q commands →
     IfOk result (λ d. (any : Commands) → Q any → IsEnded any d.journal d.made d.ending) →
     IfOk result (λ d. IsEnded commands d.journal d.made d.ending)
 ended_by commands (Ok d) Q q ended = ended commands q

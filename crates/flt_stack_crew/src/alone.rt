@@ -8,7 +8,7 @@ ghost use Rattle.flt_stack_threads.specs.Places.{IsCallerOf, IsWorkerOf, asked_b
 use crate::giving::give;
 use crate::stopping::Stop;
 use crate::watch::Watch;
-use crate::working::Ungated;
+use crate::working::NoGate;
 use flt_stack_prepare::Script;
 use flt_stack_threads::{CallerSeat, Stack, StackName, WorkerSeat};
 use std::alloc::Global;
@@ -47,7 +47,7 @@ pub(crate) fn follow<N: StackName, R: Wait, W: Watch>(
     let mut entries: u64 = 0;
     for command in commands {
         let given = give(rt, alloc, stack, caller, *command)?;
-        let more = stack.work(rt, alloc, worker, &mut Ungated)?;
+        let more = stack.work(rt, alloc, worker, &mut NoGate)?;
         *made = made.saturating_add(more);
         entries = entries.saturating_add(given).saturating_add(more);
         watch.after(entries);

@@ -9,7 +9,7 @@ use std::alloc::AllocError;
 /// The seats once a script was followed, how many entries the workers were answered that they made, whether the journal was found full, and
 /// whether a detach was refused, since the teardown had begun before.
 #[derive(Drop)]
-pub(crate) struct Followed<N: StackName> {
+pub(crate) struct ScriptEnd<N: StackName> {
     pub(crate) caller: CallerSeat<N>,
     pub(crate) workers: Vec<WorkerSeat<N>>,
     pub(crate) made: u64,
@@ -19,13 +19,13 @@ pub(crate) struct Followed<N: StackName> {
 
 /// Whether the caller found a journal full, and whether a detach was refused, since the teardown had begun before.
 #[derive(Clone, Copy)]
-pub(crate) struct Cut {
+pub(crate) struct ScriptCut {
     pub(crate) is_full: bool,
     pub(crate) is_refused: bool,
 }
 
 /// Why the caller stopped.
-pub(crate) fn cut_by(outcome: Result<(), Stop>) -> Result<Cut, AllocError>
+pub(crate) fn cut_by(outcome: Result<(), Stop>) -> Result<ScriptCut, AllocError>
     ensures full { IfOk result (λ cut. cut.is_full ≡ true → outcome ≡ Err Stop.Full) }
     ensures refused { IfOk result (λ cut. cut.is_refused ≡ true → outcome ≡ Err Stop.Already) }
     ensures whole { IfOk result (λ cut. cut.is_full ≡ false → cut.is_refused ≡ false → outcome ≡ Ok tt) }
@@ -36,7 +36,7 @@ pub(crate) fn cut_by(outcome: Result<(), Stop>) -> Result<Cut, AllocError>
         Err(Stop::Already) => (false, true),
         Err(Stop::OutOfMemory) => return Err(AllocError),
     };
-    Ok(Cut {
+    Ok(ScriptCut {
         is_full,
         is_refused,
     })

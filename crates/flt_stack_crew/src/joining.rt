@@ -5,12 +5,12 @@ ghost use Rattle.flt_stack_crew.specs.Following.{IsFollowed, IsSum};
 ghost use Rattle.flt_stack_crew.specs.Giving as spec;
 ghost use Rattle.flt_stack_threads.specs.Places.{IsCallerOf, IsWorkerOf, asked_by};
 
-use crate::followed::{Cut, Followed, cut_by, is_full_by};
+use crate::followed::{ScriptCut, ScriptEnd, cut_by, is_full_by};
 use crate::giving::give;
 use crate::progress::Progress;
 use crate::stopping::Stop;
 use crate::watch::Watch;
-use crate::working::{Ungated, Worked, work_in};
+use crate::working::{NoGate, WorkerEnd, work_in};
 use flt_stack_core::{CallerEntries, Core, Fulls, OtherEntries};
 use flt_stack_prepare::Script;
 use flt_stack_threads::sharing::{loaded_is_shared, sent, shared};
@@ -25,7 +25,7 @@ use std::thread::{Threads, join};
 
 /// The caller's seat, and why it stopped: all commands had been given, or it was refused something.
 #[derive(Drop)]
-struct Given<N: StackName> {
+struct CallerEnd<N: StackName> {
     seat: CallerSeat<N>,
     outcome: Result<(), Stop>,
 }
@@ -71,7 +71,7 @@ fn give_all<N: StackName, R: Wait, W: Watch>(
     script: &Script,
     progress: &Progress,
     watch: &mut W,
-) -> Given<N>
+) -> CallerEnd<N>
     requires script { All (spec.IsAimed N.trees) script.now }
     requires seat { IsCallerOf stack.now.exchange seat.place }
     requires fresh { (seat.receipts.list.items ≡ []) × ((asked_by seat.place).asked ≡ []) }
@@ -87,7 +87,7 @@ fn give_all<N: StackName, R: Wait, W: Watch>(
 {
     let outcome = give_each(rt, alloc, stack, &mut seat, script, progress, watch);
     progress.end();
-    Given { seat, outcome }
+    CallerEnd { seat, outcome }
 }
 
 // ---- the workers
@@ -99,7 +99,7 @@ fn work_all<N: StackName + Send + Sync, R: Threads + Wait + Sync>(
     stack: &Stack<N>,
     seats: Vec<WorkerSeat<N>>,
     progress: &Progress,
-) -> Result<Vec<Worked<N>>, AllocError>
+) -> Result<Vec<WorkerEnd<N>>, AllocError>
     requires { All (λ seat. IsWorkerOf stack.now.exchange seat.place × (seat.share.parts ≡ 1) × (seat.share.amount ≡ 0)) seats.items }
     ensures seats { IfOk result (λ all. All (λ worked. IsWorkerOf stack.now.exchange worked.seat.place × (worked.seat.share.parts ≡ 1))
         all.items) }
@@ -115,7 +115,7 @@ fn work_all<N: StackName + Send + Sync, R: Threads + Wait + Sync>(
     thread::map_vec(
         rt,
         seats,
-        &|seat: WorkerSeat<N>| -> Worked<N>
+        &|seat: WorkerSeat<N>| -> WorkerEnd<N>
             requires { IsWorkerOf stack.now.exchange seat.place × (seat.share.parts ≡ 1) × (seat.share.amount ≡ 0) }
             ensures { IsWorkerOf stack.entry.now.exchange result.seat.place × (result.seat.share.parts ≡ 1) }
         { work_in(rt, alloc, stack, seat, progress) },
@@ -125,14 +125,17 @@ fn work_all<N: StackName + Send + Sync, R: Threads + Wait + Sync>(
 /// The results of all workers: their seats in order, how many entries they were answered that they made, and whether one of them found the
 /// journal full.
 #[derive(Drop)]
-struct Ended<N: StackName> {
+struct WorkerResults<N: StackName> {
     seats: Vec<WorkerSeat<N>>,
     made: u64,
     is_full: bool,
 }
 
 /// The results of these workers together.
-fn parts_of<N: StackName>(alloc: Global, all: Vec<Worked<N>>) -> Result<Ended<N>, AllocError>
+fn parts_of<N: StackName>(
+    alloc: Global,
+    all: Vec<WorkerEnd<N>>,
+) -> Result<WorkerResults<N>, AllocError>
     ensures seats { IfOk result (λ ended. map (λ worked. worked.seat) all.items ≡ ended.seats.items) }
     ensures counted { IfOk result (λ ended. ended.made ≤ sum_by (λ seat. seat.share.amount) ended.seats.items) }
     ensures told { IfOk result (λ ended. ended.is_full ≡ false → IsSum ended.made (sum_by (λ seat. seat.share.amount) ended.seats.items)) }
@@ -142,7 +145,7 @@ fn parts_of<N: StackName>(alloc: Global, all: Vec<Worked<N>>) -> Result<Ended<N>
     let mut made: u64 = 0;
     let mut is_full = false;
     for worked in all {
-        let Worked {
+        let WorkerEnd {
             seat,
             made: more,
             outcome,
@@ -151,7 +154,7 @@ fn parts_of<N: StackName>(alloc: Global, all: Vec<Worked<N>>) -> Result<Ended<N>
         made = made.saturating_add(more);
         is_full |= is_full_by(outcome)?;
     }
-    Ok(Ended {
+    Ok(WorkerResults {
         seats,
         made,
         is_full,
@@ -162,8 +165,8 @@ fn parts_of<N: StackName>(alloc: Global, all: Vec<Worked<N>>) -> Result<Ended<N>
 fn seats_of<N: StackName>(
     alloc: Global,
     stack: &Stack<N>,
-    all: Vec<Worked<N>>,
-) -> Result<Ended<N>, AllocError>
+    all: Vec<WorkerEnd<N>>,
+) -> Result<WorkerResults<N>, AllocError>
     requires { All (λ worked. IsWorkerOf stack.now.exchange worked.seat.place × (worked.seat.share.parts ≡ 1)) all.items }
     ensures seats { IfOk result (λ ended. All (λ seat. IsWorkerOf stack.now.exchange seat.place × (seat.share.parts ≡ 1))
         ended.seats.items) }
@@ -195,7 +198,7 @@ fn work_again<N: StackName, R: Wait>(
     ensures told { OnOk result (IsSum made.new (sum_by (λ seat. seat.share.amount) workers.new.items)) }
     ensures full { result ≡ Err TurnFault.Full → 0 < sum_by (λ seat. seat.fulls.amount) workers.new.items }
 {
-    let more = stack.work(rt, alloc, &mut workers[0], &mut Ungated)?;
+    let more = stack.work(rt, alloc, &mut workers[0], &mut NoGate)?;
     *made = made.saturating_add(more);
     Ok(())
 }
@@ -210,7 +213,7 @@ pub(crate) fn follow<N: StackName + Send + Sync, R: Threads + Wait + Sync, W: Wa
     workers: Vec<WorkerSeat<N>>,
     script: &Script,
     watch: &mut W,
-) -> Result<Followed<N>, AllocError>
+) -> Result<ScriptEnd<N>, AllocError>
     requires script { All (spec.IsAimed N.trees) script.now }
     requires caller { IsCallerOf stack.now.exchange caller.place }
     requires fresh { (caller.receipts.list.items ≡ []) × ((asked_by caller.place).asked ≡ []) }
@@ -235,14 +238,14 @@ pub(crate) fn follow<N: StackName + Send + Sync, R: Threads + Wait + Sync, W: Wa
     let progress = Progress::new();
     let (worked, given) = join(
         rt,
-        || -> Result<Vec<Worked<N>>, AllocError>
+        || -> Result<Vec<WorkerEnd<N>>, AllocError>
             requires { All (λ seat. IsWorkerOf stack.now.exchange seat.place × (seat.share.parts ≡ 1) × (seat.share.amount ≡ 0))
                 workers.items }
             ensures seats { IfOk result (λ all. All (λ worked. IsWorkerOf stack.entry.now.exchange worked.seat.place
                 × (worked.seat.share.parts ≡ 1)) all.items) }
             ensures count { IfOk result (λ all. length all.items ≡ length workers.items) }
         { work_all(rt, alloc, stack, workers, &progress) },
-        || -> Given<N>
+        || -> CallerEnd<N>
             requires { All (spec.IsAimed N.trees) script.now × IsCallerOf stack.now.exchange caller.place ×
                 ((caller.receipts.list.items ≡ [])
                 × ((asked_by caller.place).asked ≡ [])) × (caller.receipts.share.amount ≡ 0) }
@@ -256,17 +259,17 @@ pub(crate) fn follow<N: StackName + Send + Sync, R: Threads + Wait + Sync, W: Wa
                 (asked_by result.seat.place).asked }
         { give_all(rt, alloc, stack, caller, script, &progress, watch) },
     );
-    let Given { seat, outcome } = given;
-    let Cut {
+    let CallerEnd { seat, outcome } = given;
+    let ScriptCut {
         is_full: is_cut,
         is_refused,
     } = cut_by(outcome)?;
-    let Ended {
+    let WorkerResults {
         seats,
         made,
         is_full,
     } = seats_of(alloc, stack, worked?)?;
-    let mut followed = Followed {
+    let mut followed = ScriptEnd {
         caller: seat,
         workers: seats,
         made,

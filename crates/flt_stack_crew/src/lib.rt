@@ -18,4 +18,4 @@ mod working;
 pub use ending::Ending;
 pub use flt_stack_prepare::RunFault;
 pub use running::{Ran, run};
-pub use watch::{Unwatched, Watch};
+pub use watch::{NoWatch, Watch};

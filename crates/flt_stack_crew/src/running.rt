@@ -10,12 +10,12 @@ ghost use Rattle.flt_stack_prepare.specs.ScriptText.{Commands};
 ghost use Rattle.flt_stack_threads.specs.Places.{IsCallerOf, IsWorkerOf, asked_by};
 
 use crate::ending::Ending;
-use crate::followed::{Cut, Followed, cut_by};
+use crate::followed::{ScriptCut, ScriptEnd, cut_by};
 use crate::watch::Watch;
 use crate::{alone, joining};
 use flt_model::{Journal, legal_journals_are_clean_runs};
 use flt_stack::Loaded;
-use flt_stack_prepare::{Prepared, RunFault, Script, journal_bytes, prepare};
+use flt_stack_prepare::{PreparedRun, RunFault, Script, journal_bytes, prepare};
 use flt_stack_threads::{Blanks, CallerSeat, Differ, Stack, StackName, WorkerSeat};
 use std::alloc::{AllocError, Global};
 use std::marker::Brand;
@@ -39,7 +39,7 @@ pub struct Ran {
 
 /// A journal, how many entries the workers were answered that they made, and how it ends.
 #[derive(Drop)]
-struct Driven {
+struct DrivenRun {
     journal: Journal,
     made: u64,
     ending: Ending,
@@ -57,7 +57,7 @@ fn follow_alone<N: StackName, R: Wait, W: Watch>(
     mut workers: Vec<WorkerSeat<N>>,
     script: &Script,
     watch: &mut W,
-) -> Result<Followed<N>, AllocError>
+) -> Result<ScriptEnd<N>, AllocError>
     requires script { All (IsAimed N.trees) script.now }
     requires caller { IsCallerOf stack.now.exchange caller.place }
     requires fresh { (caller.receipts.list.items ≡ []) × ((asked_by caller.place).asked ≡ []) }
@@ -83,11 +83,11 @@ fn follow_alone<N: StackName, R: Wait, W: Watch>(
         &mut made,
         watch,
     );
-    let Cut {
+    let ScriptCut {
         is_full,
         is_refused,
     } = cut_by(outcome)?;
-    Ok(Followed {
+    Ok(ScriptEnd {
         caller,
         workers,
         made,
@@ -105,7 +105,7 @@ fn follow<N: StackName + Send + Sync, R: Threads + Wait + Sync, W: Watch>(
     workers: Vec<WorkerSeat<N>>,
     script: &Script,
     watch: &mut W,
-) -> Result<Followed<N>, AllocError>
+) -> Result<ScriptEnd<N>, AllocError>
     requires script { All (IsAimed N.trees) script.now }
     requires caller { IsCallerOf stack.now.exchange caller.place }
     requires fresh { (caller.receipts.list.items ≡ []) × ((asked_by caller.place).asked ≡ []) }
@@ -158,8 +158,8 @@ fn ends_still<N: StackName>(workers: &[WorkerSeat<N>]) -> bool {
 fn finish<N: StackName>(
     alloc: Global,
     stack: Stack<N>,
-    followed: Followed<N>,
-) -> Result<Driven, AllocError>
+    followed: ScriptEnd<N>,
+) -> Result<DrivenRun, AllocError>
     requires caller { followed.caller.receipts.share.parts ≡ N.callers_parts }
     requires workers { sum_by (λ seat. seat.share.parts) followed.workers.items ≡ N.others_parts }
     ensures clean { IfOk result (λ driven. IsCleanRun N.trees driven.journal) }
@@ -169,7 +169,7 @@ fn finish<N: StackName>(
         (followed.caller.fulls.amount + sum_by (λ seat. seat.fulls.amount) followed.workers.items) followed.is_full followed.is_refused
         → spec.IsEnded commands driven.journal driven.made driven.ending) }
 {
-    let Followed {
+    let ScriptEnd {
         caller,
         workers,
         made,
@@ -181,7 +181,7 @@ fn finish<N: StackName>(
     let journal = match stack.finish(callers, workers) {
         Ok(journal) => journal,
         Err(Differ(journal)) => {
-            return Ok(Driven {
+            return Ok(DrivenRun {
                 journal,
                 made,
                 ending: Ending::Differ,
@@ -191,7 +191,7 @@ fn finish<N: StackName>(
     };
     is_countable(&journal);
     if is_full {
-        return Ok(Driven {
+        return Ok(DrivenRun {
             journal,
             made,
             ending: Ending::Full,
@@ -199,14 +199,14 @@ fn finish<N: StackName>(
         });
     }
     if is_refused {
-        return Ok(Driven {
+        return Ok(DrivenRun {
             journal,
             made,
             ending: Ending::Already,
             is_still,
         });
     }
-    Ok(Driven {
+    Ok(DrivenRun {
         journal,
         made,
         ending: Ending::Whole,
@@ -223,7 +223,7 @@ fn drive<N: StackName + Send + Sync, R: Threads + Wait + Sync, W: Watch>(
     workers: usize,
     blanks: Blanks,
     watch: &mut W,
-) -> Result<Driven, AllocError>
+) -> Result<DrivenRun, AllocError>
     requires filters { loaded ≡ N.trees }
     requires script { All (IsAimed loaded) script.now }
     requires workers { (1 ≤ workers) × (workers ≤ 16) }
@@ -245,7 +245,7 @@ fn drive<N: StackName + Send + Sync, R: Threads + Wait + Sync, W: Watch>(
 }
 
 /// The result of a driven script, with its journal as it is written.
-fn written(alloc: Global, driven: Driven) -> Result<Ran, AllocError>
+fn written(alloc: Global, driven: DrivenRun) -> Result<Ran, AllocError>
     ensures journal { IfOk result (λ ran. ran.journal.items ≡ journal.spelling driven.journal) }
     ensures ending { IfOk result (λ ran. (ran.made ≡ driven.made) × (ran.ending ≡ driven.ending)) }
 {
@@ -278,7 +278,7 @@ pub fn run<R: Threads + Wait + Sync, W: Watch>(
     requires workers { (1 ≤ workers) × (workers ≤ 16) }
     ensures { spec.Answers script.now (map (λ text. text.items) texts.now) result }
 {
-    let Prepared {
+    let PreparedRun {
         loaded,
         script: commands,
     } = prepare(rt, alloc, workers, script, texts)?;

@@ -11,9 +11,9 @@ pub trait Watch {
 
 /// Takes no notice.
 #[derive(Drop)]
-pub struct Unwatched;
+pub struct NoWatch;
 
-impl Watch for Unwatched {
+impl Watch for NoWatch {
     fn after(&mut self, _entries: u64) {}
 
     fn waits(&mut self, _lines: &str) {}

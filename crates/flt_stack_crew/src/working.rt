@@ -13,16 +13,16 @@ use std::thread;
 
 /// Holds no worker up.
 #[derive(Drop)]
-pub(crate) struct Ungated;
+pub(crate) struct NoGate;
 
-impl Gate for Ungated {
+impl Gate for NoGate {
     fn before(&mut self, _worker: usize, _n: u64) {}
 }
 
 /// A worker's seat, how many entries it was answered that it made, and why its worker stopped: it found nothing once all commands had been
 /// given, or it was refused something.
 #[derive(Drop)]
-pub(crate) struct Worked<N: StackName> {
+pub(crate) struct WorkerEnd<N: StackName> {
     pub(crate) seat: WorkerSeat<N>,
     pub(crate) made: u64,
     pub(crate) outcome: Result<(), TurnFault>,
@@ -38,7 +38,7 @@ pub(crate) fn work_in<N: StackName, R: Wait>(
     stack: &Stack<N>,
     mut seat: WorkerSeat<N>,
     progress: &Progress,
-) -> Worked<N>
+) -> WorkerEnd<N>
     requires seat { IsWorkerOf stack.now.exchange seat.place }
     requires fresh { seat.share.amount ≡ 0 }
     ensures seat { IsWorkerOf stack.now.exchange result.seat.place }
@@ -47,10 +47,10 @@ pub(crate) fn work_in<N: StackName, R: Wait>(
     let mut made: u64 = 0;
     for _ in rt.forever() {
         let is_given = progress.is_given();
-        let more = match stack.work(rt, alloc, &mut seat, &mut Ungated) {
+        let more = match stack.work(rt, alloc, &mut seat, &mut NoGate) {
             Ok(more) => more,
             Err(fault) => {
-                return Worked {
+                return WorkerEnd {
                     seat,
                     made,
                     outcome: Err(fault),
@@ -59,7 +59,7 @@ pub(crate) fn work_in<N: StackName, R: Wait>(
         };
         made = made.saturating_add(more);
         if more == 0 && is_given {
-            return Worked {
+            return WorkerEnd {
                 seat,
                 made,
                 outcome: Ok(()),

@@ -18,9 +18,9 @@ use std::alloc::{AllocError, Global};
 use std::thread::Threads;
 
 /// Takes no notice of an analysis that begins.
-struct Unnoticed;
+struct NoNotice;
 
-impl Start for Unnoticed {
+impl Start for NoNotice {
     fn before(&self, _place: usize) {}
 }
 
@@ -73,7 +73,7 @@ pub(crate) fn certify_all<R: Threads + Sync>(
     ensures err { IfErr result (spec.FiltersFail (filters_of trees.now)) }
 {
     let graphs = lower_all(alloc, trees)?;
-    let answers = analyse_all(rt, alloc, graphs.as_slice(), workers, &Unnoticed)?;
+    let answers = analyse_all(rt, alloc, graphs.as_slice(), workers, &NoNotice)?;
     let certificates = certificates_of(alloc, answers)?;
     Ok((graphs, certificates))
 }

@@ -19,7 +19,7 @@ mod written;
 
 pub use command::Command;
 pub use fault::RunFault;
-pub use preparing::{Prepared, prepare};
+pub use preparing::{PreparedRun, prepare};
 pub use reader::read;
 pub use script::Script;
 pub use script_fault::ScriptFault;

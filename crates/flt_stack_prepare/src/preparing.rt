@@ -25,7 +25,7 @@ use std::thread::Threads;
 
 /// The input of a run: a script, and the filters for which it is one.
 #[derive(Drop)]
-pub struct Prepared {
+pub struct PreparedRun {
     /// The filters, loaded.
     pub loaded: Loaded,
     /// The commands of the script.
@@ -79,7 +79,7 @@ pub fn prepare<R: Threads + Sync>(
     workers: usize,
     script: &[u8],
     texts: &[Vec<u8>],
-) -> Result<Prepared, RunFault>
+) -> Result<PreparedRun, RunFault>
     requires workers { (1 ≤ workers) × (workers ≤ 16) }
     ensures ok { IfOk result
         (λ prepared. spec.IsPrepared script.now (map (λ text. text.items) texts.now) prepared.loaded prepared.script) }
@@ -94,7 +94,7 @@ pub fn prepare<R: Threads + Sync>(
     spelled_is_well_formed();
     accepted_certificates_fill_up();
     let loaded = load_all(alloc, trees, graphs, certificates.as_slice())?;
-    Ok(Prepared {
+    Ok(PreparedRun {
         loaded,
         script: commands,
     })

@@ -8,12 +8,12 @@ use std::alloc::{AllocError, Global};
 
 /// Bytes that are kept, with a count of how often there was no room for more.
 #[derive(Drop)]
-struct Kept {
+struct ByteSink {
     bytes: Vec<u8>,
     failures: u64,
 }
 
-impl Sink for Kept {
+impl Sink for ByteSink {
     ghost taken = { λ s. Some s.bytes.items };
 
     ghost failures = { λ s. s.failures };
@@ -37,7 +37,7 @@ impl Sink for Kept {
 pub fn journal_bytes(alloc: Global, journal: &Journal) -> Result<Vec<u8>, AllocError>
     ensures { IfOk result (λ bytes. bytes.items ≡ spelling journal.now) }
 {
-    let mut kept = Kept {
+    let mut kept = ByteSink {
         bytes: Vec::new(alloc),
         failures: 0,
     };

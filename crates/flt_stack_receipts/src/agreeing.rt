@@ -4,7 +4,7 @@ ghost use Rattle.flt_stack_receipts.specs.Receipts.{Misses, receipts_in, togethe
 
 use crate::holds::HoldsReceipts;
 use crate::search::{are_so_many, is_held};
-use crate::sought::{Sought, is_arrival};
+use crate::sought::{SoughtReceipt, is_arrival};
 use flt_model::{Journal, JournalEntry};
 
 /// Whether the receipts of a journal are those that the seats hold together, each once. It is fast if each seat's numbers rise.
@@ -27,7 +27,7 @@ fn count_held<S: HoldsReceipts>(entries: &[JournalEntry], seats: &[S]) -> Option
     let mut count: usize = 0;
     for number in 0..entries.len() {
         let entry = entries[number];
-        if let Some(sought) = Sought::of(number, entry, arrived) {
+        if let Some(sought) = SoughtReceipt::of(number, entry, arrived) {
             if !is_held(seats, &sought) {
                 return None;
             }

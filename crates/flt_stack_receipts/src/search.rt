@@ -4,7 +4,7 @@ ghost use Rattle.flt_stack_receipts.specs.Receipts.{receipt, together};
 
 use crate::holds::HoldsReceipts;
 use crate::receipt::Receipt;
-use crate::sought::Sought;
+use crate::sought::SoughtReceipt;
 
 /// The place of a receipt with this number, if it is there and the numbers rise.
 fn place_of(held: &[Receipt], number: usize) -> usize
@@ -24,7 +24,7 @@ fn place_of(held: &[Receipt], number: usize) -> usize
 }
 
 /// Whether the sought receipt is at its place among receipts whose numbers rise.
-fn is_at_its_place(held: &[Receipt], sought: &Sought) -> bool
+fn is_at_its_place(held: &[Receipt], sought: &SoughtReceipt) -> bool
     ensures { IsTrue result → Contains held.now (receipt sought.now.number sought.now.entry sought.now.answer) }
 {
     let place = place_of(held, sought.number);
@@ -32,7 +32,7 @@ fn is_at_its_place(held: &[Receipt], sought: &Sought) -> bool
 }
 
 /// Whether the sought receipt is among some receipts, in whatever order.
-fn is_among(held: &[Receipt], sought: &Sought) -> bool
+fn is_among(held: &[Receipt], sought: &SoughtReceipt) -> bool
     ensures { IsTrue result ↔ Contains held.now (receipt sought.now.number sought.now.entry sought.now.answer) }
 {
     for k in 0..held.len() {
@@ -44,7 +44,7 @@ fn is_among(held: &[Receipt], sought: &Sought) -> bool
 }
 
 /// Whether a seat holds the sought receipt, at its place.
-fn is_held_in_order<S: HoldsReceipts>(seats: &[S], sought: &Sought) -> bool
+fn is_held_in_order<S: HoldsReceipts>(seats: &[S], sought: &SoughtReceipt) -> bool
     ensures { IsTrue result → Contains (together (map S.held seats.now)) (receipt sought.now.number sought.now.entry sought.now.answer) }
 {
     for k in 0..seats.len() {
@@ -56,7 +56,7 @@ fn is_held_in_order<S: HoldsReceipts>(seats: &[S], sought: &Sought) -> bool
 }
 
 /// Whether a seat holds the sought receipt, at any place.
-fn is_held_anywhere<S: HoldsReceipts>(seats: &[S], sought: &Sought) -> bool
+fn is_held_anywhere<S: HoldsReceipts>(seats: &[S], sought: &SoughtReceipt) -> bool
     ensures { IsTrue result ↔ Contains (together (map S.held seats.now)) (receipt sought.now.number sought.now.entry sought.now.answer) }
 {
     for k in 0..seats.len() {
@@ -68,7 +68,7 @@ fn is_held_anywhere<S: HoldsReceipts>(seats: &[S], sought: &Sought) -> bool
 }
 
 /// Whether a seat holds the sought receipt. It looks at its place in each seat first, since receipts mostly are in their order.
-pub(crate) fn is_held<S: HoldsReceipts>(seats: &[S], sought: &Sought) -> bool
+pub(crate) fn is_held<S: HoldsReceipts>(seats: &[S], sought: &SoughtReceipt) -> bool
     ensures { IsTrue result ↔ Contains (together (map S.held seats.now)) (receipt sought.now.number sought.now.entry sought.now.answer) }
 {
     is_held_in_order(seats, sought) || is_held_anywhere(seats, sought)

@@ -8,15 +8,15 @@ use flt_model::{JournalEntry, Move};
 
 /// The sought receipt, as the journal gives it.
 #[derive(Clone, Copy)]
-pub(crate) struct Sought {
+pub(crate) struct SoughtReceipt {
     pub(crate) number: usize,
     pub(crate) entry: Move,
     pub(crate) answer: Option<usize>,
 }
 
-impl Sought {
+impl SoughtReceipt {
     /// The receipt of an entry, before which so many operations arrived; none of an entry that no caller made.
-    pub(crate) fn of(number: usize, entry: JournalEntry, arrived: usize) -> Option<Sought>
+    pub(crate) fn of(number: usize, entry: JournalEntry, arrived: usize) -> Option<SoughtReceipt>
         ensures { MatchOption result (spec.receipt_of number arrived entry ≡ [])
             (λ sought. spec.receipt_of number arrived entry ≡ receipt sought.number sought.entry sought.answer ∷ []) }
     {
@@ -27,7 +27,7 @@ impl Sought {
                     mode,
                     file,
                 },
-            ) => Some(Sought {
+            ) => Some(SoughtReceipt {
                 number,
                 entry: Move::Arrive {
                     operation,
@@ -36,7 +36,7 @@ impl Sought {
                 },
                 answer: Some(arrived),
             }),
-            JournalEntry::Move(Move::Detach { altitude }) => Some(Sought {
+            JournalEntry::Move(Move::Detach { altitude }) => Some(SoughtReceipt {
                 number,
                 entry: Move::Detach { altitude },
                 answer: None,

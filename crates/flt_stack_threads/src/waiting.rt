@@ -7,7 +7,7 @@ ghost use Rattle.flt_stack_threads.specs.Waiting.{put_own};
 ghost use Rattle.flt_stack_threads.specs.Places.{other_deques, own_deque};
 
 use crate::{OutOfMemory, Ticket, WorkerPlace};
-use flt_stack_core::{TurnFault, Turned};
+use flt_stack_core::{TicketTurn, TurnFault};
 use std::alloc::{AllocError, Global};
 
 /// Tickets that wait to be pushed: those that a move gave, and then the move's own ticket, if it goes to the back. They stay here if a push
@@ -64,7 +64,7 @@ impl Waiting {
         &mut self,
         place: &mut WorkerPlace,
         ticket: Ticket,
-        outcome: Result<Turned, TurnFault>,
+        outcome: Result<TicketTurn, TurnFault>,
     ) -> Result<bool, TurnFault>
         requires { spec.tickets self.old ≡ [] }
         ensures made { IfOk outcome (λ turned. IfOk result (λ made. made ≡ turned.made)) }
@@ -101,7 +101,7 @@ impl Waiting {
     pub(crate) fn settle(
         &mut self,
         place: &mut WorkerPlace,
-        turned: Turned,
+        turned: TicketTurn,
         own: Option<Ticket>,
     ) -> Result<bool, OutOfMemory>
         requires { spec.tickets self.old ≡ [] }
@@ -112,7 +112,7 @@ impl Waiting {
         ensures pass { place.new.tickets.pass ≡ place.old.tickets.pass }
         ensures requests { place.new.requests ≡ place.old.requests }
     {
-        let Turned {
+        let TicketTurn {
             next,
             stays: _,
             made,

@@ -19,7 +19,7 @@ use crate::word::{has_bit, has_none_from, lowest_bit};
 use flt_machine::{Frame, advance};
 use flt_pool::Gate;
 use flt_rules::MAX_ENTRIES;
-use flt_stack_core::{Fulls, OtherEntries, StackName, TurnFault, Turned};
+use flt_stack_core::{Fulls, OtherEntries, StackName, TicketTurn, TurnFault};
 use std::alloc::Global;
 use std::sync::Wait;
 use std::sync::ledger::Share;
@@ -38,7 +38,7 @@ const MAX_TICKETS: u32 = MAX_ENTRIES as u32;
 const MAX_LOOKS: u32 = 2_000_001;
 
 /// Whether a ticket stays, and nothing was moved at its turn.
-fn is_still(outcome: &Result<Turned, TurnFault>) -> bool {
+fn is_still(outcome: &Result<TicketTurn, TurnFault>) -> bool {
     match outcome {
         Ok(turned) => turned.stays && !turned.made,
         Err(_) => false,
@@ -142,7 +142,7 @@ impl<N: StackName> Stack<N> {
         fulls: &mut Share<Fulls<N>>,
         gate: &mut G,
         ticket: Ticket,
-    ) -> Result<Turned, TurnFault>
+    ) -> Result<TicketTurn, TurnFault>
         requires part { (0 < mine.old.parts) × (0 < fulls.old.parts) }
         ensures { IsCounted mine.old mine.new fulls.old fulls.new (λ t. grows t.made) result }
     {
@@ -155,7 +155,7 @@ impl<N: StackName> Stack<N> {
                 .move_on(alloc, machine, mine, fulls, ticket);
         };
         let Some(frame) = self.checkout(rt, activation) else {
-            return Ok(Turned {
+            return Ok(TicketTurn {
                 next: Vec::new(alloc),
                 stays: false,
                 made: false,
@@ -388,7 +388,7 @@ impl<N: StackName> Stack<N> {
         fulls: &mut Share<Fulls<N>>,
         gate: &mut G,
         serial: u32,
-    ) -> Result<Turned, TurnFault>
+    ) -> Result<TicketTurn, TurnFault>
         requires part { (0 < mine.old.parts) × (0 < fulls.old.parts) }
         ensures { IsCounted mine.old mine.new fulls.old fulls.new (λ t. grows t.made) result }
     {

@@ -4,7 +4,7 @@ ghost use Rattle.flt_ctx.specs.Contexts.{context_at};
 
 use crate::dice::Dice;
 use counted_heap::Heap;
-use flt_ctx::{Contexts, Key, Release, SetAnswer, Target, Unlinked};
+use flt_ctx::{Contexts, Key, Release, SetAnswer, Target, UnlinkedContext};
 use std::alloc::{AllocError, Global};
 use std::process::Abort;
 use std::test::Fail;
@@ -172,10 +172,10 @@ impl Rows {
         self.release(context)
     }
 
-    fn delete_at(&mut self, key: Key, want_old: bool) -> Option<Unlinked> {
+    fn delete_at(&mut self, key: Key, want_old: bool) -> Option<UnlinkedContext> {
         let context = self.linked_at(key)?;
         let release = self.unlink(context, want_old);
-        Some(Unlinked { context, release })
+        Some(UnlinkedContext { context, release })
     }
 
     fn delete(&mut self, context: usize) -> Release {
@@ -393,12 +393,12 @@ fn does_what_the_plain_program_does(rt: HostRuntime) -> Result<(), Fail> {
 
 const KEPT: SetAnswer = SetAnswer::Defined(0);
 
-const REPLACED: SetAnswer = SetAnswer::Done(Some(Unlinked {
+const REPLACED: SetAnswer = SetAnswer::Done(Some(UnlinkedContext {
     context: 0,
     release: Release::Alive,
 }));
 
-const FREED: SetAnswer = SetAnswer::Done(Some(Unlinked {
+const FREED: SetAnswer = SetAnswer::Done(Some(UnlinkedContext {
     context: 0,
     release: Release::Freed,
 }));
@@ -428,7 +428,7 @@ enum Call {
     Reference(usize),
     SetValue(usize, u64),
     Close(usize),
-    DeleteAt(Key, Unlinked),
+    DeleteAt(Key, UnlinkedContext),
     References(usize, Option<u64>),
     Value(usize, u64),
     FirstKey(usize, Option<Key>),
@@ -559,7 +559,7 @@ const SHARED: [Call; 26] = [
     Call::FirstKey(0, Some(INSTANCE)),
     Call::DeleteAt(
         INSTANCE,
-        Unlinked {
+        UnlinkedContext {
             context: 2,
             release: Release::Alive,
         },
@@ -567,7 +567,7 @@ const SHARED: [Call; 26] = [
     Call::FirstKey(0, Some(STREAM)),
     Call::DeleteAt(
         STREAM,
-        Unlinked {
+        UnlinkedContext {
             context: 0,
             release: Release::Freed,
         },

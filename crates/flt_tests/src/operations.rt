@@ -2,7 +2,7 @@
 
 use crate::dice::Dice;
 use counted_heap::Heap;
-use flt_ops::{Frame, Operations, Outcome, Position, Started, Way};
+use flt_ops::{CallbackStart, Frame, Operations, Outcome, Position, Way};
 use flt_rules::{FinalStatus, Mode, Operation, Stage};
 use std::alloc::{AllocError, Global};
 use std::test::Fail;
@@ -61,7 +61,7 @@ fn end(outcome: Option<Outcome>) -> u8 {
 }
 
 /// The arguments with which a callback starts, as numbers.
-fn start(started: Option<Started>) -> Option<(usize, usize, Option<usize>)> {
+fn start(started: Option<CallbackStart>) -> Option<(usize, usize, Option<usize>)> {
     match started {
         Some(started) => Some((started.visit, started.filter, started.context)),
         None => None,

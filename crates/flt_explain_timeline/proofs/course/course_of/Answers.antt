@@ -3,7 +3,7 @@ use Rattle.flt_model.specs.declared.moves.JournalEntry.{JournalEntry}
 use Rattle.flt_explain_timeline.specs.Course.{next_refused, next_told}
 use Rattle.flt_explain_timeline.specs.Tellings.{AreToldBy}
 use Rattle.flt_explain_timeline.specs.declared.course.Progress.{Progress}
-use Rattle.flt_explain_timeline.specs.declared.running.Told.{Told}
+use Rattle.flt_explain_timeline.specs.declared.running.DescribedEntry.{DescribedEntry}
 use Rattle.flt_explain_timeline.proofs.NextEntry.{refused_all, refused_on_lent, told_all, told_on_lent}
 use Rattle.flt_explain_timeline.proofs.course.course_of.Goals as goal
 
@@ -56,7 +56,7 @@ loop-entry-preserved c = record {
 pub returns : goal.returns
 returns c = record {
   told =
-      let P : List Told → Type 0 =
+      let P : List DescribedEntry → Type 0 =
       λ heres. AreToldBy c.loop-entry.course.tellings c.loop-entry.course.told c.loop-entry.course.whos heres in
       subst P (told_all c.args.stage.now.stack.now c.args.verdict c.loop-entry.invariant.so_far _ c.loop-entry.course.progress
       c.loop-entry.entry-index c.loop-entry.entry-index c.loop-entry.scene c.args.journal.now

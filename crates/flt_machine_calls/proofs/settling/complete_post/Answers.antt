@@ -12,7 +12,7 @@ use Rattle.flt_model.specs.World as machine
 use Rattle.flt_machine_calls.specs.Completing.{completes}
 use Rattle.flt_machine_calls.specs.Own.{AreOwn}
 use Rattle.flt_machine_calls.specs.Plans.{IsPlanned, Plans, TakesNone, world_of}
-use Rattle.flt_machine_calls.specs.declared.effects.Named.{Named}
+use Rattle.flt_machine_calls.specs.declared.effects.CallOperands.{CallOperands}
 use Rattle.flt_machine_calls.specs.declared.plans.Plan.{Plan}
 use Rattle.flt_machine_calls.specs.declared.settling.Completion.{Completion}
 use Rattle.flt_machine_calls.proofs.Called.{read_is}
@@ -23,7 +23,7 @@ pub returns-clause-planned : goal.returns-clause-planned
 returns-clause-planned c =
     let s = c.args.store.now in
     let a = c.args.caller.now.activation in
-    let named : Named = record { visit = c.operation.result; context = None } in
+    let named : CallOperands = record { visit = c.operation.result; context = None } in
     let completion : Completion = record
     { call = call.CompletePendedPostOperation; answer = c.post_answer-answer.result; named = named; settled = c.settled_by.result } in
     IfOk-weaker c.plan_completion.result
@@ -44,7 +44,7 @@ pub returns-clause-own : goal.returns-clause-own
 returns-clause-own c =
     let s = c.args.store.now in
     let a = c.args.caller.now.activation in
-    let named : Named = record { visit = c.operation.result; context = None } in
+    let named : CallOperands = record { visit = c.operation.result; context = None } in
     let completion : Completion = record
     { call = call.CompletePendedPostOperation; answer = c.post_answer-answer.result; named = named; settled = c.settled_by.result } in
     IfOk-weaker c.plan_completion.result

@@ -13,7 +13,7 @@ use Rattle.flt_model.specs.World as machine
 use Rattle.flt_machine_calls.specs.Completing.{completes}
 use Rattle.flt_machine_calls.specs.Own.{AreOwn}
 use Rattle.flt_machine_calls.specs.Plans.{IsPlanned, Plans, TakesNone, world_of}
-use Rattle.flt_machine_calls.specs.declared.effects.Named.{Named}
+use Rattle.flt_machine_calls.specs.declared.effects.CallOperands.{CallOperands}
 use Rattle.flt_machine_calls.specs.declared.plans.Plan.{Plan}
 use Rattle.flt_machine_calls.specs.declared.settling.Completion.{Completion}
 use Rattle.flt_machine_calls.proofs.Called.{read_is}
@@ -24,7 +24,7 @@ pub returns-clause-planned : goal.returns-clause-planned
 returns-clause-planned c =
     let s = c.args.store.now in
     let a = c.args.caller.now.activation in
-    let named : Named = record { visit = c.operation.result; context = c.named_in.result } in
+    let named : CallOperands = record { visit = c.operation.result; context = c.named_in.result } in
     let completion : Completion = record {
       call = call.CompletePendedPreOperation c.whose.result;
       answer = c.pre_answer-answer.result;
@@ -53,7 +53,7 @@ pub returns-clause-own : goal.returns-clause-own
 returns-clause-own c =
     let s = c.args.store.now in
     let a = c.args.caller.now.activation in
-    let named : Named = record { visit = c.operation.result; context = c.named_in.result } in
+    let named : CallOperands = record { visit = c.operation.result; context = c.named_in.result } in
     let completion : Completion = record {
       call = call.CompletePendedPreOperation c.whose.result;
       answer = c.pre_answer-answer.result;

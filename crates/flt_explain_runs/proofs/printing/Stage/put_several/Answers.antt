@@ -2,7 +2,7 @@ use Rattle.std.proofs.Common.{Err, rules, ◌≡◌, ◌∙◌, length, sym}
 use Rattle.std.proofs.lemmas.List.{length-map}
 use Rattle.flt_explain_runs.specs.Printing.{look_of}
 use Rattle.flt_explain_runs.specs.Readings.{sources_read}
-use Rattle.flt_explain_runs.specs.declared.readings.Studied.{Studied}
+use Rattle.flt_explain_runs.specs.declared.readings.StudiedText.{StudiedText}
 use Rattle.flt_explain_runs.specs.declared.fault.ExplainFault.TheVariants.{OutOfMemory}
 use Rattle.flt_explain_runs.proofs.Said.{said_more}
 use Rattle.flt_explain_runs.proofs.Several.{cut_after, several_print, summed}
@@ -16,7 +16,7 @@ returns-clause-reports g c = record {
   are = c.in_ok-printed.ensures.printed.parts;
   whole = summed c.in_ok-printed.printed.output.bytes.items c.as_bytes.result.now c.lines.new.self.bytes.items _ _ _ _
       c.in_ok-lines.ensures.bytes (c.as_bytes.ensures.value ∙ c.in_ok-line.ensures.ok)
-      (sym (length-map c.args.each.now (λ (s : Studied). s.source)));
+      (sym (length-map c.args.each.now (λ (s : StudiedText). s.source)));
 }
 
 pub returns-clause-notes : goal.returns-clause-notes
@@ -32,7 +32,7 @@ returns-clause-print g c =
     several_print (look_of c.args.self.now) _ _ c.args.each.now c.in_ok-printed.printed c.lines.new.self.noted c.as_bytes.result.now
     c.lines.new.self.bytes.items (length c.args.each.now) c.in_ok-printed.ensures.printed c.in_ok-lines.ensures.noted
     c.in_ok-lines.ensures.bytes (c.as_bytes.ensures.value ∙ c.in_ok-line.ensures.ok)
-    (sym (length-map c.args.each.now (λ (s : Studied). s.source)))
+    (sym (length-map c.args.each.now (λ (s : StudiedText). s.source)))
 
 pub returns-in_err-lines-clause-memory : goal.returns-in_err-lines-clause-memory
 returns-in_err-lines-clause-memory g c =

@@ -1,10 +1,10 @@
 use Rattle.std.proofs.Common.{refl}
 use Rattle.flt_explain_runs.proofs.Studied.{with_unread}
 use Rattle.flt_explain_runs.specs.declared.readings.Reading.TheVariants.{Unread}
-use Rattle.flt_explain_runs.specs.declared.readings.Studied.{Studied}
+use Rattle.flt_explain_runs.specs.declared.readings.StudiedText.{StudiedText}
 use Rattle.flt_explain_runs.proofs.readings.Readings.add_unread.Goals as goal
 
 pub returns-clause-new : goal.returns-clause-new
 returns-clause-new c =
-    let s : Studied = record { source = c.args.source; reading = Unread c.args.fault } in
+    let s : StudiedText = record { source = c.args.source; reading = Unread c.args.fault } in
     with_unread _ c.requires.old s _ _ c.requires.fault.fault c.requires.fault tt refl refl c.in_ok-push.ensures.items

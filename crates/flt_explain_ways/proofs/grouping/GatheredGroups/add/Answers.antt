@@ -3,7 +3,7 @@ use Rattle.std.specs.Prelude.{if◌then◌else◌}
 use Rattle.std.proofs.lemmas.Result.{on_ok_weaker}
 use Rattle.flt_explain_ways.specs.Gathering.{same, place_in}
 use Rattle.flt_explain_ways.proofs.Gathering.{unknown, joins, begins, stay, stay_behind, one_more}
-use Rattle.flt_explain_ways.proofs.grouping.Gathered.add.Goals as goal
+use Rattle.flt_explain_ways.proofs.grouping.GatheredGroups.add.Goals as goal
 
 pub returns-in_default-clause-places : goal.returns-in_default-clause-places
 returns-in_default-clause-places c =

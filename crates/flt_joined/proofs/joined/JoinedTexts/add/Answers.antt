@@ -1,7 +1,7 @@
 use Rattle.std.proofs.Common.{arith, refl}
 use Rattle.flt_joined.proofs.Adding.{none_added}
 use Rattle.flt_joined.proofs.Parts.{part_length}
-use Rattle.flt_joined.proofs.joined.Joined.add.Goals as goal
+use Rattle.flt_joined.proofs.joined.JoinedTexts.add.Goals as goal
 
 pub returns-in_ok-push-in-Err : goal.returns-in_ok-push-in-Err
 returns-in_ok-push-in-Err c =

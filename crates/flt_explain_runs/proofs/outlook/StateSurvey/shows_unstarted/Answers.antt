@@ -1,6 +1,6 @@
 use Rattle.std.proofs.Common.{◌∙◌, refl, sym}
 use Rattle.flt_explain_runs.proofs.Surveys.{off, unstarted}
-use Rattle.flt_explain_runs.proofs.outlook.Surveyed.shows_unstarted.Goals as goal
+use Rattle.flt_explain_runs.proofs.outlook.StateSurvey.shows_unstarted.Goals as goal
 
 pub returns : goal.returns
 returns c g surveyed is =
