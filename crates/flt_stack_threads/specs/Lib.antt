@@ -1,3 +1,4 @@
+pub mod Asking
 pub mod Left
 pub mod Places
 pub mod Requests

@@ -17,6 +17,7 @@ ghost use Rattle.flt_model.specs.declared.moves.Move.TheVariants as moves;
 ghost use Rattle.flt_model.specs.declared.subject.Subject.{Subject};
 ghost use Rattle.flt_model.specs.declared.subject.Subject.TheVariants as ticket;
 ghost use Rattle.flt_pool.specs.Hands.{having_put};
+ghost use Rattle.flt_stack_threads.specs.Asking.{HasCalled};
 ghost use Rattle.flt_stack_threads.specs.Places.{IsCallerOf, asked_by, put_by};
 ghost use Rattle.flt_rules.specs.Limits.{max_entries, max_operations};
 
@@ -45,24 +46,16 @@ pub(crate) fn arrive_on<N: StackName, R: Wait>(
     requires loaded { AreLoaded N.trees loaded.now }
     requires mode { fits_mode operation mode ≡ true }
     requires file { file < 1024 }
-    ensures seat { IsCallerOf exchange.now seat.new.place }
+    ensures called { HasCalled exchange.now seat.old seat.new arrive_fault.Full result }
     ensures serial { IfOk result (λ serial. serial ≡ length core.old.board.store.arrivals) }
     ensures entry { OnOk result (core.new.board.entries
         ≡ core.old.board.entries ++ journal_entry.Move (moves.Arrive operation mode file) ∷ []) }
     ensures receipt { IfOk result (λ serial. seat.new.receipts.list.items ≡ seat.old.receipts.list.items
         ++ receipt (length core.old.board.entries) (moves.Arrive operation mode file) (Some serial) ∷ []) }
-    ensures share { OnOk result (seat.new.receipts.share.amount ≡ seat.old.receipts.share.amount + 1) }
-    ensures parts { seat.new.receipts.share.parts ≡ seat.old.receipts.share.parts }
     ensures ticket { IfOk result (λ serial. put_by seat.new.place ≡ having_put (ticket.Operation serial) (put_by seat.old.place)) }
-    ensures requests { asked_by seat.new.place ≡ asked_by seat.old.place }
     ensures full { (result ≡ Err arrive_fault.Full)
         ↔ ((length core.old.board.entries ≡ max_entries) ⊎ (length core.old.board.store.arrivals ≡ max_operations)) }
-    ensures refused { OnErr result ((core.new.board ≡ core.old.board)
-        × ((seat.new.receipts.list.items ≡ seat.old.receipts.list.items)
-        × (seat.new.receipts.share.amount ≡ seat.old.receipts.share.amount))) }
-    ensures counted { result ≡ Err arrive_fault.Full → seat.new.fulls.amount ≡ seat.old.fulls.amount + 1 }
-    ensures room { result ≢ Err arrive_fault.Full → seat.new.fulls.amount ≡ seat.old.fulls.amount }
-    ensures fulls_parts { seat.new.fulls.parts ≡ seat.old.fulls.parts }
+    ensures refused { OnErr result (core.new.board ≡ core.old.board) }
     ensures choices { core.new.choices ≡ core.old.choices }
 {
     let step = Move::Arrive {
@@ -91,29 +84,21 @@ pub(crate) fn detach_on<N: StackName, R: Wait>(
 ) -> Result<(), DetachFault>
     requires seat { IsCallerOf exchange.now seat.old.place }
     requires loaded { AreLoaded N.trees loaded.now }
-    ensures seat { IsCallerOf exchange.now seat.new.place }
+    ensures called { HasCalled exchange.now seat.old seat.new detach_fault.Full result }
     ensures entry { OnOk result (core.new.board.entries
         ≡ core.old.board.entries ++ journal_entry.Move (moves.Detach altitude) ∷ []) }
     ensures receipt { OnOk result (seat.new.receipts.list.items ≡ seat.old.receipts.list.items
         ++ receipt (length core.old.board.entries) (moves.Detach altitude) None ∷ []) }
-    ensures share { OnOk result (seat.new.receipts.share.amount ≡ seat.old.receipts.share.amount + 1) }
-    ensures parts { seat.new.receipts.share.parts ≡ seat.old.receipts.share.parts }
     ensures tickets { OnOk result (Now loaded.now core.old.board (λ p m. (put_by seat.new.place).put ≡ (put_by seat.old.place).put
         ++ tickets.by_move loaded.now.altitudes m.world (make p m.world (moves.Detach altitude)))) }
-    ensures requests { asked_by seat.new.place ≡ asked_by seat.old.place }
     ensures fault { IfSome (refusals.detach_fault N.trees core.old.board altitude) (λ fault. result ≡ Err fault) }
     ensures memory { refusals.detach_fault N.trees core.old.board altitude ≡ None
         → IfErr result (λ fault. fault ≡ detach_fault.OutOfMemory) }
-    ensures refused { OnErr result ((core.new.board ≡ core.old.board)
-        × ((seat.new.receipts.list.items ≡ seat.old.receipts.list.items)
-        × (seat.new.receipts.share.amount ≡ seat.old.receipts.share.amount))) }
+    ensures refused { OnErr result (core.new.board ≡ core.old.board) }
     ensures more { (more : List Subject) × ((put_by seat.new.place).put ≡ (put_by seat.old.place).put ++ more) }
     ensures nothing { (result ≡ Err detach_fault.NoSuch) ⊎ ((result ≡ Err detach_fault.Already) ⊎ (result ≡ Err detach_fault.Full)) →
         put_by seat.new.place ≡ put_by seat.old.place }
     ensures no_such { (result ≡ Err detach_fault.NoSuch) ↔ (refusals.has_altitude N.trees altitude ≡ false) }
-    ensures counted { result ≡ Err detach_fault.Full → seat.new.fulls.amount ≡ seat.old.fulls.amount + 1 }
-    ensures room { result ≢ Err detach_fault.Full → seat.new.fulls.amount ≡ seat.old.fulls.amount }
-    ensures fulls_parts { seat.new.fulls.parts ≡ seat.old.fulls.parts }
     ensures choices { core.new.choices ≡ core.old.choices }
 {
     if let Some(fault) = core.detach_fault(loaded, altitude) {

@@ -17,6 +17,7 @@ ghost use Rattle.flt_model.specs.declared.subject.Subject.TheVariants as ticket;
 ghost use Rattle.flt_pool.specs.Hands.{having_put};
 ghost use Rattle.flt_stack_receipts.specs.Bounds.{IsFull};
 ghost use Rattle.flt_stack_receipts.specs.Receipts.{receipt, receipts_in, together};
+ghost use Rattle.flt_stack_threads.specs.Asking.{HasCalled};
 ghost use Rattle.flt_stack_threads.specs.Places.{IsCallerOf, IsFreshCaller, IsFreshWorker, IsWorkerOf, asked_by, put_by};
 ghost use Rattle.flt_rules.specs.Limits.{max_operations};
 
@@ -170,18 +171,10 @@ impl<N: StackName> Stack<N> {
         requires seat { IsCallerOf self.now.exchange seat.old.place }
         requires mode { fits_mode operation mode ≡ true }
         requires file { file < 1024 }
-        ensures seat { IsCallerOf self.now.exchange seat.new.place }
+        ensures called { HasCalled self.now.exchange seat.old seat.new arrive_fault.Full result }
         ensures receipt { IfOk result (λ serial. (number : ℕ) × (seat.new.receipts.list.items
             ≡ seat.old.receipts.list.items ++ receipt number (moves.Arrive operation mode file) (Some serial) ∷ [])) }
-        ensures share { OnOk result (seat.new.receipts.share.amount ≡ seat.old.receipts.share.amount + 1) }
-        ensures parts { seat.new.receipts.share.parts ≡ seat.old.receipts.share.parts }
         ensures ticket { IfOk result (λ serial. put_by seat.new.place ≡ having_put (ticket.Operation serial) (put_by seat.old.place)) }
-        ensures requests { asked_by seat.new.place ≡ asked_by seat.old.place }
-        ensures refused { OnErr result ((seat.new.receipts.list.items ≡ seat.old.receipts.list.items)
-            × (seat.new.receipts.share.amount ≡ seat.old.receipts.share.amount)) }
-        ensures full { result ≡ Err arrive_fault.Full → seat.new.fulls.amount ≡ seat.old.fulls.amount + 1 }
-        ensures room { result ≢ Err arrive_fault.Full → seat.new.fulls.amount ≡ seat.old.fulls.amount }
-        ensures fulls_parts { seat.new.fulls.parts ≡ seat.old.fulls.parts }
     {
         let machine = self.machine();
         let mut core = self.core.lock(rt);
@@ -212,21 +205,13 @@ impl<N: StackName> Stack<N> {
         altitude: u32,
     ) -> Result<(), DetachFault>
         requires { IsCallerOf self.now.exchange seat.old.place }
-        ensures seat { IsCallerOf self.now.exchange seat.new.place }
+        ensures called { HasCalled self.now.exchange seat.old seat.new detach_fault.Full result }
         ensures receipt { OnOk result ((number : ℕ) × (seat.new.receipts.list.items
             ≡ seat.old.receipts.list.items ++ receipt number (moves.Detach altitude) None ∷ [])) }
-        ensures share { OnOk result (seat.new.receipts.share.amount ≡ seat.old.receipts.share.amount + 1) }
-        ensures parts { seat.new.receipts.share.parts ≡ seat.old.receipts.share.parts }
-        ensures requests { asked_by seat.new.place ≡ asked_by seat.old.place }
         ensures tickets { (more : List Subject) × ((put_by seat.new.place).put ≡ (put_by seat.old.place).put ++ more) }
         ensures nothing { (result ≡ Err detach_fault.NoSuch) ⊎ ((result ≡ Err detach_fault.Already) ⊎ (result ≡ Err detach_fault.Full)) →
             put_by seat.new.place ≡ put_by seat.old.place }
-        ensures refused { OnErr result ((seat.new.receipts.list.items ≡ seat.old.receipts.list.items)
-            × (seat.new.receipts.share.amount ≡ seat.old.receipts.share.amount)) }
         ensures no_such { (result ≡ Err detach_fault.NoSuch) ↔ (has_altitude N.trees altitude ≡ false) }
-        ensures full { result ≡ Err detach_fault.Full → seat.new.fulls.amount ≡ seat.old.fulls.amount + 1 }
-        ensures room { result ≢ Err detach_fault.Full → seat.new.fulls.amount ≡ seat.old.fulls.amount }
-        ensures fulls_parts { seat.new.fulls.parts ≡ seat.old.fulls.parts }
     {
         let machine = self.machine();
         let mut core = self.core.lock(rt);
