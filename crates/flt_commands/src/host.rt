@@ -420,13 +420,14 @@ fn shows_colours(rt: &HostRuntime) -> Result<bool, AllocError> {
     Ok(!is_dumb(rt)?)
 }
 
-/// Runs the command of some words on the system. The standard error says why the answer isn't written, if it isn't.
+/// Runs the command of some words on the system, and returns the report on it. The standard error says if memory ran out, or why the answer
+/// isn't written.
 fn execute<R: Threads + Wait + Sync>(
     rt: &HostRuntime,
     threads: &R,
     words: &[String],
-) -> Result<Report, CommandFault>
-    ensures { IfOk result (AnswersSomehow given_by_host written_by_host (map string_bytes words.now)) }
+) -> Option<Report>
+    ensures { IfSome result (AnswersSomehow given_by_host written_by_host (map string_bytes words.now)) }
 {
     let fault = Cell::new(None);
     let host = Host { rt, fault };
@@ -435,7 +436,10 @@ fn execute<R: Threads + Wait + Sync>(
         is_shown: rt.stderr().is_terminal(),
         lines: 0,
     };
-    let coloured = shows_colours(rt)?;
+    let Ok(coloured) = shows_colours(rt) else {
+        say_out_of_memory(rt);
+        return None;
+    };
     let mut out = Writing::new(CheckedWriter::new(rt.stdout()));
     let result = command(
         threads,
@@ -448,26 +452,14 @@ fn execute<R: Threads + Wait + Sync>(
         &mut Writing::new(rt.stderr()),
         &mut watch,
     );
-    if let Err(CommandFault::Write) = result {
-        say_unwritten(rt, &out.into_inner());
-    }
-    result
-}
-
-/// The report on a command. The standard error says if memory ran out.
-fn report_of<R: Threads + Wait + Sync>(
-    rt: &HostRuntime,
-    threads: &R,
-    words: &[String],
-) -> Option<Report>
-    ensures { IfSome result (AnswersSomehow given_by_host written_by_host (map string_bytes words.now)) }
-{
-    match execute(rt, threads, words) {
+    match result {
         Ok(report) => Some(report),
-        Err(fault) => {
-            if fault == CommandFault::OutOfMemory {
-                say_out_of_memory(rt);
-            }
+        Err(CommandFault::OutOfMemory) => {
+            say_out_of_memory(rt);
+            None
+        }
+        Err(CommandFault::Write) => {
+            say_unwritten(rt, &out.into_inner());
             None
         }
     }
@@ -530,7 +522,7 @@ pub fn run<R: Threads + Wait + Sync>(rt: &HostRuntime, threads: &R) -> Execution
             words,
         },
         Ok(false) => Execution {
-            report: report_of(rt, threads, words.as_slice()),
+            report: execute(rt, threads, words.as_slice()),
             served: None,
             words,
         },

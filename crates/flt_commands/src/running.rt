@@ -1,36 +1,28 @@
 //! The answer of `run` to the names that it is given.
 
-ghost use Rattle.std.specs.Prelude.{◌≡◌, ◌∷◌, map};
-ghost use Rattle.flt_commands.specs.Inputs.{Says};
+ghost use Rattle.std.specs.Prelude.{◌≡◌, ◌∷◌, List, length, map};
+ghost use Rattle.flt_commands.specs.Inputs.{Says, Text};
 ghost use Rattle.flt_commands.specs.Running as spec;
+ghost use Rattle.flt_stack_crew.specs.Running.{Answers};
 
 use crate::answer::Answer;
 use crate::failure::Failure;
 use crate::inputs::{Inputs, read_all};
 use crate::report::Contents;
-use flt_stack_crew::{RunFault, Watch, run};
+use flt_stack_crew::{Ran, RunFault, Watch, run};
 use flt_words::Workers;
 use std::alloc::Global;
 use std::sync::Wait;
 use std::thread::Threads;
 
-/// The outcome of a script on some texts.
-fn run_texts<'a, R: Threads + Wait + Sync, W: Watch>(
-    rt: &R,
-    alloc: Global,
-    workers: Workers,
-    script: &[u8],
-    texts: &[Vec<u8>],
-    watch: &mut W,
-) -> Result<Answer, Failure<'a>>
-    ensures { spec.Judges script.now (map (λ text. text.items) texts.now) result }
+/// The answer on the outcome of a script on so many texts.
+fn answer_of<'a>(ran: Result<Ran, RunFault>, texts: usize) -> Result<Answer, Failure<'a>>
+    ensures { (script : Text) (all : List Text) → texts ≡ length all → Answers script all ran → spec.Judges script all result }
 {
-    if texts.is_empty() {
-        return Err(Failure::NoFile);
-    }
-    match run(rt, alloc, workers.count(), script, texts, watch) {
+    match ran {
         Ok(ran) => Ok(Answer::Ran(ran)),
         Err(RunFault::Refused { file, refusal }) => Ok(Answer::FileRefused(file, refusal)),
+        Err(RunFault::Count) if texts == 0 => Err(Failure::NoFile),
         Err(RunFault::Count) => Err(Failure::TooManyFiles),
         Err(RunFault::Syntax { file, fault }) => Err(Failure::FileSyntax(file, fault)),
         Err(RunFault::Script { line }) => Err(Failure::ScriptLine(line)),
@@ -59,5 +51,7 @@ pub fn run_files<'a, R: Threads + Wait + Sync, I: Inputs, W: Watch>(
     names.extend_from_slice(files)?;
     contents.texts = read_all(alloc, inputs, names.as_slice())?;
     let script = contents.texts[0].as_slice();
-    run_texts(rt, alloc, workers, script, &contents.texts[1..], watch)
+    let texts = &contents.texts[1..];
+    let ran = run(rt, alloc, workers.count(), script, texts, watch);
+    answer_of(ran, texts.len())
 }
