@@ -36,7 +36,7 @@ fn way_before(has_post: bool, returned: bool, status: Option<Status>) -> Way
 {
     match status {
         Some(Status::WithCallback(_) | Status::Synchronize(_)) if has_post => Way::Frames,
-        Some(Status::Complete(last)) => Way::Ends(Outcome::Final(last)),
+        Some(Status::Complete(last)) => Way::Ends(Outcome::Completed(last)),
         Some(Status::Pending) if returned => Way::Stays,
         Some(Status::DisallowFastIo) if returned => Way::Ends(Outcome::Disallowed),
         _ => Way::Passes,

@@ -118,10 +118,10 @@ fn end_of(outcome: Option<Outcome>) -> u8 {
     match outcome {
         None => 0,
         Some(Outcome::Disallowed) => 1,
-        Some(Outcome::Final(FinalStatus::Success)) => 2,
-        Some(Outcome::Final(FinalStatus::AccessDenied)) => 3,
-        Some(Outcome::Final(FinalStatus::Cancelled)) => 4,
-        Some(Outcome::Final(_)) => 5,
+        Some(Outcome::Completed(FinalStatus::Success)) => 2,
+        Some(Outcome::Completed(FinalStatus::AccessDenied)) => 3,
+        Some(Outcome::Completed(FinalStatus::Cancelled)) => 4,
+        Some(Outcome::Completed(_)) => 5,
     }
 }
 

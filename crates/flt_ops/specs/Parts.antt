@@ -16,7 +16,7 @@ position_of position.Up = world.Up
 
 -- how it ended at its lowest point
 abbrev pub outcome_of : Outcome → world.Outcome
-outcome_of (outcome.Final status) = world.Completed status
+outcome_of (outcome.Completed status) = world.Completed status
 outcome_of outcome.Disallowed = world.Disallowed
 
 -- where a status leads it

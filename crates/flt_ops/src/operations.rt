@@ -299,7 +299,7 @@ impl Operations {
         let is_past = self.is_past_filters(serial);
         if is_past {
             self.routes
-                .end(serial, Outcome::Final(FinalStatus::Success));
+                .end(serial, Outcome::Completed(FinalStatus::Success));
         }
         is_past
     }

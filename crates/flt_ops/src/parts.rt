@@ -18,7 +18,7 @@ pub enum Position {
 #[derive(Clone, Copy)]
 pub enum Outcome {
     /// With a final status.
-    Final(FinalStatus),
+    Completed(FinalStatus),
     /// As a fast I/O that was disallowed.
     Disallowed,
 }

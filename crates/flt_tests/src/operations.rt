@@ -54,9 +54,9 @@ fn end(outcome: Option<Outcome>) -> u8 {
     match outcome {
         None => 0,
         Some(Outcome::Disallowed) => 1,
-        Some(Outcome::Final(FinalStatus::Success)) => 2,
-        Some(Outcome::Final(FinalStatus::AccessDenied)) => 3,
-        Some(Outcome::Final(_)) => 4,
+        Some(Outcome::Completed(FinalStatus::Success)) => 2,
+        Some(Outcome::Completed(FinalStatus::AccessDenied)) => 3,
+        Some(Outcome::Completed(_)) => 4,
     }
 }
 
@@ -201,7 +201,7 @@ impl Plain {
             Some(row) => match row.position {
                 Position::Down(filter) if filter >= FILTERS => {
                     row.position = Position::Up;
-                    row.outcome = Some(Outcome::Final(FinalStatus::Success));
+                    row.outcome = Some(Outcome::Completed(FinalStatus::Success));
                     true
                 }
                 _ => false,
@@ -337,7 +337,7 @@ impl Dice {
         match self.roll(8) {
             0 => Way::Passes,
             1 | 2 | 3 => Way::Frames,
-            4 => Way::Ends(Outcome::Final(FinalStatus::AccessDenied)),
+            4 => Way::Ends(Outcome::Completed(FinalStatus::AccessDenied)),
             5 => Way::Ends(Outcome::Disallowed),
             6 => Way::Rises,
             _ => Way::Stays,
