@@ -40,7 +40,7 @@ fn put_gap(out: &mut Vec<u8>, last: usize, at: Place) -> Result<(), AllocError>
     Ok(())
 }
 
-/// The number of bytes with which a line goes on.
+/// The number of bytes with which a line continues.
 fn run_in(fresh: bool, rest: &[u8]) -> usize
     ensures value { result ≡ runs.run_in fresh rest.now }
     ensures within { result ≤ length rest.now }

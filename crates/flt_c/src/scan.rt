@@ -60,7 +60,7 @@ fn opened_by(old: Mode, new: Mode) -> Opening
     }
 }
 
-/// Notes where what is read in a mode began.
+/// Notes where the part began that is read in a mode.
 fn note_opening(s: &mut Scanner, new: Mode)
     ensures { s.new ≡ runs.with_opening s.old new }
 {

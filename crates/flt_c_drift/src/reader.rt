@@ -599,7 +599,7 @@ impl Reader {
         self.line.here && !self.line.remark && self.locks.has_other_line()
     }
 
-    /// The run that goes on with the word.
+    /// The run that continues with the word.
     fn word_run(&self) -> Run
         ensures { result ≡ runs.word_run self.now.spoken.part (spec.state_in self.now) }
     {
@@ -610,7 +610,7 @@ impl Reader {
         }
     }
 
-    /// The run that goes on.
+    /// The run that continues.
     fn run(&self) -> Run
         ensures { result ≡ runs.run_in (spec.state_in self.now) }
     {

@@ -20,7 +20,7 @@ fn is_long(line: &[u8]) -> bool
     line.len() > 1000
 }
 
-/// What a report shows for a line of a text, by its number, from 1: the line of its file, or the text's own if that is too long.
+/// The excerpt for a line of a text, by its number, from 1: the line of its file, or the text's own if that is too long.
 pub(crate) fn excerpt_of<'a>(files: &Files<'a>, text: &Lines<'a>, number: usize) -> Excerpt<'a>
     ensures { spec.of_excerpt result ≡ spec.excerpt files.now text.now number }
 {

@@ -1,4 +1,4 @@
-//! How a text begins, and which files go on with one.
+//! How a text begins, and which files continue one.
 
 ghost use Rattle.std.specs.Prelude.{◌≡◌, ◌<◌, ◌≤◌, ◌∷◌, drop, false, length, slice_range};
 ghost use Rattle.flt_joined.specs.Texts as spec;
@@ -38,14 +38,14 @@ fn begins_filter(text: &[u8]) -> bool
     text[before_first(text)..].starts_with(b"filter")
 }
 
-/// Whether a file goes on with the text of the one before it: both are C files, and its annotations don't begin with `filter`.
+/// Whether a file continues the text of the one before it: both are C files, and its annotations don't begin with `filter`.
 fn goes_on(before: &GivenFile<'_>, file: &GivenFile<'_>) -> bool
     ensures { result ≡ spec.goes_on (spec.given_of before.now) (spec.given_of file.now) }
 {
     before.code.is_some() && file.code.is_some() && !begins_filter(file.text.as_slice())
 }
 
-/// The number of the file after those that go on with the text of the file of a number.
+/// The number of the file after those that continue the text of the file of a number.
 pub(crate) fn end_of(files: &[GivenFile<'_>], first: usize) -> usize
     requires { first < length files.now }
     ensures some { first < result }

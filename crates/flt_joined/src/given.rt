@@ -14,7 +14,7 @@ use std::slice::from_ref;
 #[derive(Drop)]
 pub struct GivenFile<'a> {
     pub name: &'a str,
-    /// What it gives: its bytes, or the annotations of a C file.
+    /// The text that it gives: its bytes, or the annotations of a C file.
     pub text: Vec<u8>,
     /// Where the lines of annotations are; none for a file that isn't C.
     pub stands: Vec<Stand>,

@@ -42,7 +42,7 @@ impl JoinedText {
 #[derive(Drop)]
 pub struct JoinedTexts {
     pub texts: Vec<JoinedText>,
-    /// The files with which a text would be too long, so that there is none of the files with which they go on.
+    /// The files with which a text would be too long: the files that would make it make none.
     pub refused: Vec<FileFlaw>,
 }
 

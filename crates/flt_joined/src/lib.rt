@@ -1,4 +1,4 @@
-//! The texts that files make: a C file goes on with the text of a C file right before it, unless its annotations begin with `filter`. Each
+//! The texts that files make: a C file continues the text of a C file right before it, unless its annotations begin with `filter`. Each
 //! line of a text knows in which file it is, and where (`joined`).
 #![tactic(auto)]
 

@@ -1,4 +1,4 @@
-//! The text of files that go on with one another.
+//! The text of files that continue one another.
 
 ghost use Rattle.std.specs.Prelude.{◌≡◌, ◌<◌, Err, IfOk, MatchResult, flat_map, length, map};
 ghost use Rattle.flt_c.specs.Files.{extracted};
@@ -39,7 +39,7 @@ fn stands_of(alloc: Global, lines: &[Line]) -> Result<Vec<Stand>, AllocError>
     Ok(stands)
 }
 
-/// What a file gives by itself.
+/// The text that a file gives by itself.
 fn own_text(alloc: Global, file: &GivenFile<'_>) -> Result<MadeText, AllocError>
     ensures bytes { IfOk result (λ text. text.bytes.items ≡ file.now.text.items) }
     ensures stands { IfOk result (λ text. text.stands.items ≡ file.now.stands.items) }
@@ -84,7 +84,7 @@ pub(crate) fn annotations_of(
     }
 }
 
-/// The text of files that go on with one another, or why they make none.
+/// The text of files that continue one another, or why they make none.
 pub(crate) fn text_of(
     alloc: Global,
     files: &[GivenFile<'_>],

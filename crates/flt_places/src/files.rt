@@ -26,8 +26,8 @@ pub struct Stand {
     pub before: usize,
 }
 
-/// The files of a text, and where its lines are in them. A line after the last one that has a stand is as far after it in that file as in
-/// the text. So an ordinary text is a file by itself, without stands.
+/// The files of a text, and where its lines are in them. A line after the last of `stands` is as far after it in that file as in the
+/// text. So an ordinary text is a file by itself, with no `stands`.
 #[derive(Clone, Copy)]
 pub struct Files<'a> {
     pub all: &'a [SourceFile<'a>],
@@ -35,7 +35,7 @@ pub struct Files<'a> {
     pub stands: &'a [Stand],
 }
 
-/// The last of some stands; without any, one above the first line of the first file.
+/// The last of some places of lines; without any, one above the first line of the first file.
 fn last_stand(stands: &[Stand]) -> Stand
     ensures { result ≡ spec.last_stand stands.now }
 {
@@ -49,7 +49,7 @@ fn last_stand(stands: &[Stand]) -> Stand
     }
 }
 
-/// Where a line is that comes after those with these stands.
+/// Where a line is that comes after those with these places.
 fn stand_after(stands: &[Stand], line: usize) -> Stand
     ensures { result ≡ spec.stand_after stands.now line }
 {

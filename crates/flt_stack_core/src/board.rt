@@ -33,8 +33,8 @@ use std::alloc::Global;
 use std::marker::Model;
 use std::sync::ledger::{Book, Share};
 
-/// What a stack's lock guards: a board of the filters that N names, the system's choices, the books of the board's entries, and that of
-/// refusals for lack of room. Contracts see the board and the choices.
+/// The value that a stack's lock guards: a board of the filters that N names, the system's choices, the books of the board's entries,
+/// and that of refusals for lack of room. Contracts see the board and the choices.
 #[derive(Drop)]
 pub struct Core<N: StackName> {
     pub(crate) board: Board,
