@@ -38,7 +38,7 @@ use Rattle.flt_words.specs.declared.request.Part.{Part}
 use Rattle.flt_words.specs.declared.request.Form.{Form}
 use Rattle.flt_words.specs.declared.request.Form.TheVariants.{Html, Human, Lines, LinesWithRuns, Sarif, SarifWithRuns, Short}
 use Rattle.json.specs.Token.{Token}
-use Rattle.flt_explain_details.specs.declared.judged.TextJudgement.{Judged as Found}
+use Rattle.flt_explain_details.specs.declared.judged.TextJudgement.{TextJudgement as Found}
 use Rattle.flt_explain_details.specs.declared.judged.TextJudgement.TheVariants.{Unread, Known}
 use Rattle.flt_tree.specs.declared.tree.Tree.{Tree}
 use Rattle.flt_model.specs.Program.{by_altitude}

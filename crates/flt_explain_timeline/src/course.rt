@@ -5,7 +5,7 @@ ghost use Rattle.flt_model.specs.declared.moves.JournalEntry.{JournalEntry as Wr
 ghost use Rattle.flt_replay_world.specs.Filters.{filters_behind};
 ghost use Rattle.flt_explain_timeline.specs.Course as spec;
 ghost use Rattle.flt_explain_timeline.specs.Tellings.{AreToldBy};
-ghost use Rattle.flt_explain_timeline.specs.declared.running.DescribedEntry.{Told as Here};
+ghost use Rattle.flt_explain_timeline.specs.declared.running.DescribedEntry.{DescribedEntry as Here};
 
 use crate::going::Stage;
 use crate::refusal::Refusal;
