@@ -1,5 +1,5 @@
 -- What a caller's call did to its seat. This project's own rule.
-use Rattle.std.specs.Prelude.{◌≡◌, ◌≢◌, ◌×◌, ◌+◌, Result, Err, OnOk, OnErr}
+use Rattle.std.specs.Prelude.{◌≡◌, ◌≢◌, ◌+◌, Result, Err, OnOk, OnErr}
 use Rattle.flt_stack_core.specs.declared.names.StackName.{Ghosts}
 use Rattle.flt_stack_threads.specs.Places.{IsCallerOf, asked_by}
 use Rattle.flt_stack_threads.specs.declared.exchange.Exchange.{Exchange}
