@@ -337,11 +337,11 @@ pub(crate) fn told<O: Sink, W: SearchWatch>(
 
 /// The output for the texts that files make, in a form, with the drifts of the C files among them.
 #[tactic(auto, using(crate::proofs::Sources::within))]
-fn told_joined<O: Sink, W: SearchWatch>(
+fn told_joined<'s, O: Sink, W: SearchWatch>(
     alloc: Global,
     asked: ExplainOptions<'_>,
-    files: &[GivenFile<'_>],
-    joined: &JoinedTexts,
+    files: &'s [GivenFile<'s>],
+    joined: &'s JoinedTexts,
     unread: &[UnreadFile],
     out: &mut O,
     watch: &mut W,

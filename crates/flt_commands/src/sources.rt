@@ -57,7 +57,7 @@ pub(crate) fn codes_in(
     alloc: Global,
     files: Vec<GivenFile<'_>>,
 ) -> Result<Vec<Option<Vec<u8>>>, AllocError>
-    ensures { IfOk result (λ all. all.items ≡ map (λ file. file.code) files.items) }
+    ensures { IfOk result (λ all. all.items ≡ map (λ file. file.code) files.entry.items) }
 {
     let mut all = Vec::new(alloc);
     for file in files {

@@ -9,4 +9,4 @@ loop-number-init c = rw (c.new.ensures.items, c.new-2.ensures.items, c.new-3.ens
 pub loop-number-preserved : goal.loop-number-preserved
 loop-number-preserved c =
     one_more_parsed c.args.sources.now c.loop-number.number _ (omega (arith, c.loop-number-test.true)) _ _ _ _ _ _ c.loop-number.invariant
-    c.in_ok-add_parsed.ensures
+    (rw c.index-sources-number.is at c.in_ok-add_parsed.ensures)

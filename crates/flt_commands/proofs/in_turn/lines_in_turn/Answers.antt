@@ -8,7 +8,7 @@ loop-source-preserved g c =
     record {
       told = one_more_told c.args.sources.now c.loop-source.source-index _
           (omega (arith, c.loop-source-test.true)) c.args.style c.args.options _ _ _ _
-          c.loop-source.invariant.told more;
+          c.loop-source.invariant.told (rw c.source-item.is at more);
       sent = more_sent _ _ _ _ _ _ _ _ c.loop-source.invariant.sent more;
       fine = c.in_ok-put_text.ensures.fine ∙ c.loop-source.invariant.fine;
     }

@@ -1,5 +1,5 @@
-use Rattle.std.proofs.Common.{◌≡◌, Err, List, ◌∷◌, ℕ, Bor, map, refl, rules}
-use Rattle.std.proofs.lemmas.List.{take_rest}
+use Rattle.std.proofs.Common.{◌≡◌, Err, List, ◌∷◌, ℕ, Bor, map, refl, rules, sym}
+use Rattle.std.proofs.lemmas.List.{length-map, take_rest}
 use Rattle.flt_commands.specs.Inputs.{unread}
 use Rattle.flt_commands.proofs.Readings.{says_of_first}
 use Rattle.flt_commands.specs.Running.{IsRan}
@@ -31,4 +31,5 @@ returns g c =
     rw (c.as_slice.ensures.value, c.in_ok-extend_from_slice.ensures.items, c.in_ok-push.ensures.items, c.new-names.ensures.items) refl in
     says_of_first _ IsRan _ _ _ _ c.index.result.now _ c.index.ensures
     (rw c.deref.ensures.value (take_rest _ 1))
-    (rw names at c.in_ok-contents.ensures.ok) (rw c.as_slice-script.ensures.value at c.run_texts.ensures)
+    (rw names at c.in_ok-contents.ensures.ok)
+    (rw c.as_slice-script.ensures.value at (c.answer_of.ensures _ _ (sym (length-map _ _)) c.run-ran.ensures))

@@ -1,6 +1,6 @@
 use Rattle.std.proofs.Common.{rules}
 use Rattle.flt_commands.proofs.Lengths.{kept_of}
-use Rattle.flt_commands.proofs.named.NamedInputs.read_text.Goals as goal
+use Rattle.flt_commands.proofs.named.SystemFilesInputs.read_text.Goals as goal
 
 pub returns-then-eq : goal.returns-then-eq
 returns-then-eq g c =

@@ -1,6 +1,6 @@
 use Rattle.std.proofs.Common.{rules}
 use Rattle.flt_commands.proofs.Ended.{given_of}
-use Rattle.flt_commands.proofs.named.NamedInputs.read.Goals as goal
+use Rattle.flt_commands.proofs.named.SystemFilesInputs.read.Goals as goal
 
 pub returns-then-eq : goal.returns-then-eq
 returns-then-eq g c =
