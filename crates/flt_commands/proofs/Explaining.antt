@@ -1,5 +1,5 @@
 -- What `explain` of files comes to, and what went out of it.
-use Rattle.std.proofs.Common.{◌≡◌, ◌≢◌, ◌∙◌, ℕ, true, false, Bool, List, ◌++◌, Bor, Vec, Global, Option, Some, None}
+use Rattle.std.proofs.Common.{◌≡◌, ◌≢◌, ◌∙◌, ℕ, true, false, Bool, List, ◌++◌, Bor, Vec, Global, Option, Some, None, OnOk}
 use Rattle.std.proofs.Common.{Result, Ok, Err, IfErr, IfOk, IsErr, ap, flat_map, map, option_map, refl, sym, take}
 use Rattle.std.proofs.KnownBytes.{Appends-nil}
 use Rattle.std.specs.Io.KnownBytes.{Appends}
@@ -97,6 +97,13 @@ module _ (form : Form) (look : Look) (allowed : List Text) (journal : Option Tex
       IfErr result (λ e. e ≡ OutOfMemory → IsCutOfFiles form options states allowed (givens files) old new)
   joined_cut options states old new (Ok t) cut = tt
   joined_cut options states old new (Err e) cut = λ short. explain.some_told drifted sources _ compared these (cut short)
+
+  -- or where memory runs out later
+  pub joined_out : (options : WarningOptions) (states : ℕ) (old new : Option Text) (result : Result ExplainOutput CommandFault) →
+      OnOk result (IsCutAfter (first_in form drifted) form options states sources old new) →
+      OnOk result (IsCutOfFiles form options states allowed (givens files) old new)
+  joined_out options states old new (Ok t) cut = explain.some_told drifted sources _ compared these cut
+  joined_out options states old new (Err e) cut = tt
 
 -- ---- of names and what they give
 

@@ -1,5 +1,7 @@
 -- The sources of texts that files make.
-use Rattle.std.proofs.Common.{◌≡◌, ◌∙◌, ◌≤◌, ℕ, zero, suc, ◌-◌, List, [], ◌∷◌, ap, ap₂, arith, drop, length, map, refl, sym, take}
+use Rattle.std.proofs.Common.{◌≡◌, ◌∙◌, ◌≤◌, ◌<◌, ℕ, zero, suc, ◌+◌, ◌-◌, List, [], ◌∷◌, ◌++◌, ap, ap₂, arith, drop, get_or, length, map, refl}
+use Rattle.std.proofs.Common.{sym, take}
+use Rattle.std.proofs.Math.Seq.{take-suc}
 use Rattle.std.proofs.lemmas.List.{length-map}
 use Rattle.std.specs.List.{AllZip}
 use Rattle.std.specs.Prelude.{All, filter, slice_range}
@@ -103,3 +105,19 @@ texts_of_sources own [] (s ∷ sources) of = absurd of
 texts_of_sources own (j ∷ texts) [] of = absurd of
 texts_of_sources own (j ∷ texts) (s ∷ sources) of =
     ap₂ (λ bytes rest. bytes ∷ rest) (sym of.0.bytes) (texts_of_sources own texts sources of.1)
+
+pushed : {X Y : Type 0} (R : X → Y → Type 0) (xs : List X) (ys : List Y) (x : X) (y : Y) → AllZip R xs ys → R x y →
+    AllZip R (xs ++ x ∷ []) (ys ++ y ∷ [])
+pushed R [] [] x y h r = (r, tt)
+pushed R [] (b ∷ ys) x y h r = absurd h
+pushed R (a ∷ xs) [] x y h r = absurd h
+pushed R (a ∷ xs) (b ∷ ys) x y h r = (h.0, pushed R xs ys x y h.1 r)
+
+-- the sources of the texts so far and of the next one
+pub source_more : (files : List SourceFile) (all : List JoinedText) (found : List Source) (i : ℕ) (text : JoinedText) (source : Source) →
+    i < length all → text ≡ get_or all i text → AllZip (IsSourceIn files) (take i all) found → IsSourceIn files text source →
+    AllZip (IsSourceIn files) (take (i + 1) all) (found ++ source ∷ [])
+source_more files all found i text source within is before one =
+    let next : take (suc i) all ≡ take i all ++ get_or all i text ∷ [] = take-suc all i text within in
+    let same : i + 1 ≡ suc i = omega arith in
+    rw (same, next, ← is) (pushed (IsSourceIn files) (take i all) found text source before one)

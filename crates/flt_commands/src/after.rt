@@ -116,6 +116,9 @@ fn explain_early<O: Sink, W: SearchWatch>(
     ensures memory { IfErr result (λ e. e ≡ CommandFault.OutOfMemory →
         spec.IsCutAfter (spec.first_in asked.entry.form drifted.now) asked.entry.form asked.entry.options asked.entry.states sources.now
         (O.taken out.old) (O.taken out.new)) }
+    ensures cut { OnOk result
+        (spec.IsCutAfter (spec.first_in asked.entry.form drifted.now) asked.entry.form asked.entry.options asked.entry.states sources.now
+        (O.taken out.old) (O.taken out.new)) }
 {
     let first = first_drifts(alloc, asked.form, drifted)?;
     let worth = drift_status(asked.options.is_strict, drifted);
@@ -147,6 +150,9 @@ pub(crate) fn explain_after<O: Sink, W: SearchWatch>(
     ensures write { IfErr result (λ e. e ≡ CommandFault.Write → O.failures out.new ≢ O.failures out.old) }
     ensures memory { IfErr result (λ e. e ≡ CommandFault.OutOfMemory →
         spec.IsCutAfter (spec.first_in asked.entry.form drifted.now) asked.entry.form asked.entry.options asked.entry.states sources.now
+        (O.taken out.old) (O.taken out.new)) }
+    ensures cut { OnOk result
+        (spec.IsCutAfter (spec.first_in asked.entry.form drifted.now) asked.entry.form asked.entry.options asked.entry.states sources.now
         (O.taken out.old) (O.taken out.new)) }
 {
     if holds_back(asked) {

@@ -336,7 +336,6 @@ pub(crate) fn told<O: Sink, W: SearchWatch>(
 }
 
 /// The output for the texts that files make, in a form, with the drifts of the C files among them.
-#[tactic(auto, using(crate::proofs::Sources::within))]
 fn told_joined<'s, O: Sink, W: SearchWatch>(
     alloc: Global,
     asked: ExplainOptions<'_>,
@@ -357,6 +356,9 @@ fn told_joined<'s, O: Sink, W: SearchWatch>(
     ensures write { IfErr result (λ e. e ≡ CommandFault.Write → O.failures out.new ≢ O.failures out.old) }
     ensures memory { IfErr result (λ e. e ≡ CommandFault.OutOfMemory →
         spec.IsCutOfFiles asked.entry.form asked.entry.options asked.entry.states (map (λ name. name.now) asked.entry.allowed.now)
+        (givens files.now) (O.taken out.old) (O.taken out.new)) }
+    ensures cut { OnOk result
+        (spec.IsCutOfFiles asked.entry.form asked.entry.options asked.entry.states (map (λ name. name.now) asked.entry.allowed.now)
         (givens files.now) (O.taken out.old) (O.taken out.new)) }
 {
     let drifted = drifted_files(alloc, asked.allowed, files)?;

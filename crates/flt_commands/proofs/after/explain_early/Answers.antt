@@ -33,3 +33,7 @@ pub returns-in_err-told-clause-memory : goal.returns-in_err-told-clause-memory
 returns-in_err-told-clause-memory g c =
     cut_always _
     (explain.drifts_out _ (rw (c.as_slice.ensures.value, c.in_ok-first.ensures) at c.in_ok-put_all.ensures.ok) c.in_ok-own.ensures.cut)
+
+pub returns-clause-cut : goal.returns-clause-cut
+returns-clause-cut g c =
+    explain.drifts_out _ (rw (c.as_slice.ensures.value, c.in_ok-first.ensures) at c.in_ok-put_all.ensures.ok) c.in_ok-own.ensures.cut

@@ -15,7 +15,8 @@ answers_done : (shown : Bool) (gives : Giving) (written : Text → Text → Type
     IfOk result (Answers shown gives written (Does same old new) words) → IfOk result (AnswersSomehow gives written words)
 answers_done shown gives written same old new = answers_anyway shown gives written (Does same old new)
 
-pub returns-in_ok-coloured-2 : goal.returns-in_ok-coloured-2
-returns-in_ok-coloured-2 g c =
-    answers_done c.in_ok-coloured.coloured given_by_host written_by_host _ None None (map string_bytes c.args.words.now)
-    c.command-result.result c.command-result.ensures.answers
+pub returns-in-Ok-result : goal.returns-in-Ok-result
+returns-in-Ok-result g c =
+    rw c.in-Ok-result.is at
+    (answers_done _ given_by_host written_by_host _ None None (map string_bytes c.args.words.now) c.command-result.result
+    c.command-result.ensures.answers)
