@@ -5,7 +5,9 @@ use flt_model::Verdict;
 use flt_order::Acquisition;
 use flt_replay::replay;
 use flt_rules::LockNumber;
-use flt_search_deadlocks::{Answer, Bounds, Deadlock, UnwatchedSearch, WatchedSearch, find_deadlock};
+use flt_search_deadlocks::{
+    Answer, Bounds, Deadlock, UnwatchedSearch, WatchedSearch, find_deadlock,
+};
 use flt_syntax::{Tree, parse};
 use std::alloc::{AllocError, Global};
 use std::test::Fail;
