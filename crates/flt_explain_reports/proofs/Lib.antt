@@ -1,6 +1,6 @@
 pub mod Codes
 pub mod Covering
-pub mod MoreReports
+pub mod Firsts
 pub mod Placing
 pub mod Widths
 pub mod Written

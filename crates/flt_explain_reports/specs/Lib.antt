@@ -9,6 +9,7 @@ pub mod Line
 pub mod MarkOrder
 pub mod MarkWords
 pub mod Marks
+pub mod Reported
 pub mod Reports
 pub mod Shown
 pub mod WarningReport

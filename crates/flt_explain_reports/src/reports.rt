@@ -1,34 +1,17 @@
 //! Reports of texts, part by part.
 
 ghost use Rattle.std.specs.Prelude.{◌≡◌, slice_get, IfOk};
-ghost use Rattle.std.specs.List.{AllZip};
 ghost use Rattle.flt_explain_details.specs.Page.{Writes};
-ghost use Rattle.flt_explain_reports.specs.Covering.{AreFirsts};
 ghost use Rattle.flt_explain_reports.specs.Fault.{IsFaultReport};
 ghost use Rattle.flt_explain_reports.specs.Finding.{finding_report};
 ghost use Rattle.flt_explain_reports.specs.Reports as spec;
 
 use crate::fault_report::report_fault;
 use crate::finding_report::report_finding;
-use flt_explain::Finding;
 use flt_explain_details::{Page, Scene, Source, Traces, Words, words_of};
 use flt_explain_ways::Group;
-use flt_graph::Graph;
-use flt_places::{Files, Lines, SourceFile};
-use flt_syntax::Tree;
-use sqlite_items::Items;
+use flt_places::{Files, SourceFile};
 use std::alloc::{AllocError, Global};
-
-/// The report of a finding, and of those of the same origin.
-#[derive(Drop)]
-pub struct Report {
-    /// The number of the finding among those of its text, from 0.
-    pub finding: usize,
-    /// Whether each path to it that was found breaks another rule before.
-    pub is_behind: bool,
-    /// Whole lines.
-    pub lines: Vec<u8>,
-}
 
 /// The lines of the report of a group of findings in these words: that of the first, and where the others are.
 fn lines_in(
@@ -52,8 +35,13 @@ fn lines_in(
     Ok(page.out)
 }
 
-/// The lines of the report of a group of findings.
-fn group_lines(
+/// The report of a group of findings in whole lines: the lines of the text that show the first, a path that leads there, how to fix it, and
+/// where the others are. With `coloured`, escape sequences of a terminal colour it.
+///
+/// # Errors
+///
+/// If memory is refused.
+pub fn report_group(
     alloc: Global,
     coloured: bool,
     scene: &Scene<'_>,
@@ -67,75 +55,6 @@ fn group_lines(
     let words = words_of(alloc, scene, &finding, traces.shown(&group.first))?;
     let lines = lines_in(alloc, coloured, scene, traces, group, &words)?;
     Ok(lines)
-}
-
-/// The report of a group of findings.
-fn report_of(
-    alloc: Global,
-    coloured: bool,
-    scene: &Scene<'_>,
-    traces: &Traces,
-    group: &Group,
-) -> Result<Report, AllocError>
-    ensures { IfOk result
-        (spec.IsReport coloured scene.now.files scene.now.lines.now scene.now.tree.now.filter scene.now.graph.now
-        traces.now group.now) }
-{
-    let lines = group_lines(alloc, coloured, scene, traces, group)?;
-    Ok(Report {
-        finding: group.first.number,
-        is_behind: traces.is_behind(&group.first),
-        lines,
-    })
-}
-
-/// The reports of the groups of findings of a text, in their order.
-fn report_groups(
-    alloc: Global,
-    coloured: bool,
-    scene: &Scene<'_>,
-    traces: &Traces,
-) -> Result<Items<Report>, AllocError>
-    ensures { IfOk result
-        (AllZip (spec.IsReport coloured scene.now.files scene.now.lines.now scene.now.tree.now.filter
-        scene.now.graph.now traces.now) traces.now.groups) }
-{
-    let mut all = Items::new(alloc);
-    for group in traces.groups.as_slice() {
-        all.push(report_of(alloc, coloured, scene, traces, group)?)?;
-    }
-    Ok(all)
-}
-
-/// The reports of the findings of a text that parses, in their order, those of one origin in one report: each with the lines that show it,
-/// a path that leads there, and how to fix it. Each finding has a report or is akin to one before it that has. With `coloured`, escape
-/// sequences of a terminal colour them.
-///
-/// # Errors
-///
-/// If memory is refused.
-pub fn report_findings(
-    alloc: Global,
-    coloured: bool,
-    source: Source<'_>,
-    tree: &Tree,
-    graph: &Graph,
-    found: &[Finding],
-) -> Result<Items<Report>, AllocError>
-    ensures reports { IfOk result
-        (spec.AreReports coloured source.entry.files source.entry.text.now tree.now.filter graph.now found.now) }
-    ensures firsts { IfOk result (λ all. AreFirsts found.now (spec.numbers_of all)) }
-{
-    let lines = Lines::of(alloc, source.text)?;
-    let scene = Scene {
-        lines: &lines,
-        files: source.files,
-        tree,
-        graph,
-    };
-    let traces = Traces::of(alloc, graph, found)?;
-    let reports = report_groups(alloc, coloured, &scene, &traces)?;
-    Ok(reports)
 }
 
 /// The words before a name: none before the first.

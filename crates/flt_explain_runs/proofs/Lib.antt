@@ -1,7 +1,8 @@
 pub mod Answers
 pub mod Closing
-pub mod Parts
+pub mod Notes
 pub mod QuietLines
+pub mod Reports
 pub mod Runs
 pub mod Said
 pub mod Several

@@ -1,8 +1,8 @@
 -- What comes of findings in runs, with one more callback and without it.
-use Rattle.std.proofs.Common.{◌≡◌, ◌<◌, ℕ, zero, suc, List, [], ◌∷◌, ◌++◌, Option, Some, None, IfSome, sym, ap, arith, subst, ◌∙◌, ◌+◌}
-use Rattle.std.proofs.Common.{All, append_assoc, drop, get_or, length, length-drop, map, reverse, slice_get, string_bytes, take}
+use Rattle.std.proofs.Common.{◌≡◌, ◌<◌, ℕ, zero, suc, false, List, [], ◌∷◌, ◌++◌, Option, Some, None, IfSome, sym, ap, arith, subst, ◌∙◌, ◌+◌}
+use Rattle.std.proofs.Common.{All, append_assoc, drop, get_or, length, length-drop, reverse, slice_get, string_bytes, take}
 use Rattle.std.specs.Prelude.{◌≢◌}
-use Rattle.std.proofs.lemmas.List.{drop_more, map_more, reverse-append, take_more}
+use Rattle.std.proofs.lemmas.List.{drop_more, reverse-append, take_more}
 use Rattle.std.proofs.lemmas.Slice.Zip.{AllZip-long}
 use Rattle.flt_explain_details.specs.Reports.{IsJudged}
 use Rattle.flt_explain_details.specs.declared.judged.TextJudgement.{TextJudgement}
@@ -11,15 +11,14 @@ use Rattle.flt_explain_runs.specs.declared.setters.Setter.{Setter}
 use Rattle.std.specs.Prelude.{Contains}
 use Rattle.std.specs.List.{AllZip}
 use Rattle.std.proofs.lemmas.List.Elements.{All-nil, All-cons, All-head, All-tail}
-use Rattle.flt_syntax.specs.Spelling.{Spells}
 use Rattle.flt_tree.specs.Names.{Text}
 use Rattle.flt_tree.specs.declared.filter.Callback.{Callback}
 use Rattle.flt_tree.specs.declared.filter.Filter.{Filter}
 use Rattle.flt_tree.specs.declared.tree.Tree.{Tree}
 use Rattle.flt_graph.specs.declared.graph.Graph.{Graph}
 use Rattle.flt_explain.specs.declared.finding.Finding.{Finding}
-use Rattle.flt_model.specs.Program.{filters_of}
-use Rattle.flt_explain_reports.specs.declared.reports.Report.{Report}
+use Rattle.flt_explain_reports.specs.Reported.{numbers_of}
+use Rattle.flt_explain_reports.specs.declared.reported.ReportedFinding.{ReportedFinding}
 use Rattle.flt_search.specs.Found.{IsFound}
 use Rattle.flt_search.specs.declared.judging.BreakingJournal.{BreakingJournal}
 use Rattle.flt_explain_runs.specs.Schedules.{AreOutcomes, IsSchedule, IsScheduled}
@@ -30,34 +29,36 @@ use Rattle.flt_explain_runs.specs.declared.schedules.Schedule.TheVariants.{Break
 use Rattle.flt_explain_runs.specs.declared.schedules.JointOutcome.{JointOutcome}
 use Rattle.flt_explain_runs.specs.declared.schedules.JointOutcome.TheVariants.{Together, Alone}
 use Rattle.flt_explain_runs.specs.declared.schedules.Suspect.{Suspect}
-use Rattle.flt_explain_runs.specs.Again.{GoesOn, IsAgainBy, IsAlone, IsOfJudged, IsSetter, IsOutcomeAgain, IsOutcomeOf as IsOutcomeIn}
-use Rattle.flt_explain_runs.specs.Again.{IsSetting, IsSuspectAgain, ended, line_ends}
+use Rattle.flt_explain_runs.specs.Again.{IsAgainBy, IsAlone, IsOutcomeAgain, IsOutcomeOf as IsOutcomeIn}
+use Rattle.flt_explain_runs.specs.Again.{IsSetting, IsSuspectAgain}
+use Rattle.flt_explain_runs.specs.Setters.{GoesOn, IsOfJudged, IsSetter, ended, line_ends}
 use Rattle.flt_model.specs.declared.verdict.Violation.{Violation}
 use Rattle.flt_explain_runs.specs.Noted.{IsAgain, IsAlso, IsBrokenBy, IsNear, schedule_of}
 use Rattle.flt_explain_runs.specs.declared.noted.Note.{Note}
-use Rattle.flt_explain_runs.specs.Printing.{IsOutcomeOf, IsSuspectOf}
+use Rattle.flt_explain_runs.specs.Noting.{IsOutcomeOf, IsSuspectOf}
 use Rattle.flt_explain_runs.specs.declared.again.Setting.{Setting}
 use Rattle.flt_explain_runs.specs.declared.noted.SetterOutcome.{SetterOutcome}
 use Rattle.flt_explain_runs.specs.declared.noted.SetterOutcome.TheVariants.{Runs, RunsNowhere}
-use Rattle.flt_explain_runs.specs.declared.printing.ParsedText.{ParsedText}
+use Rattle.flt_explain_runs.specs.declared.noting.ParsedText.{ParsedText}
 
--- what comes of suspects is what comes of the findings that reports are of
-pub outcomes_of : (trees : List Tree) (k : ParsedText) (g : Graph) (reports : List Report) (found : List Suspect) (all : List Outcome) →
-    g ≡ k.graph.now → AllZip (IsSuspectOf k.found.now) reports found → AreOutcomes trees k.place g found all →
-    AllZip (IsOutcomeOf trees k) reports all
+-- what comes of suspects is what comes of the findings that are reported
+pub outcomes_of : (trees : List Tree) (k : ParsedText) (g : Graph) (reported : List ReportedFinding) (found : List Suspect)
+    (all : List Outcome) →
+    g ≡ k.graph.now → AllZip (IsSuspectOf k.found.now) reported found → AreOutcomes trees k.place g found all →
+    AllZip (IsOutcomeOf trees k) reported all
 outcomes_of trees k g [] [] [] same suspects are = tt
 outcomes_of trees k g [] [] (o ∷ all) same suspects are = absurd are
 outcomes_of trees k g [] (s ∷ found) all same suspects are = absurd suspects
-outcomes_of trees k g (r ∷ reports) [] all same suspects are = absurd suspects
-outcomes_of trees k g (r ∷ reports) (s ∷ found) [] same suspects are = absurd are
-outcomes_of trees k g (r ∷ reports) (s ∷ found) (o ∷ all) same suspects are =
+outcomes_of trees k g (r ∷ reported) [] all same suspects are = absurd suspects
+outcomes_of trees k g (r ∷ reported) (s ∷ found) [] same suspects are = absurd are
+outcomes_of trees k g (r ∷ reported) (s ∷ found) (o ∷ all) same suspects are =
     let first : IsOutcomeOf trees k r o = record {
       number = are.0.number ∙ suspects.0.number;
       finding = s.finding;
       numbered = suspects.0.is;
       scheduled = subst (λ h. IsScheduled trees k.place h s.finding o.scheduled) same are.0.scheduled;
     } in
-    (first, outcomes_of trees k g reports found all same suspects.1 are.1)
+    (first, outcomes_of trees k g reported found all same suspects.1 are.1)
 
 found_by : (p : List Filter) (cs : List Callback) (g : Graph) (f : Finding) (a : Schedule) (b : BreakingJournal) →
     IsSchedule p cs g f a → a ≡ Breaks b →
@@ -111,16 +112,11 @@ pub again_is : (text : Text) (found : List Finding) (s : Setting) (number : ℕ)
     IsOutcomeIn s number o → IsAgainBy o a → (f : Finding) → slice_get found number ≡ Some f → IsAgain text f a
 again_is text found s number o RunsNowhere setting its by f numbered = tt
 again_is text found s number o (Runs b) setting its by f numbered =
-    let trees = s.setter.trees in
-    let setter = setting.setter in
-    let found_there : IsFound (filters_of trees) (violations_of f.rule) b =
-    all_at (IsOutcomeAgain trees found) s.outcomes.items its.place o setting.outcomes its.at f b
-    (subst (λ n. slice_get found n ≡ Some f) (sym its.same) numbered) by in
     record {
-      more = setter.on.more;
-      filter = setter.tree.filter;
-      spelled = subst (λ t. Spells t setter.tree.filter) setter.on.is setter.spelled;
-      found = subst (λ ts. IsFound (filters_of ts) (violations_of f.rule) b) setter.alone found_there;
+      setter = s.setter;
+      is = setting.setter;
+      found = all_at (IsOutcomeAgain s.setter.trees found) s.outcomes.items its.place o setting.outcomes its.at f b
+          (subst (λ n. slice_get found n ≡ Some f) (sym its.same) numbered) by;
     }
 
 -- what the run of an earlier note at the same point breaks too
@@ -139,22 +135,19 @@ zip_more R [] (b ∷ ys) x y are is = absurd are
 zip_more R (a ∷ xs) [] x y are is = absurd are
 zip_more R (a ∷ xs) (b ∷ ys) x y are is = (are.0, zip_more R xs ys x y are.1 is)
 
--- a report's number is below the count of findings
-pub within_at : (count : ℕ) (reports : List Report) (i : ℕ) (r : Report) →
-    All (λ (r : Report). r.finding < count) reports → i < length reports →
-    r ≡ get_or reports i r → r.finding < count
-within_at count [] i r all h is = absurd (omega (arith, h))
-within_at count (x ∷ reports) zero r all h is = rw is (All-head (λ (r : Report). r.finding < count) x reports all)
-within_at count (x ∷ reports) (suc i) r all h is =
-    within_at count reports i r (All-tail (λ (r : Report). r.finding < count) x reports all) (omega (arith, h)) is
+-- what stands behind the last finding that is reported
+abbrev pub unreported : ReportedFinding
+unreported = record { number = 0; is_behind = false }
 
--- one more report has its suspect
-pub suspects_more : (found : List Finding) (reports : List Report) (i : ℕ) (r : Report) (old new : List Suspect) (s : Suspect) →
-    i < length reports → r ≡ get_or reports i r → AllZip (IsSuspectOf found) (take i reports) old → IsSuspectOf found r s →
-    new ≡ old ++ s ∷ [] → AllZip (IsSuspectOf found) (take (i + 1) reports) new
-suspects_more found reports i r old new s h is are it added =
-    let more : take (i + 1) reports ≡ take i reports ++ r ∷ [] = take_more reports i r h ∙ ap (λ x. take i reports ++ x ∷ []) (sym is) in
-    rw (more, added) (zip_more (IsSuspectOf found) (take i reports) old r s are it)
+-- one more finding has its suspect
+pub suspects_more : (found : List Finding) (reported : List ReportedFinding) (i : ℕ) (r : ReportedFinding) (old new : List Suspect)
+    (s : Suspect) →
+    i < length reported → r ≡ get_or reported i r → AllZip (IsSuspectOf found) (take i reported) old → IsSuspectOf found r s →
+    new ≡ old ++ s ∷ [] → AllZip (IsSuspectOf found) (take (i + 1) reported) new
+suspects_more found reported i r old new s h is are it added =
+    let more : take (i + 1) reported ≡ take i reported ++ r ∷ [] =
+    take_more reported i r h ∙ ap (λ x. take i reported ++ x ∷ []) (sym is) in
+    rw (more, added) (zip_more (IsSuspectOf found) (take i reported) old r s are it)
 
 -- what is there has a number below the count
 pub get_within : (found : List Finding) (n : ℕ) (f : Finding) → slice_get found n ≡ Some f → n < length found
@@ -185,37 +178,31 @@ setter_is text whole added line (Found tree graph found) (Some s) on ends counte
   spelled = is.spelled;
 }
 
--- something came of each report's finding
-pub some_left : (trees : List Tree) (k : ParsedText) (reports : List Report) (i : ℕ) (all : List Outcome) → i < length reports →
-    AllZip (IsOutcomeOf trees k) (drop i reports) (reverse all) → all ≢ []
-some_left trees k reports i [] h are none =
-    let long = AllZip-long (IsOutcomeOf trees k) (drop i reports) [] are in
-    let left = length-drop i reports in omega (arith, h, long, left)
-some_left trees k reports i (o ∷ all) h are none = cc
+-- something came of each finding that is reported
+pub some_left : (trees : List Tree) (k : ParsedText) (reported : List ReportedFinding) (i : ℕ) (all : List Outcome) → i < length reported →
+    AllZip (IsOutcomeOf trees k) (drop i reported) (reverse all) → all ≢ []
+some_left trees k reported i [] h are none =
+    let long = AllZip-long (IsOutcomeOf trees k) (drop i reported) [] are in
+    let left = length-drop i reported in omega (arith, h, long, left)
+some_left trees k reported i (o ∷ all) h are none = cc
 
--- the last outcome that is left is that of the next report
-pub next_outcome : (trees : List Tree) (k : ParsedText) (reports : List Report) (i : ℕ) (r : Report) (old rest : List Outcome) (o : Outcome) →
-    i < length reports → r ≡ get_or reports i r → AllZip (IsOutcomeOf trees k) (drop i reports) (reverse old) → old ≡ rest ++ o ∷ [] →
-    IsOutcomeOf trees k r o × AllZip (IsOutcomeOf trees k) (drop (i + 1) reports) (reverse rest)
-next_outcome trees k reports i r old rest o h is are last =
-    let front : drop i reports ≡ r ∷ drop (i + 1) reports =
-    drop_more reports i r h ∙ ap (λ x. x ∷ drop (i + 1) reports) (sym is) in
+-- the last outcome that is left is that of the next one
+pub next_outcome : (trees : List Tree) (k : ParsedText) (reported : List ReportedFinding) (i : ℕ) (r : ReportedFinding)
+    (old rest : List Outcome) (o : Outcome) →
+    i < length reported → r ≡ get_or reported i r → AllZip (IsOutcomeOf trees k) (drop i reported) (reverse old) → old ≡ rest ++ o ∷ [] →
+    IsOutcomeOf trees k r o × AllZip (IsOutcomeOf trees k) (drop (i + 1) reported) (reverse rest)
+next_outcome trees k reported i r old rest o h is are last =
+    let front : drop i reported ≡ r ∷ drop (i + 1) reported =
+    drop_more reported i r h ∙ ap (λ x. x ∷ drop (i + 1) reported) (sym is) in
     let back : reverse old ≡ o ∷ reverse rest = ap reverse last ∙ reverse-append rest (o ∷ []) in
-    subst (λ os. AllZip (IsOutcomeOf trees k) (r ∷ drop (i + 1) reports) os) back
+    subst (λ os. AllZip (IsOutcomeOf trees k) (r ∷ drop (i + 1) reported) os) back
     (subst (λ rs. AllZip (IsOutcomeOf trees k) rs (reverse old)) front are)
 
--- the numbers of reports
-pub within_all : (count : ℕ) (reports : List Report) → All (λ n. n < count) (map (λ (r : Report). r.finding) reports) →
-    All (λ (r : Report). r.finding < count) reports
-within_all count [] all = All-nil (λ (r : Report). r.finding < count)
-within_all count (r ∷ reports) all =
-    All-cons (λ (r : Report). r.finding < count) r reports
-    (All-head (λ n. n < count) r.finding (map (λ (r : Report). r.finding) reports) all)
-    (within_all count reports (All-tail (λ n. n < count) r.finding (map (λ (r : Report). r.finding) reports) all))
-
--- one more report has its finding's number last
-pub numbers_taken : (reports : List Report) (i : ℕ) (r : Report) → i < length reports → r ≡ get_or reports i r →
-    map (λ (r : Report). r.finding) (take (i + 1) reports) ≡ map (λ (r : Report). r.finding) (take i reports) ++ r.finding ∷ []
-numbers_taken reports i r h is =
-    map_more (λ (r : Report). r.finding) reports i r h
-    ∙ ap (λ (x : Report). map (λ (r : Report). r.finding) (take i reports) ++ x.finding ∷ []) (sym is)
+-- the numbers of findings that are reported
+pub within_all : (count : ℕ) (reported : List ReportedFinding) → All (λ n. n < count) (numbers_of reported) →
+    All (λ (r : ReportedFinding). r.number < count) reported
+within_all count [] all = All-nil (λ (r : ReportedFinding). r.number < count)
+within_all count (r ∷ reported) all =
+    All-cons (λ (r : ReportedFinding). r.number < count) r reported
+    (All-head (λ n. n < count) r.number (numbers_of reported) all)
+    (within_all count reported (All-tail (λ n. n < count) r.number (numbers_of reported) all))

@@ -1,6 +1,6 @@
 -- The reports of several texts, one behind the other, and what of them is put out.
 use Rattle.std.proofs.Common.{inl, inr, ◌≡◌, ◌<◌, ◌≤◌, ◌+◌, ◌-◌, ℕ, zero, suc, Bool, true, false, List}
-use Rattle.std.proofs.Common.{[], ◌∷◌, ◌++◌, IfOk, Result, Ok, Err, Option, Some, None, refl, ap, sym, subst}
+use Rattle.std.proofs.Common.{[], ◌∷◌, ◌++◌, Global, IfOk, Vec, Result, Ok, Err, Option, Some, None, refl, ap, sym, subst}
 use Rattle.std.proofs.Common.{arith, ◌∙◌, append_assoc, drop, take, get_or, length, length-append}
 use Rattle.std.specs.Io.KnownBytes.{Appends}
 use Rattle.std.proofs.lemmas.List.{append-nil, take-append-drop, take_all}
@@ -11,50 +11,40 @@ use Rattle.flt_explain_details.specs.Reports.{texts_of}
 use Rattle.flt_explain_details.specs.declared.sources.Source.{Source}
 use Rattle.flt_model.specs.Program.{filters_of}
 use Rattle.flt_explain_warning_details.specs.declared.options.WarningOptions.{WarningOptions}
-use Rattle.flt_explain_runs.specs.Noted.{AreNotesIn, AreNotesOf, no_text as notes_none, fails as notes_fails, parses as notes_parses}
+use Rattle.flt_explain_runs.specs.Noted.{AreNotesIn, no_text as notes_none}
+use Rattle.flt_explain_runs.specs.Noting.{AreNotesFor}
 use Rattle.flt_explain_runs.specs.Parsed.{AreParsed}
-use Rattle.flt_explain_runs.specs.Printing.{AreNotesFor, ArePrinted, HoldsBack, IsMore, IsPart, IsPrintOf, IsPutOut, part_of}
-use Rattle.flt_explain_runs.specs.Readings.{AreStudied, IsPlaced, IsReading, IsStudied, known, known_in, sources_read, texts_read}
+use Rattle.flt_explain_runs.specs.Parts.{notes_in, report_bytes}
+use Rattle.flt_explain_runs.specs.Printing.{ArePrinted, HoldsBack, IsKnownPart, IsMore, IsOnly, IsPrintOf, IsPutOut}
+use Rattle.flt_explain_runs.specs.Readings.{AreStudied, IsPlaced, IsStudied, known, known_in, sources_read, texts_read}
 use Rattle.flt_explain_runs.specs.Reported.{AreFirst, AreWhole, IsAllButLast, IsCut, none as parts_none, one_more as parts_more}
-use Rattle.flt_explain_runs.specs.Told.{nothing, others}
-use Rattle.flt_explain_runs.specs.Whole.{AreSeveralPrinted, IsKnownPrint, IsOnePrinted, IsPrintOfAll, Look, no_print}
+use Rattle.flt_explain_runs.specs.Told.{Say, nothing, others}
+use Rattle.flt_explain_runs.specs.Totals.{summary}
+use Rattle.flt_explain_runs.specs.Whole.{AreSeveralPrinted, IsOnePrinted, IsPrintOfAll, Look, no_print}
 use Rattle.flt_explain_runs.specs.declared.fault.ExplainFault.{ExplainFault}
 use Rattle.flt_explain_runs.specs.declared.noted.Note.{Note}
+use Rattle.flt_explain_runs.specs.declared.parts.TextReport.{TextReport}
 use Rattle.flt_explain_runs.specs.declared.readings.Reading.{Reading}
 use Rattle.flt_explain_runs.specs.declared.readings.Reading.TheVariants.{Unread, Other, Known}
 use Rattle.flt_explain_runs.specs.declared.readings.StudiedText.{StudiedText}
-use Rattle.flt_explain_runs.specs.declared.output.Output.{Output}
 use Rattle.flt_explain_runs.specs.declared.together.PrintedTexts.{PrintedTexts}
 use Rattle.flt_explain_runs.specs.declared.totals.Total.{Total}
-use Rattle.flt_explain_runs.specs.Quiet.{quieted}
-use Rattle.flt_explain_runs.specs.Totals.{summary}
 use Rattle.flt_explain_runs.proofs.Closing.{quiet_summary}
-use Rattle.flt_explain_runs.proofs.QuietLines.{quieted_same}
-use Rattle.flt_explain_runs.proofs.Said.{said_both, said_none}
+use Rattle.flt_explain_runs.proofs.Notes.{text_more}
+use Rattle.flt_explain_runs.proofs.Said.{said_both, said_more}
 use Rattle.flt_explain_runs.proofs.Studied.{here, known_push, last_placed, last_studied, sources_both, sources_push, texts_push, with_last}
 use Rattle.flt_explain_runs.proofs.Whole.{prints_more}
 
 -- ---- what is printed
 
--- the notes of a text more
-notes_more : (trees : List Tree) (place : ℕ) (ts : List Text) (notes : List Note) (text : Text) (r : Reading) (own : List Note) →
-    AreNotesIn trees place ts notes → IsReading trees text r → IsPlaced place r → AreNotesFor trees text r own →
-    AreNotesIn trees (place + known r) (ts ++ text ∷ []) (notes ++ own)
-notes_more trees place ts notes text (Unread f) own are is placed none =
-    let same : place + 0 ≡ place = omega arith in rw (same, none, append-nil notes) (notes_fails are is.fault)
-notes_more trees place ts notes text (Other kind) own are is placed none =
-    let same : place + 0 ≡ place = omega arith in rw (same, none, append-nil notes) (notes_fails are is.unread)
-notes_more trees place ts notes text (Known at) own are is placed its =
-    notes_parses are (subst (λ n. AreNotesOf trees text n own) placed its)
-
 -- nothing at first
-pub printed_none : (look : Look) (trees : List Tree) (files : List Files) (p : PrintedTexts) → p.output.bytes.items ≡ [] → p.output.noted ≡ [] →
+pub printed_none : (look : Look) (trees : List Tree) (files : List Files) (p : PrintedTexts) → p.bytes.items ≡ [] → p.noted ≡ [] →
     p.total.status ≡ 0 →
     p.total.findings ≡ 0 → p.total.files ≡ 0 → ArePrinted look trees files [] p
 printed_none look trees files p bytes noted status findings many = record {
   parts = rw (bytes, status, findings, many) parts_none;
   notes = rw noted notes_none;
-  said = said_none trees look.states p.output bytes noted;
+  said = rw (bytes, noted) nothing;
   prints = rw (bytes, noted, status, findings, many) no_print;
 }
 
@@ -71,15 +61,15 @@ pub printed_more : (look : Look) (trees : List Tree) (files : List Files) (each 
 printed_more look trees files each s old new are is placed more = record {
   parts = rw (sources_push each s, more.bytes, more.status, more.findings, more.counted) (parts_more are.parts more.is.report);
   notes = rw (texts_push each s, known_push each s, more.noted)
-      (notes_more trees (known_in each) (texts_read each) old.output.noted s.source.text.now s.reading
-      more.part.output.noted are.notes is placed more.is.notes);
+      (text_more trees (known_in each) (texts_read each) old.noted s.source.text.now s.reading (notes_in more.part) are.notes is placed
+      more.is.notes);
   said = rw (more.noted, more.bytes)
-      (others (old.output.noted ++ more.part.output.noted) (old.output.bytes.items ++ more.part.output.bytes.items) (10 ∷ [])
-      (said_both trees look.states old.output.noted old.output.bytes.items are.said more.is.said) refl);
+      (others (old.noted ++ notes_in more.part) (old.bytes.items ++ report_bytes more.part) (10 ∷ [])
+      (said_both trees look.states old.noted old.bytes.items are.said more.is.said) refl);
   prints = rw (sources_push each s, known_push each s, more.noted, more.bytes, more.status, more.findings, more.counted)
-      (prints_more look trees files (known_in each) (sources_read each) old.output.noted old.output.bytes.items
+      (prints_more look trees files (known_in each) (sources_read each) old.noted old.bytes.items
       old.total.status old.total.findings old.total.files s.source s.reading more.part are.prints placed
-      (unnoted trees s.source.text.now s.reading more.part.output.noted more.is.notes) more.is.print);
+      (unnoted trees s.source.text.now s.reading (notes_in more.part) more.is.notes) more.is.print);
 }
 
 -- ---- what is put out
@@ -113,20 +103,20 @@ take_within (suc n) (x ∷ xs) rest within = ap (λ z. x ∷ z) (take_within n x
 -- what isn't put out yet is what is more
 pub rest_out : (look : Look) (trees : List Tree) (files : List Files) (s : StudiedText) (old new : PrintedTexts) (a b c : Option (List ℕ)) →
     IsMore look trees files s old new →
-    old.sent ≡ length old.output.bytes.items → Appends a b old.output.bytes.items → Appends b c (drop old.sent new.output.bytes.items) →
-    Appends a c new.output.bytes.items
+    old.sent ≡ length old.bytes.items → Appends a b old.bytes.items → Appends b c (drop old.sent new.bytes.items) →
+    Appends a c new.bytes.items
 rest_out look trees files s old new a b c more all first second =
-    let report = more.part.output.bytes.items in
-    let is : new.output.bytes.items ≡ old.output.bytes.items ++ (report ++ 10 ∷ []) =
-    more.bytes ∙ append_assoc old.output.bytes.items report (10 ∷ []) in
-    let rest : drop old.sent new.output.bytes.items ≡ report ++ 10 ∷ [] =
-    rw (all, is) (drop_first old.output.bytes.items (report ++ 10 ∷ [])) in
-    appends_rest a b c old.output.bytes.items new.output.bytes.items (report ++ 10 ∷ []) first (subst (λ z. Appends b c z) rest second) is
+    let report = report_bytes more.part in
+    let is : new.bytes.items ≡ old.bytes.items ++ (report ++ 10 ∷ []) =
+    more.bytes ∙ append_assoc old.bytes.items report (10 ∷ []) in
+    let rest : drop old.sent new.bytes.items ≡ report ++ 10 ∷ [] =
+    rw (all, is) (drop_first old.bytes.items (report ++ 10 ∷ [])) in
+    appends_rest a b c old.bytes.items new.bytes.items (report ++ 10 ∷ []) first (subst (λ z. Appends b c z) rest second) is
 
 -- whole reports of the first of some texts
 pub first_of : (look : Look) (trees : List Tree) (files : List Files) (each : List StudiedText) (further : List Source) (p : PrintedTexts) →
     ArePrinted look trees files each p → AreParsed (texts_of (sources_read each ++ further)) (filters_of trees) →
-    AreFirst look.options (sources_read each) further look.states p.output.bytes.items
+    AreFirst look.options (sources_read each) further look.states p.bytes.items
 first_of look trees files each further p are parsed = record {
   trees = trees;
   parsed = parsed;
@@ -135,7 +125,7 @@ first_of look trees files each further p are parsed = record {
   files = p.total.files;
   reports = are.parts;
   place = known_in each;
-  notes = p.output.noted;
+  notes = p.noted;
   noted = are.notes;
   said = are.said;
 }
@@ -148,13 +138,13 @@ cut_none options sources states old = record { printed = []; added = appends_non
 pub cut_at : (look : Look) (trees : List Tree) (files : List Files) (all each rest : List StudiedText) (p : PrintedTexts) (held : Bool)
     (old new : Option (List ℕ)) →
     AreParsed (texts_read all) (filters_of trees) → all ≡ each ++ rest → ArePrinted look trees files each p → (held ≡ true → new ≡ old) →
-    (held ≡ false → Appends old new p.output.bytes.items) → IsCut look.options (sources_read all) look.states old new
+    (held ≡ false → Appends old new p.bytes.items) → IsCut look.options (sources_read all) look.states old new
 cut_at look trees files all each rest p true old new parsed is are none some =
     rw (none refl) (cut_none look.options (sources_read all) look.states old)
 cut_at look trees files all each rest p false old new parsed is are none some =
     let whole : sources_read all ≡ sources_read each ++ sources_read rest = ap sources_read is ∙ sources_both each rest in
     record {
-      printed = p.output.bytes.items;
+      printed = p.bytes.items;
       added = some refl;
       are = inr (record {
         before = sources_read each;
@@ -178,7 +168,7 @@ pub put_out : (look : Look) (trees : List Tree) (files : List Files) (all each :
     (a b : Option (List ℕ)) →
     AreParsed (texts_read all) (filters_of trees) → all ≡ each ++ s ∷ [] → ArePrinted look trees files each old → IsMore look trees files s
     old new →
-    new.sent ≡ old.sent → HoldsBack held old → (held ≡ true → b ≡ a) → (held ≡ false → Appends a b old.output.bytes.items) →
+    new.sent ≡ old.sent → HoldsBack held old → (held ≡ true → b ≡ a) → (held ≡ false → Appends a b old.bytes.items) →
     IsPutOut look.options (sources_read all) look.states held a b new
 put_out look trees files all each s old new true a b parsed is are more kept holds none some =
     let sent : new.sent ≡ 0 = kept ∙ holds.none refl in
@@ -189,11 +179,11 @@ put_out look trees files all each s old new true a b parsed is are more kept hol
       late = λ h. sent;
     }
 put_out look trees files all each s old new false a b parsed is are more kept holds none some =
-    let bytes = old.output.bytes.items in
-    let rest = more.part.output.bytes.items ++ 10 ∷ [] in
+    let bytes = old.bytes.items in
+    let rest = report_bytes more.part ++ 10 ∷ [] in
     let sent : new.sent ≡ length bytes = kept ∙ holds.all refl in
-    let whole : new.output.bytes.items ≡ bytes ++ rest = more.bytes ∙ append_assoc bytes more.part.output.bytes.items (10 ∷ []) in
-    let first : take new.sent new.output.bytes.items ≡ bytes = rw (sent, whole) (take_first bytes rest) in
+    let whole : new.bytes.items ≡ bytes ++ rest = more.bytes ∙ append_assoc bytes (report_bytes more.part) (10 ∷ []) in
+    let first : take new.sent new.bytes.items ≡ bytes = rw (sent, whole) (take_first bytes rest) in
     let sources : sources_read all ≡ sources_read each ++ s.source ∷ [] = ap sources_read is ∙ sources_push each s in
     record {
       within = rw (sent, whole) (omega (arith, length-append bytes rest));
@@ -207,11 +197,11 @@ put_out look trees files all each s old new false a b parsed is are more kept ho
 -- with more behind it
 pub put_out_more : (options : WarningOptions) (sources : List Source) (states : ℕ) (held : Bool) (a b : Option (List ℕ)) (old new : PrintedTexts)
     (more : List ℕ) → IsPutOut options sources states held a b old → new.sent ≡ old.sent →
-    new.output.bytes.items ≡ old.output.bytes.items ++ more → IsPutOut options sources states held a b new
+    new.bytes.items ≡ old.bytes.items ++ more → IsPutOut options sources states held a b new
 put_out_more options sources states held a b old new more is same added =
-    let bytes = old.output.bytes.items in
+    let bytes = old.bytes.items in
     let within = is.within in
-    let first : take old.sent bytes ≡ take new.sent new.output.bytes.items =
+    let first : take old.sent bytes ≡ take new.sent new.bytes.items =
     rw (same, added) (sym (take_within old.sent bytes more within)) in
     record {
       within = rw (same, added) (omega (arith, length-append bytes more, within));
@@ -232,19 +222,19 @@ whole_of_all_but_last options (s ∷ ss) states printed all =
 pub cut_after : (options : WarningOptions) (sources : List Source) (states : ℕ) (held : Bool) (a b : Option (List ℕ)) (p : PrintedTexts) →
     IsPutOut options sources states held a b p → IsCut options sources states a b
 cut_after options sources states true a b p is = record {
-  printed = take p.sent p.output.bytes.items;
+  printed = take p.sent p.bytes.items;
   added = is.added;
-  are = inl (ap (λ n. take n p.output.bytes.items) (is.late refl));
+  are = inl (ap (λ n. take n p.bytes.items) (is.late refl));
 }
 cut_after options sources states false a b p is = record {
-  printed = take p.sent p.output.bytes.items;
+  printed = take p.sent p.bytes.items;
   added = is.added;
-  are = whole_of_all_but_last options sources states (take p.sent p.output.bytes.items) (is.early refl);
+  are = whole_of_all_but_last options sources states (take p.sent p.bytes.items) (is.early refl);
 }
 
 -- nothing is put out of nothing
 pub put_out_none : (options : WarningOptions) (states : ℕ) (held : Bool) (a : Option (List ℕ)) (p : PrintedTexts) →
-    p.output.bytes.items ≡ [] → p.sent ≡ 0 →
+    p.bytes.items ≡ [] → p.sent ≡ 0 →
     IsPutOut options [] states held a a p
 put_out_none options states held a p bytes sent = record {
   within = rw (sent, bytes) (omega arith);
@@ -280,30 +270,15 @@ put_out_only options trees s states held a p parsed sent = record {
   late = λ h. sent;
 }
 
--- the notes of the only text
-pub only_notes : (trees : List Tree) (s : StudiedText) (own : List Note) → IsStudied trees s → IsPlaced 0 s.reading →
-    AreNotesFor trees s.source.text.now s.reading own → AreNotesIn trees (known s.reading + 0) (s.source.text.now ∷ []) own
-only_notes trees s own is placed its =
-    let same : known s.reading + 0 ≡ 0 + known s.reading = omega arith in
-    rw same (notes_more trees 0 [] [] s.source.text.now s.reading own notes_none is placed its)
-
--- the line that says how much is found stands behind the reports
-pub summed : (reports line new : List ℕ) (findings files count many : ℕ) → new ≡ reports ++ quieted line →
-    line ≡ summary findings files count ++ 10 ∷ [] → count ≡ many → new ≡ reports ++ summary findings files many ++ 10 ∷ []
-summed reports line new findings files count many added is same =
-    added ∙ ap (λ z. reports ++ quieted z) is
-    ∙ ap (λ z. reports ++ z) (quieted_same (summary findings files count ++ 10 ∷ []) (quiet_summary findings files count))
-    ∙ sym (append_assoc reports (summary findings files count) (10 ∷ [])) ∙ ap (λ n. reports ++ summary findings files n ++ 10 ∷ []) same
-
 -- the same where only that differs which is put out
 pub more_same : (look : Look) (trees : List Tree) (files : List Files) (s : StudiedText) (old mid new : PrintedTexts) →
-    IsMore look trees files s old mid → new.output ≡ mid.output →
+    IsMore look trees files s old mid → new.bytes ≡ mid.bytes → new.noted ≡ mid.noted →
     new.total ≡ mid.total → IsMore look trees files s old new
-more_same look trees files s old mid new more output total = record {
+more_same look trees files s old mid new more bytes noted total = record {
   part = more.part;
   is = more.is;
-  bytes = ap (λ (o : Output). o.bytes.items) output ∙ more.bytes;
-  noted = ap (λ (o : Output). o.noted) output ∙ more.noted;
+  bytes = ap (λ (b : Vec ℕ Global). b.items) bytes ∙ more.bytes;
+  noted = noted ∙ more.noted;
   status = ap (λ (t : Total). t.status) total ∙ more.status;
   findings = ap (λ (t : Total). t.findings) total ∙ more.findings;
   counted = ap (λ (t : Total). t.files) total ∙ more.counted;
@@ -314,15 +289,6 @@ pub empty_notes : (trees : List Tree) (each : List StudiedText) (notes : List No
     AreNotesIn trees (known_in each) (texts_read each) notes
 empty_notes trees [] notes few none = rw none notes_none
 empty_notes trees (s ∷ each) notes few none = absurd (omega (arith, few))
-
--- where there is one text, what was noted of it are the notes of all
-pub only_noted : (look : Look) (trees : List Tree) (files : List Files) (each : List StudiedText) (d : StudiedText) (p : PrintedTexts) →
-    1 ≤ length each → length each < 2 →
-    AreStudied trees 0 each → IsPart look trees files (get_or each 0 d) (part_of p) →
-    AreNotesIn trees (known_in each) (texts_read each) p.output.noted
-only_noted look trees files [] d p some few are part = absurd (omega (arith, some))
-only_noted look trees files (s ∷ []) d p some few are part = only_notes trees s p.output.noted are.0 are.1 part.notes
-only_noted look trees files (s ∷ (t ∷ each)) d p some few are part = absurd (omega (arith, few))
 
 -- where there is one text, and nothing was sent early, it is put out as a whole
 pub only_sent : (options : WarningOptions) (trees : List Tree) (states : ℕ) (held : Bool) (a : Option (List ℕ)) (each : List StudiedText)
@@ -335,8 +301,8 @@ only_sent options trees states held a (s ∷ (t ∷ each)) p some few parsed sen
 
 -- where there is no text, nothing printed is what is printed of all
 pub printed_empty : (look : Look) (trees : List Tree) (files : List Files) (each : List StudiedText) (p : PrintedTexts) → length each < 1 →
-    p.output.bytes.items ≡ [] →
-    p.output.noted ≡ [] → p.total.status ≡ 0 → p.total.findings ≡ 0 → p.total.files ≡ 0 → ArePrinted look trees files each p
+    p.bytes.items ≡ [] →
+    p.noted ≡ [] → p.total.status ≡ 0 → p.total.findings ≡ 0 → p.total.files ≡ 0 → ArePrinted look trees files each p
 printed_empty look trees files [] p few bytes noted status findings many = printed_none look trees files p bytes noted status findings many
 printed_empty look trees files (s ∷ each) p few bytes noted status findings many = absurd (omega (arith, few))
 
@@ -361,7 +327,7 @@ module _ (look : Look) (trees : List Tree) (files : List Files) (each : List Stu
   pub whole_sent : (held : Bool) (a b : Option (List ℕ)) → 1 ≤ length each → AreParsed (texts_read each) (filters_of trees) →
       length (take (length each - 1) each) ≤ i → ArePrinted look trees files (take i (take (length each - 1) each)) old →
       IsMore look trees files (get_or each (length each - 1) d) old new → new.sent ≡ old.sent → HoldsBack held old → (held ≡ true → b ≡ a) →
-      (held ≡ false → Appends a b old.output.bytes.items) →
+      (held ≡ false → Appends a b old.bytes.items) →
       IsPutOut look.options (sources_read each) look.states held a b new
   whole_sent held a b some parsed past printed more kept holds none out =
       let within : length each - 1 < length each = omega (arith, some) in
@@ -374,7 +340,7 @@ module _ (look : Look) (trees : List Tree) (files : List Files) (each : List Stu
 pub cut_here : (look : Look) (trees : List Tree) (files : List Files) (each : List StudiedText) (n i : ℕ) (p : PrintedTexts) (held : Bool)
     (old new : Option (List ℕ)) →
     AreParsed (texts_read each) (filters_of trees) → ArePrinted look trees files (take i (take n each)) p → (held ≡ true → new ≡ old) →
-    (held ≡ false → Appends old new p.output.bytes.items) →
+    (held ≡ false → Appends old new p.bytes.items) →
     IsCut look.options (sources_read each) look.states old new
 cut_here look trees files each n i p held old new parsed are none some =
     let before = take n each in
@@ -386,48 +352,82 @@ cut_here look trees files each n i p held old new parsed are none some =
 -- ---- all of it
 
 -- of the only text
-print_of_only : (look : Look) (trees : List Tree) (files : List Files) (s : Source) (r : Reading) (p : PrintedTexts) → IsPlaced 0 r →
-    (known r ≡ 0 → p.output.noted ≡ []) → IsPrintOf look trees files s r (part_of p) →
-    IsOnePrinted look trees files s p.output.noted p.output.bytes.items p.total.status
-print_of_only look trees files s (Unread f) p placed none is = record { count = p.total.findings; is = inr (none refl, inl is) }
-print_of_only look trees files s (Other kind) p placed none is = record { count = p.total.findings; is = inr (none refl, inr is) }
-print_of_only look trees files s (Known place) p placed none is = record {
-  count = p.total.findings;
-  is = inl (subst (λ n. IsKnownPrint look trees files n s p.output.noted p.output.bytes.items p.total.status p.total.findings) placed is);
-}
+print_of_only : (look : Look) (trees : List Tree) (files : List Files) (s : Source) (r : Reading) (p : TextReport) → IsPlaced 0 r →
+    (known r ≡ 0 → notes_in p ≡ []) → IsPrintOf look trees files s r p →
+    IsOnePrinted look trees files s (notes_in p) (report_bytes p) p.tally.status
+print_of_only look trees files s (Unread f) p placed none is = record { count = p.tally.findings; is = inr (none refl, inl is) }
+print_of_only look trees files s (Other kind) p placed none is = record { count = p.tally.findings; is = inr (none refl, inr is) }
+print_of_only look trees files s (Known place) p placed none is =
+    record { count = p.tally.findings; is = inl (subst (λ n. IsKnownPart look trees files n s p) placed is) }
 
--- where there is one text, its report is what is printed of all
-pub only_print : (look : Look) (trees : List Tree) (files : List Files) (each : List StudiedText) (d : StudiedText) (p : PrintedTexts) →
-    1 ≤ length each → length each < 2 →
-    AreStudied trees 0 each → IsPart look trees files (get_or each 0 d) (part_of p) →
-    IsPrintOfAll look trees files (sources_read each) p.output.noted p.output.bytes.items p.total.status
-only_print look trees files [] d p some few are part = absurd (omega (arith, some))
-only_print look trees files (s ∷ []) d p some few are part =
-    print_of_only look trees files s.source s.reading p are.1 (unnoted trees s.source.text.now s.reading p.output.noted part.notes)
-    part.print
-only_print look trees files (s ∷ (t ∷ each)) d p some few are part = absurd (omega (arith, few))
+-- where there is one text, what is printed and noted of it is that of all
+module _ (look : Look) (trees : List Tree) (files : List Files) (each : List StudiedText) (d : StudiedText) (p : PrintedTexts)
+    (some : 1 ≤ length each) (few : length each < 2) (are : AreStudied trees 0 each)
+    (only : IsOnly look trees files (get_or each 0 d) p) where
+  only_text : each ≡ get_or each 0 d ∷ []
+  only_text = go each some few
+    where
+      go : (each : List StudiedText) → 1 ≤ length each → length each < 2 → each ≡ get_or each 0 d ∷ []
+      go [] some few = absurd (omega (arith, some))
+      go (s ∷ []) some few = refl
+      go (s ∷ (t ∷ each)) some few = absurd (omega (arith, few))
+
+  only_studied : AreStudied trees 0 (get_or each 0 d ∷ [])
+  only_studied = subst (AreStudied trees 0) only_text are
+
+  pub only_noted : AreNotesIn trees (known_in each) (texts_read each) p.noted
+  only_noted =
+      let s = get_or each 0 d in
+      let same : known s.reading + 0 ≡ 0 + known s.reading = omega arith in
+      rw (only_text, only.noted, same)
+      (text_more trees 0 [] [] s.source.text.now s.reading (notes_in only.part) notes_none only_studied.0 only_studied.1 only.is.notes)
+
+  pub only_print : IsPrintOfAll look trees files (sources_read each) p.noted p.bytes.items p.total.status
+  only_print =
+      let s = get_or each 0 d in
+      rw (only_text, only.noted, only.bytes, only.status)
+      (print_of_only look trees files s.source s.reading only.part only_studied.1
+      (unnoted trees s.source.text.now s.reading (notes_in only.part) only.is.notes) only.is.print)
+
+  pub only_said : Say trees look.states p.noted p.bytes.items
+  only_said = rw (only.noted, only.bytes) only.is.said
 
 -- where there is no text, nothing is printed of all
 pub empty_print : (look : Look) (trees : List Tree) (files : List Files) (each : List StudiedText) (p : PrintedTexts) → length each < 1 →
-    p.output.noted ≡ [] →
-    p.output.bytes.items ≡ [] → p.total.status ≡ 0 →
-    IsPrintOfAll look trees files (sources_read each) p.output.noted p.output.bytes.items p.total.status
+    p.noted ≡ [] →
+    p.bytes.items ≡ [] → p.total.status ≡ 0 →
+    IsPrintOfAll look trees files (sources_read each) p.noted p.bytes.items p.total.status
 empty_print look trees files [] p few noted bytes status = (noted, bytes, status)
 empty_print look trees files (s ∷ each) p few noted bytes status = absurd (omega (arith, few))
+
+-- the line that says how much is found stands behind the reports
+pub summed : (reports line new : List ℕ) (findings files count many : ℕ) → new ≡ reports ++ line →
+    line ≡ summary findings files count ++ 10 ∷ [] → count ≡ many → new ≡ reports ++ summary findings files many ++ 10 ∷ []
+summed reports line new findings files count many added is same =
+    added ∙ ap (λ z. reports ++ z) is ∙ sym (append_assoc reports (summary findings files count) (10 ∷ []))
+    ∙ ap (λ n. reports ++ summary findings files n ++ 10 ∷ []) same
+
+-- it is none on runs
+pub said_summed : (trees : List Tree) (states : ℕ) (old : PrintedTexts) (notes : List Note) (line printed : List ℕ) (count : ℕ) →
+    Say trees states old.noted old.bytes.items → notes ≡ old.noted → printed ≡ old.bytes.items ++ line →
+    line ≡ summary old.total.findings old.total.files count ++ 10 ∷ [] → Say trees states notes printed
+said_summed trees states old notes line printed count said same added is =
+    rw same (said_more trees states old.noted old.bytes.items line printed said
+    (rw is (quiet_summary old.total.findings old.total.files count)) added)
 
 -- of several, with the line that says how much is found
 pub several_print : (look : Look) (trees : List Tree) (files : List Files) (each : List StudiedText) (old : PrintedTexts) (notes : List Note)
     (line printed : List ℕ) (count : ℕ) →
-    ArePrinted look trees files each old → notes ≡ old.output.noted → printed ≡ old.output.bytes.items ++ quieted line →
+    ArePrinted look trees files each old → notes ≡ old.noted → printed ≡ old.bytes.items ++ line →
     line ≡ summary old.total.findings old.total.files count ++ 10 ∷ [] → count ≡ length (sources_read each) →
     AreSeveralPrinted look trees files (sources_read each) notes printed old.total.status
 several_print look trees files each old notes line printed count are same added is many = record {
   place = known_in each;
-  prints = old.output.bytes.items;
+  prints = old.bytes.items;
   findings = old.total.findings;
   many = old.total.files;
   are = rw same are.prints;
-  whole = summed old.output.bytes.items line printed old.total.findings old.total.files count (length (sources_read each)) added is many;
+  whole = summed old.bytes.items line printed old.total.findings old.total.files count (length (sources_read each)) added is many;
 }
 
 some_print : (look : Look) (trees : List Tree) (files : List Files) (each : List StudiedText) (notes : List Note) (printed : List ℕ)
@@ -441,8 +441,8 @@ some_print look trees files (s ∷ (t ∷ each)) notes printed status some are =
 -- where there are two texts or more, what is printed of several is what is printed of all
 pub some_printed : (look : Look) (trees : List Tree) (files : List Files) (each : List StudiedText) (result : Result PrintedTexts ExplainFault) →
     2 ≤ length each →
-    IfOk result (λ p. AreSeveralPrinted look trees files (sources_read each) p.output.noted p.output.bytes.items p.total.status) →
-    IfOk result (λ p. IsPrintOfAll look trees files (sources_read each) p.output.noted p.output.bytes.items p.total.status)
+    IfOk result (λ p. AreSeveralPrinted look trees files (sources_read each) p.noted p.bytes.items p.total.status) →
+    IfOk result (λ p. IsPrintOfAll look trees files (sources_read each) p.noted p.bytes.items p.total.status)
 some_printed look trees files each (Ok p) some are =
-    some_print look trees files each p.output.noted p.output.bytes.items p.total.status some are
+    some_print look trees files each p.noted p.bytes.items p.total.status some are
 some_printed look trees files each (Err e) some are = tt

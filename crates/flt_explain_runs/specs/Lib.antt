@@ -5,7 +5,9 @@ pub mod Lines
 pub mod Meeting
 pub mod Noted
 pub mod Notices
+pub mod Noting
 pub mod Parsed
+pub mod Parts
 pub mod Possible
 pub mod Printing
 pub mod Quiet
@@ -14,6 +16,7 @@ pub mod Readings
 pub mod Reported
 pub mod Rows
 pub mod Schedules
+pub mod Setters
 pub mod Told
 pub mod Totals
 pub mod Unset

@@ -1,10 +1,8 @@
 -- What comes of the findings of texts in runs. This project's own definitions.
 use Rattle.std.specs.Prelude.{◌≡◌, ℕ, ◌+◌, Contains, IfSome, List, [], ◌∷◌, ◌++◌, Option, Some, None, map, slice_get}
-use Rattle.flt_syntax.specs.Spelling.{Spells}
 use Rattle.flt_syntax.specs.TextFails.{Fails}
 use Rattle.flt_syntax.specs.declared.fault.SyntaxFault.{SyntaxFault}
 use Rattle.flt_tree.specs.Names.{Text}
-use Rattle.flt_tree.specs.declared.filter.Filter.{Filter}
 use Rattle.flt_tree.specs.declared.tree.Tree.{Tree}
 use Rattle.flt_graph.specs.Graph.{place_at}
 use Rattle.flt_graph.specs.declared.graph.Graph.{Graph}
@@ -17,6 +15,8 @@ use Rattle.flt_search.specs.Found.{IsFound}
 use Rattle.flt_search.specs.declared.judging.BreakingJournal.{BreakingJournal}
 use Rattle.flt_explain_details.specs.Reports.{IsKnown}
 use Rattle.flt_explain_reports.specs.Covering.{AreFirsts}
+use Rattle.flt_explain_reports.specs.Reported.{AreReported}
+use Rattle.flt_explain_reports.specs.declared.reported.ReportedFinding.{ReportedFinding}
 use Rattle.flt_explain_runs.specs.Schedules.{IsScheduled, only}
 use Rattle.flt_explain_runs.specs.Violations.{violations_of}
 use Rattle.flt_explain_runs.specs.declared.schedules.Schedule.{Schedule}
@@ -24,9 +24,11 @@ use Rattle.flt_explain_runs.specs.declared.schedules.Schedule.TheVariants.{Break
 use Rattle.flt_explain_runs.specs.declared.schedules.JointOutcome.{JointOutcome}
 use Rattle.flt_explain_runs.specs.declared.schedules.JointOutcome.TheVariants.{Together, Alone}
 use Rattle.flt_explain_runs.specs.Parsed.{AreParsed}
+use Rattle.flt_explain_runs.specs.Setters.{IsSetter}
 use Rattle.flt_explain_runs.specs.declared.noted.SetterOutcome.{SetterOutcome}
 use Rattle.flt_explain_runs.specs.declared.noted.SetterOutcome.TheVariants.{Runs, RunsNowhere}
 use Rattle.flt_explain_runs.specs.declared.noted.Note.{Note}
+use Rattle.flt_explain_runs.specs.declared.setters.Setter.{Setter}
 
 -- ---- the first journal
 
@@ -84,12 +86,11 @@ pub record IsAlso (trees : List Tree) (place : ℕ) (found : List Finding) (earl
   pub broken : IsBrokenBy trees note v
   pub prevented : Contains (violations_of finding.rule) v
 
--- a text with something more behind it spells a filter of which this is a run that breaks what the finding's rule prevents
+-- of a text with one more callback behind it this is a run that breaks what the finding's rule prevents
 pub record IsRunWithMore (text : Text) (finding : Finding) (run : BreakingJournal) : Type 0 where
-  pub more : Text
-  pub filter : Filter
-  pub spelled : Spells (text ++ more) filter
-  pub found : IsFound (filter ∷ []) (violations_of finding.rule) run
+  pub setter : Setter
+  pub is : IsSetter text setter
+  pub found : IsFound (filters_of setter.trees) (violations_of finding.rule) run
 
 -- what comes of a finding where one more callback sets the contexts that nothing in its text sets
 abbrev pub IsAgain : Text → Finding → SetterOutcome → Type 0
@@ -120,8 +121,12 @@ pub data AreNoted (trees : List Tree) (text : Text) (place : ℕ) (graph : Graph
 abbrev pub numbers_in : List Note → List ℕ
 numbers_in notes = map (λ (n : Note). n.finding) notes
 
--- the notes of a text that parses, whose tree is that of this place. Their numbers rise, and each finding of the text is akin to one that
--- is noted
+-- what is reported of the finding of a note
+abbrev pub reported_in : Note → ReportedFinding
+reported_in n = record { number = n.finding; is_behind = n.is_behind }
+
+-- the notes of a text that parses, whose tree is that of this place: one of each finding that is reported by itself, in their order. Their
+-- numbers rise, and each finding of the text is akin to one that is noted
 pub record AreNotesOf (trees : List Tree) (text : Text) (place : ℕ) (notes : List Note) : Type 0 where
   pub tree : Tree
   pub own : slice_get trees place ≡ Some tree
@@ -129,6 +134,7 @@ pub record AreNotesOf (trees : List Tree) (text : Text) (place : ℕ) (notes : L
   pub found : List Finding
   pub known : IsKnown text tree graph found
   pub each : AreNoted trees text place graph found notes
+  pub reported : AreReported graph found (map reported_in notes)
   pub firsts : AreFirsts found (numbers_in notes)
 
 -- the notes of texts, so many of which parse: one text's behind the other's, and none of one that doesn't parse

@@ -18,8 +18,8 @@ use Rattle.flt_explain_runs.specs.declared.schedules.Schedule.{Schedule}
 use Rattle.flt_explain_runs.specs.declared.schedules.Schedule.TheVariants.{Breaks, NotWithin, Cut, NeverHanded, NeverStarted, NeverGot}
 use Rattle.flt_explain_runs.specs.declared.schedules.JointOutcome.{JointOutcome}
 use Rattle.flt_explain_runs.specs.declared.schedules.JointOutcome.TheVariants.{Together, Alone}
-use Rattle.flt_explain_runs.specs.Again.{IsSetter}
 use Rattle.flt_explain_runs.specs.Noted.{own_of, schedule_of}
+use Rattle.flt_explain_runs.specs.Setters.{IsSetter}
 use Rattle.flt_explain_runs.specs.declared.again.Setting.{Setting}
 use Rattle.flt_explain_runs.specs.declared.noted.SetterOutcome.{SetterOutcome}
 use Rattle.flt_explain_runs.specs.declared.noted.SetterOutcome.TheVariants.{Runs, RunsNowhere}

@@ -2,9 +2,11 @@
 use Rattle.std.specs.Prelude.{◌≡◌, ◌⊎◌, ℕ, ◌+◌, Bool, false, List, [], ◌∷◌, ◌++◌, Some, length, map, max, slice_get}
 use Rattle.flt_syntax.specs.declared.fault.SyntaxFault.{SyntaxFault}
 use Rattle.flt_tree.specs.Names.{Text}
+use Rattle.flt_tree.specs.declared.filter.Filter.{Filter}
 use Rattle.flt_tree.specs.declared.tree.Tree.{Tree}
 use Rattle.flt_graph.specs.declared.graph.Graph.{Graph}
 use Rattle.flt_explain.specs.declared.finding.Finding.{Finding}
+use Rattle.flt_explain_ways.specs.declared.grouping.Group.{Group}
 use Rattle.flt_model.specs.Program.{filters_of}
 use Rattle.flt_explain_reasons.specs.Notice as notices
 use Rattle.flt_explain_reasons.specs.declared.notice.Kind.{Kind}
@@ -13,9 +15,10 @@ use Rattle.flt_places.specs.declared.files.Files.{Files}
 use Rattle.flt_explain_details.specs.Closing.{fault_closing, findings_closing}
 use Rattle.flt_explain_details.specs.Reports.{IsKnown, name_of, texts_of}
 use Rattle.flt_explain_details.specs.declared.sources.Source.{Source}
+use Rattle.flt_explain_details.specs.declared.tracing.Traces.{Traces}
 use Rattle.flt_explain_reports.specs.Fault.{IsFaultReport}
-use Rattle.flt_explain_reports.specs.Reports.{AreReports}
-use Rattle.flt_explain_reports.specs.declared.reports.Report.{Report}
+use Rattle.flt_explain_reports.specs.Reported.{AreReportedBy}
+use Rattle.flt_explain_reports.specs.Reports.{AreLines}
 use Rattle.flt_explain_runs.specs.Schedules.{only}
 use Rattle.flt_explain_warning_details.specs.Details.{AreWarningDetails}
 use Rattle.flt_explain_warning_details.specs.Orderly.{PromisesOrder}
@@ -23,7 +26,7 @@ use Rattle.flt_explain_warning_details.specs.Options.{warned_status}
 use Rattle.flt_explain_warning_details.specs.declared.detail.WarningDetail.{WarningDetail}
 use Rattle.flt_explain_warning_details.specs.declared.options.WarningOptions.{WarningOptions}
 use Rattle.flt_explain_runs.specs.Lines.{again_line, note_line}
-use Rattle.flt_explain_runs.specs.Noted.{AreNoted}
+use Rattle.flt_explain_runs.specs.Noted.{AreNoted, reported_in}
 use Rattle.flt_explain_runs.specs.Notices.{AreNoticeLines, detaches}
 use Rattle.flt_explain_runs.specs.Parsed.{AreFilesOf, AreParsed, IsOther, IsUnread}
 use Rattle.flt_explain_runs.specs.Quiet.{quieted}
@@ -48,35 +51,33 @@ look_for asking = record { coloured = asking.coloured; states = asking.states; o
 
 -- ---- a text that parses
 
--- the reports of what is found of a text
-abbrev pub AreReported : Look → Source → Tree → Graph → List Finding → List Report → Type 0
-AreReported look s tree graph found reports = AreReports look.coloured s.files s.text.now tree.filter graph found reports
-
--- what is printed of a finding that has a report: the report; the line of its note, and rows; the line on one more callback, and rows
-pub record IsBlock (trees : List Tree) (files : List Files) (states : ℕ) (s : Source) (r : Report) (n : Note) (printed : List ℕ)
-    : Type 0 where
-  pub finding : n.finding ≡ r.finding
-  pub behind : n.is_behind ≡ r.is_behind
+-- what is printed of a group of findings of a text in these files, with this note: its report; the line of the note, and rows; the line on
+-- one more callback, and rows
+pub record IsBlock (look : Look) (trees : List Tree) (files : List Files) (own : Files) (text : Text) (f : Filter) (graph : Graph)
+    (traces : Traces) (group : Group) (n : Note) (printed : List ℕ) : Type 0 where
+  pub report : List ℕ
+  pub drawn : AreLines look.coloured own text f graph traces group report
   pub rows : List ℕ
   pub are : AreNoteRows trees files n rows
   pub again : List ℕ
-  pub more : AreAgainRows s.text.now s.files n.again again
-  pub whole : printed ≡ quieted r.lines.items ++ note_line trees states n ++ quieted rows ++ again_line n.again ++ quieted again
+  pub more : AreAgainRows text own n.again again
+  pub whole : printed ≡ quieted report ++ note_line trees look.states n ++ quieted rows ++ again_line n.again ++ quieted again
 
--- the same of each report and its note, one below the other
-pub data AreBlocks (trees : List Tree) (files : List Files) (states : ℕ) (s : Source) : List Report → List Note → List ℕ → Type 0 where
-  no_block : AreBlocks trees files states s [] [] []
-  one_block_more : {rs : List Report} {ns : List Note} {printed : List ℕ} {r : Report} {n : Note} {own : List ℕ} →
-      AreBlocks trees files states s rs ns printed → IsBlock trees files states s r n own →
-      AreBlocks trees files states s (rs ++ r ∷ []) (ns ++ n ∷ []) (printed ++ own)
+-- the same of each group and its note, one below the other
+pub data AreBlocks (look : Look) (trees : List Tree) (files : List Files) (own : Files) (text : Text) (f : Filter) (graph : Graph)
+    (traces : Traces) : List Group → List Note → List ℕ → Type 0 where
+  no_block : AreBlocks look trees files own text f graph traces [] [] []
+  one_block_more : {groups : List Group} {notes : List Note} {printed : List ℕ} {group : Group} {n : Note} {block : List ℕ} →
+      AreBlocks look trees files own text f graph traces groups notes printed →
+      IsBlock look trees files own text f graph traces group n block →
+      AreBlocks look trees files own text f graph traces (groups ++ group ∷ []) (notes ++ n ∷ []) (printed ++ block)
 
--- all reports of a text, each with its note
+-- the report of each group of the findings of a text, with the note on the finding that is reported for it
 pub record AreReportsWithNotes (look : Look) (trees : List Tree) (files : List Files) (s : Source) (tree : Tree) (graph : Graph)
-    (found : List Finding)
-    (notes : List Note) (printed : List ℕ) : Type 0 where
-  pub reports : List Report
-  pub are : AreReported look s tree graph found reports
-  pub blocks : AreBlocks trees files look.states s reports notes printed
+    (found : List Finding) (notes : List Note) (printed : List ℕ) : Type 0 where
+  pub traces : Traces
+  pub reported : AreReportedBy graph found traces (map reported_in notes)
+  pub blocks : AreBlocks look trees files s.files s.text.now tree.filter graph traces traces.groups notes printed
 
 -- a text with warnings, whose tree is that of this place
 abbrev pub warned_at : Look → List Tree → ℕ → Source → Tree → Warned

@@ -3,12 +3,15 @@
 
 ghost use Rattle.std.specs.Prelude.{◌≡◌, Some, All, IfOk, IfSome, slice_get, string_bytes};
 ghost use Rattle.flt_explain_runs.specs.Again as spec;
+ghost use Rattle.flt_explain_runs.specs.Lines as lines_of;
 ghost use Rattle.flt_explain_runs.specs.Noted.{IsAgain};
 ghost use Rattle.flt_explain_runs.specs.Rows as rows;
+ghost use Rattle.flt_explain_runs.specs.Setters.{IsSetter};
 
-use crate::lines::run_rows;
+use crate::lines::{again_line, run_rows};
 use crate::noted::{SetterOutcome, schedule_of};
 use crate::outlook::Outlook;
+use crate::parts::RunLines;
 use crate::schedules::{Outcome, Schedule, Suspect, Suspects, outcomes_among};
 use crate::setters::{Setter, is_same};
 use flt_explain::Finding;
@@ -149,7 +152,7 @@ impl Setting {
         states: u32,
         watch: &mut W,
     ) -> Result<Setting, AllocError>
-        requires setter { spec.IsSetter _text.now setter }
+        requires setter { IsSetter _text.now setter }
         ensures { IfOk result (spec.IsSetting _text.now found.now) }
     {
         let outcomes = outcomes_of(alloc, &setter, found, outcomes, states, watch)?;
@@ -190,11 +193,7 @@ impl Setting {
     }
 
     /// The lines after the one on a run: those of the callback, and the run as rows. The text is in these files.
-    ///
-    /// # Errors
-    ///
-    /// If memory is refused.
-    pub(crate) fn rows(
+    fn rows(
         &self,
         alloc: Global,
         files: &Files<'_>,
@@ -206,5 +205,27 @@ impl Setting {
             SetterOutcome::Runs(broken) => setter_rows(alloc, files, &self.setter, broken),
             SetterOutcome::RunsNowhere => Ok(Vec::new(alloc)),
         }
+    }
+
+    /// The line on an outcome in the text with the callback, and its rows. The text is in these files.
+    ///
+    /// # Errors
+    ///
+    /// If memory is refused.
+    pub(crate) fn lines(
+        &self,
+        alloc: Global,
+        files: &Files<'_>,
+        again: &SetterOutcome,
+    ) -> Result<RunLines, AllocError>
+        ensures line { IfOk result (λ lines. lines.line.items ≡ lines_of.again_line (Some again.now)) }
+        ensures rows { IfOk result (λ lines. rows.AreRowsBy self.now.setter files.now again.now lines.rows.items) }
+    {
+        let line = again_line(alloc, again)?;
+        let rows = self.rows(alloc, files, again)?;
+        Ok(RunLines {
+            line: line.into_bytes(),
+            rows,
+        })
     }
 }

@@ -11,8 +11,8 @@ ghost use Rattle.flt_explain_runs.specs.Whole.{IsPrint, look_for};
 
 use crate::fault::ExplainFault;
 use crate::noted::Note;
-use crate::output::Output;
-use crate::printing::Stage;
+use crate::noting::Stage;
+use crate::printing::Printer;
 use crate::readings::{Reading, StudiedText, read_all};
 use crate::together::PrintedTexts;
 use flt_explain_details::{Printout, Source};
@@ -68,19 +68,24 @@ fn files_in<'a>(alloc: Global, each: &[StudiedText<'a>]) -> Result<Vec<Files<'a>
 
 /// The output for texts, with its status.
 fn finished(printed: PrintedTexts) -> ExplainOutput
-    ensures output { result.explained.output.items ≡ printed.output.bytes.items }
+    ensures output { result.explained.output.items ≡ printed.bytes.items }
     ensures status { result.explained.status ≡ printed.total.status }
-    ensures noted { result.noted ≡ printed.output.noted }
+    ensures noted { result.noted ≡ printed.noted }
     ensures sent { result.sent ≡ printed.sent }
 {
-    let Output { bytes, noted } = printed.output;
+    let PrintedTexts {
+        bytes,
+        noted,
+        total,
+        sent,
+    } = printed;
     ExplainOutput {
         explained: Printout {
             output: bytes,
-            status: printed.total.status,
+            status: total.status,
         },
         noted,
-        sent: printed.sent,
+        sent,
     }
 }
 
@@ -124,14 +129,16 @@ pub fn explain<O: Sink, W: SearchWatch>(
     let readings = read_all(alloc, sources)?;
     let each = readings.each.as_slice();
     let files = files_in(alloc, each)?;
-    let stage = Stage {
-        alloc,
+    let printer = Printer {
+        stage: Stage {
+            alloc,
+            trees: readings.trees.as_slice(),
+            states: asking.states,
+        },
         coloured: asking.coloured,
-        trees: readings.trees.as_slice(),
         files: files.as_slice(),
-        states: asking.states,
         options: asking.options,
     };
-    let printed = stage.put_all(each, asking.is_held, out, watch)?;
+    let printed = printer.put_all(each, asking.is_held, out, watch)?;
     Ok(finished(printed))
 }

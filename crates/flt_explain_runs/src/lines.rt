@@ -390,14 +390,13 @@ fn run_again(alloc: Global, broken: &BreakingJournal) -> Result<String, AllocErr
     Ok(line)
 }
 
-/// The line on the outcome of a finding in that text; empty if it wasn't looked for.
-pub(crate) fn again_line(alloc: Global, again: &Option<SetterOutcome>) -> Result<String, AllocError>
-    ensures { IfOk result (λ line. string_bytes line ≡ spec.again_line again.now) }
+/// The line on the outcome of a finding in that text.
+pub(crate) fn again_line(alloc: Global, again: &SetterOutcome) -> Result<String, AllocError>
+    ensures { IfOk result (λ line. string_bytes line ≡ spec.again_line (Some again.now)) }
 {
     match again {
-        None => Ok(String::new(alloc)),
-        Some(SetterOutcome::Runs(broken)) => run_again(alloc, broken),
-        Some(SetterOutcome::RunsNowhere) => String::from_str(
+        SetterOutcome::Runs(broken) => run_again(alloc, broken),
+        SetterOutcome::RunsNowhere => String::from_str(
             alloc,
             "   = with a callback that sets one: no run was found either\n",
         ),

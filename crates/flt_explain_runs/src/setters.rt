@@ -2,7 +2,7 @@
 //! the language leaves out.
 
 ghost use Rattle.std.specs.Prelude.{◌≡◌, ◌≤◌, ◌-◌, IfOk, IfSome, length, slice_get, string_bytes};
-ghost use Rattle.flt_explain_runs.specs.Again as spec;
+ghost use Rattle.flt_explain_runs.specs.Setters as spec;
 
 use crate::unset::Unset;
 use flt_explain::Finding;

@@ -1,5 +1,5 @@
 use Rattle.std.proofs.Common.{◌≡◌, ◌≤◌, ◌+◌, drop}
-use Rattle.flt_explain_runs.specs.Again.{line_ends}
+use Rattle.flt_explain_runs.specs.Setters.{line_ends}
 use Rattle.flt_explain_runs.proofs.setters.line_ends.Given as goal
 
 abbrev pub invariant-loop-byte : goal.invariant-loop-byte

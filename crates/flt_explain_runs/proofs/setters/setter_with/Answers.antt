@@ -1,5 +1,5 @@
 use Rattle.std.proofs.Common.{◌++◌, ◌+◌, ◌∙◌, ap, string_bytes}
-use Rattle.flt_explain_runs.specs.Again.{ended, line_ends}
+use Rattle.flt_explain_runs.specs.Setters.{ended, line_ends}
 use Rattle.flt_explain_runs.proofs.Runs.{goes_more, setter_is}
 use Rattle.flt_explain_runs.proofs.setters.setter_with.Goals as goal
 
