@@ -1,9 +1,11 @@
 -- The reports of several texts, one behind the other, and what of them is put out.
-use Rattle.std.proofs.Common.{inl, inr, ◌≡◌, ◌<◌, ◌≤◌, ◌+◌, ◌-◌, ℕ, zero, suc, Bool, true, false, List}
-use Rattle.std.proofs.Common.{[], ◌∷◌, ◌++◌, Global, IfOk, Vec, Result, Ok, Err, Option, Some, None, refl, ap, sym, subst}
+use Rattle.std.proofs.Common.{inl, inr, ◌≡◌, ◌<◌, ◌≤◌, ◌-◌, ℕ, Bool, true, false, List}
+use Rattle.std.proofs.Common.{[], ◌∷◌, ◌++◌, Option, Some, None, refl, ap, sym, subst, max}
 use Rattle.std.proofs.Common.{arith, ◌∙◌, append_assoc, drop, take, get_or, length, length-append}
+use Rattle.std.specs.Prelude.{if◌then◌else◌}
 use Rattle.std.specs.Io.KnownBytes.{Appends}
-use Rattle.std.proofs.lemmas.List.{append-nil, take-append-drop, take_all}
+use Rattle.std.proofs.lemmas.Bool.{le-ltb}
+use Rattle.std.proofs.lemmas.List.{append-nil, length-map, take-append-drop, take_all}
 use Rattle.flt_places.specs.declared.files.Files.{Files}
 use Rattle.flt_tree.specs.Names.{Text}
 use Rattle.flt_tree.specs.declared.tree.Tree.{Tree}
@@ -15,13 +17,13 @@ use Rattle.flt_explain_runs.specs.Noted.{AreNotesIn, no_text as notes_none}
 use Rattle.flt_explain_runs.specs.Noting.{AreNotesFor}
 use Rattle.flt_explain_runs.specs.Parsed.{AreParsed}
 use Rattle.flt_explain_runs.specs.Parts.{notes_in, report_bytes}
-use Rattle.flt_explain_runs.specs.Printing.{ArePrinted, HoldsBack, IsKnownPart, IsMore, IsOnly, IsPrintOf, IsPutOut}
+use Rattle.flt_explain_runs.specs.Printing.{ArePrinted, AreTold, HoldsBack, IsKnownPart, IsMore, IsPart, IsPrintOf, IsPutOut}
 use Rattle.flt_explain_runs.specs.Readings.{AreStudied, IsPlaced, IsStudied, known, known_in, sources_read, texts_read}
-use Rattle.flt_explain_runs.specs.Reported.{AreFirst, AreWhole, IsAllButLast, IsCut, none as parts_none, one_more as parts_more}
+use Rattle.flt_explain_runs.specs.Reported.{AreAllReports, AreFirst, AreSummed, IsAllButLast, IsCut}
+use Rattle.flt_explain_runs.specs.Reported.{none as parts_none, one_more as parts_more}
 use Rattle.flt_explain_runs.specs.Told.{Say, nothing, others}
-use Rattle.flt_explain_runs.specs.Totals.{summary}
-use Rattle.flt_explain_runs.specs.Whole.{AreSeveralPrinted, IsOnePrinted, IsPrintOfAll, Look, no_print}
-use Rattle.flt_explain_runs.specs.declared.fault.ExplainFault.{ExplainFault}
+use Rattle.flt_explain_runs.specs.Totals.{ending, summary, with_tally}
+use Rattle.flt_explain_runs.specs.Whole.{ArePrints, AreSeveralPrinted, IsOnePrinted, IsPrintOfAll, Look, fails, no_print, parses}
 use Rattle.flt_explain_runs.specs.declared.noted.Note.{Note}
 use Rattle.flt_explain_runs.specs.declared.parts.TextReport.{TextReport}
 use Rattle.flt_explain_runs.specs.declared.readings.Reading.{Reading}
@@ -32,21 +34,38 @@ use Rattle.flt_explain_runs.specs.declared.totals.Total.{Total}
 use Rattle.flt_explain_runs.proofs.Closing.{quiet_summary}
 use Rattle.flt_explain_runs.proofs.Notes.{text_more}
 use Rattle.flt_explain_runs.proofs.Said.{said_both, said_more}
-use Rattle.flt_explain_runs.proofs.Studied.{here, known_push, last_placed, last_studied, sources_both, sources_push, texts_push, with_last}
+use Rattle.flt_explain_runs.proofs.Studied.{known_push, last_placed, last_studied, sources_both, sources_push, texts_push, with_last}
 use Rattle.flt_explain_runs.proofs.Whole.{prints_more}
 
 -- ---- what is printed
 
 -- nothing at first
 pub printed_none : (look : Look) (trees : List Tree) (files : List Files) (p : PrintedTexts) → p.bytes.items ≡ [] → p.noted ≡ [] →
-    p.total.status ≡ 0 →
-    p.total.findings ≡ 0 → p.total.files ≡ 0 → ArePrinted look trees files [] p
-printed_none look trees files p bytes noted status findings many = record {
-  parts = rw (bytes, status, findings, many) parts_none;
-  notes = rw noted notes_none;
+    (p.total.status ≡ 0) × (p.total.findings ≡ 0) × (p.total.files ≡ 0) → ArePrinted look trees files [] p
+printed_none look trees files p bytes noted total = record {
+  parts = rw (bytes, total.0, total.1, total.2) parts_none;
+  noted = rw noted notes_none;
   said = rw (bytes, noted) nothing;
-  prints = rw (bytes, noted, status, findings, many) no_print;
+  prints = rw (bytes, noted, total.0, total.1, total.2) no_print;
 }
+
+-- of no text there are no notes
+pub empty_notes : (trees : List Tree) (each : List StudiedText) (notes : List Note) → length each < 1 → notes ≡ [] →
+    AreNotesIn trees (known_in each) (texts_read each) notes
+empty_notes trees [] notes few none = rw none notes_none
+empty_notes trees (s ∷ each) notes few none = absurd (omega (arith, few))
+
+some_last : (ss : List Source) (s : Source) → ss ++ s ∷ [] ≡ [] → ⊥
+some_last [] s none = cc
+some_last (t ∷ ss) s none = cc
+
+-- of no text nothing is printed
+none_printed : (look : Look) (trees : List Tree) (files : List Files) {place : ℕ} {ss : List Source} {notes : List Note} {printed : List ℕ}
+    {status findings many : ℕ} → ss ≡ [] → ArePrints look trees files place ss notes printed status findings many →
+    (notes ≡ []) × (printed ≡ []) × (status ≡ 0)
+none_printed look trees files none no_print = (refl, refl, refl)
+none_printed look trees files none (fails {ss = ss} {s = s} are is) = absurd (some_last ss s none)
+none_printed look trees files none (parses {ss = ss} {s = s} are is) = absurd (some_last ss s none)
 
 unnoted : (trees : List Tree) (text : Text) (r : Reading) (notes : List Note) → AreNotesFor trees text r notes → known r ≡ 0 → notes ≡ []
 unnoted trees text (Unread f) notes are none = are
@@ -54,22 +73,42 @@ unnoted trees text (Other kind) notes are none = are
 unnoted trees text (Known place) notes are none = absurd (omega (arith, none))
 
 -- with the report of a text more
+told_more : (look : Look) (trees : List Tree) (files : List Files) (each : List StudiedText) (s : StudiedText) (notes : List Note)
+    (printed : List ℕ) (total : Total) (part : TextReport) → AreTold look trees files each notes printed total → IsStudied trees s →
+    IsPlaced (known_in each) s.reading → IsPart look trees files s part →
+    AreTold look trees files (each ++ s ∷ []) (notes ++ notes_in part) (printed ++ report_bytes part ++ 10 ∷ [])
+    (with_tally total part.tally)
+told_more look trees files each s notes printed total part are is placed own = record {
+  parts = rw (sources_push each s) (parts_more are.parts own.report);
+  noted = rw (texts_push each s, known_push each s)
+      (text_more trees (known_in each) (texts_read each) notes s.source.text.now s.reading (notes_in part) are.noted is placed own.notes);
+  said = others (notes ++ notes_in part) (printed ++ report_bytes part) (10 ∷ [])
+      (said_both trees look.states notes printed are.said own.said) refl;
+  prints = rw (sources_push each s, known_push each s)
+      (prints_more look trees files (known_in each) (sources_read each) notes printed total.status total.findings total.files s.source
+      s.reading part are.prints placed (unnoted trees s.source.text.now s.reading (notes_in part) own.notes) own.print);
+}
+
 pub printed_more : (look : Look) (trees : List Tree) (files : List Files) (each : List StudiedText) (s : StudiedText) (old new : PrintedTexts) →
-    ArePrinted look trees files each old →
-    IsStudied trees s → IsPlaced (known_in each) s.reading → IsMore look trees files s old new → ArePrinted look trees files
-    (each ++ s ∷ []) new
-printed_more look trees files each s old new are is placed more = record {
-  parts = rw (sources_push each s, more.bytes, more.status, more.findings, more.counted) (parts_more are.parts more.is.report);
-  notes = rw (texts_push each s, known_push each s, more.noted)
-      (text_more trees (known_in each) (texts_read each) old.noted s.source.text.now s.reading (notes_in more.part) are.notes is placed
-      more.is.notes);
-  said = rw (more.noted, more.bytes)
-      (others (old.noted ++ notes_in more.part) (old.bytes.items ++ report_bytes more.part) (10 ∷ [])
-      (said_both trees look.states old.noted old.bytes.items are.said more.is.said) refl);
-  prints = rw (sources_push each s, known_push each s, more.noted, more.bytes, more.status, more.findings, more.counted)
-      (prints_more look trees files (known_in each) (sources_read each) old.noted old.bytes.items
-      old.total.status old.total.findings old.total.files s.source s.reading more.part are.prints placed
-      (unnoted trees s.source.text.now s.reading (notes_in more.part) more.is.notes) more.is.print);
+    ArePrinted look trees files each old → IsStudied trees s → IsPlaced (known_in each) s.reading →
+    IsMore look trees files s (10 ∷ []) old new → ArePrinted look trees files (each ++ s ∷ []) new
+printed_more look trees files each s old new are is placed more =
+    let bytes : new.bytes.items ≡ old.bytes.items ++ report_bytes more.part ++ 10 ∷ [] =
+    more.bytes ∙ sym (append_assoc old.bytes.items (report_bytes more.part) (10 ∷ [])) in
+    rw (more.noted, bytes, more.total)
+    (told_more look trees files each s old.noted old.bytes.items old.total more.part are is placed more.is)
+
+-- the report of a text is added, and what comes behind it
+pub report_more : (look : Look) (trees : List Tree) (files : List Files) (s : StudiedText) (behind : List ℕ) (old new : PrintedTexts)
+    (part : TextReport) (added : List ℕ) → IsPart look trees files s part → added ≡ old.bytes.items ++ report_bytes part →
+    new.bytes.items ≡ added ++ behind → new.noted ≡ old.noted ++ notes_in part → new.total ≡ with_tally old.total part.tally →
+    IsMore look trees files s behind old new
+report_more look trees files s behind old new part added is first bytes noted total = record {
+  part = part;
+  is = is;
+  bytes = bytes ∙ ap (λ z. z ++ behind) first ∙ append_assoc old.bytes.items (report_bytes part) behind;
+  noted = noted;
+  total = total;
 }
 
 -- ---- what is put out
@@ -95,23 +134,16 @@ take_first : (xs rest : List ℕ) → take (length xs) (xs ++ rest) ≡ xs
 take_first [] rest = refl
 take_first (x ∷ xs) rest = ap (λ z. x ∷ z) (take_first xs rest)
 
-take_within : (n : ℕ) (xs rest : List ℕ) → n ≤ length xs → take n (xs ++ rest) ≡ take n xs
-take_within zero xs rest within = refl
-take_within (suc n) [] rest within = absurd (omega (arith, within))
-take_within (suc n) (x ∷ xs) rest within = ap (λ z. x ∷ z) (take_within n xs rest (omega (arith, within)))
-
 -- what isn't put out yet is what is more
-pub rest_out : (look : Look) (trees : List Tree) (files : List Files) (s : StudiedText) (old new : PrintedTexts) (a b c : Option (List ℕ)) →
-    IsMore look trees files s old new →
+pub rest_out : (look : Look) (trees : List Tree) (files : List Files) (s : StudiedText) (behind : List ℕ) (old new : PrintedTexts)
+    (a b c : Option (List ℕ)) → IsMore look trees files s behind old new →
     old.sent ≡ length old.bytes.items → Appends a b old.bytes.items → Appends b c (drop old.sent new.bytes.items) →
     Appends a c new.bytes.items
-rest_out look trees files s old new a b c more all first second =
-    let report = report_bytes more.part in
-    let is : new.bytes.items ≡ old.bytes.items ++ (report ++ 10 ∷ []) =
-    more.bytes ∙ append_assoc old.bytes.items report (10 ∷ []) in
-    let rest : drop old.sent new.bytes.items ≡ report ++ 10 ∷ [] =
-    rw (all, is) (drop_first old.bytes.items (report ++ 10 ∷ [])) in
-    appends_rest a b c old.bytes.items new.bytes.items (report ++ 10 ∷ []) first (subst (λ z. Appends b c z) rest second) is
+rest_out look trees files s behind old new a b c more all first second =
+    let rest : drop old.sent new.bytes.items ≡ report_bytes more.part ++ behind =
+    rw (all, more.bytes) (drop_first old.bytes.items (report_bytes more.part ++ behind)) in
+    appends_rest a b c old.bytes.items new.bytes.items (report_bytes more.part ++ behind) first (subst (λ z. Appends b c z) rest second)
+    more.bytes
 
 -- whole reports of the first of some texts
 pub first_of : (look : Look) (trees : List Tree) (files : List Files) (each : List StudiedText) (further : List Source) (p : PrintedTexts) →
@@ -126,7 +158,7 @@ first_of look trees files each further p are parsed = record {
   reports = are.parts;
   place = known_in each;
   notes = p.noted;
-  noted = are.notes;
+  noted = are.noted;
   said = are.said;
 }
 
@@ -163,14 +195,12 @@ all_but_last options [] (t ∷ before) last states printed is are = absurd (cc i
 all_but_last options (s ∷ sources) before last states printed is are = record { before = before; last = last; whole = is; are = are }
 
 -- the reports of all texts but the last are put out, and the last one's stands behind them
-pub put_out : (look : Look) (trees : List Tree) (files : List Files) (all each : List StudiedText) (s : StudiedText) (old new : PrintedTexts)
-    (held : Bool)
-    (a b : Option (List ℕ)) →
-    AreParsed (texts_read all) (filters_of trees) → all ≡ each ++ s ∷ [] → ArePrinted look trees files each old → IsMore look trees files s
-    old new →
-    new.sent ≡ old.sent → HoldsBack held old → (held ≡ true → b ≡ a) → (held ≡ false → Appends a b old.bytes.items) →
-    IsPutOut look.options (sources_read all) look.states held a b new
-put_out look trees files all each s old new true a b parsed is are more kept holds none some =
+put_out : (look : Look) (trees : List Tree) (files : List Files) (all each : List StudiedText) (s : StudiedText) (behind : List ℕ)
+    (old new : PrintedTexts) (held : Bool) (a b : Option (List ℕ)) →
+    AreParsed (texts_read all) (filters_of trees) → all ≡ each ++ s ∷ [] → ArePrinted look trees files each old →
+    IsMore look trees files s behind old new → new.sent ≡ old.sent → HoldsBack held old → (held ≡ true → b ≡ a) →
+    (held ≡ false → Appends a b old.bytes.items) → IsPutOut look.options (sources_read all) look.states held a b new
+put_out look trees files all each s behind old new true a b parsed is are more kept holds none some =
     let sent : new.sent ≡ 0 = kept ∙ holds.none refl in
     record {
       within = rw sent (omega arith);
@@ -178,59 +208,20 @@ put_out look trees files all each s old new true a b parsed is are more kept hol
       early = λ h. absurd (cc h);
       late = λ h. sent;
     }
-put_out look trees files all each s old new false a b parsed is are more kept holds none some =
+put_out look trees files all each s behind old new false a b parsed is are more kept holds none some =
     let bytes = old.bytes.items in
-    let rest = report_bytes more.part ++ 10 ∷ [] in
+    let rest = report_bytes more.part ++ behind in
     let sent : new.sent ≡ length bytes = kept ∙ holds.all refl in
-    let whole : new.bytes.items ≡ bytes ++ rest = more.bytes ∙ append_assoc bytes (report_bytes more.part) (10 ∷ []) in
-    let first : take new.sent new.bytes.items ≡ bytes = rw (sent, whole) (take_first bytes rest) in
+    let first : take new.sent new.bytes.items ≡ bytes = rw (sent, more.bytes) (take_first bytes rest) in
     let sources : sources_read all ≡ sources_read each ++ s.source ∷ [] = ap sources_read is ∙ sources_push each s in
     record {
-      within = rw (sent, whole) (omega (arith, length-append bytes rest));
+      within = rw (sent, more.bytes) (omega (arith, length-append bytes rest));
       added = rw first (some refl);
       early = λ h. rw first (all_but_last look.options (sources_read all) (sources_read each) s.source look.states bytes sources
           (first_of look trees files each (s.source ∷ []) old are
           (subst (λ ss. AreParsed (texts_of ss) (filters_of trees)) sources parsed)));
       late = λ h. absurd (cc h);
     }
-
--- with more behind it
-pub put_out_more : (options : WarningOptions) (sources : List Source) (states : ℕ) (held : Bool) (a b : Option (List ℕ)) (old new : PrintedTexts)
-    (more : List ℕ) → IsPutOut options sources states held a b old → new.sent ≡ old.sent →
-    new.bytes.items ≡ old.bytes.items ++ more → IsPutOut options sources states held a b new
-put_out_more options sources states held a b old new more is same added =
-    let bytes = old.bytes.items in
-    let within = is.within in
-    let first : take old.sent bytes ≡ take new.sent new.bytes.items =
-    rw (same, added) (sym (take_within old.sent bytes more within)) in
-    record {
-      within = rw (same, added) (omega (arith, length-append bytes more, within));
-      added = subst (λ z. Appends a b z) first is.added;
-      early = λ h. subst (λ z. IsAllButLast options sources states z) first (is.early h);
-      late = λ h. same ∙ is.late h;
-    }
-
--- the reports of all texts but the last, or nothing, are whole reports of the first of them
-whole_of_all_but_last : (options : WarningOptions) (sources : List Source) (states : ℕ) (printed : List ℕ) →
-    IsAllButLast options sources states printed →
-    AreWhole options sources states printed
-whole_of_all_but_last options [] states printed none = inl none
-whole_of_all_but_last options (s ∷ ss) states printed all =
-    inr (record { before = all.before; others = all.last ∷ []; whole = all.whole; are = all.are })
-
--- where it ends after all is known, so much is put out
-pub cut_after : (options : WarningOptions) (sources : List Source) (states : ℕ) (held : Bool) (a b : Option (List ℕ)) (p : PrintedTexts) →
-    IsPutOut options sources states held a b p → IsCut options sources states a b
-cut_after options sources states true a b p is = record {
-  printed = take p.sent p.bytes.items;
-  added = is.added;
-  are = inl (ap (λ n. take n p.bytes.items) (is.late refl));
-}
-cut_after options sources states false a b p is = record {
-  printed = take p.sent p.bytes.items;
-  added = is.added;
-  are = whole_of_all_but_last options sources states (take p.sent p.bytes.items) (is.early refl);
-}
 
 -- nothing is put out of nothing
 pub put_out_none : (options : WarningOptions) (states : ℕ) (held : Bool) (a : Option (List ℕ)) (p : PrintedTexts) →
@@ -242,99 +233,6 @@ put_out_none options states held a p bytes sent = record {
   early = λ h. rw sent refl;
   late = λ h. sent;
 }
-
--- nor of the only text
-pub put_out_only : (options : WarningOptions) (trees : List Tree) (s : Source) (states : ℕ) (held : Bool)
-    (a : Option (List ℕ)) (p : PrintedTexts) →
-    AreParsed (s.text.now ∷ []) (filters_of trees) → p.sent ≡ 0 → IsPutOut options (s ∷ []) states held a a p
-put_out_only options trees s states held a p parsed sent = record {
-  within = rw sent (omega arith);
-  added = rw sent (appends_none a);
-  early = λ h. rw sent (record {
-    before = [];
-    last = s;
-    whole = refl;
-    are = record {
-      trees = trees;
-      parsed = parsed;
-      status = 0;
-      findings = 0;
-      files = 0;
-      reports = parts_none;
-      place = 0;
-      notes = [];
-      noted = notes_none;
-      said = nothing;
-    };
-  });
-  late = λ h. sent;
-}
-
--- the same where only that differs which is put out
-pub more_same : (look : Look) (trees : List Tree) (files : List Files) (s : StudiedText) (old mid new : PrintedTexts) →
-    IsMore look trees files s old mid → new.bytes ≡ mid.bytes → new.noted ≡ mid.noted →
-    new.total ≡ mid.total → IsMore look trees files s old new
-more_same look trees files s old mid new more bytes noted total = record {
-  part = more.part;
-  is = more.is;
-  bytes = ap (λ (b : Vec ℕ Global). b.items) bytes ∙ more.bytes;
-  noted = noted ∙ more.noted;
-  status = ap (λ (t : Total). t.status) total ∙ more.status;
-  findings = ap (λ (t : Total). t.findings) total ∙ more.findings;
-  counted = ap (λ (t : Total). t.files) total ∙ more.counted;
-}
-
--- of no text there are no notes
-pub empty_notes : (trees : List Tree) (each : List StudiedText) (notes : List Note) → length each < 1 → notes ≡ [] →
-    AreNotesIn trees (known_in each) (texts_read each) notes
-empty_notes trees [] notes few none = rw none notes_none
-empty_notes trees (s ∷ each) notes few none = absurd (omega (arith, few))
-
--- where there is one text, and nothing was sent early, it is put out as a whole
-pub only_sent : (options : WarningOptions) (trees : List Tree) (states : ℕ) (held : Bool) (a : Option (List ℕ)) (each : List StudiedText)
-    (p : PrintedTexts) → 1 ≤ length each → length each < 2 → AreParsed (texts_read each) (filters_of trees) → p.sent ≡ 0 →
-    IsPutOut options (sources_read each) states held a a p
-only_sent options trees states held a [] p some few parsed sent = absurd (omega (arith, some))
-only_sent options trees states held a (s ∷ []) p some few parsed sent =
-    put_out_only options trees s.source states held a p parsed sent
-only_sent options trees states held a (s ∷ (t ∷ each)) p some few parsed sent = absurd (omega (arith, few))
-
--- where there is no text, nothing printed is what is printed of all
-pub printed_empty : (look : Look) (trees : List Tree) (files : List Files) (each : List StudiedText) (p : PrintedTexts) → length each < 1 →
-    p.bytes.items ≡ [] →
-    p.noted ≡ [] → p.total.status ≡ 0 → p.total.findings ≡ 0 → p.total.files ≡ 0 → ArePrinted look trees files each p
-printed_empty look trees files [] p few bytes noted status findings many = printed_none look trees files p bytes noted status findings many
-printed_empty look trees files (s ∷ each) p few bytes noted status findings many = absurd (omega (arith, few))
-
--- with the last one, all of them
-module _ (look : Look) (trees : List Tree) (files : List Files) (each : List StudiedText) (i : ℕ) (d : StudiedText) (old new : PrintedTexts) where
-  -- where all texts but the last are printed, the last one's report completes what is printed of all
-  pub whole_printed : 1 ≤ length each → AreStudied trees 0 each → length (take (length each - 1) each) ≤ i →
-      ArePrinted look trees files (take i (take (length each - 1) each)) old → IsMore look trees files (get_or each (length each - 1) d)
-      old new →
-      ArePrinted look trees files each new
-  whole_printed some are past printed more =
-      let within : length each - 1 < length each = omega (arith, some) in
-      let last = here each (length each - 1) d within in
-      let front : take i (take (length each - 1) each) ≡ take (length each - 1) each = take_all i (take (length each - 1) each) past in
-      subst (λ e. ArePrinted look trees files e new) (sym (with_last each (get_or each (length each - 1) d) some last))
-      (printed_more look trees files (take (length each - 1) each) (get_or each (length each - 1) d) old new
-      (subst (λ e. ArePrinted look trees files e old) front printed)
-      (last_studied trees each (get_or each (length each - 1) d) are some last)
-      (last_placed trees each (get_or each (length each - 1) d) are some last) more)
-
-  -- where all texts but the last were put out, the last one's report completes what is put out
-  pub whole_sent : (held : Bool) (a b : Option (List ℕ)) → 1 ≤ length each → AreParsed (texts_read each) (filters_of trees) →
-      length (take (length each - 1) each) ≤ i → ArePrinted look trees files (take i (take (length each - 1) each)) old →
-      IsMore look trees files (get_or each (length each - 1) d) old new → new.sent ≡ old.sent → HoldsBack held old → (held ≡ true → b ≡ a) →
-      (held ≡ false → Appends a b old.bytes.items) →
-      IsPutOut look.options (sources_read each) look.states held a b new
-  whole_sent held a b some parsed past printed more kept holds none out =
-      let within : length each - 1 < length each = omega (arith, some) in
-      let front : take i (take (length each - 1) each) ≡ take (length each - 1) each = take_all i (take (length each - 1) each) past in
-      put_out look trees files each (take (length each - 1) each) (get_or each (length each - 1) d) old new held a b parsed
-      (with_last each (get_or each (length each - 1) d) some (here each (length each - 1) d within))
-      (subst (λ e. ArePrinted look trees files e old) front printed) more kept holds none out
 
 -- where it ends before, the reports of the first are put out
 pub cut_here : (look : Look) (trees : List Tree) (files : List Files) (each : List StudiedText) (n i : ℕ) (p : PrintedTexts) (held : Bool)
@@ -360,89 +258,135 @@ print_of_only look trees files s (Other kind) p placed none is = record { count 
 print_of_only look trees files s (Known place) p placed none is =
     record { count = p.tally.findings; is = inl (subst (λ n. IsKnownPart look trees files n s p) placed is) }
 
--- where there is one text, what is printed and noted of it is that of all
-module _ (look : Look) (trees : List Tree) (files : List Files) (each : List StudiedText) (d : StudiedText) (p : PrintedTexts)
-    (some : 1 ≤ length each) (few : length each < 2) (are : AreStudied trees 0 each)
-    (only : IsOnly look trees files (get_or each 0 d) p) where
-  only_text : each ≡ get_or each 0 d ∷ []
-  only_text = go each some few
+-- what ends the reports of several files
+several_end : (findings files all : ℕ) → 2 ≤ all → ending findings files all ≡ 10 ∷ summary findings files all ++ 10 ∷ []
+several_end findings files all several =
+    ap (λ b. if b then [] else 10 ∷ summary findings files all ++ 10 ∷ []) (le-ltb all 2 several)
+
+four_behind : (o a b c d : List ℕ) → o ++ (a ++ (b ++ (c ++ d))) ≡ (o ++ a ++ b) ++ (c ++ d)
+four_behind o a b c d = simp append_assoc
+
+-- the reports of all texts but the last, and the last one with what ends them, are all that is printed
+module _ (look : Look) (trees : List Tree) (files : List Files) (each : List StudiedText) (i : ℕ) (last : StudiedText)
+    (old new : PrintedTexts) (some : 1 ≤ length each) (is : last ≡ get_or each (length each - 1) last) (studied : AreStudied trees 0 each)
+    (past : length (take (length each - 1) each) ≤ i)
+    (before : ArePrinted look trees files (take i (take (length each - 1) each)) old)
+    (more : IsMore look trees files last (ending new.total.findings new.total.files (length each)) old new) where
+  front : ArePrinted look trees files (take (length each - 1) each) old
+  front = subst (λ e. ArePrinted look trees files e old) (take_all i (take (length each - 1) each) past) before
+
+  all : AreTold look trees files each new.noted (old.bytes.items ++ report_bytes more.part ++ 10 ∷ []) new.total
+  all =
+      subst (λ e. AreTold look trees files e new.noted (old.bytes.items ++ report_bytes more.part ++ 10 ∷ []) new.total)
+      (sym (with_last each last some is))
+      (rw (more.noted, more.total)
+      (told_more look trees files (take (length each - 1) each) last old.noted old.bytes.items old.total more.part front
+      (last_studied trees each last studied some is) (last_placed trees each last studied some is) more.is))
+
+  pub all_noted : AreNotesIn trees (known_in each) (texts_read each) new.noted
+  all_noted = all.noted
+
+  -- nothing comes before the only text
+  nothing_before : (s : StudiedText) → each ≡ s ∷ [] → (old.noted ≡ []) × (old.bytes.items ≡ []) × (old.total.status ≡ 0)
+  nothing_before s same =
+      none_printed look trees files (ap (λ e. sources_read (take (length e - 1) e)) same) front.prints
+
+  only_bytes : (s : StudiedText) → each ≡ s ∷ [] → new.bytes.items ≡ report_bytes more.part
+  only_bytes s same =
+      more.bytes
+      ∙ ap (λ z. z ++ (report_bytes more.part ++ ending new.total.findings new.total.files (length each))) (nothing_before s same).1
+      ∙ ap (λ e. report_bytes more.part ++ ending new.total.findings new.total.files (length e)) same
+      ∙ append-nil (report_bytes more.part)
+
+  only_noted : (s : StudiedText) → each ≡ s ∷ [] → new.noted ≡ notes_in more.part
+  only_noted s same = more.noted ∙ ap (λ z. z ++ notes_in more.part) (nothing_before s same).0
+
+  only_status : (s : StudiedText) → each ≡ s ∷ [] → new.total.status ≡ more.part.tally.status
+  only_status s same =
+      let greatest : max 0 more.part.tally.status ≡ more.part.tally.status = omega arith in
+      ap (λ (t : Total). t.status) more.total ∙ ap (λ n. max n more.part.tally.status) (nothing_before s same).2 ∙ greatest
+
+  only_is : (s : StudiedText) → each ≡ s ∷ [] → IsPart look trees files s more.part
+  only_is s same =
+      subst (λ x. IsPart look trees files x more.part) (is ∙ ap (λ e. get_or e (length e - 1) last) same) more.is
+
+  -- several of them end with how much is found
+  several_bytes : 2 ≤ length each →
+      new.bytes.items ≡ (old.bytes.items ++ report_bytes more.part ++ 10 ∷ [])
+      ++ (summary new.total.findings new.total.files (length (sources_read each)) ++ 10 ∷ [])
+  several_bytes several =
+      more.bytes
+      ∙ ap (λ z. old.bytes.items ++ (report_bytes more.part ++ z)) (several_end new.total.findings new.total.files (length each) several)
+      ∙ four_behind old.bytes.items (report_bytes more.part) (10 ∷ []) (summary new.total.findings new.total.files (length each)) (10 ∷ [])
+      ∙ ap (λ n. (old.bytes.items ++ report_bytes more.part ++ 10 ∷ []) ++ (summary new.total.findings new.total.files n ++ 10 ∷ []))
+      (sym (length-map each (λ (s : StudiedText). s.source)))
+
+  several_whole : 2 ≤ length each →
+      new.bytes.items ≡ (old.bytes.items ++ report_bytes more.part ++ 10 ∷ [])
+      ++ summary new.total.findings new.total.files (length (sources_read each)) ++ 10 ∷ []
+  several_whole several =
+      several_bytes several
+      ∙ sym (append_assoc (old.bytes.items ++ report_bytes more.part ++ 10 ∷ [])
+      (summary new.total.findings new.total.files (length (sources_read each))) (10 ∷ []))
+
+  pub all_said : Say trees look.states new.noted new.bytes.items
+  all_said = go each refl
     where
-      go : (each : List StudiedText) → 1 ≤ length each → length each < 2 → each ≡ get_or each 0 d ∷ []
-      go [] some few = absurd (omega (arith, some))
-      go (s ∷ []) some few = refl
-      go (s ∷ (t ∷ each)) some few = absurd (omega (arith, few))
+      go : (e : List StudiedText) → each ≡ e → Say trees look.states new.noted new.bytes.items
+      go [] same = let none = ap length same in absurd (omega (arith, some, none))
+      go (s ∷ []) same = rw (only_noted s same, only_bytes s same) more.is.said
+      go (s ∷ (t ∷ rest)) same =
+          let many = ap length same in
+          let several : 2 ≤ length each = omega (arith, many) in
+          said_more trees look.states new.noted (old.bytes.items ++ report_bytes more.part ++ 10 ∷ [])
+          (summary new.total.findings new.total.files (length (sources_read each)) ++ 10 ∷ []) new.bytes.items all.said
+          (quiet_summary new.total.findings new.total.files (length (sources_read each))) (several_bytes several)
 
-  only_studied : AreStudied trees 0 (get_or each 0 d ∷ [])
-  only_studied = subst (AreStudied trees 0) only_text are
+  pub all_reports : AreAllReports look.options (filters_of trees) (sources_read each) new.bytes.items new.total.status
+  all_reports = go each refl
+    where
+      go : (e : List StudiedText) → each ≡ e →
+          AreAllReports look.options (filters_of trees) (sources_read e) new.bytes.items new.total.status
+      go [] same = let none = ap length same in absurd (omega (arith, some, none))
+      go (s ∷ []) same =
+          record { count = more.part.tally.findings; is = rw (only_bytes s same, only_status s same) (only_is s same).report }
+      go (s ∷ (t ∷ rest)) same =
+          let many = ap length same in
+          let several : 2 ≤ length each = omega (arith, many) in
+          subst (λ e. AreSummed look.options (filters_of trees) (sources_read e) new.bytes.items new.total.status) same (record {
+            reports = old.bytes.items ++ report_bytes more.part ++ 10 ∷ [];
+            findings = new.total.findings;
+            files = new.total.files;
+            are = all.parts;
+            whole = several_whole several;
+          })
 
-  pub only_noted : AreNotesIn trees (known_in each) (texts_read each) p.noted
-  only_noted =
-      let s = get_or each 0 d in
-      let same : known s.reading + 0 ≡ 0 + known s.reading = omega arith in
-      rw (only_text, only.noted, same)
-      (text_more trees 0 [] [] s.source.text.now s.reading (notes_in only.part) notes_none only_studied.0 only_studied.1 only.is.notes)
+  pub all_print : IsPrintOfAll look trees files (sources_read each) new.noted new.bytes.items new.total.status
+  all_print = go each refl
+    where
+      go : (e : List StudiedText) → each ≡ e →
+          IsPrintOfAll look trees files (sources_read e) new.noted new.bytes.items new.total.status
+      go [] same = let none = ap length same in absurd (omega (arith, some, none))
+      go (s ∷ []) same =
+          let placed = subst (AreStudied trees 0) same studied in
+          rw (only_noted s same, only_bytes s same, only_status s same)
+          (print_of_only look trees files s.source s.reading more.part placed.1
+          (unnoted trees s.source.text.now s.reading (notes_in more.part) (only_is s same).notes) (only_is s same).print)
+      go (s ∷ (t ∷ rest)) same =
+          let many = ap length same in
+          let several : 2 ≤ length each = omega (arith, many) in
+          subst (λ e. AreSeveralPrinted look trees files (sources_read e) new.noted new.bytes.items new.total.status) same (record {
+            place = known_in each;
+            prints = old.bytes.items ++ report_bytes more.part ++ 10 ∷ [];
+            findings = new.total.findings;
+            many = new.total.files;
+            are = all.prints;
+            whole = several_whole several;
+          })
 
-  pub only_print : IsPrintOfAll look trees files (sources_read each) p.noted p.bytes.items p.total.status
-  only_print =
-      let s = get_or each 0 d in
-      rw (only_text, only.noted, only.bytes, only.status)
-      (print_of_only look trees files s.source s.reading only.part only_studied.1
-      (unnoted trees s.source.text.now s.reading (notes_in only.part) only.is.notes) only.is.print)
-
-  pub only_said : Say trees look.states p.noted p.bytes.items
-  only_said = rw (only.noted, only.bytes) only.is.said
-
--- where there is no text, nothing is printed of all
-pub empty_print : (look : Look) (trees : List Tree) (files : List Files) (each : List StudiedText) (p : PrintedTexts) → length each < 1 →
-    p.noted ≡ [] →
-    p.bytes.items ≡ [] → p.total.status ≡ 0 →
-    IsPrintOfAll look trees files (sources_read each) p.noted p.bytes.items p.total.status
-empty_print look trees files [] p few noted bytes status = (noted, bytes, status)
-empty_print look trees files (s ∷ each) p few noted bytes status = absurd (omega (arith, few))
-
--- the line that says how much is found stands behind the reports
-pub summed : (reports line new : List ℕ) (findings files count many : ℕ) → new ≡ reports ++ line →
-    line ≡ summary findings files count ++ 10 ∷ [] → count ≡ many → new ≡ reports ++ summary findings files many ++ 10 ∷ []
-summed reports line new findings files count many added is same =
-    added ∙ ap (λ z. reports ++ z) is ∙ sym (append_assoc reports (summary findings files count) (10 ∷ []))
-    ∙ ap (λ n. reports ++ summary findings files n ++ 10 ∷ []) same
-
--- it is none on runs
-pub said_summed : (trees : List Tree) (states : ℕ) (old : PrintedTexts) (notes : List Note) (line printed : List ℕ) (count : ℕ) →
-    Say trees states old.noted old.bytes.items → notes ≡ old.noted → printed ≡ old.bytes.items ++ line →
-    line ≡ summary old.total.findings old.total.files count ++ 10 ∷ [] → Say trees states notes printed
-said_summed trees states old notes line printed count said same added is =
-    rw same (said_more trees states old.noted old.bytes.items line printed said
-    (rw is (quiet_summary old.total.findings old.total.files count)) added)
-
--- of several, with the line that says how much is found
-pub several_print : (look : Look) (trees : List Tree) (files : List Files) (each : List StudiedText) (old : PrintedTexts) (notes : List Note)
-    (line printed : List ℕ) (count : ℕ) →
-    ArePrinted look trees files each old → notes ≡ old.noted → printed ≡ old.bytes.items ++ line →
-    line ≡ summary old.total.findings old.total.files count ++ 10 ∷ [] → count ≡ length (sources_read each) →
-    AreSeveralPrinted look trees files (sources_read each) notes printed old.total.status
-several_print look trees files each old notes line printed count are same added is many = record {
-  place = known_in each;
-  prints = old.bytes.items;
-  findings = old.total.findings;
-  many = old.total.files;
-  are = rw same are.prints;
-  whole = summed old.bytes.items line printed old.total.findings old.total.files count (length (sources_read each)) added is many;
-}
-
-some_print : (look : Look) (trees : List Tree) (files : List Files) (each : List StudiedText) (notes : List Note) (printed : List ℕ)
-    (status : ℕ) →
-    2 ≤ length each → AreSeveralPrinted look trees files (sources_read each) notes printed status →
-    IsPrintOfAll look trees files (sources_read each) notes printed status
-some_print look trees files [] notes printed status some are = absurd (omega (arith, some))
-some_print look trees files (s ∷ []) notes printed status some are = absurd (omega (arith, some))
-some_print look trees files (s ∷ (t ∷ each)) notes printed status some are = are
-
--- where there are two texts or more, what is printed of several is what is printed of all
-pub some_printed : (look : Look) (trees : List Tree) (files : List Files) (each : List StudiedText) (result : Result PrintedTexts ExplainFault) →
-    2 ≤ length each →
-    IfOk result (λ p. AreSeveralPrinted look trees files (sources_read each) p.noted p.bytes.items p.total.status) →
-    IfOk result (λ p. IsPrintOfAll look trees files (sources_read each) p.noted p.bytes.items p.total.status)
-some_printed look trees files each (Ok p) some are =
-    some_print look trees files each p.noted p.bytes.items p.total.status some are
-some_printed look trees files each (Err e) some are = tt
+  pub all_sent : (held : Bool) (a b : Option (List ℕ)) → AreParsed (texts_read each) (filters_of trees) → new.sent ≡ old.sent →
+      HoldsBack held old → (held ≡ true → b ≡ a) → (held ≡ false → Appends a b old.bytes.items) →
+      IsPutOut look.options (sources_read each) look.states held a b new
+  all_sent held a b parsed kept holds none out =
+      put_out look trees files each (take (length each - 1) each) last (ending new.total.findings new.total.files (length each)) old new held
+      a b parsed (with_last each last some is) front more kept holds none out

@@ -1,5 +1,5 @@
 -- Reports and notes, put together. This project's own program.
-use Rattle.std.specs.Prelude.{◌≡◌, ◌≤◌, ◌+◌, ℕ, true, false, Bool, List, [], ◌∷◌, ◌++◌, Option, flat_map, length, max, take}
+use Rattle.std.specs.Prelude.{◌≡◌, ◌≤◌, ℕ, true, false, Bool, List, ◌++◌, Option, flat_map, length, take}
 use Rattle.std.specs.Io.KnownBytes.{Appends}
 use Rattle.flt_tree.specs.declared.filter.Filter.{Filter}
 use Rattle.flt_tree.specs.declared.tree.Tree.{Tree}
@@ -23,7 +23,7 @@ use Rattle.flt_explain_runs.specs.Quiet.{quieted}
 use Rattle.flt_explain_runs.specs.Readings.{known_in, sources_read, texts_read}
 use Rattle.flt_explain_runs.specs.Reported.{AreParts, IsAllButLast, IsReport, faults_in}
 use Rattle.flt_explain_runs.specs.Told.{Say}
-use Rattle.flt_explain_runs.specs.Totals.{some}
+use Rattle.flt_explain_runs.specs.Totals.{with_tally}
 use Rattle.flt_explain_runs.specs.Warned.{Warned}
 use Rattle.flt_explain_runs.specs.Whole.{AreBlocks, ArePrints, IsBlock, IsBody, IsKnownPrint, IsNoticePrint}
 use Rattle.flt_explain_runs.specs.Whole.{IsUnreadPrint, Look, is_alone, warned_at}
@@ -37,6 +37,7 @@ use Rattle.flt_explain_runs.specs.declared.readings.Reading.{Reading}
 use Rattle.flt_explain_runs.specs.declared.readings.Reading.TheVariants as reading
 use Rattle.flt_explain_runs.specs.declared.readings.StudiedText.{StudiedText}
 use Rattle.flt_explain_runs.specs.declared.together.PrintedTexts.{PrintedTexts}
+use Rattle.flt_explain_runs.specs.declared.totals.Total.{Total}
 
 -- how reports are printed
 abbrev pub look_of : Printer → Look
@@ -112,24 +113,25 @@ pub record IsPart (look : Look) (trees : List Tree) (files : List Files) (s : St
 
 -- ---- several texts
 
--- the reports of texts, each with an empty line behind it, and their notes
-pub record ArePrinted (look : Look) (trees : List Tree) (files : List Files) (each : List StudiedText) (p : PrintedTexts) : Type 0 where
-  pub parts : AreParts look.options (filters_of trees) (sources_read each) p.bytes.items p.total.status p.total.findings
-      p.total.files
-  pub notes : AreNotesIn trees (known_in each) (texts_read each) p.noted
-  pub said : Say trees look.states p.noted p.bytes.items
-  pub prints : ArePrints look trees files (known_in each) (sources_read each) p.noted p.bytes.items p.total.status
-      p.total.findings p.total.files
+-- the reports of texts, each with an empty line behind it, and their notes; so much is found in them
+pub record AreTold (look : Look) (trees : List Tree) (files : List Files) (each : List StudiedText) (notes : List Note) (printed : List ℕ)
+    (total : Total) : Type 0 where
+  pub parts : AreParts look.options (filters_of trees) (sources_read each) printed total.status total.findings total.files
+  pub noted : AreNotesIn trees (known_in each) (texts_read each) notes
+  pub said : Say trees look.states notes printed
+  pub prints : ArePrints look trees files (known_in each) (sources_read each) notes printed total.status total.findings total.files
 
--- the reports with that of one more text, and an empty line behind it
-pub record IsMore (look : Look) (trees : List Tree) (files : List Files) (s : StudiedText) (old new : PrintedTexts) : Type 0 where
+abbrev pub ArePrinted : Look → List Tree → List Files → List StudiedText → PrintedTexts → Type 0
+ArePrinted look trees files each p = AreTold look trees files each p.noted p.bytes.items p.total
+
+-- the reports with that of one more text, and what comes behind it
+pub record IsMore (look : Look) (trees : List Tree) (files : List Files) (s : StudiedText) (behind : List ℕ) (old new : PrintedTexts)
+    : Type 0 where
   pub part : TextReport
   pub is : IsPart look trees files s part
-  pub bytes : new.bytes.items ≡ old.bytes.items ++ report_bytes part ++ 10 ∷ []
+  pub bytes : new.bytes.items ≡ old.bytes.items ++ (report_bytes part ++ behind)
   pub noted : new.noted ≡ old.noted ++ notes_in part
-  pub status : new.total.status ≡ max old.total.status part.tally.status
-  pub findings : new.total.findings ≡ old.total.findings + part.tally.findings
-  pub counted : new.total.files ≡ old.total.files + some part.tally.findings
+  pub total : new.total ≡ with_tally old.total part.tally
 
 -- all or nothing is put out
 pub record HoldsBack (is_held : Bool) (p : PrintedTexts) : Type 0 where
@@ -143,12 +145,3 @@ pub record IsPutOut (options : WarningOptions) (sources : List Source) (states :
   pub added : Appends old new (take p.sent p.bytes.items)
   pub early : is_held ≡ false → IsAllButLast options sources states (take p.sent p.bytes.items)
   pub late : is_held ≡ true → p.sent ≡ 0
-
--- the report of the only text
-pub record IsOnly (look : Look) (trees : List Tree) (files : List Files) (s : StudiedText) (p : PrintedTexts) : Type 0 where
-  pub part : TextReport
-  pub is : IsPart look trees files s part
-  pub bytes : p.bytes.items ≡ report_bytes part
-  pub noted : p.noted ≡ notes_in part
-  pub status : p.total.status ≡ part.tally.status
-  pub sent : p.sent ≡ 0

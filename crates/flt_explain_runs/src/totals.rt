@@ -46,9 +46,7 @@ fn some(count: usize) -> usize
 impl Total {
     /// The total with one more file.
     pub(crate) fn and(self, tally: Tally) -> Result<Total, AllocError>
-        ensures status { IfOk result (λ total. total.status ≡ max self.status tally.status) }
-        ensures findings { IfOk result (λ total. total.findings ≡ self.findings + tally.findings) }
-        ensures files { IfOk result (λ total. total.files ≡ self.files + spec.some tally.findings) }
+        ensures { IfOk result (λ total. total ≡ spec.with_tally self tally) }
     {
         let findings = sum(self.findings, tally.findings)?;
         let files = sum(self.files, some(tally.findings))?;

@@ -1,7 +1,7 @@
 use Rattle.std.proofs.Common.{◌≡◌, true, false, take}
 use Rattle.std.specs.Io.KnownBytes.{Appends}
 use Rattle.flt_explain_runs.specs.Printing.{ArePrinted, HoldsBack, look_of}
-use Rattle.flt_explain_runs.proofs.printing.Printer.put_each.Given as goal
+use Rattle.flt_explain_runs.proofs.printing.Printer.put_all.Given as goal
 
 abbrev pub invariant-loop-studied : goal.invariant-loop-studied
 invariant-loop-studied g l = record {
