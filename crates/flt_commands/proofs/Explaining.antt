@@ -12,10 +12,8 @@ use Rattle.flt_joined.specs.Texts.{AreNamed, Given, Refused, given_of, givens, r
 use Rattle.flt_joined.specs.declared.given.GivenFile.{GivenFile}
 use Rattle.flt_joined.specs.declared.joined.JoinedTexts.{JoinedTexts}
 use Rattle.flt_places.specs.declared.files.SourceFile.{SourceFile}
-use Rattle.flt_explain_runs.specs.Whole.{IsPrint, Look, look_for}
-use Rattle.flt_explain_runs.specs.declared.explaining.Asking.{Asking}
+use Rattle.flt_explain_runs.specs.Whole.{Look}
 use Rattle.flt_explain_runs.specs.declared.explaining.ExplainOutput.{ExplainOutput}
-use Rattle.flt_explain_runs.specs.declared.noted.Note.{Note}
 use Rattle.flt_explain_warning_details.specs.declared.options.WarningOptions.{WarningOptions}
 use Rattle.flt_words.specs.declared.request.Form.{Form}
 use Rattle.flt_commands.proofs.Firsts.{mapped_twice}
@@ -24,14 +22,13 @@ use Rattle.flt_commands.proofs.Sent.{cut_short}
 use Rattle.flt_commands.specs.Annotated.{AreFoundIn}
 use Rattle.flt_commands.specs.Answer.{sent_in}
 use Rattle.flt_commands.specs.Commands.{IsReported}
-use Rattle.flt_commands.specs.Explain.{HasReport, HoldsBack, IsCutAfter, IsCutOfFiles, IsCutShort, IsExplained, IsSent, IsToldOfFiles}
-use Rattle.flt_commands.specs.Explain.{IsToldOrUnwritten, IsToldWith, codes_in, first_in, look_of, said_of, told_name}
+use Rattle.flt_commands.specs.Explain.{HoldsBack, IsCutAfter, IsCutOfFiles, IsCutShort, IsExplained, IsSent, IsToldOfFiles}
+use Rattle.flt_commands.specs.Explain.{IsToldOrUnwritten, IsToldWith, codes_in, first_in, said_of, told_name}
 use Rattle.flt_commands.specs.Drifts.{AreDrifted}
 use Rattle.flt_commands.specs.Explain as explain
 use Rattle.flt_commands.specs.Inputs.{Giving, Text, unread_names}
 use Rattle.flt_commands.specs.Remarks.{unread_in, unread_lines}
 use Rattle.flt_commands.specs.declared.answer.Answer.{Answer}
-use Rattle.flt_commands.specs.declared.explain.ExplainOptions.{ExplainOptions}
 use Rattle.flt_commands.specs.declared.explain.Explanation.{Explanation}
 use Rattle.flt_commands.specs.declared.explain.Explanation.TheVariants.{Told as Said, Unwritten}
 use Rattle.flt_commands.specs.declared.failure.Failure.{Failure}
@@ -50,17 +47,6 @@ holds_named form (Some name) named = tt
 
 holds_some : (form : Form) (journal : Option Text) (name : Text) → journal ≡ Some name → HoldsBack form journal
 holds_some form journal name same = rw same tt
-
--- a report has these notes, if they are those of one that is asked for so
-pub reported : (asked : ExplainOptions) (asking : Asking) (sources : List Source) (t : ExplainOutput) (notes : List Note) →
-    asking.coloured ≡ asked.coloured → asking.states ≡ asked.states → asking.options ≡ asked.options →
-    IsPrint (look_for asking) sources t.noted t.explained.output.items t.explained.status → notes ≡ t.noted →
-    HasReport (look_of asked) sources notes
-reported asked asking sources t notes coloured states options print same = record {
-  printed = t.explained.output.items;
-  status = t.explained.status;
-  print = rw same (rw (coloured, states, options) at print);
-}
 
 -- ---- of the texts that files make
 

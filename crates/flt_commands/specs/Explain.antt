@@ -96,20 +96,14 @@ IsNoteTold _ texts states e = Unit {0}
 abbrev pub look_of : ExplainOptions → Look
 look_of asked = record { coloured = asked.coloured; states = asked.states; options = asked.options }
 
--- a report on these texts has exactly these notes: one for each finding that it reports by itself
-pub record HasReport (look : Look) (sources : List Source) (notes : List Note) : Type 0 where
-  pub printed : Text
-  pub status : ℕ
-  pub print : IsPrint look sources notes printed status
-
 -- for people all of what is printed is the reports with the notes, to the letter; a page has these without colours, after these drifts,
--- with pictures. The runs in other forms are those that a report has
+-- with pictures. The runs in other forms are those of the notes that a report has: one of each finding that it reports by itself
 abbrev pub IsPrintTold : Form → Look → List DriftedFile → List Source → ExplainOutput → Type 0
 IsPrintTold Human look drifted sources e = IsPrint look sources e.noted e.explained.output.items e.explained.status
 IsPrintTold Html look drifted sources e =
     IsPaged look (drifts_told Html drifted) sources e.noted e.explained.output.items e.explained.status
-IsPrintTold LinesWithRuns look drifted sources e = HasReport look sources e.noted
-IsPrintTold SarifWithRuns look drifted sources e = HasReport look sources e.noted
+IsPrintTold LinesWithRuns look drifted sources e = AreNotes (texts_of sources) e.noted
+IsPrintTold SarifWithRuns look drifted sources e = AreNotes (texts_of sources) e.noted
 IsPrintTold _ look drifted sources e = Unit {0}
 
 -- all that is known of what is told of texts, with these drifts within a page or a document, and beside the files that aren't read

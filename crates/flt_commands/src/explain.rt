@@ -31,7 +31,9 @@ use crate::unwritten::OutputFault;
 use flt_explain_details::{Printout, Source};
 use flt_explain_forms::{DriftedFile, Style, UnreadFile, lines, sarif};
 use flt_explain_pages::page;
-use flt_explain_runs::{Asking, ExplainOutput, Note, SearchWatch, explain, first_journal};
+use flt_explain_runs::{
+    Asking, ExplainOutput, Note, SearchWatch, explain, first_journal, notes_on,
+};
 use flt_explain_warning_details::WarningOptions;
 use flt_joined::{GivenFile, JoinedTexts, join, source_files};
 use flt_model::Sink;
@@ -163,22 +165,19 @@ fn told_page<O: Sink, W: SearchWatch>(
 }
 
 /// The lines of some texts with the runs of their findings, before anything is written.
-fn lines_with_runs<O: Sink, W: SearchWatch>(
+fn lines_with_runs<W: SearchWatch>(
     alloc: Global,
     asked: ExplainOptions<'_>,
     sources: &[Source<'_>],
-    out: &mut O,
     watch: &mut W,
 ) -> Result<ExplainOutput, CommandFault>
     ensures told { IfOk result (spec.AreToldWithRuns asked.entry.options sources.now) }
-    ensures print { IfOk result (λ t. spec.HasReport (spec.look_of asked.entry) sources.now t.noted) }
     ensures noted { IfOk result (λ t. AreNotes (texts_of sources.now) t.noted) }
     ensures sent { IfOk result (λ t. t.sent ≡ 0) }
-    ensures held { out.new ≡ out.old }
     ensures err { IfErr result (λ e. e ≡ CommandFault.OutOfMemory) }
 {
-    let told = explain(alloc, asking(asked, true), sources, out, watch)?;
-    let runs = runs_of(alloc, sources, told.noted.as_slice())?;
+    let noted = notes_on(alloc, asked.states, sources, watch)?;
+    let runs = runs_of(alloc, sources, noted.as_slice())?;
     let explained = lines(
         alloc,
         Style::Object,
@@ -186,29 +185,25 @@ fn lines_with_runs<O: Sink, W: SearchWatch>(
         sources,
         Some(runs.as_slice()),
     )?;
-    let noted = told.noted;
     Ok(unsent(explained, noted))
 }
 
 /// The same as a document, with drifts, and files that aren't read.
-fn sarif_with_runs<O: Sink, W: SearchWatch>(
+fn sarif_with_runs<W: SearchWatch>(
     alloc: Global,
     asked: ExplainOptions<'_>,
     drifted: &[DriftedFile<'_>],
     sources: &[Source<'_>],
     unread: &[UnreadFile],
-    out: &mut O,
     watch: &mut W,
 ) -> Result<ExplainOutput, CommandFault>
     ensures told { IfOk result (spec.IsToldWithRuns asked.entry.options drifted.now sources.now unread.now) }
-    ensures print { IfOk result (λ t. spec.HasReport (spec.look_of asked.entry) sources.now t.noted) }
     ensures noted { IfOk result (λ t. AreNotes (texts_of sources.now) t.noted) }
     ensures sent { IfOk result (λ t. t.sent ≡ 0) }
-    ensures held { out.new ≡ out.old }
     ensures err { IfErr result (λ e. e ≡ CommandFault.OutOfMemory) }
 {
-    let told = explain(alloc, asking(asked, true), sources, out, watch)?;
-    let runs = runs_of(alloc, sources, told.noted.as_slice())?;
+    let noted = notes_on(alloc, asked.states, sources, watch)?;
+    let runs = runs_of(alloc, sources, noted.as_slice())?;
     let explained = sarif(
         alloc,
         asked.options,
@@ -217,7 +212,6 @@ fn sarif_with_runs<O: Sink, W: SearchWatch>(
         runs.as_slice(),
         drifted,
     )?;
-    let noted = told.noted;
     Ok(unsent(explained, noted))
 }
 
@@ -262,8 +256,8 @@ fn told_in_turn<O: Sink, W: SearchWatch>(
             sarif(alloc, options, sources, unread, &[], drifted)?,
             Items::new(alloc),
         )),
-        Form::LinesWithRuns => lines_with_runs(alloc, asked, sources, out, watch),
-        Form::SarifWithRuns => sarif_with_runs(alloc, asked, drifted, sources, unread, out, watch),
+        Form::LinesWithRuns => lines_with_runs(alloc, asked, sources, watch),
+        Form::SarifWithRuns => sarif_with_runs(alloc, asked, drifted, sources, unread, watch),
         Form::Html => told_page(alloc, asked, drifted, sources, out, watch),
     }
 }
@@ -287,20 +281,19 @@ fn told_whole<O: Sink, W: SearchWatch>(
     ensures held { out.new ≡ out.old }
     ensures err { IfErr result (λ e. e ≡ CommandFault.OutOfMemory) }
 {
-    let held = asking(asked, true);
     let explained = match asked.form {
-        Form::Human => return Ok(explain(alloc, held, sources, out, watch)?),
+        Form::Human => return Ok(explain(alloc, asking(asked, true), sources, out, watch)?),
         Form::Short => lines(alloc, Style::Sentence, asked.options, sources, None)?,
         Form::Lines => lines(alloc, Style::Object, asked.options, sources, None)?,
         Form::Sarif => sarif(alloc, asked.options, sources, unread, &[], drifted)?,
-        Form::LinesWithRuns => return lines_with_runs(alloc, asked, sources, out, watch),
+        Form::LinesWithRuns => return lines_with_runs(alloc, asked, sources, watch),
         Form::SarifWithRuns => return sarif_with_runs(
-            alloc, asked, drifted, sources, unread, out, watch,
+            alloc, asked, drifted, sources, unread, watch,
         ),
         Form::Html => return told_page(alloc, asked, drifted, sources, out, watch),
     };
-    let told = explain(alloc, held, sources, out, watch)?;
-    Ok(unsent(explained, told.noted))
+    let notes = notes_on(alloc, asked.states, sources, watch)?;
+    Ok(unsent(explained, notes))
 }
 
 /// The output for some texts, in a form, with files that aren't read; a page and a document have drifts within them. If a file is named for

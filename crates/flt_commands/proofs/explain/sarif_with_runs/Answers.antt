@@ -1,4 +1,3 @@
-use Rattle.flt_commands.proofs.Explaining.{reported}
 use Rattle.flt_commands.proofs.explain.sarif_with_runs.Goals as goal
 
 pub returns-clause-told : goal.returns-clause-told
@@ -7,8 +6,3 @@ returns-clause-told g c = record {
   found = rw c.unsent.ensures.noted (rw c.as_slice.ensures at c.in_ok-runs.ensures);
   document = rw c.unsent.ensures.explained (rw c.as_slice-2.ensures.value at c.in_ok-explained.ensures);
 }
-
-pub returns-clause-print : goal.returns-clause-print
-returns-clause-print g c =
-    reported c.args.asked c.asking.result _ c.in_ok-told.told _ c.asking.ensures.coloured c.asking.ensures.states c.asking.ensures.options
-    c.in_ok-told.ensures.print c.unsent.ensures.noted
