@@ -13,12 +13,13 @@ use Rattle.std.specs.Io.KnownBytes.{Consumes, IsAtEnd}
 use Rattle.flt_commands.proofs.Ended.{all_read}
 use Rattle.flt_commands.specs.Inputs.{Text, gives_text, kept}
 use Rattle.flt_commands.specs.System.{AreKept, Holding, IsGiven, IsTooLong, failed, too_long as has_more}
+use Rattle.flt_rules.specs.Limits.{max_text}
 
 -- ---- of what was read
 
 -- what is kept of what is kept is all of it
 kept_again : (bytes : Text) → kept (kept bytes) ≡ kept bytes
-kept_again bytes = take_all 65537 (kept bytes) (rw (length-take 65537 bytes) (omega arith))
+kept_again bytes = take_all (max_text + 1) (kept bytes) (rw (length-take (max_text + 1) bytes) (omega arith))
 
 -- where a reader is at its end, what is kept of what was taken is kept of all that there was
 pub kept_read : (old new : Option (List ℕ)) (taken found : List ℕ) → Consumes old new taken → IsAtEnd new → found ≡ kept taken →
@@ -50,19 +51,19 @@ take_both n xs ys =
 
 -- what is kept of more, where so much of it is put behind what was kept
 pub kept_more : (taken piece found : List ℕ) → found ≡ kept taken →
-    found ++ take (min (65537 - length found) (length piece)) piece ≡ kept (taken ++ piece)
+    found ++ take (min ((max_text + 1) - length found) (length piece)) piece ≡ kept (taken ++ piece)
 kept_more taken piece found same =
-    let count : length found ≡ min 65537 (length taken) = ap length same ∙ length-take 65537 taken in
-    let rest : 65537 - length found ≡ 65537 - length taken = omega (arith, count) in
-    rw (take_room (65537 - length found) piece, rest, same) (sym (take_both 65537 taken piece))
+    let count : length found ≡ min (max_text + 1) (length taken) = ap length same ∙ length-take (max_text + 1) taken in
+    let rest : (max_text + 1) - length found ≡ (max_text + 1) - length taken = omega (arith, count) in
+    rw (take_room ((max_text + 1) - length found) piece, rest, same) (sym (take_both (max_text + 1) taken piece))
 
 -- the same of the first bytes of a buffer
 pub kept_more_of : (taken buffer found : List ℕ) (n : ℕ) → n ≤ length buffer → found ≡ kept taken →
-    found ++ take (min (65537 - length found) n) buffer ≡ kept (taken ++ take n buffer)
+    found ++ take (min ((max_text + 1) - length found) n) buffer ≡ kept (taken ++ take n buffer)
 kept_more_of taken buffer found n within same =
     let count : length (take n buffer) ≡ n = length-take-le n buffer within in
-    let parts : take (min (65537 - length found) n) (take n buffer) ≡ take (min (65537 - length found) n) buffer =
-    take-take (min (65537 - length found) n) n buffer (omega arith) in
+    let parts : take (min ((max_text + 1) - length found) n) (take n buffer) ≡ take (min ((max_text + 1) - length found) n) buffer =
+    take-take (min ((max_text + 1) - length found) n) n buffer (omega arith) in
     ap (λ piece. found ++ piece) (sym parts) ∙ rw count at (kept_more taken (take n buffer) found same)
 
 -- what was kept of a name that was opened is given for it, as a text
@@ -85,13 +86,13 @@ module _ (holds : Holding) (lacks : Text → Type 0) (fails X : Type 0) (name : 
 -- ---- of texts
 
 -- all of a text is kept, or it is too long and so is what is kept
-kept_or_long : (text : Text) → (kept text ≡ text) ⊎ ((65536 < length text) × (65536 < length (kept text)))
+kept_or_long : (text : Text) → (kept text ≡ text) ⊎ ((max_text < length text) × (max_text < length (kept text)))
 kept_or_long text =
-    elim (cases_lt 65537 (length text)) [
+    elim (cases_lt (max_text + 1) (length text)) [
       | inl long ↦
-          let count : length (kept text) ≡ 65537 = length-take-le 65537 text (omega (arith, long)) in
+          let count : length (kept text) ≡ (max_text + 1) = length-take-le (max_text + 1) text (omega (arith, long)) in
           inr (omega (arith, long), omega (arith, count))
-      | inr few ↦ inl (take_all 65537 text few)
+      | inr few ↦ inl (take_all (max_text + 1) text few)
     ]
 
 module _ (nowhere : SpelledFailsNowhere) (once : FailsAtMostOnce) where

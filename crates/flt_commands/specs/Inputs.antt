@@ -1,5 +1,5 @@
 -- What is read for the names of a command line. This project's own program.
-use Rattle.std.specs.Prelude.{◌≡◌, ◌⊎◌, ℕ, ◌≤◌, Bool, ◌&&◌, true, false, List, [], ◌∷◌, ◌++◌, codes}
+use Rattle.std.specs.Prelude.{◌+◌, ◌≡◌, ◌⊎◌, ℕ, ◌≤◌, Bool, ◌&&◌, true, false, List, [], ◌∷◌, ◌++◌, codes}
 use Rattle.std.specs.Prelude.{count_by, map, string_bytes, take, Option, Some, None, Result, Err}
 use Rattle.std.specs.List.{AllZip, list_any}
 use Rattle.std.specs.Str.{bytes_eq}
@@ -8,6 +8,7 @@ use Rattle.flt_commands.specs.declared.failure.Failure.{Failure}
 use Rattle.flt_commands.specs.declared.failure.Failure.TheVariants.{CannotRead, OutOfMemory}
 use Rattle.flt_commands.specs.declared.inputs.ReadFiles.{ReadFiles}
 use Rattle.flt_explain_forms.specs.declared.unread.UnreadFile.{UnreadFile}
+use Rattle.flt_rules.specs.Limits.{max_text}
 
 -- a name, or what it gives, as bytes
 abbrev pub Text : Type 0
@@ -19,7 +20,7 @@ Giving = Text → Option Text → Type 0
 
 -- what is kept of a text: as many bytes as one may have, and one more, by which it is too long
 abbrev pub kept : Text → Text
-kept text = take 65537 text
+kept text = take (max_text + 1) text
 
 -- what may be given for the name of a text: what is kept of its bytes, or none
 abbrev pub gives_text : Giving → Giving

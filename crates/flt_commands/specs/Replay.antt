@@ -12,6 +12,7 @@ use Rattle.flt_commands.specs.declared.answer.Answer.TheVariants.{Judged, Shown}
 use Rattle.flt_commands.specs.declared.failure.Failure.{Failure}
 use Rattle.flt_commands.specs.declared.failure.Failure.TheVariants.{CannotWrite, TooManyFiles, FileSyntax}
 use Rattle.flt_commands.specs.declared.failure.Failure.TheVariants.{JournalLine, Altitude, OutOfMemory}
+use Rattle.flt_rules.specs.Limits.{max_filters}
 
 -- ---- the filters
 
@@ -30,10 +31,6 @@ JournalFails written (JournalLine n) = (left : Text) × IsFirstFault written n l
 JournalFails written _ = ⊥
 
 -- ---- of a journal and some texts
-
--- the most filters of a stack
-abbrev pub max_filters : ℕ
-max_filters = 16
 
 -- each text spells a filter, the journal's bytes spell entries, and this is the verdict about them
 pub record IsVerdict (journal : Text) (texts : List Text) (v : Verdict) : Type 0 where

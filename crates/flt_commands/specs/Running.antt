@@ -4,7 +4,7 @@ use Rattle.flt_stack_crew.specs.Running.{IsRun}
 use Rattle.flt_stack_prepare.specs.Preparing.{Fails}
 use Rattle.flt_stack_prepare.specs.declared.fault.RunFault.TheVariants as fault
 use Rattle.flt_commands.specs.Inputs.{Text}
-use Rattle.flt_commands.specs.Replay.{max_filters}
+use Rattle.flt_rules.specs.Limits.{max_filters}
 use Rattle.flt_commands.specs.declared.answer.Answer.{Answer}
 use Rattle.flt_commands.specs.declared.answer.Answer.TheVariants.{Ran, FileRefused}
 use Rattle.flt_commands.specs.declared.failure.Failure.{Failure}

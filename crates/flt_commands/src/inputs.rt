@@ -15,6 +15,7 @@ use crate::system::Reader;
 use crate::unread::InputFault;
 use crate::unwritten::OutputFault;
 use flt_explain_forms::UnreadFile;
+use flt_rules::MAX_TEXT;
 use std::alloc::{AllocError, Global};
 use std::cmp::min;
 
@@ -94,7 +95,7 @@ pub trait Pictures {
 pub const MAX_INPUT: usize = 67_108_864;
 
 /// The number of bytes of a text that are kept: as many as it may have, and one by which it is too long.
-const KEPT: usize = 65_537;
+const KEPT: usize = MAX_TEXT + 1;
 
 /// The number of bytes for which there is room from the start. Most texts and certificates are shorter, so that they aren't copied to grow.
 const FIRST_ROOM: usize = 65_536;

@@ -5,6 +5,7 @@ use Rattle.flt_commands.proofs.Ended.{read_too_long}
 use Rattle.flt_commands.proofs.Lengths.{kept_more_of, kept_read}
 use Rattle.flt_commands.specs.Inputs.{kept}
 use Rattle.flt_commands.proofs.inputs.read_text_within.Goals as goal
+use Rattle.flt_rules.specs.Limits.{max_text}
 
 pub returns-in-Ok-eq0-clause-all : goal.returns-in-Ok-eq0-clause-all
 returns-in-Ok-eq0-clause-all g c =
@@ -31,8 +32,8 @@ loop-preserved g c =
     let whole : length (held.0 ++ piece) ≡ length held.0 + length piece = length-append held.0 piece in
     let few : c.loop.total + c.in-Ok.n ≤ 67108864 = omega (arith, c.if-total-gt-MAX_INPUT.false) in
     let len : c.len.result ≡ length c.loop.kept.items = c.len.ensures ∙ c.loop.kept.ok.0 in
-    let room : c.smaller-room.result ≡ min (65537 - length c.loop.kept.items) c.in-Ok.n =
-    c.smaller-room.ensures ∙ ap (λ n. min (65537 - n) c.in-Ok.n) len in
+    let room : c.smaller-room.result ≡ min ((max_text + 1) - length c.loop.kept.items) c.in-Ok.n =
+    c.smaller-room.ensures ∙ ap (λ n. min ((max_text + 1) - n) c.in-Ok.n) len in
     let more : c.extend_from_slice.new.self.items ≡ kept (held.0 ++ piece) =
     c.in_ok-extend_from_slice.ensures.items
     ∙ rw room (kept_more_of held.0 c.take.new.buffer c.loop.kept.items c.in-Ok.n c.in-Ok.ensures.bound.0 held.2) in
@@ -40,7 +41,7 @@ loop-preserved g c =
       so_far =
           (held.0 ++ piece, Consumes-trans _ _ _ held.0 piece held.1 c.in-Ok.ensures.bytes.0, more, omega (arith, count, whole, held.3));
       few = few;
-      room = rw (more, length-take 65537 (held.0 ++ piece)) (omega arith);
+      room = rw (more, length-take (max_text + 1) (held.0 ++ piece)) (omega arith);
       fine = c.in-Ok.ensures.fine ∙ c.loop.invariant.fine;
       some = omega (arith, c.loop.invariant.some, c.in-Ok.n-test.1);
     }
