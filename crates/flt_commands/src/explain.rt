@@ -454,6 +454,9 @@ pub fn explain_files<'a, I: Inputs, P: Pictures, O: Sink, W: SearchWatch>(
         joined.refused.as_slice(),
     )?;
     *remark = unread_lines(alloc, unread.as_slice())?;
+    // Room for these is requested before anything is written: no whole output is followed by a refusal.
+    let texts = Vec::with_capacity(alloc, joined.texts.len())?;
+    let all_codes = Vec::with_capacity(alloc, read.len())?;
     let told = told_joined(
         alloc,
         asked,
@@ -463,8 +466,8 @@ pub fn explain_files<'a, I: Inputs, P: Pictures, O: Sink, W: SearchWatch>(
         out,
         watch,
     )?;
-    contents.texts = bytes_in(alloc, joined.texts)?;
-    *codes = codes_in(alloc, read)?;
+    contents.texts = bytes_in(texts, joined.texts);
+    *codes = codes_in(all_codes, read);
     let said = keep(alloc, files, asked.journal, told, unread, pictures)?;
     Ok(said)
 }

@@ -1,7 +1,8 @@
 //! The sources that files make, and the files with which there is none.
 
-ghost use Rattle.std.specs.Prelude.{◌≡◌, ◌++◌, All, IfOk, OnOk, length, map, slice_get};
+ghost use Rattle.std.specs.Prelude.{◌≡◌, ◌≤◌, [], ◌++◌, All, IfOk, OnOk, length, map, slice_get};
 ghost use Rattle.std.specs.List.{AllZip};
+ghost use Rattle.std.specs.Vec.{vec_capacity};
 ghost use Rattle.flt_commands.specs.Inputs.{unread_names};
 ghost use Rattle.flt_commands.specs.Sources as spec;
 ghost use Rattle.flt_joined.specs.Texts.{givens, name_by};
@@ -41,29 +42,31 @@ pub(crate) fn sources_of<'s>(
     Ok(sources)
 }
 
-/// Texts by themselves.
-pub(crate) fn bytes_in(alloc: Global, texts: Vec<JoinedText>) -> Result<Vec<Vec<u8>>, AllocError>
-    ensures { IfOk result (λ all. map (λ bytes. bytes.items) all.items ≡ spec.bytes_in texts.items) }
+/// Texts by themselves, in a list that has room for them.
+pub(crate) fn bytes_in(mut all: Vec<Vec<u8>>, texts: Vec<JoinedText>) -> Vec<Vec<u8>>
+    requires empty { all.items ≡ [] }
+    requires room { length texts.items ≤ vec_capacity all }
+    ensures { map (λ bytes. bytes.items) result.items ≡ spec.bytes_in texts.items }
 {
-    let mut all = Vec::new(alloc);
     for joined in texts {
-        all.push(joined.bytes)?;
+        all.push_reserved(joined.bytes);
     }
-    Ok(all)
+    all
 }
 
-/// The C files among some files, each in the place of its file.
+/// The C files among some files, each in the place of its file, in a list that has room for them.
 pub(crate) fn codes_in(
-    alloc: Global,
+    mut all: Vec<Option<Vec<u8>>>,
     files: Vec<GivenFile<'_>>,
-) -> Result<Vec<Option<Vec<u8>>>, AllocError>
-    ensures { IfOk result (λ all. all.items ≡ map (λ file. file.code) files.entry.items) }
+) -> Vec<Option<Vec<u8>>>
+    requires empty { all.items ≡ [] }
+    requires room { length files.items ≤ vec_capacity all }
+    ensures { result.items ≡ map (λ file. file.code) files.entry.items }
 {
-    let mut all = Vec::new(alloc);
     for file in files {
-        all.push(file.code)?;
+        all.push_reserved(file.code);
     }
-    Ok(all)
+    all
 }
 
 /// The name of the file of a number; empty if there is none.

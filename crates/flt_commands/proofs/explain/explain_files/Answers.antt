@@ -10,18 +10,6 @@ returns-in_err-told-clause-memory g c =
     (λ short. cut_read _ _ _ _ _ _ _ c.in_ok-read.field-0 _ _ c.in_ok-read.ensures
     (rw c.as_slice-5.ensures.value at (c.in_err-told.ensures.memory short)))
 
-pub returns-in_err-contents-clause-memory : goal.returns-in_err-contents-clause-memory
-returns-in_err-contents-clause-memory g c =
-    let fails : c.from_residual-in_err-contents.result ≡ Err OutOfMemory = search rules in
-    rw fails
-    (λ short. cut_read _ _ _ _ _ _ _ c.in_ok-read.field-0 _ _ c.in_ok-read.ensures (rw c.as_slice-5.ensures.value at c.in_ok-told.ensures.cut))
-
-pub returns-in_err-codes-clause-memory : goal.returns-in_err-codes-clause-memory
-returns-in_err-codes-clause-memory g c =
-    let fails : c.from_residual-in_err-codes.result ≡ Err OutOfMemory = search rules in
-    rw fails
-    (λ short. cut_read _ _ _ _ _ _ _ c.in_ok-read.field-0 _ _ c.in_ok-read.ensures (rw c.as_slice-5.ensures.value at c.in_ok-told.ensures.cut))
-
 pub returns-in_err-said-clause-memory : goal.returns-in_err-said-clause-memory
 returns-in_err-said-clause-memory g c =
     let fails : c.from_residual-in_err-said.result ≡ Err OutOfMemory = search rules in
@@ -29,10 +17,10 @@ returns-in_err-said-clause-memory g c =
 
 pub returns-clause-said : goal.returns-clause-said
 returns-clause-said g c =
-    rw c.in_ok-contents.ensures
+    rw c.bytes_in.ensures
     (explained_of _ _ _ c.args.asked.options c.args.asked.states _ _ _ _ c.in_ok-read.field-0 _ _ _ _ _ _ c.in_ok-read.ensures
     (rw (c.as_slice-2.ensures.value, c.as_slice-3.ensures.value) at c.in_ok-add_refused.ensures)
-    (coded_as _ _ c.in_ok-codes.ensures)
+    (coded_as _ _ c.codes_in.ensures)
     (rw (c.as_slice-5.ensures.value, c.as_slice-6.ensures.value) at c.in_ok-told.ensures.told)
     c.in_ok-said.ensures.said)
 
